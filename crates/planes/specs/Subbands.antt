@@ -3,7 +3,7 @@
 use Rattle.std.specs.Prelude.{◌≡◌, ℕ, ◌+◌, ◌-◌, ◌*◌, ◌/◌, ◌^◌, ◌≤◌, ◌==◌, ◌⊎◌, List, [], ℤ, slice_index_or, slice_set, if◌then◌else◌}
 use Rattle.planes.specs.declared.Orient.{Orient}
 use Rattle.planes.specs.declared.Orient.TheVariants.{Ll, Hl, Lh, Hh}
-use Rattle.planes.specs.Raster.{Raster, zeros}
+use Rattle.planes.specs.Raster.{Raster, height, zeros}
 
 abbrev pub orient_number : Orient → ℕ
 orient_number Ll = 0
@@ -36,6 +36,11 @@ band_of b level orient = slice_index_or b.bands (band_index level orient) no_ban
 
 abbrev pub with_band : BandStack → ℕ → ℕ → Raster ℤ → BandStack
 with_band b level orient p = record b { bands = slice_set b.bands (band_index level orient) p }
+
+-- the planes of the bands have the sizes of the bands of a component of this padded size
+pub record HaveSizes (b : BandStack) (w h : ℕ) : Type 0 where
+  pub widths : (level orient : ℕ) → BandExists b.depth level orient → (band_of b level orient).w ≡ subband_length b.depth level w
+  pub heights : (level orient : ℕ) → BandExists b.depth level orient → height (band_of b level orient) ≡ subband_length b.depth level h
 
 -- the bands of a component of this padded size, all zero
 pub record AreZeroBands (b : BandStack) (depth w h : ℕ) : Type 0 where
