@@ -1,0 +1,5 @@
+pub mod Taken
+pub mod Heads
+pub mod ChainLaws
+pub mod Past
+pub mod Settling
