@@ -1,5 +1,5 @@
 -- A unit's head of 13 bytes: its spelling, and its rows.
-use Rattle.std.specs.Prelude.{ℕ, List, [], ◌∷◌, ◌++◌, slice_index, ◌==◌, if◌then◌else◌, Option, None, Some, Result, unwrap_or}
+use Rattle.std.specs.Prelude.{ℕ, List, [], ◌∷◌, ◌++◌, slice_index, ◌==◌, if◌then◌else◌, Option, None, Some, Result, unwrap_or, Bool, true, false}
 use Rattle.std.specs.Int.{w32, from_be_bytes, to_be_bytes}
 use Rattle.std.specs.Str.{bytes_eq}
 use Rattle.parse_info.specs.Rows.{Row, Table, read_fields, with_fields}
@@ -67,3 +67,9 @@ info_of fewer = record { code = Padding; next = 0; previous = 0 }
 -- the head in front of the bytes, or its first fault
 unfoldable pub info_at : List ℕ → Result ParseInfo InfoFault
 info_at bytes = with_fields info_of (read_fields head_rows 4 [] bytes)
+
+-- the bytes end inside the head
+abbrev pub is_short : InfoFault → Bool
+is_short BadPrefix = false
+is_short (UnsupportedCode code) = false
+is_short other = true

@@ -3,3 +3,4 @@ pub mod Heads
 pub mod ChainLaws
 pub mod Past
 pub mod Settling
+pub mod Parts

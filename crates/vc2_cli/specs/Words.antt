@@ -1,8 +1,8 @@
 -- The words of the command line.
 use Rattle.std.specs.Prelude.{ℕ, List, [], ◌∷◌, codes, if◌then◌else◌, Result, Ok, Err, Option, Some, None}
 use Rattle.std.specs.Str.{bytes_eq}
-use Rattle.vc2_cli.specs.declared.status.Command.{Command}
-use Rattle.vc2_cli.specs.declared.status.Command.TheVariants.{Chain}
+use Rattle.vc2_cli.specs.declared.words.Command.{Command}
+use Rattle.vc2_cli.specs.declared.words.Command.TheVariants.{Chain}
 use Rattle.vc2_cli.specs.declared.status.WordFault.{WordFault}
 use Rattle.vc2_cli.specs.declared.status.WordFault.TheVariants.{NoCommand, UnknownCommand, UnknownKey}
 

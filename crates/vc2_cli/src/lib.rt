@@ -1,4 +1,4 @@
-//! The program's top call.
+//! The program's top call: words, a source and two sinks in, a status out.
 #![tactic(auto)]
 
 mod chain;
@@ -10,9 +10,9 @@ mod top;
 mod words;
 
 pub use laws::one_answer;
-pub use status::{Command, Ending, Reason, Refusal, Status, WordFault};
-pub use top::{exit_code, run};
-pub use words::read_words;
+pub use status::{Ending, Reason, Refusal, Status, WordFault, exit_code};
+pub use top::run;
+pub use words::{Command, read_words};
 
 #[cfg(test)]
 mod tests;

@@ -2,7 +2,14 @@
 ghost use Rattle.std.specs.Prelude.{◌≡◌, map, string_bytes};
 ghost use Rattle.vc2_cli.specs.Words.{command_named, command_of};
 
-use crate::status::{Command, WordFault};
+use crate::status::WordFault;
+
+/// What the words ask for.
+#[derive(Clone, Copy, Debug, PartialEq, Eq)]
+pub enum Command {
+    /// A line for each unit, by its head alone.
+    Chain,
+}
 
 fn command_named(word: &str) -> Option<Command>
     ensures { result ≡ command_named word.now }
@@ -13,7 +20,7 @@ fn command_named(word: &str) -> Option<Command>
     }
 }
 
-/// The command that the words name, or their first fault.
+/// The command that the words name, or their first fault. The words are those after the program's name.
 pub fn read_words(words: &[String]) -> Result<Command, WordFault>
     ensures { result ≡ command_of (map string_bytes words.now) }
 {
