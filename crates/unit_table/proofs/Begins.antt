@@ -1,0 +1,278 @@
+-- A reader in the middle of a unit: how it begins, goes on and ends.
+use Rattle.std.proofs.Common.{◌≡◌, ◌≢◌, ℕ, ◌+◌, ◌-◌, ◌*◌, ◌<◌, ◌≤◌, Bool, true, false, List, [], ◌∷◌, ◌++◌, length, take, drop, Option, Some, None, Ok, Err, inl, inr, refl, sym, ap, subst, ◌∙◌, arith, append_assoc, append-nil}
+use Rattle.std.proofs.lemmas.Bool.{cases_lt}
+use Rattle.std.proofs.lemmas.List.{length-append, length-take, take-append-le, take-append-drop}
+use Rattle.std.proofs.Math.Seq.{take-append-add}
+use Rattle.std.specs.Io.KnownBytes.{IsAtEnd}
+use Rattle.vc2_io.proofs.Known.{Consumes-then, Consumes-none}
+use Rattle.bit_codes.specs.declared.CodeFault.TheVariants as codes
+use Rattle.bit_codes.specs.Bits.{Cursor, bits_of}
+use Rattle.bit_codes.proofs.BitLemmas.{length-bits}
+use Rattle.field_rows.specs.Rows.{Rows, done, Fault, read, is_nil}
+use Rattle.field_rows.specs.Pieces.{with_more}
+use Rattle.field_rows.proofs.Pieces.{read-more_refused}
+use Rattle.field_rows.proofs.Reading.{read-done}
+use Rattle.unit_table.specs.Grammar.{Grammar, bytes_at, unit_at, is_whole_by, NoneStands}
+use Rattle.unit_table.specs.Fronts.{Stands, Finishes, Refuses, size_to, front_behind, front_of}
+use Rattle.unit_table.specs.Begun.{Partway, Prompt, Begun, Needs, Lacks, Moves, Got, Lost, Due, Taken, Over}
+use Rattle.unit_table.proofs.GrammarLaws.{IsGrammar, bytes_at-append, unit-more, none_front}
+use Rattle.unit_table.proofs.FrontLaws.{front_laws, front-unit, whole_clash}
+
+pub prompt_few : {Z R U : Type 0} (g : Grammar Z R U) (z : Z) (bytes : List ℕ) → length bytes ≤ 4096 → Prompt g z bytes
+prompt_few g z bytes few = record { prompt = λ long. absurd (omega arith) }
+
+pub begun_start : {Z R U : Type 0} (g : Grammar Z R U) (z : Z) (held : List ℕ) (rest : Option (List ℕ)) → length held ≤ 4096 → Begun g z held rest rest (g.place z) held (g.rows z)
+begun_start g z held rest few = record {
+  gone = [];
+  read = [];
+  took = Consumes-none rest;
+  parts = append-nil held;
+  partway = record { at_is = omega arith; same = λ more. refl };
+  prompt = prompt_few g z held few;
+}
+
+-- short of what the rows need, no unit stands whole
+pub none_partway : {Z R U : Type 0} (g : Grammar Z R U) (z : Z) (gone : List ℕ) (at : ℕ) (left : Rows R U) (n : ℕ) (bytes : List ℕ) → Partway g z gone at left → Needs g left n → length bytes < n → NoneStands g z (gone ++ bytes)
+none_partway g z gone at left n bytes way needs short = record { none = ap (is_whole_by g) (way.same bytes) ∙ needs.needs at bytes short }
+
+prompt_more : {Z R U : Type 0} (g : Grammar Z R U) → IsGrammar g → (z : Z) (gone : List ℕ) (at : ℕ) (left : Rows R U) (n : ℕ) (held new : List ℕ) → Partway g z gone at left → Needs g left n
+    → 0 < n → length held + length new < n + 4096 → Prompt g z (gone ++ (held ++ new))
+prompt_more g laws z gone at left n held new way needs some few = record {
+  prompt = λ long.
+      let v = gone ++ (held ++ new) in
+      let k = length v - 4096 in
+      let total : length v ≡ length gone + (length held + length new) = omega (arith, length-append gone (held ++ new), length-append held new) in
+      elim (cases_lt (length gone) k) [
+        | inl lt ↦ let j = k - length gone in
+            let cut : take k v ≡ gone ++ take j (held ++ new) = ap (λ n. take n v) (omega arith) ∙ take-append-add gone (held ++ new) j in
+            subst (NoneStands g z) (sym cut) (none_partway g z gone at left n (take j (held ++ new)) way needs (omega (arith, length-take j (held ++ new))))
+        | inr le ↦ let cut : take k v ≡ take k gone = take-append-le k gone (held ++ new) le in
+            let all = subst (NoneStands g z) (append-nil gone) (none_partway g z gone at left n [] way needs some) in
+            subst (NoneStands g z) (sym cut) (none_front g laws z (take k gone) (drop k gone) (subst (NoneStands g z) (sym (take-append-drop k gone)) all))
+      ];
+}
+
+prompt_got : {Z R U : Type 0} (g : Grammar Z R U) → IsGrammar g → (z : Z) (gone : List ℕ) (at : ℕ) (left : Rows R U) (n : ℕ) (held new : List ℕ) → Partway g z gone at left → Needs g left n
+    → Prompt g z (gone ++ held) → (0 < length new → 0 < n) → (0 < length new → length held + length new < n + 4096) → Prompt g z (gone ++ (held ++ new))
+prompt_got g laws z gone at left n held [] way needs prompt asked few = subst (Prompt g z) (ap (λ l. gone ++ l) (sym (append-nil held))) prompt
+prompt_got g laws z gone at left n held (b ∷ new) way needs prompt asked few = prompt_more g laws z gone at left n held (b ∷ new) way needs (asked (omega arith)) (few (omega arith))
+
+-- bytes were got for the rows that are left, and some of them were used
+pub begun_more : {Z R U : Type 0} {g : Grammar Z R U} {z : Z} {held0 held1 : List ℕ} {rest0 rest1 : Option (List ℕ)} {at : ℕ} {left : Rows R U} (laws : IsGrammar g) (n : ℕ) (rest2 : Option (List ℕ)) (held2 piece : List ℕ) (others : Rows R U)
+    → Begun g z held0 rest0 rest1 at held1 left → Needs g left n → Got n held1 held2 rest1 rest2 piece → Moves g left at piece others → Begun g z held0 rest0 rest2 (at + length piece) held2 others
+begun_more {g = g} {z = z} {held0 = held0} {held1 = held1} {rest0 = rest0} {rest1 = rest1} {at = at} {left = left} laws n rest2 held2 piece others b needs got moves =
+    let regroup : b.gone ++ (held1 ++ got.read) ≡ (b.gone ++ piece) ++ held2 = ap (λ l. b.gone ++ l) got.parts ∙ sym (append_assoc b.gone piece held2) in
+    record {
+      gone = b.gone ++ piece;
+      read = b.read ++ got.read;
+      took = Consumes-then rest0 rest1 rest2 b.read got.read b.took got.took;
+      parts = sym (append_assoc held0 b.read got.read) ∙ ap (λ l. l ++ got.read) b.parts ∙ append_assoc b.gone held1 got.read ∙ regroup;
+      partway = record {
+        at_is = omega (arith, b.partway.at_is, length-append b.gone piece);
+        same = λ more. ap (unit_at g z) (append_assoc b.gone piece more) ∙ b.partway.same (piece ++ more) ∙ moves.moves more;
+      };
+      prompt = subst (Prompt g z) regroup (prompt_got g laws z b.gone at left n held1 got.read b.partway needs b.prompt got.asked got.few);
+    }
+
+-- bytes were got and are held
+pub begun_held : {Z R U : Type 0} {g : Grammar Z R U} {z : Z} {held0 held1 : List ℕ} {rest0 rest1 : Option (List ℕ)} {at : ℕ} {left : Rows R U} (laws : IsGrammar g) (n : ℕ) (rest2 : Option (List ℕ)) (held2 : List ℕ)
+    → Begun g z held0 rest0 rest1 at held1 left → Needs g left n → Got n held1 held2 rest1 rest2 [] → Begun g z held0 rest0 rest2 at held2 left
+begun_held {g = g} {z = z} {held0 = held0} {rest0 = rest0} {at = at} {left = left} laws n rest2 held2 b needs got =
+    subst (λ p. Begun g z held0 rest0 rest2 p held2 left) (omega arith)
+    (begun_more laws n rest2 held2 [] left b needs got (record { moves = λ more. ap (λ p. read g.reason_of left (bytes_at p more)) (omega arith) }))
+
+-- ---- what the caller of a reader learns; all by the bytes held at entry and those that were read
+
+pub begun_lost : {Z R U : Type 0} {g : Grammar Z R U} {z : Z} {held0 held1 : List ℕ} {rest0 rest1 : Option (List ℕ)} {at : ℕ} {left : Rows R U} (laws : IsGrammar g) (n : ℕ) → Begun g z held0 rest0 rest1 at held1 left → Needs g left n → length held1 < n → Lost g z held0 rest0 rest1 (at + length held1)
+begun_lost {g = g} {z = z} {held1 = held1} {at = at} {left = left} laws n b needs short = record {
+  read = b.read;
+  top_is = omega (arith, b.partway.at_is, ap (λ (l : List ℕ). length l) b.parts, length-append b.gone held1);
+  took = b.took;
+  none = subst (NoneStands g z) (sym b.parts) (none_partway g z b.gone at left n held1 b.partway needs short);
+  prompt = subst (Prompt g z) (sym b.parts) b.prompt;
+}
+
+begun_unit : {Z R U : Type 0} (g : Grammar Z R U) (z : Z) (gone : List ℕ) (at : ℕ) (unit : U) → Partway g z gone at (done unit) → unit_at g z gone ≡ Ok (unit, bytes_at at [])
+begun_unit g z gone at unit way = ap (unit_at g z) (sym (append-nil gone)) ∙ way.same [] ∙ read-done g.reason_of unit (bytes_at at [])
+
+pub begun_taken : {Z R U : Type 0} {g : Grammar Z R U} {z : Z} {held0 held1 : List ℕ} {rest0 rest1 : Option (List ℕ)} {at : ℕ} (laws : IsGrammar g) (unit : U) → Begun g z held0 rest0 rest1 at held1 (done unit) → g.is_end unit ≡ false
+    → (bytes : List ℕ) × (at ≡ g.place z + length bytes) × Taken g z held0 rest0 rest1 bytes held1 unit
+begun_taken {g = g} {z = z} {held1 = held1} {at = at} laws unit b no_end =
+    let here = begun_unit g z b.gone at unit b.partway in
+    let all : size_to b.gone (bytes_at at []) ≡ length b.gone = omega arith in
+    let stands = front-unit g z b.gone unit (bytes_at at []) here no_end ∙ ap (λ n. Stands n unit) all in (
+      b.gone,
+      b.partway.at_is,
+      record {
+        read = b.read;
+        took = b.took;
+        parts = b.parts;
+        some = (front_laws g laws).some z b.gone (length b.gone) unit stands;
+        stands = stands;
+        prompt = subst (Prompt g z) (sym b.parts) b.prompt;
+        few = elim (cases_lt 4096 (length held1)) [
+          | inr le ↦ le
+          | inl lt ↦ absurd (
+              let v = b.gone ++ held1 in
+              let k = length v - 4096 in
+              let total : length v ≡ length b.gone + length held1 = length-append b.gone held1 in
+              let j = k - length b.gone in
+              let cut : take k v ≡ b.gone ++ take j held1 = ap (λ n. take n v) (omega arith) ∙ take-append-add b.gone held1 j in
+              let none = subst (NoneStands g z) cut (b.prompt.prompt (omega arith)) in
+              let far : is_whole_by g (unit_at g z (b.gone ++ take j held1)) ≡ true = ap (is_whole_by g) (unit-more g laws z b.gone (take j held1) unit (bytes_at at []) here) ∙ whole_clash g unit (with_more (bytes_at at []) (bits_of (take j held1))) no_end in
+              let clash : true ≡ false = sym far ∙ none.none in
+              cc)
+        ];
+      },
+    )
+
+front_refused : {Z R U : Type 0} (g : Grammar Z R U) (z : Z) (bytes : List ℕ) (fault : Fault R) → unit_at g z bytes ≡ Err fault → front_of g z bytes ≡ Refuses fault
+front_refused g z bytes fault e = rw e refl
+
+-- for a reason that is not shortness
+pub begun_refused : {Z R U : Type 0} {g : Grammar Z R U} {z : Z} {held0 held1 : List ℕ} {rest0 rest1 : Option (List ℕ)} {at : ℕ} {left : Rows R U} (laws : IsGrammar g) (seen : Option (List ℕ)) (fault : Fault R) → Begun g z held0 rest0 rest1 at held1 left
+    → read g.reason_of left (bytes_at at held1) ≡ Err fault → fault.reason ≢ g.reason_of codes.Short → Over g z held0 rest0 rest1 seen (at + length held1) (Refuses fault)
+begun_refused {g = g} {z = z} {held0 = held0} {held1 = held1} {at = at} laws seen fault b e other = record {
+  read = b.read;
+  took = b.took;
+  top_is = omega (arith, b.partway.at_is, ap (λ (l : List ℕ). length l) b.parts, length-append b.gone held1);
+  prompt = subst (Prompt g z) (sym b.parts) b.prompt;
+  here = front_refused g z (held0 ++ b.read) fault (ap (unit_at g z) b.parts ∙ b.partway.same held1 ∙ e);
+  ends = λ more told.
+      let here : unit_at g z (held0 ++ b.read) ≡ Err fault = ap (unit_at g z) b.parts ∙ b.partway.same held1 ∙ e in
+      front_refused g z ((held0 ++ b.read) ++ more) fault
+      (ap (read g.reason_of (g.rows z)) (bytes_at-append (g.place z) (held0 ++ b.read) more)
+      ∙ read-more_refused g.reason_of (g.rows z) (bytes_at (g.place z) (held0 ++ b.read)) fault (bits_of more) (laws.steady z).steady
+      (record { whole = omega (arith, length-bits (held0 ++ b.read)) }) other here);
+}
+
+nothing_more : (rest : Option (List ℕ)) (more : List ℕ) → IsAtEnd rest → rest ≡ Some more → more ≡ []
+nothing_more None more h e = absurd cc
+nothing_more (Some xs) more h e = cc
+
+-- for any reason, where nothing follows
+pub begun_short : {Z R U : Type 0} {g : Grammar Z R U} {z : Z} {held0 held1 : List ℕ} {rest0 rest1 : Option (List ℕ)} {at : ℕ} {left : Rows R U} (laws : IsGrammar g) (seen : Option (List ℕ)) (fault : Fault R) → Begun g z held0 rest0 rest1 at held1 left
+    → read g.reason_of left (bytes_at at held1) ≡ Err fault → IsAtEnd seen → Over g z held0 rest0 rest1 seen (at + length held1) (Refuses fault)
+begun_short {g = g} {z = z} {held0 = held0} {held1 = held1} {rest1 = rest1} laws seen fault b e at_end = record {
+  read = b.read;
+  took = b.took;
+  top_is = omega (arith, b.partway.at_is, ap (λ (l : List ℕ). length l) b.parts, length-append b.gone held1);
+  prompt = subst (Prompt g z) (sym b.parts) b.prompt;
+  here = front_refused g z (held0 ++ b.read) fault (ap (unit_at g z) b.parts ∙ b.partway.same held1 ∙ e);
+  ends = λ more told.
+      let none : (held0 ++ b.read) ++ more ≡ b.gone ++ held1 = ap (λ l. (held0 ++ b.read) ++ l) (nothing_more seen more at_end told) ∙ append-nil (held0 ++ b.read) ∙ b.parts in
+      ap (front_of g z) none ∙ front_refused g z (b.gone ++ held1) fault (b.partway.same held1 ∙ e);
+}
+
+front_end : {Z R U : Type 0} (g : Grammar Z R U) (z : Z) (bytes : List ℕ) (unit : U) (behind : Cursor) → unit_at g z bytes ≡ Ok (unit, behind) → g.is_end unit ≡ true → front_of g z bytes ≡ front_behind g bytes unit behind true (is_nil behind.rest)
+front_end g z bytes unit behind e h = rw (e, h) refl
+
+-- the end of the stream, and nothing behind it
+pub begun_end : {Z R U : Type 0} {g : Grammar Z R U} {z : Z} {held0 : List ℕ} {rest0 rest1 : Option (List ℕ)} {at : ℕ} (laws : IsGrammar g) (seen : Option (List ℕ)) (unit : U) → Begun g z held0 rest0 rest1 at [] (done unit) → g.is_end unit ≡ true → IsAtEnd seen
+    → (bytes : List ℕ) × (at ≡ g.place z + length bytes) × Over g z held0 rest0 rest1 seen at (Finishes (length bytes) unit)
+begun_end {g = g} {z = z} {held0 = held0} {rest1 = rest1} {at = at} laws seen unit b ends at_end =
+    let size : size_to b.gone (bytes_at at []) ≡ length b.gone = omega arith in
+    let over : front_of g z b.gone ≡ Finishes (length b.gone) unit = front_end g z b.gone unit (bytes_at at []) (begun_unit g z b.gone at unit b.partway) ends ∙ ap (λ n. Finishes n unit) size in (
+      b.gone,
+      b.partway.at_is,
+      record {
+        read = b.read;
+        took = b.took;
+        top_is = omega (arith, b.partway.at_is, ap (λ (l : List ℕ). length l) b.parts, length-append b.gone []);
+        prompt = subst (Prompt g z) (sym b.parts) b.prompt;
+        here = ap (front_of g z) (b.parts ∙ append-nil b.gone) ∙ over;
+        ends = λ more told.
+            let none : (held0 ++ b.read) ++ more ≡ b.gone = ap (λ l. (held0 ++ b.read) ++ l) (nothing_more seen more at_end told) ∙ append-nil (held0 ++ b.read) ∙ b.parts ∙ append-nil b.gone in
+            ap (front_of g z) none ∙ over;
+      },
+    )
+
+-- the end of the stream, and a byte behind it
+pub begun_trailing : {Z R U : Type 0} {g : Grammar Z R U} {z : Z} {held0 held1 : List ℕ} {rest0 rest1 : Option (List ℕ)} {at : ℕ} (laws : IsGrammar g) (seen : Option (List ℕ)) (unit : U) → Begun g z held0 rest0 rest1 at held1 (done unit) → g.is_end unit ≡ true → 0 < length held1
+    → Over g z held0 rest0 rest1 seen (at + length held1) (Refuses (record { place = 8 * at; reason = g.trailing }))
+begun_trailing {g = g} {z = z} {held0 = held0} {held1 = held1} {at = at} laws seen unit b ends some = record {
+  read = b.read;
+  took = b.took;
+  top_is = omega (arith, b.partway.at_is, ap (λ (l : List ℕ). length l) b.parts, length-append b.gone held1);
+  prompt = subst (Prompt g z) (sym b.parts) b.prompt;
+  here = ap (front_of g z) b.parts
+      ∙ front_end g z (b.gone ++ held1) unit (bytes_at at held1) (b.partway.same held1 ∙ read-done g.reason_of unit (bytes_at at held1)) ends
+      ∙ by_length (b.gone ++ held1) (bits_of held1) (omega (arith, some, length-bits held1));
+  ends = λ more told.
+      let v : (held0 ++ b.read) ++ more ≡ b.gone ++ (held1 ++ more) = ap (λ l. l ++ more) b.parts ∙ append_assoc b.gone held1 more in
+      ap (front_of g z) v
+      ∙ front_end g z (b.gone ++ (held1 ++ more)) unit (bytes_at at (held1 ++ more)) (b.partway.same (held1 ++ more) ∙ read-done g.reason_of unit (bytes_at at (held1 ++ more))) ends
+      ∙ by_length (b.gone ++ (held1 ++ more)) (bits_of (held1 ++ more)) (omega (arith, length-bits (held1 ++ more), length-append held1 more));
+}
+  where
+    by_length : (bytes : List ℕ) (rest : List Bool) → 0 < length rest → front_behind g bytes unit (record { place = 8 * at; rest = rest }) true (is_nil rest) ≡ Refuses (record { place = 8 * at; reason = g.trailing })
+    by_length bytes [] h = absurd (omega arith)
+    by_length bytes (b ∷ rest) h = refl
+
+-- ---- bytes that were dropped, seen as held
+
+pub got_back : {n : ℕ} {held0 held1 gone : List ℕ} {rest0 rest1 : Option (List ℕ)} → Got n held0 held1 rest0 rest1 gone → Got n held0 (gone ++ held1) rest0 rest1 []
+got_back got = record { read = got.read; took = got.took; parts = got.parts; asked = got.asked; few = got.few }
+
+-- bytes that are held are used
+pub begun_use : {Z R U : Type 0} {g : Grammar Z R U} {z : Z} {held0 held1 : List ℕ} {rest0 rest1 : Option (List ℕ)} {at : ℕ} {left : Rows R U} (laws : IsGrammar g) (piece held2 : List ℕ) (others : Rows R U)
+    → Begun g z held0 rest0 rest1 at held1 left → held1 ≡ piece ++ held2 → Moves g left at piece others → Begun g z held0 rest0 rest1 (at + length piece) held2 others
+begun_use {g = g} {held1 = held1} {rest1 = rest1} {left = left} laws piece held2 others b split moves =
+    begun_more laws 0 rest1 held2 piece others b (record { needs = λ place bytes short. absurd (omega arith) })
+    (record { read = []; took = Consumes-none rest1; parts = append-nil held1 ∙ split; asked = λ h. absurd (omega arith); few = λ h. absurd (omega arith) }) moves
+
+-- ---- where it isn't known how many bytes the rows need: one byte more than these, which lack
+
+pub begun_lacking : {Z R U : Type 0} {g : Grammar Z R U} {z : Z} {held0 held1 : List ℕ} {rest0 rest1 : Option (List ℕ)} {at : ℕ} {left : Rows R U} (laws : IsGrammar g) (rest2 : Option (List ℕ)) (held2 : List ℕ)
+    → Begun g z held0 rest0 rest1 at held1 left → Lacks g left at held1 → Got (length held1 + 1) held1 held2 rest1 rest2 [] → Begun g z held0 rest0 rest2 at held2 left
+begun_lacking {g = g} {z = z} {held0 = held0} {held1 = held1} {rest0 = rest0} {rest1 = rest1} {at = at} {left = left} laws rest2 held2 b lacks got = record {
+  gone = b.gone;
+  read = b.read ++ got.read;
+  took = Consumes-then rest0 rest1 rest2 b.read got.read b.took got.took;
+  parts = sym (append_assoc held0 b.read got.read) ∙ ap (λ l. l ++ got.read) b.parts ∙ append_assoc b.gone held1 got.read ∙ ap (λ l. b.gone ++ l) got.parts;
+  partway = b.partway;
+  prompt = subst (λ l. Prompt g z (b.gone ++ l)) got.parts (grown got.read got.few);
+}
+  where
+    grown : (new : List ℕ) → (0 < length new → length held1 + length new < length held1 + 1 + 4096) → Prompt g z (b.gone ++ (held1 ++ new))
+    grown [] few = subst (λ l. Prompt g z (b.gone ++ l)) (sym (append-nil held1)) b.prompt
+    grown (x ∷ new) few = record {
+      prompt = λ long.
+          let near = few (omega arith) in
+          let v = b.gone ++ held1 in
+          let all : b.gone ++ (held1 ++ x ∷ new) ≡ v ++ x ∷ new = sym (append_assoc b.gone held1 (x ∷ new)) in
+          let k = length (b.gone ++ (held1 ++ x ∷ new)) - 4096 in
+          let le : k ≤ length v = omega (arith, ap (λ (l : List ℕ). length l) all, length-append v (x ∷ new), near) in
+          let cut : take k (b.gone ++ (held1 ++ x ∷ new)) ≡ take k v = ap (take k) all ∙ take-append-le k v (x ∷ new) le in
+          let none : NoneStands g z v = record { none = ap (is_whole_by g) (b.partway.same held1) ∙ lacks.lacks } in
+          subst (NoneStands g z) (sym cut) (none_front g laws z (take k v) (drop k v) (subst (NoneStands g z) (sym (take-append-drop k v)) none));
+    }
+
+-- no unit stands whole in bytes that lack
+pub begun_none : {Z R U : Type 0} {g : Grammar Z R U} {z : Z} {held0 held1 : List ℕ} {rest0 rest1 : Option (List ℕ)} {at : ℕ} {left : Rows R U} → Begun g z held0 rest0 rest1 at held1 left → Lacks g left at held1 → Lost g z held0 rest0 rest1 (at + length held1)
+begun_none {g = g} {z = z} {held1 = held1} b lacks = record {
+  read = b.read;
+  top_is = omega (arith, b.partway.at_is, ap (λ (l : List ℕ). length l) b.parts, length-append b.gone held1);
+  took = b.took;
+  none = subst (NoneStands g z) (sym b.parts) (record { none = ap (is_whole_by g) (b.partway.same held1) ∙ lacks.lacks });
+  prompt = subst (Prompt g z) (sym b.parts) b.prompt;
+}
+
+pub needs_lacks : {Z R U : Type 0} {g : Grammar Z R U} {left : Rows R U} (n at : ℕ) (bytes : List ℕ) → Needs g left n → length bytes < n → Lacks g left at bytes
+needs_lacks n at bytes needs short = record { lacks = needs.needs at bytes short }
+
+-- a stop for want of memory, wherever the unit is
+pub begun_due : {Z R U : Type 0} {g : Grammar Z R U} {z : Z} {held0 held1 : List ℕ} {rest0 rest1 : Option (List ℕ)} {at : ℕ} {left : Rows R U} → Begun g z held0 rest0 rest1 at held1 left → Due g z held0 rest0 rest1 (at + length held1)
+begun_due {g = g} {z = z} {held1 = held1} b = record {
+  read = b.read;
+  top_is = omega (arith, b.partway.at_is, ap (λ (l : List ℕ). length l) b.parts, length-append b.gone held1);
+  took = b.took;
+  prompt = subst (Prompt g z) (sym b.parts) b.prompt;
+}
+
+pub lost_due : {Z R U : Type 0} {g : Grammar Z R U} {z : Z} {held0 : List ℕ} {rest0 rest1 : Option (List ℕ)} {top : ℕ} → Lost g z held0 rest0 rest1 top → Due g z held0 rest0 rest1 top
+lost_due f = record { read = f.read; top_is = f.top_is; took = f.took; prompt = f.prompt }
+
+-- where the unit's last row stands and the stream is over in it, what is left is as before
+pub begun_same : {Z R U : Type 0} {g : Grammar Z R U} {z : Z} {held0 held1 : List ℕ} {rest0 rest1 : Option (List ℕ)} {at : ℕ} {left : Rows R U} (others : Rows R U) → Begun g z held0 rest0 rest1 at held1 left → left ≡ others → Begun g z held0 rest0 rest1 at held1 others
+begun_same {g = g} {z = z} {held0 = held0} {held1 = held1} {rest0 = rest0} {rest1 = rest1} {at = at} others b e = subst (λ r. Begun g z held0 rest0 rest1 at held1 r) e b

@@ -1,0 +1,51 @@
+-- Laws of the units of a grammar.
+use Rattle.std.proofs.Common.{◌≡◌, ℕ, ◌*◌, ◌<◌, Bool, true, false, not, List, [], ◌∷◌, ◌++◌, length, Result, Ok, Err, refl, sym, ap, ◌∙◌, arith}
+use Rattle.std.specs.Prelude.{◌||◌}
+use Rattle.bit_codes.specs.Bits.{Cursor, bits_of}
+use Rattle.bit_codes.proofs.BitLemmas.{length-bits}
+use Rattle.field_rows.specs.Rows.{Fault, read, is_nil}
+use Rattle.field_rows.specs.Pieces.{with_more, IsWhole, IsSteady}
+use Rattle.field_rows.proofs.Pieces.{read-more}
+use Rattle.field_rows.proofs.Answers.{found_fields}
+use Rattle.field_rows.proofs.Shorter.{BeginsWithBytes, Stand-shorter}
+use Rattle.field_rows.proofs.Words.{bits_of-append}
+use Rattle.unit_table.specs.Grammar.{Grammar, bytes_at, unit_at, is_whole_by, NoneStands}
+
+-- what is asked of a grammar: its rows ask nothing of what follows, and begin with bytes
+pub record IsGrammar {Z R U : Type 0} (g : Grammar Z R U) : Type 0 where
+  pub steady : (z : Z) → IsSteady (g.rows z)
+  pub some : (z : Z) → BeginsWithBytes (g.rows z)
+
+pub bytes_at-append : (place : ℕ) (a b : List ℕ) → bytes_at place (a ++ b) ≡ with_more (bytes_at place a) (bits_of b)
+bytes_at-append place a b = ap (λ (t : List Bool). let c : Cursor = record { place = 8 * place; rest = t } in c) (bits_of-append a b)
+
+bytes_at-whole : (place : ℕ) (bytes : List ℕ) → IsWhole (bytes_at place bytes)
+bytes_at-whole place bytes = record { whole = omega (arith, length-bits bytes) }
+
+-- a unit is the same one whatever follows
+pub unit-more : {Z R U : Type 0} (g : Grammar Z R U) → IsGrammar g → (z : Z) (bytes more : List ℕ) (unit : U) (behind : Cursor) → unit_at g z bytes ≡ Ok (unit, behind) → unit_at g z (bytes ++ more) ≡ Ok (unit, with_more behind (bits_of more))
+unit-more g laws z bytes more unit behind e =
+    ap (read g.reason_of (g.rows z)) (bytes_at-append (g.place z) bytes more)
+    ∙ read-more g.reason_of (g.rows z) (bytes_at (g.place z) bytes) unit behind (bits_of more) (laws.steady z).steady (bytes_at-whole (g.place z) bytes) e
+
+-- it takes bits
+pub unit-shorter : {Z R U : Type 0} (g : Grammar Z R U) → IsGrammar g → (z : Z) (bytes : List ℕ) (unit : U) (behind : Cursor) → unit_at g z bytes ≡ Ok (unit, behind) → length behind.rest < 8 * length bytes
+unit-shorter g laws z bytes unit behind e =
+    let f = found_fields g.reason_of (g.rows z) (bytes_at (g.place z) bytes) unit behind e in
+    omega (arith, Stand-shorter (g.rows z) f.0 (bytes_at (g.place z) bytes) unit behind (laws.some z) f.1, length-bits bytes)
+
+-- what stands whole in front stands whole whatever follows
+whole_more : {Z R U : Type 0} (g : Grammar Z R U) → IsGrammar g → (z : Z) (bytes more : List ℕ) (r : Result (U × Cursor) (Fault R)) (whole : Bool) → unit_at g z bytes ≡ r → is_whole_by g r ≡ whole → is_whole_by g (unit_at g z (bytes ++ more)) ≡ false → is_whole_by g r ≡ false
+whole_more g laws z bytes more (Err fault) whole e h k = refl
+whole_more g laws z bytes more (Ok x) false e h k = h
+whole_more g laws z bytes more (Ok x) true e h k =
+    let far : is_whole_by g (Ok (x.0, with_more x.1 (bits_of more))) ≡ false = ap (is_whole_by g) (sym (unit-more g laws z bytes more x.0 x.1 e)) ∙ k in
+    grow (g.is_end x.0) x.1.rest (bits_of more) h far
+  where
+    grow : (ends : Bool) (rest tail : List Bool) → (not ends || not (is_nil rest)) ≡ true → (not ends || not (is_nil (rest ++ tail))) ≡ false → (not ends || not (is_nil rest)) ≡ false
+    grow false rest tail h k = k
+    grow true [] tail h k = refl
+    grow true (b ∷ rest) tail h k = k
+
+pub none_front : {Z R U : Type 0} (g : Grammar Z R U) → IsGrammar g → (z : Z) (bytes more : List ℕ) → NoneStands g z (bytes ++ more) → NoneStands g z bytes
+none_front g laws z bytes more f = record { none = whole_more g laws z bytes more (unit_at g z bytes) _ refl refl f.none }

@@ -1,0 +1,37 @@
+-- A stream of units, each read by rows.
+use Rattle.std.specs.Prelude.{◌≡◌, ℕ, ◌*◌, Bool, false, not, ◌||◌, List, Result, Ok, Err}
+use Rattle.bit_codes.specs.declared.CodeFault.{CodeFault}
+use Rattle.bit_codes.specs.Bits.{Cursor, bits_of}
+use Rattle.field_rows.specs.Rows.{Rows, Fault, read, is_nil}
+
+-- What the units of a stream are: Z is what earlier units leave, R the reasons of a refusal, U what a unit's rows make.
+pub record Grammar (Z R U : Type 0) : Type 0 where
+  -- the reasons of a short field and of a number that is too large
+  pub reason_of : CodeFault → R
+  -- the rows of a unit's own bytes, behind what earlier units left
+  pub rows : Z → Rows R U
+  -- the place in bytes where the unit begins
+  pub place : Z → ℕ
+  -- what a unit of these bytes leaves
+  pub after : Z → U → List ℕ → Z
+  -- the unit is the last of a stream
+  pub is_end : U → Bool
+  -- the reason where a byte lies behind the last unit
+  pub trailing : R
+
+-- bytes from a place on
+abbrev pub bytes_at : ℕ → List ℕ → Cursor
+bytes_at place bytes = record { place = 8 * place; rest = bits_of bytes }
+
+-- The unit in front of bytes by its rows, and the cursor behind it; or its first fault.
+abbrev pub unit_at : {Z R U : Type 0} → Grammar Z R U → Z → List ℕ → Result (U × Cursor) (Fault R)
+unit_at g z bytes = read g.reason_of (g.rows z) (bytes_at (g.place z) bytes)
+
+-- A unit was read; where it ends the stream, a bit follows it.
+abbrev pub is_whole_by : {Z R U : Type 0} → Grammar Z R U → Result (U × Cursor) (Fault R) → Bool
+is_whole_by g (Ok x) = not (g.is_end x.0) || not (is_nil x.1.rest)
+is_whole_by g (Err fault) = false
+
+-- No unit stands whole in front of the bytes, an end of the stream being whole only where a byte follows it.
+pub record NoneStands {Z R U : Type 0} (g : Grammar Z R U) (z : Z) (bytes : List ℕ) : Type 0 where
+  pub none : is_whole_by g (unit_at g z bytes) ≡ false
