@@ -1,0 +1,3 @@
+pub mod WorkedRows
+pub mod Steady
+pub mod Movable

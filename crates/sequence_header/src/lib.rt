@@ -1,0 +1,8 @@
+//! The sequence header.
+#![tactic(auto)]
+
+mod fields;
+pub mod parts;
+mod reading;
+
+pub use reading::read;
