@@ -1,0 +1,73 @@
+-- The codes of unsigned numbers.
+use Rattle.std.specs.Prelude.{◌≡◌, ◌≢◌, ℕ, zero, suc, ◌+◌, ◌-◌, ◌*◌, ◌/◌, ◌%◌, ◌==◌, ◌^◌, ◌<◌, Bool, true, false, if◌then◌else◌, nat_le, nat_lt, take, drop, List, [], ◌∷◌, ◌++◌, length, Result, Ok, Err}
+use Rattle.bit_codes.specs.declared.CodeFault.{CodeFault}
+use Rattle.bit_codes.specs.declared.CodeFault.TheVariants.{Short, TooLarge}
+use Rattle.bit_codes.specs.Bits.{digit, binary_after, Cursor, cursor_at}
+
+-- 0 b 0 b .. 0 b 1
+abbrev pub interleaved : List Bool → List Bool
+interleaved [] = true ∷ []
+interleaved (b ∷ bs) = false ∷ b ∷ interleaved bs
+
+-- The code of n: where n + 1 is 1 b .. b in binary, it is 0 b .. 0 b 1.
+abbrev pub IsCode : List Bool → ℕ → Type 0
+IsCode code n = (digits : List Bool) × (binary_after 1 digits ≡ n + 1) × (code ≡ interleaved digits)
+
+-- the binary digits of a number below its leading 1, before these; at most so many
+abbrev pub digits_before : ℕ → ℕ → List Bool → List Bool
+digits_before zero m digits = digits
+digits_before (suc k) m digits = if nat_le m 1 then digits else digits_before k (m / 2) ((m % 2 == 1) ∷ digits)
+
+-- the code of a number below 2 ^ 32
+unfoldable pub code_of : ℕ → List Bool
+code_of n = interleaved (digits_before 32 (n + 1) [])
+
+-- the code of a number that a field may hold
+abbrev pub IsAllowedCode : List Bool → ℕ → Type 0
+IsAllowedCode code n = (n < 2 ^ 32) × IsCode code n
+
+abbrev pub IsNumberFault : List Bool → CodeFault → Type 0
+-- the bits are a proper front of an allowed code
+IsNumberFault bits Short = (n : ℕ) × (more : List Bool) × (more ≢ []) × IsAllowedCode (bits ++ more) n
+-- no allowed code begins them, and they begin none
+IsNumberFault bits TooLarge =
+    ((n : ℕ) (code rest : List Bool) → IsAllowedCode code n → bits ≢ code ++ rest)
+    × ((n : ℕ) (more : List Bool) → IsAllowedCode (bits ++ more) n → more ≡ [])
+
+-- A reading is right for the bits from a place on.
+abbrev pub IsNumber : List Bool → ℕ → Result (ℕ × Cursor) CodeFault → Type 0
+IsNumber bits place (Ok x) = (code : List Bool) × IsAllowedCode code x.0 × (bits ≡ code ++ x.1.rest) × (x.1.place ≡ place + length code)
+IsNumber bits place (Err e) = IsNumberFault bits e
+
+-- The number at a place, where the bits read so far make the number m.
+abbrev pub number_from : ℕ → ℕ → List Bool → Result (ℕ × Cursor) CodeFault
+number_from m place [] = Err (if nat_le m (2 ^ 32) then Short else TooLarge)
+number_from m place (true ∷ bits) = if nat_le m (2 ^ 32) then Ok (m - 1, record { place = place + 1; rest = bits }) else Err TooLarge
+number_from m place (false ∷ []) = Err (if nat_le (2 * m) (2 ^ 32) then Short else TooLarge)
+number_from m place (false ∷ b ∷ bits) = number_from (2 * m + digit b) (place + 2) bits
+
+abbrev pub number_at : Cursor → Result (ℕ × Cursor) CodeFault
+number_at c = number_from 1 c.place c.rest
+
+abbrev pub flag_at : Cursor → Result (Bool × Cursor) CodeFault
+flag_at c = flag_from c.place c.rest
+  where
+    flag_from : ℕ → List Bool → Result (Bool × Cursor) CodeFault
+    flag_from place [] = Err Short
+    flag_from place (b ∷ bits) = Ok (b, record { place = place + 1; rest = bits })
+
+-- What a reader answers is what reading gives. A fault changes nothing.
+abbrev pub Reads : {X : Type 0} → Result X CodeFault → Cursor → Cursor → Result (X × Cursor) CodeFault → Type 0
+Reads (Ok x) old new read = read ≡ Ok (x, new)
+Reads (Err e) old new read = (read ≡ Err e) × (new ≡ old)
+
+-- The same, for a value and the place after it.
+abbrev pub Finds : {X : Type 0} → Result (X × ℕ) CodeFault → List ℕ → Result (X × Cursor) CodeFault → Type 0
+Finds (Ok x) bytes read = read ≡ Ok (x.0, cursor_at bytes x.1)
+Finds (Err e) bytes read = read ≡ Err e
+
+-- the number of the next n bits
+abbrev pub bits_at : ℕ → Cursor → Result (ℕ × Cursor) CodeFault
+bits_at n c =
+    if nat_lt (length c.rest) n then Err Short
+    else Ok (binary_after 0 (take n c.rest), record { place = c.place + n; rest = drop n c.rest })
