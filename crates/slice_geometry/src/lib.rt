@@ -1,0 +1,41 @@
+//! Where the parts of a picture lie: padded components, subbands, the rectangles and the bytes of slices.
+#![tactic(auto)]
+
+ghost use Rattle.slice_geometry.specs.Shape.{IsSize, IsDepth};
+
+/// A width and a height.
+#[derive(Clone, Copy, Debug, PartialEq, Eq)]
+pub struct Size {
+    pub w: u32,
+    pub h: u32,
+}
+
+/// One of the three components of a picture: luma, or one of the two colour components.
+#[derive(Clone, Copy, Debug, PartialEq, Eq)]
+pub enum Component {
+    Luma,
+    C1,
+    C2,
+}
+
+/// The sizes of a picture's components, and the bits of their samples.
+///
+/// Each width and height is 1 to 8192, each product of a width and its height at most 2^24, each depth 1 to 16.
+#[derive(Clone, Copy, Debug, PartialEq, Eq)]
+pub struct PictureShape {
+    pub luma: Size,
+    pub colour: Size,
+    pub luma_depth: u32,
+    pub colour_depth: u32,
+    pub ghost luma_fits: { IsSize luma.w luma.h },
+    pub ghost colour_fits: { IsSize colour.w colour.h },
+    pub ghost luma_depth_fits: { IsDepth luma_depth },
+    pub ghost colour_depth_fits: { IsDepth colour_depth },
+}
+
+/// What a slice begins with: its quantisation index, and the length of its luma block in bits.
+#[derive(Clone, Copy, Debug, PartialEq, Eq)]
+pub struct SliceHead {
+    pub qindex: u32,
+    pub luma_bits: u32,
+}
