@@ -233,3 +233,6 @@ impl Plane {
         }
     }
 }
+
+#[cfg(test)]
+mod tests;
