@@ -1,12 +1,6 @@
 -- Signed values in a block of bits: what the field says of a block (A.4 of the standard).
-use Rattle.std.specs.Prelude.{◌≡◌, ℕ, zero, suc, Bool, true, false, List, [], ◌∷◌, ◌++◌, ℤ, pos, negsuc, ◌⊎◌}
-use Rattle.bit_codes.specs.Codes.{IsCode}
-
--- The code of a signed value: that of its magnitude and, where it isn't 0, a bit that is 1 for a negative one.
-abbrev pub IsSignedCode : List Bool → ℤ → Type 0
-IsSignedCode code (pos zero) = IsCode code 0
-IsSignedCode code (pos (suc n)) = (magnitude : List Bool) × IsCode magnitude (suc n) × (code ≡ magnitude ++ false ∷ [])
-IsSignedCode code (negsuc n) = (magnitude : List Bool) × IsCode magnitude (suc n) × (code ≡ magnitude ++ true ∷ [])
+use Rattle.std.specs.Prelude.{◌≡◌, ℕ, zero, suc, Bool, true, false, List, [], ◌∷◌, ◌++◌, ℤ, ◌⊎◌}
+use Rattle.bit_codes.specs.Codes.{IsSignedCode}
 
 -- the joined codes of values
 abbrev pub AreCodes : List Bool → List ℤ → Type 0
