@@ -1,0 +1,6 @@
+pub mod Undone
+pub mod SameTable
+pub mod Growth
+pub mod Inside
+pub mod Coefficients
+pub mod WorkedLines

@@ -1,0 +1,5 @@
+pub mod Steps
+pub mod Lines
+pub mod Transform
+pub mod Table
+pub mod Ranges
