@@ -8,15 +8,13 @@ fn code_len(v: u64) -> u32
     requires { v < 2 ^ 37 }
     ensures length { result ≡ length (codes.code_of v) }
     ensures short { result < 128 }
-    ensures allowed { v < 2 ^ 32 → result ≤ 65 }
 {
     2 * (v + 1).ilog2() + 1
 }
 
-/// How many bits the code of a number has, at most 65.
+/// How many bits the code of a number has.
 pub fn uint_len(v: u32) -> u32
-    ensures value { result ≡ length (codes.code_of v) }
-    ensures most { result ≤ 65 }
+    ensures { result ≡ length (codes.code_of v) }
 {
     code_len(u64::from(v))
 }
