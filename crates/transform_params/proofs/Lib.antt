@@ -1,0 +1,4 @@
+pub mod Allowed
+pub mod Movable
+pub mod WrittenBack
+pub mod Entries

@@ -1,0 +1,15 @@
+use Rattle.std.proofs.Common.{◌≡◌, ◌+◌, ◌++◌, ◌<◌, ◌^◌, ℕ, get_or, length, drop}
+use Rattle.bit_codes.specs.Bits.{bits_before}
+use Rattle.field_rows.specs.Given.{written}
+use Rattle.transform_params.specs.Fields.{entry_fields, matrix_fields}
+use Rattle.transform_params.proofs.writing.put_matrix.Given as goal
+
+abbrev pub invariant-loop-entry : goal.invariant-loop-entry
+invariant-loop-entry l = record {
+  small : (i : ℕ) → get_or l.entry-items i 0 < 2 ^ 32;
+  items : l.entry-items ≡ l.matrix.entries;
+  same : l.w.bytes.ghost_name ≡ l.fn.w.bytes.ghost_name;
+  room : length l.w.bytes.now ≡ length l.fn.w.bytes.now;
+  place : l.w.place + length (written (entry_fields (drop l.entry-index l.entry-items))) ≡ l.fn.w.place + length (written (matrix_fields l.matrix));
+  written : bits_before l.w.place l.w.bytes.now ++ written (entry_fields (drop l.entry-index l.entry-items)) ≡ bits_before l.fn.w.place l.fn.w.bytes.now ++ written (matrix_fields l.matrix);
+}

@@ -1,0 +1,6 @@
+-- What is seen of transform parameters.
+use Rattle.transform_params.specs.declared.TransformParams.{TransformParams}
+use Rattle.transform_params.specs.Params.{Params}
+
+abbrev pub params_of : TransformParams → Params
+params_of p = record { wavelet = p.wavelet; slicing = p.layout; matrix = p.matrix }

@@ -1,0 +1,121 @@
+//! Worked parameters, and each rule at its bound and past it.
+
+use crate::{TransformFault, TransformParams, TransformReason};
+use bit_codes::{BitWriter, uint_len};
+use lifting::Wavelet;
+use std::process::Abort;
+
+// The fields up to the denominator, the custom matrix flag and the entries.
+#[derive(Drop)]
+struct Case<'a> {
+    fields: [u32; 6],
+    custom: bool,
+    entries: &'a [u32],
+    // the number of the field that is refused, and why
+    fault: Option<(usize, TransformReason)>,
+}
+
+impl<'a> Case<'a> {
+    fn check(&self, rt: &impl Abort) {
+        let mut bytes = [0; 160];
+        let mut writer = BitWriter::new(&mut bytes);
+        for field in self.fields {
+            assert!(rt; writer.place() <= 400 && uint_len(field) <= 65);
+            writer.put_uint(field);
+        }
+        assert!(rt; writer.place() <= 400);
+        writer.put_flag(self.custom);
+        for entry in self.entries {
+            assert!(rt; writer.place() <= 1200 && uint_len(*entry) <= 65);
+            writer.put_uint(*entry);
+        }
+        let found = TransformParams::read(&bytes);
+        match (found, self.fault) {
+            (Ok((params, _)), None) => {
+                assert_eq!(rt; params.layout.slices_x(), self.fields[2]);
+                assert_eq!(rt; params.layout.b(), self.fields[5]);
+                assert_eq!(rt; params.matrix.entries(), self.entries);
+            }
+            (Err(fault), Some((number, reason))) => {
+                let mut bit = 0;
+                for (i, field) in self.fields.iter().enumerate() {
+                    if i < number {
+                        assert!(rt; bit <= 400 && uint_len(*field) <= 65);
+                        bit += u64::from(uint_len(*field));
+                    }
+                }
+                assert_eq!(rt; fault, TransformFault { bit, reason });
+            }
+            _ => assert!(rt; false),
+        }
+    }
+}
+
+#[test]
+fn rules_at_their_bounds(rt: HostRuntime) {
+    let thirteen = [u32::MAX, 1, 2, 3, 4, 5, 6, 7, 8, 9, 10, 11, u32::MAX];
+    let cases: [(u32, u32, u32, u32, u32, u32, bool, usize, Option<(usize, TransformReason)>); 22] = [
+        (3, 0, 1, 1, 1, 1, true, 1, None),
+        (4, 1, 1, 1, 1, 1, true, 4, None),
+        (1, 2, 8192, 128, 256, 1, true, 7, None),
+        (1, 3, 128, 8192, u32::MAX, u32::MAX, true, 10, None),
+        (1, 4, 1, 1, 1 << 28, 1, true, 13, None),
+        (0, 0, 1, 1, 1, 1, true, 1, Some((0, TransformReason::WaveletRefused(0)))),
+        (2, 0, 1, 1, 1, 1, true, 1, Some((0, TransformReason::WaveletRefused(2)))),
+        (5, 0, 1, 1, 1, 1, true, 1, Some((0, TransformReason::WaveletRefused(5)))),
+        (1, 5, 1, 1, 1, 1, true, 1, Some((1, TransformReason::DepthRefused))),
+        (1, 0, 0, 1, 1, 1, true, 1, Some((2, TransformReason::SlicesRefused))),
+        (1, 0, 8193, 1, 1, 1, true, 1, Some((2, TransformReason::SlicesRefused))),
+        (1, 0, 1, 0, 1, 1, true, 1, Some((3, TransformReason::SlicesRefused))),
+        (1, 0, 1, 8193, 1, 1, true, 1, Some((3, TransformReason::SlicesRefused))),
+        (1, 0, 8192, 129, 1, 1, true, 1, Some((3, TransformReason::SlicesRefused))),
+        (1, 0, 1, 1, 1, 0, true, 1, Some((5, TransformReason::ShareRefused))),
+        (1, 0, 1, 1, 1, 2, true, 1, Some((5, TransformReason::ShareRefused))),
+        (1, 0, 1, 1, 0, 0, true, 1, Some((5, TransformReason::ShareRefused))),
+        (1, 0, 1, 1, (1 << 28) + 1, 1, true, 1, Some((5, TransformReason::ShareRefused))),
+        (1, 0, 8192, 128, 257, 1, true, 1, Some((5, TransformReason::ShareRefused))),
+        (1, 0, 8192, 128, u32::MAX, u32::MAX, true, 1, None),
+        (1, 0, 1, 1, 1, 1, false, 1, Some((6, TransformReason::DefaultMatrix))),
+        (7, 9, 0, 0, 0, 0, false, 1, Some((0, TransformReason::WaveletRefused(7)))),
+    ];
+    for (wavelet, depth, x, y, a, b, custom, count, fault) in cases {
+        assert!(&rt; count <= 13);
+        let case = Case {
+            fields: [wavelet, depth, x, y, a, b],
+            custom,
+            entries: &thirteen[..count],
+            fault,
+        };
+        case.check(&rt);
+    }
+}
+
+#[test]
+fn worked_parameters(rt: HostRuntime) {
+    let cases: [(&[u8], Wavelet, u32, u32, u32); 4] = [
+        (&[0x0C, 0x92, 0x70], Wavelet::HaarFlat, 1, 1, 21),
+        (&[0x0D, 0x92, 0x70], Wavelet::HaarFlat, 2, 1, 22),
+        (&[0x0C, 0x96, 0x70], Wavelet::HaarFlat, 1, 2, 22),
+        (&[0x24, 0x94, 0x9F, 0x80], Wavelet::LeGall, 1, 5, 26),
+    ];
+    for (bytes, wavelet, slices_x, a, unit) in cases {
+        assert!(&rt; bytes.len() <= 4);
+        match TransformParams::read(bytes) {
+            Ok((params, len)) => {
+                assert_eq!(&rt; len, bytes.len());
+                assert_eq!(&rt; params.wavelet, wavelet);
+                assert_eq!(&rt; params.layout.slices_x(), slices_x);
+                assert_eq!(&rt; params.layout.a(), a);
+                assert_eq!(&rt; params.unit_len(), unit);
+                let mut written = [0xFF; 4];
+                let len = params.byte_len();
+                assert!(&rt; len <= 4);
+                params.write(&mut written[..len]);
+                assert_eq!(&rt; &written[..len], bytes);
+            }
+            Err(_) => assert!(&rt; false),
+        }
+        let cut = TransformParams::read(&bytes[..1]);
+        assert!(&rt; cut.is_err());
+    }
+}
