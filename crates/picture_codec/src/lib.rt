@@ -1,0 +1,6 @@
+//! Stub.
+#![tactic(auto)]
+
+/// Nothing.
+pub fn nothing()
+{}
