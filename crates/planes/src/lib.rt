@@ -1,0 +1,238 @@
+//! Planes of signed numbers, and the subbands of a transform as planes. Rows are lent, and never copied.
+#![tactic(auto)]
+
+ghost use Rattle.std.specs.Prelude.{◌≡◌, ◌≢◌, ℕ, ◌-◌, ◌<◌, ◌≤◌, min, length, map, replicate, slice_index_or, pos, IfOk};
+ghost use Rattle.std.specs.Borrow.{sem};
+ghost use Rattle.std.specs.List.{All};
+ghost use Rattle.planes.specs.Raster.{height, row_of, at, with_place, zeros, IsEdgeFilled};
+ghost use Rattle.planes.specs.Lending.{LendsRow};
+
+mod band_set;
+mod row_store;
+
+pub use band_set::Bands;
+use row_store::Rows;
+pub use row_store::Three;
+use std::alloc::{AllocError, AllocFailed, Global};
+use std::marker::Model;
+
+/// Memory ran out.
+#[derive(Clone, Copy, Debug, PartialEq, Eq)]
+pub struct NoMemory;
+
+impl From<AllocError> for NoMemory {
+    fn from(_error: AllocError) -> NoMemory {
+        NoMemory
+    }
+}
+
+impl<T: Drop> From<AllocFailed<T>> for NoMemory {
+    fn from(_failed: AllocFailed<T>) -> NoMemory {
+        NoMemory
+    }
+}
+
+/// The orientation of a subband: low or high frequencies across, then down.
+#[derive(Clone, Copy, Debug, PartialEq, Eq)]
+pub enum Orient {
+    Ll,
+    Hl,
+    Lh,
+    Hh,
+}
+
+/// The places in the columns `x0..x1` and the rows `y0..y1`; the end places lie outside.
+#[derive(Clone, Copy, Debug, PartialEq, Eq)]
+pub struct Rect {
+    pub x0: u32,
+    pub x1: u32,
+    pub y0: u32,
+    pub y1: u32,
+}
+
+/// A plane of signed numbers, row by row. Contracts see its width and its rows.
+///
+/// A plane of w by h takes 8 * w * h bytes, and a few words a row.
+#[derive(Drop)]
+pub struct Plane {
+    rows: Rows<i64>,
+}
+
+impl Model for Plane {
+    ghost use Rattle.std.specs.Prelude.{ℤ};
+    ghost use Rattle.planes.specs.Raster.{Raster};
+
+    ghost Value = { Raster ℤ };
+
+    ghost view = { λ p. p.rows };
+}
+
+/// The subbands of the three components.
+#[derive(Drop)]
+pub struct Trio {
+    pub luma: Bands,
+    pub c1: Bands,
+    pub c2: Bands,
+}
+
+/// A plane for each of the three components.
+#[derive(Drop)]
+pub struct ThreePlanes {
+    pub luma: Plane,
+    pub c1: Plane,
+    pub c2: Plane,
+}
+
+fn zero_rows(alloc: Global, w: usize, h: usize) -> Result<Vec<Vec<i64>>, NoMemory>
+    ensures zero { IfOk result (λ rows. map (λ r. r.items) rows.items ≡ replicate h (replicate w (pos 0))) }
+    ensures every { IfOk result (λ rows. All (λ r. length r.items ≡ w) rows.items) }
+    ensures count { IfOk result (λ rows. length rows.items ≡ h) }
+{
+    let mut rows = Vec::with_capacity(alloc, h)?;
+    for _y in 0..h {
+        rows.push(Vec::from_elem(alloc, 0i64, w)?)?;
+    }
+    Ok(rows)
+}
+
+// Gives each place from w on the number of the last place before w.
+fn fill_right(row: &mut [i64], w: usize)
+    requires some { 1 ≤ w }
+    requires inside { w ≤ length row.old }
+    ensures { (x : ℕ) → x < length row.old → slice_index_or row.new x (pos 0) ≡ slice_index_or row.old (min x (w - 1)) (pos 0) }
+{
+    let last = row[w - 1];
+    for x in w..row.len() {
+        row[x] = last;
+    }
+}
+
+impl Plane {
+    /// A plane of w by h zeros, both at most 8208.
+    pub fn new(alloc: Global, w: u32, h: u32) -> Result<Plane, NoMemory>
+        requires w_fits { w ≤ 8208 }
+        requires h_fits { h ≤ 8208 }
+        ensures { IfOk result (λ p. p ≡ zeros w h) }
+    {
+        let rows = zero_rows(alloc, w as usize, h as usize)?;
+        Ok(Plane {
+            rows: Rows::from_rows(w, rows, Vec::new(alloc)),
+        })
+    }
+
+    /// The width, at most 8208.
+    pub fn w(&self) -> u32
+        ensures value { result ≡ self.now.w }
+        ensures most { result ≤ 8208 }
+    {
+        self.rows.w()
+    }
+
+    /// The height, at most 8208.
+    pub fn h(&self) -> u32
+        ensures value { result ≡ height self.now }
+        ensures most { result ≤ 8208 }
+    {
+        self.rows.h()
+    }
+
+    /// The number in row y and column x.
+    pub fn get(&self, y: u32, x: u32) -> i64
+        requires y_inside { y < height self.now }
+        requires x_inside { x < self.now.w }
+        ensures { result ≡ at self.now y x }
+    {
+        self.row(y)[x as usize]
+    }
+
+    /// Puts v into row y and column x, and leaves all else.
+    pub fn set(&mut self, y: u32, x: u32, v: i64)
+        requires y_inside { y < height self.old }
+        requires x_inside { x < self.old.w }
+        ensures whole { self.new ≡ with_place self.old y x v }
+        ensures here { at self.new y x ≡ v }
+    {
+        self.row_mut(y)[x as usize] = v;
+    }
+
+    /// Row y.
+    pub fn row(&self, y: u32) -> &[i64]
+        requires { y < height self.now }
+        ensures value { result.now ≡ row_of self.now y }
+        ensures len { length result.now ≡ self.now.w }
+    {
+        self.rows.row(y)
+    }
+
+    /// Row y, to write. After the loan the row is what its holder left, and all other rows stay.
+    pub fn row_mut(&mut self, y: u32) -> &mut [i64]
+        requires { y < height self.old }
+        ensures* writes_back { sem 𝓛 (LendsRow self.entry y result) }
+        ensures value { result.now ≡ row_of self.old y }
+        ensures len { length result.now ≡ self.old.w }
+    {
+        self.rows.row_mut(y)
+    }
+
+    /// Row `dst` to write, beside the rows a and b to read, which may be one row. After the loan row `dst` is what
+    /// its holder left, and all other rows stay.
+    pub fn rows_three(&mut self, dst: u32, a: u32, b: u32) -> Three<'_>
+        requires dst_inside { dst < height self.old }
+        requires a_inside { a < height self.old }
+        requires b_inside { b < height self.old }
+        requires not_a { dst ≢ a }
+        requires not_b { dst ≢ b }
+        ensures* writes_back { sem 𝓛 (LendsRow self.entry dst result.dst) }
+        ensures dst_row { result.dst.now ≡ row_of self.old dst }
+        ensures a_row { result.a.now ≡ row_of self.old a }
+        ensures b_row { result.b.now ≡ row_of self.old b }
+        ensures dst_len { length result.dst.now ≡ self.old.w }
+        ensures a_len { length result.a.now ≡ self.old.w }
+        ensures b_len { length result.b.now ≡ self.old.w }
+    {
+        self.rows.rows_three(dst, a, b)
+    }
+
+    /// Gives each place beyond the first w columns and h rows the number of the nearest place within them.
+    pub fn fill_edges(&mut self, w: u32, h: u32)
+        requires some_columns { 1 ≤ w }
+        requires some_rows { 1 ≤ h }
+        requires w_fits { w ≤ self.old.w }
+        requires h_fits { h ≤ height self.old }
+        ensures { IsEdgeFilled self.old self.new w h }
+    {
+        self.fill_columns(w, h);
+        self.fill_rows(h);
+    }
+
+    // Gives each place of the first h rows beyond the first w columns the number of the last of these columns.
+    fn fill_columns(&mut self, w: u32, h: u32)
+        requires some_columns { 1 ≤ w }
+        requires w_fits { w ≤ self.old.w }
+        requires h_fits { h ≤ height self.old }
+        ensures same_width { self.new.w ≡ self.old.w }
+        ensures same_height { height self.new ≡ height self.old }
+        ensures filled { (y x : ℕ) → y < h → x < self.old.w → at self.new y x ≡ at self.old y (min x (w - 1)) }
+    {
+        for y in 0..h {
+            fill_right(self.row_mut(y), w as usize);
+        }
+    }
+
+    // Makes each row beyond the first h the last of these.
+    fn fill_rows(&mut self, h: u32)
+        requires some_rows { 1 ≤ h }
+        requires h_fits { h ≤ height self.old }
+        ensures same_width { self.new.w ≡ self.old.w }
+        ensures same_height { height self.new ≡ height self.old }
+        ensures filled { (y : ℕ) → y < height self.old → row_of self.new y ≡ row_of self.old (min y (h - 1)) }
+    {
+        for y in h..self.h() {
+            let Three { dst, a, .. } = self.rows_three(y, h - 1, h - 1);
+            dst.copy_from_slice(a);
+        }
+    }
+}
+
+#[cfg(test)]
+mod tests;

@@ -1,0 +1,75 @@
+//! Where the parts of a picture lie: padded components, subbands, the rectangles and the bytes of slices.
+#![tactic(auto)]
+
+ghost use Rattle.std.specs.Prelude.{◌≡◌, ◌≤◌, ◌^◌};
+ghost use Rattle.slice_geometry.specs.Shape.{IsSize, IsDepth};
+ghost use Rattle.slice_geometry.specs.Slicing as slicing;
+ghost use Rattle.slice_geometry.specs.SliceLaws.{SharesSumToTheWhole, EachShareIsAtLeastOne, EachPlaceIsHeld, NoPlaceIsShared};
+
+mod slice_layout;
+mod unit_list;
+
+use bit_codes::intlog2;
+pub use slice_layout::{Layout, LayoutFault};
+pub use unit_list::{UnitShape, UnitShapes};
+
+/// A width and a height.
+#[derive(Clone, Copy, Debug, PartialEq, Eq)]
+pub struct Size {
+    pub w: u32,
+    pub h: u32,
+}
+
+/// One of the three components of a picture: luma, or one of the two colour components.
+#[derive(Clone, Copy, Debug, PartialEq, Eq)]
+pub enum Component {
+    Luma,
+    C1,
+    C2,
+}
+
+/// The sizes of a picture's components, and the bits of their samples.
+///
+/// Each width and height is 1 to 8192, each product of a width and its height at most 2^24, each depth 1 to 16.
+#[derive(Clone, Copy, Debug, PartialEq, Eq)]
+pub struct PictureShape {
+    pub luma: Size,
+    pub colour: Size,
+    pub luma_depth: u32,
+    pub colour_depth: u32,
+    pub ghost luma_fits: { IsSize luma.w luma.h },
+    pub ghost colour_fits: { IsSize colour.w colour.h },
+    pub ghost luma_depth_fits: { IsDepth luma_depth },
+    pub ghost colour_depth_fits: { IsDepth colour_depth },
+}
+
+/// What a slice begins with: its quantisation index, and the length of its luma block in bits.
+#[derive(Clone, Copy, Debug, PartialEq, Eq)]
+pub struct SliceHead {
+    pub qindex: u32,
+    pub luma_bits: u32,
+}
+
+/// How many bits give the length of the luma block in a slice of so many bytes, 1 to 2^28.
+pub fn length_bits(bytes: u32) -> u32
+    requires some { 1 ≤ bytes }
+    requires most { bytes ≤ 2 ^ 28 }
+    ensures { result ≡ slicing.length_bits bytes }
+{
+    intlog2(8 * bytes - 7)
+}
+
+/// A law: the bytes of the slices sum to the whole, and each slice has at least one.
+pub fn shares_sum_to_the_whole()
+    ensures whole { SharesSumToTheWhole }
+    ensures some { EachShareIsAtLeastOne }
+{}
+
+/// A law: each place of a subband lies in the rectangle of exactly one slice.
+pub fn each_place_lies_in_one_slice()
+    ensures held { EachPlaceIsHeld }
+    ensures alone { NoPlaceIsShared }
+{}
+
+#[cfg(test)]
+mod tests;
