@@ -3,3 +3,4 @@ pub mod Lines
 pub mod Transform
 pub mod Table
 pub mod Ranges
+pub mod Places

@@ -1,7 +1,14 @@
 //! Wavelet synthesis and analysis by lifting: LeGall 5,3, and Haar with and without a shift.
 #![tactic(auto)]
 
+mod columns;
+mod kernels;
 pub mod laws;
+mod level;
+mod rows;
+
+pub use kernels::{lift_one, lift_pair};
+pub use level::synth_level;
 
 /// The wavelets of the profile.
 #[derive(Clone, Copy, Debug, PartialEq, Eq)]

@@ -1,72 +1,60 @@
--- A unit's head of 13 bytes: its spelling, and its rows.
-use Rattle.std.specs.Prelude.{ℕ, List, [], ◌∷◌, ◌++◌, slice_index, ◌==◌, if◌then◌else◌, Option, None, Some, Result, unwrap_or, Bool, true, false}
-use Rattle.std.specs.Int.{w32, from_be_bytes, to_be_bytes}
-use Rattle.std.specs.Str.{bytes_eq}
-use Rattle.parse_info.specs.Rows.{Row, Table, read_fields, with_fields}
+-- The head of a unit: the standard's parse info header (SMPTE ST 2042-1:2017, 10.5.1).
+use Rattle.std.specs.Prelude.{ℕ, List, [], ◌∷◌, take, drop, slice_index, ◌==◌, if◌then◌else◌, Result, Ok, Err, Bool, true, false}
+use Rattle.std.specs.Int.{w32, from_be_bytes}
+use Rattle.bit_codes.specs.Bits.{Cursor, cursor_at}
+use Rattle.field_rows.specs.Rows.{Rule, ◌or_else◌, Rows, done, ◌>>=◌, word_under, byte_under, Fault, read}
 use Rattle.parse_info.specs.declared.ParseInfo.{ParseInfo}
 use Rattle.parse_info.specs.declared.Code.{Code}
-use Rattle.parse_info.specs.declared.Code.TheVariants.{SequenceHeader, EndOfSequence, Auxiliary, Padding, LowDelayPicture}
 use Rattle.parse_info.specs.declared.InfoFault.{InfoFault}
 use Rattle.parse_info.specs.declared.InfoFault.TheVariants.{PrefixShort, BadPrefix, CodeShort, UnsupportedCode, NextShort, PreviousShort}
+use Rattle.parse_info.specs.Code.{is_supported, code_in}
 
--- "BBCD"
-abbrev pub prefix : List ℕ
-prefix = 66 ∷ 66 ∷ 67 ∷ 68 ∷ []
+-- The rows of a head, for every reader of units. Each has its own names for a bad prefix and for a code outside the
+-- profile, and its own further rules: on the code, on the next offset behind the code, and on the previous offset behind
+-- both. The prefix is "BBCD".
+unfoldable pub head_rows : {R : Type 0} → R → (ℕ → R) → (Code → List (Rule R)) → (Code → ℕ → List (Rule R)) → (Code → ℕ → ℕ → List (Rule R)) → Rows R ParseInfo
+head_rows bad_prefix unsupported code_rules next_rules previous_rules = do
+  prefix ← word_under (λ v. (v == 0x42424344 or_else bad_prefix) ∷ [])
+  code ← byte_under (λ v. (is_supported v or_else unsupported v) ∷ code_rules (code_in v))
+  next ← word_under (next_rules (code_in code))
+  previous ← word_under (previous_rules (code_in code) next)
+  done (record { code = code_in code; next = next; previous = previous })
 
-abbrev pub code_byte : Code → ℕ
-code_byte SequenceHeader = 0
-code_byte EndOfSequence = 16
-code_byte Auxiliary = 32
-code_byte Padding = 48
-code_byte LowDelayPicture = 200
+-- ---- a head alone
 
--- the code that a byte stands for
-abbrev pub code_of : ℕ → Option Code
-code_of byte =
-    if byte == 0 then Some SequenceHeader
-    else (if byte == 16 then Some EndOfSequence
-    else (if byte == 32 then Some Auxiliary
-    else (if byte == 48 then Some Padding
-    else (if byte == 200 then Some LowDelayPicture else None))))
+-- why a head is refused
+pub data HeadReason : Type 0 where
+  IsShort : HeadReason
+  IsBadPrefix : HeadReason
+  IsUnsupported : ℕ → HeadReason
 
--- the head's bytes
-abbrev pub spelling : ParseInfo → List ℕ
-spelling info = prefix ++ code_byte info.code ∷ [] ++ to_be_bytes w32 info.next ++ to_be_bytes w32 info.previous
+-- the rows with no further rules
+unfoldable pub plain_rows : Rows HeadReason ParseInfo
+plain_rows = head_rows IsBadPrefix IsUnsupported (λ code. []) (λ code next. []) (λ code next previous. [])
 
--- the code of a field that was read
-abbrev pub code_in : List ℕ → Code
-code_in field = unwrap_or (code_of (slice_index field 0)) Padding
+-- A field that is short is told by the bit where it begins, with the fields ahead of it: the code behind the prefix, and
+-- the next offset behind the code.
+abbrev pub short_fault : List ℕ → ℕ → InfoFault
+short_fault bytes place =
+    let code = code_in (slice_index (drop 4 bytes) 0) in
+    let next = from_be_bytes w32 (take 4 (drop 1 (drop 4 bytes))) in
+    if place == 0 then PrefixShort
+    else (if place == 32 then CodeShort
+    else (if place == 40 then NextShort code
+    else PreviousShort code next))
 
--- a field that no rule breaks
-abbrev pub free_row : {F : Type 0} → ℕ → F → Row F
-free_row size short = record { size = size; short = short; broken = λ _. None }
+abbrev pub fault_of : List ℕ → ℕ → HeadReason → InfoFault
+fault_of bytes place IsShort = short_fault bytes place
+fault_of bytes place IsBadPrefix = BadPrefix
+fault_of bytes place (IsUnsupported code) = UnsupportedCode code
 
-abbrev pub prefix_row : Row InfoFault
-prefix_row = record { size = 4; short = PrefixShort; broken = λ bytes. if bytes_eq bytes prefix then None else Some BadPrefix }
-
-abbrev pub code_fault : ℕ → Option Code → Option InfoFault
-code_fault byte None = Some (UnsupportedCode byte)
-code_fault byte (Some code) = None
-
-abbrev pub code_row : Row InfoFault
-code_row = record { size = 1; short = CodeShort; broken = λ bytes. code_fault (slice_index bytes 0) (code_of (slice_index bytes 0)) }
-
--- the rows of a head: the prefix, the code, the next and the previous offset
-abbrev pub head_rows : Table InfoFault
-head_rows [] = Some prefix_row
-head_rows (p ∷ []) = Some code_row
-head_rows (p ∷ c ∷ []) = Some (free_row 4 (NextShort (code_in c)))
-head_rows (p ∷ c ∷ n ∷ []) = Some (free_row 4 (PreviousShort (code_in c) (from_be_bytes w32 n)))
-head_rows (p ∷ c ∷ n ∷ v ∷ more) = None
-
--- what a head's fields say
-abbrev pub info_of : List (List ℕ) → ParseInfo
-info_of (p ∷ c ∷ n ∷ v ∷ more) = record { code = code_in c; next = from_be_bytes w32 n; previous = from_be_bytes w32 v }
-info_of fewer = record { code = Padding; next = 0; previous = 0 }
+abbrev pub answer_of : List ℕ → Result (ParseInfo × Cursor) (Fault HeadReason) → Result ParseInfo InfoFault
+answer_of bytes (Ok read) = Ok read.0
+answer_of bytes (Err fault) = Err (fault_of bytes fault.place fault.reason)
 
 -- the head in front of the bytes, or its first fault
 unfoldable pub info_at : List ℕ → Result ParseInfo InfoFault
-info_at bytes = with_fields info_of (read_fields head_rows 4 [] bytes)
+info_at bytes = answer_of bytes (read (λ fault. IsShort) plain_rows (cursor_at bytes 0))
 
 -- the bytes end inside the head
 abbrev pub is_short : InfoFault → Bool

@@ -1,4 +1,4 @@
-use Rattle.std.proofs.Common.{◌≡◌, [], Ok, Err, Result, refl, ap, ◌∙◌, subst, sym}
+use Rattle.std.proofs.Common.{◌≡◌, [], Ok, Result, refl, ap, ◌∙◌, subst, sym}
 use Rattle.vc2_cli.specs.declared.words.Command.{Command}
 use Rattle.vc2_cli.specs.declared.words.Command.TheVariants.{Chain}
 use Rattle.vc2_cli.specs.declared.status.WordFault.{WordFault}
@@ -7,7 +7,7 @@ use Rattle.vc2_cli.specs.Settled.{Settles}
 use Rattle.vc2_cli.specs.Chain.{chain_limited}
 use Rattle.vc2_cli.proofs.ChainLaws.{limited_chain_laws}
 use Rattle.vc2_cli.proofs.Heads.{nothing_follows}
-use Rattle.vc2_cli.proofs.Settling.{settled, settled_usage, causes}
+use Rattle.vc2_cli.proofs.Settling.{settled, settled_usage}
 use Rattle.vc2_cli.proofs.top.answer.Goals as goal
 
 is_chain : (command : Command) → command ≡ Chain
