@@ -1,2 +1,3 @@
 pub mod Pictures
 pub mod Taking
+pub mod Samples

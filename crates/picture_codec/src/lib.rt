@@ -1,6 +1,8 @@
-//! Stub.
+//! Whole pictures: their samples, and the decoder that makes them of slices.
 #![tactic(auto)]
 
-/// Nothing.
-pub fn nothing()
-{}
+mod picture;
+mod samples;
+
+pub use picture::Picture;
+pub use transform_params::{TransformFault, TransformParams, TransformReason};

@@ -1,0 +1,93 @@
+-- The samples of a component and of a picture.
+use Rattle.std.specs.Prelude.{◌≡◌, ℕ, ◌+◌, ◌*◌, ◌/◌, ◌%◌, ◌^◌, ◌<◌, List, length, map, replicate, slice_index_or, slice_set}
+use Rattle.std.specs.List.{range_with_len}
+use Rattle.slice_geometry.specs.declared.Component.{Component}
+use Rattle.slice_geometry.specs.declared.Component.TheVariants.{Luma, C1, C2}
+use Rattle.slice_geometry.specs.declared.Size.{Size}
+use Rattle.slice_geometry.specs.declared.PictureShape.{PictureShape}
+use Rattle.transform_params.specs.Params.{Params}
+use Rattle.picture_codec.specs.Pictures.{Frame, size_of, depth_of, sample}
+
+-- h rows of w samples, row by row from the top
+pub record SampleRows : Type 0 where
+  pub w : ℕ
+  pub h : ℕ
+  pub cells : List ℕ
+
+-- the sample in row y and column x
+abbrev pub sample_at : SampleRows → ℕ → ℕ → ℕ
+sample_at s y x = slice_index_or s.cells (y * s.w + x) 0
+
+-- the samples that a function of row and column gives
+abbrev pub tabulated : Size → (ℕ → ℕ → ℕ) → SampleRows
+tabulated size g = record { w = size.w; h = size.h; cells = map (λ k. g (k / size.w) (k % size.w)) (range_with_len 0 (size.h * size.w)) }
+
+-- all samples 0
+abbrev pub blank : Size → SampleRows
+blank size = record { w = size.w; h = size.h; cells = replicate (size.h * size.w) 0 }
+
+-- v in row y and column x, and all else as it was
+abbrev pub with_sample : SampleRows → ℕ → ℕ → ℕ → SampleRows
+with_sample s y x v = record s { cells = slice_set s.cells (y * s.w + x) v }
+
+-- samples of a component of this size, each of so many bits
+pub record AreSamples (size : Size) (depth : ℕ) (s : SampleRows) : Type 0 where
+  pub width : s.w ≡ size.w
+  pub height : s.h ≡ size.h
+  pub small : (k : ℕ) → slice_index_or s.cells k 0 < 2 ^ depth
+
+-- A picture: the samples of its components.
+pub record PictureSamples : Type 0 where
+  pub luma : SampleRows
+  pub c1 : SampleRows
+  pub c2 : SampleRows
+
+abbrev pub component_of : PictureSamples → Component → SampleRows
+component_of s Luma = s.luma
+component_of s C1 = s.c1
+component_of s C2 = s.c2
+
+-- the picture of one unit
+abbrev pub picture_of : Frame → Params → List (List ℕ) → PictureSamples
+picture_of f p slices = record {
+  luma = tabulated f.luma (sample f p slices Luma);
+  c1 = tabulated f.colour (sample f p slices C1);
+  c2 = tabulated f.colour (sample f p slices C2);
+}
+
+-- all samples 0
+abbrev pub blank_picture : PictureShape → PictureSamples
+blank_picture shape = record { luma = blank shape.luma; c1 = blank shape.colour; c2 = blank shape.colour }
+
+abbrev pub with_component : PictureSamples → Component → SampleRows → PictureSamples
+with_component s Luma rows = record s { luma = rows }
+with_component s C1 rows = record s { c1 = rows }
+with_component s C2 rows = record s { c2 = rows }
+
+-- the samples of a picture of this shape
+pub record HaveShape (shape : PictureShape) (s : PictureSamples) : Type 0 where
+  pub luma : AreSamples shape.luma shape.luma_depth s.luma
+  pub c1 : AreSamples shape.colour shape.colour_depth s.c1
+  pub c2 : AreSamples shape.colour shape.colour_depth s.c2
+
+-- What is seen of a picture: its shape and its samples.
+pub record PictureSeen : Type 0 where
+  pub shape : PictureShape
+  pub samples : PictureSamples
+
+-- the sizes and depths of a shape, as plain numbers
+abbrev pub frame_of : PictureShape → Frame
+frame_of shape = record { luma = shape.luma; colour = shape.colour; luma_depth = shape.luma_depth; colour_depth = shape.colour_depth }
+
+-- the samples of the component, of this picture
+abbrev pub shown : PictureSeen → Component → SampleRows
+shown p c = component_of p.samples c
+
+abbrev pub width_of : PictureSeen → Component → ℕ
+width_of p c = (size_of (frame_of p.shape) c).w
+
+abbrev pub height_of : PictureSeen → Component → ℕ
+height_of p c = (size_of (frame_of p.shape) c).h
+
+abbrev pub bits_of : PictureSeen → Component → ℕ
+bits_of p c = depth_of (frame_of p.shape) c

@@ -1,0 +1,95 @@
+//! A picture.
+
+ghost use Rattle.std.specs.Prelude.{◌≡◌, ◌*◌, ◌^◌, ◌<◌, length, IfOk};
+ghost use Rattle.picture_codec.specs.Samples.{PictureSeen, blank_picture, shown, width_of, height_of, bits_of, sample_at, with_sample, with_component};
+
+use crate::samples::Samples;
+use planes::NoMemory;
+use slice_geometry::{Component, PictureShape};
+use std::alloc::Global;
+use std::marker::Model;
+
+/// A picture: its shape, and the samples of its three components. Each sample is below 2^d, where d is its
+/// component's depth.
+#[derive(Drop)]
+pub struct Picture {
+    pub(crate) shape: PictureShape,
+    pub(crate) luma: Samples,
+    pub(crate) c1: Samples,
+    pub(crate) c2: Samples,
+}
+
+impl Model for Picture {
+    ghost use Rattle.picture_codec.specs.Samples.{PictureSeen, HaveShape};
+
+    ghost Value = { PictureSeen };
+
+    ghost view = { λ p. record { shape = p.shape; samples = record { luma = p.luma; c1 = p.c1; c2 = p.c2 } } };
+
+    ghost invariant = { λ p. HaveShape p.shape (record { luma = p.luma; c1 = p.c1; c2 = p.c2 }) };
+}
+
+impl Picture {
+    /// A picture of this shape, all samples 0.
+    pub fn new(alloc: Global, shape: &PictureShape) -> Result<Picture, NoMemory>
+        ensures { IfOk result (λ p. p ≡ record { shape = shape.now; samples = blank_picture shape.now }) }
+    {
+        Ok(Picture {
+            shape: *shape,
+            luma: Samples::new(alloc, shape.luma)?,
+            c1: Samples::new(alloc, shape.colour)?,
+            c2: Samples::new(alloc, shape.colour)?,
+        })
+    }
+
+    /// The picture's shape.
+    pub fn shape(&self) -> &PictureShape
+        ensures { result.now ≡ self.now.shape }
+    {
+        &self.shape
+    }
+
+    // The samples of a component.
+    fn component(&self, c: Component) -> &Samples
+        ensures value { result.now ≡ shown self.now c }
+        ensures width { result.now.w ≡ width_of self.now c }
+        ensures height { result.now.h ≡ height_of self.now c }
+    {
+        match c {
+            Component::Luma => &self.luma,
+            Component::C1 => &self.c1,
+            Component::C2 => &self.c2,
+        }
+    }
+
+    /// The sample of a component in row y and column x.
+    pub fn sample(&self, c: Component, y: u32, x: u32) -> u32
+        requires down { y < height_of self.now c }
+        requires across { x < width_of self.now c }
+        ensures { result ≡ sample_at (shown self.now c) y x }
+    {
+        u32::from(self.component(c).get(y, x))
+    }
+
+    /// All samples of a component, row by row from the top.
+    pub fn samples(&self, c: Component) -> &[u16]
+        ensures value { result.now ≡ (shown self.now c).cells }
+        ensures count { length result.now ≡ height_of self.now c * width_of self.now c }
+    {
+        self.component(c).cells()
+    }
+
+    /// Puts v into a component's row y and column x, and leaves all else.
+    pub fn set(&mut self, c: Component, y: u32, x: u32, v: u32)
+        requires down { y < height_of self.old c }
+        requires across { x < width_of self.old c }
+        requires small { v < 2 ^ bits_of self.old c }
+        ensures { self.new ≡ record self.old { samples = with_component self.old.samples c (with_sample (shown self.old c) y x v) } }
+    {
+        match c {
+            Component::Luma => self.luma.set(y, x, v as u16),
+            Component::C1 => self.c1.set(y, x, v as u16),
+            Component::C2 => self.c2.set(y, x, v as u16),
+        }
+    }
+}

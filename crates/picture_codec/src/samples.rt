@@ -1,0 +1,151 @@
+//! The samples of one component.
+
+ghost use Rattle.std.specs.Prelude.{◌≡◌, ℕ, ◌+◌, ◌-◌, ◌*◌, ◌^◌, ◌<◌, ◌≤◌, length, IfOk, slice_index_or, pos, neg_ℤ, ◌+ℤ◌, ◌-ℤ◌, ◌≤ℤ◌};
+ghost use Rattle.std.specs.Int.{int_min, int_max};
+ghost use Rattle.planes.specs.Raster.{height, at};
+ghost use Rattle.slice_geometry.specs.Shape.{IsSize, IsDepth};
+ghost use Rattle.picture_codec.specs.Pictures.{sample_of};
+ghost use Rattle.picture_codec.specs.Samples.{sample_at, with_sample, tabulated, blank};
+
+use planes::{NoMemory, Plane};
+use slice_geometry::Size;
+use std::alloc::Global;
+use std::marker::Model;
+
+/// h rows of w samples, row by row from the top.
+#[derive(Drop)]
+pub struct Samples {
+    w: u32,
+    h: u32,
+    cells: Vec<u16>,
+}
+
+impl Model for Samples {
+    ghost use Rattle.std.specs.Prelude.{◌≡◌, ◌*◌, ◌^◌, ◌≤◌, length};
+    ghost use Rattle.slice_geometry.specs.Shape.{IsSize};
+    ghost use Rattle.picture_codec.specs.Samples.{SampleRows};
+
+    ghost Value = { SampleRows };
+
+    ghost view = { λ s. record { w = s.w; h = s.h; cells = s.cells.items } };
+
+    ghost invariant = { λ s. (length s.cells.items ≡ s.h * s.w) × IsSize s.w s.h };
+}
+
+// The nearest number from -half to half - 1.
+#[inline(always)]
+fn clip(v: i64, half: i64) -> i64
+    requires some { pos 1 ≤ℤ half }
+    requires most { half ≤ℤ pos 32768 }
+    ensures { result ≡ int_max (neg_ℤ half) (int_min (half -ℤ pos 1) v) }
+{
+    if v < -half {
+        -half
+    } else if v < half {
+        v
+    } else {
+        half - 1
+    }
+}
+
+// The same, counted from the lowest of them.
+#[inline(always)]
+fn offset(v: i64, half: i64) -> u16
+    requires some { pos 1 ≤ℤ half }
+    requires most { half ≤ℤ pos 32768 }
+    ensures { pos result ≡ int_max (neg_ℤ half) (int_min (half -ℤ pos 1) v) +ℤ half }
+{
+    (clip(v, half) + half) as u16
+}
+
+// Half of the numbers of so many bits.
+#[tactic(auto, using(crate::proofs::Halves::half_some, crate::proofs::Halves::half_most))]
+fn half_range(depth: u32) -> i64
+    requires { IsDepth depth }
+    ensures value { result ≡ pos (2 ^ (depth - 1)) }
+    ensures some { pos 1 ≤ℤ result }
+    ensures most { result ≤ℤ pos 32768 }
+{
+    1 << (depth - 1)
+}
+
+// The samples of a row.
+fn offset_row(samples: &mut [u16], row: &[i64], depth: u32)
+    requires depth { IsDepth depth }
+    requires len { length samples.old ≤ length row.now }
+    ensures { (x : ℕ) → x < length samples.old → slice_index_or samples.new x 0 ≡ sample_of depth (slice_index_or row.now x (pos 0)) }
+{
+    let half = half_range(depth);
+    for x in 0..samples.len() {
+        samples[x] = offset(row[x], half);
+    }
+}
+
+impl Samples {
+    /// The size's samples, all 0.
+    pub fn new(alloc: Global, size: Size) -> Result<Samples, NoMemory>
+        requires { IsSize size.w size.h }
+        ensures { IfOk result (λ s. s ≡ blank size) }
+    {
+        let cells = Vec::from_elem(alloc, 0u16, (size.h * size.w) as usize)?;
+        Ok(Samples {
+            w: size.w,
+            h: size.h,
+            cells,
+        })
+    }
+
+    /// The sample in row y and column x.
+    pub fn get(&self, y: u32, x: u32) -> u16
+        requires down { y < self.now.h }
+        requires across { x < self.now.w }
+        ensures { result ≡ sample_at self.now y x }
+    {
+        self.cells[(y * self.w + x) as usize]
+    }
+
+    /// Puts v into row y and column x, and leaves all else.
+    pub fn set(&mut self, y: u32, x: u32, v: u16)
+        requires down { y < self.old.h }
+        requires across { x < self.old.w }
+        ensures { self.new ≡ with_sample self.old y x v }
+    {
+        self.cells[(y * self.w + x) as usize] = v;
+    }
+
+    /// All samples, row by row from the top.
+    pub fn cells(&self) -> &[u16]
+        ensures value { result.now ≡ self.now.cells }
+        ensures count { length result.now ≡ self.now.h * self.now.w }
+    {
+        self.cells.as_slice()
+    }
+
+    // The samples of row y, from a row of numbers.
+    fn show_row(&mut self, y: u32, row: &[i64], depth: u32)
+        requires depth { IsDepth depth }
+        requires down { y < self.old.h }
+        requires len { self.old.w ≤ length row.now }
+        ensures same_width { self.new.w ≡ self.old.w }
+        ensures same_height { self.new.h ≡ self.old.h }
+        ensures count { length self.new.cells ≡ self.new.h * self.new.w }
+        ensures row { (x : ℕ) → x < self.old.w → sample_at self.new y x ≡ sample_of depth (slice_index_or row.now x (pos 0)) }
+        ensures above { (k : ℕ) → k < y * self.old.w → slice_index_or self.new.cells k 0 ≡ slice_index_or self.old.cells k 0 }
+    {
+        let start = (y * self.w) as usize;
+        let end = start + self.w as usize;
+        offset_row(&mut self.cells[start..end], row, depth);
+    }
+
+    /// The numbers of a plane in its first rows and columns, clipped to so many bits and offset.
+    pub(crate) fn show(&mut self, plane: &Plane, depth: u32)
+        requires depth { IsDepth depth }
+        requires fits { self.old.w ≤ plane.now.w }
+        requires high { self.old.h ≤ height plane.now }
+        ensures { self.new ≡ tabulated (record { w = self.old.w; h = self.old.h }) (λ y x. sample_of depth (at plane.now y x)) }
+    {
+        for y in 0..self.h {
+            self.show_row(y, plane.row(y), depth);
+        }
+    }
+}
