@@ -3,6 +3,9 @@ pub mod SameTable
 pub mod Growth
 pub mod Inside
 pub mod Coefficients
+pub mod WovenLines
 pub mod Passes
+pub mod Sides
+pub mod Levels
 pub mod Rounding
 pub mod WorkedLines
