@@ -1,0 +1,4 @@
+pub mod WorkedSlices
+pub mod Dealt
+pub mod Rects
+pub mod Stacks
