@@ -68,7 +68,6 @@ fn fill_chunk(block: &mut Block<'_>, first: &mut [i64], second: &mut [i64], x0: 
 fn fill_parts(block: &mut Block<'_>, first: &mut [i64], second: &mut [i64], x0: u32, x1: u32, index: u32, buffer: &mut [i64]) -> bool
     requires index { index ≤ 127 }
     requires order { x0 ≤ x1 }
-    requires wide { x1 ≤ 8208 }
     requires first_inside { x1 ≤ length first.old }
     requires second_inside { x1 ≤ length second.old }
     requires room { length buffer.old ≡ 128 }
@@ -81,7 +80,7 @@ fn fill_parts(block: &mut Block<'_>, first: &mut [i64], second: &mut [i64], x0: 
 {
     let mut x = x0;
     while x < x1 {
-        let end = x1.min(x + CHUNK);
+        let end = x + CHUNK.min(x1 - x);
         if !fill_chunk(block, first, second, x, end, index, buffer) {
             return false;
         }
@@ -95,7 +94,6 @@ pub fn fill_rects(block: &mut Block<'_>, first: &mut Plane, second: &mut Plane, 
     requires index { index ≤ 127 }
     requires across { rect.x0 ≤ rect.x1 }
     requires down { rect.y0 ≤ rect.y1 }
-    requires wide { rect.x1 ≤ 8208 }
     requires first_x_inside { rect.x1 ≤ first.old.w }
     requires first_y_inside { rect.y1 ≤ height first.old }
     requires second_x_inside { rect.x1 ≤ second.old.w }

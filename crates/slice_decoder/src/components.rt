@@ -74,3 +74,45 @@ pub fn read_luma(block: &mut Block<'_>, bands: &mut Bands, layout: &Layout, size
     }
     true
 }
+
+// Fills the subbands of the two colour components, whose places take the values in turn. It answers false where a
+// magnitude passes 2^36.
+pub fn read_colour(block: &mut Block<'_>, first: &mut Bands, second: &mut Bands, layout: &Layout, size: Size, matrix: &Matrix, place: Place) -> bool
+    requires size { IsSize size.w size.h }
+    requires across { place.sx < layout.now.slices_x }
+    requires down { place.sy < layout.now.slices_y }
+    requires qindex { place.qindex ≤ 127 }
+    requires first_depth { first.old.depth ≡ layout.now.depth }
+    requires second_depth { second.old.depth ≡ layout.now.depth }
+    requires entries { matrix.now.depth ≡ layout.now.depth }
+    requires first_sizes { HaveSizes first.old (padded_length layout.now.depth size.w) (padded_length layout.now.depth size.h) }
+    requires second_sizes { HaveSizes second.old (padded_length layout.now.depth size.w) (padded_length layout.now.depth size.h) }
+    ensures small {
+        let part : Part = record { slicing = layout.now; size = size; sx = place.sx; sy = place.sy; matrix = matrix.now; qindex = place.qindex } in
+        result ≡ are_small (dealt block.old (quantisers_before 2 part (3 * layout.now.depth + 1))) }
+    ensures first {
+        let part : Part = record { slicing = layout.now; size = size; sx = place.sx; sy = place.sy; matrix = matrix.now; qindex = place.qindex } in
+        result ≡ true → BandsHold 2 0 part (3 * layout.now.depth + 1) block.old first.old first.new }
+    ensures second {
+        let part : Part = record { slicing = layout.now; size = size; sx = place.sx; sy = place.sy; matrix = matrix.now; qindex = place.qindex } in
+        result ≡ true → BandsHold 2 1 part (3 * layout.now.depth + 1) block.old second.old second.new }
+    ensures first_keeps {
+        let part : Part = record { slicing = layout.now; size = size; sx = place.sx; sy = place.sy; matrix = matrix.now; qindex = place.qindex } in
+        BandsKeep part first.old first.new }
+    ensures second_keeps {
+        let part : Part = record { slicing = layout.now; size = size; sx = place.sx; sy = place.sy; matrix = matrix.now; qindex = place.qindex } in
+        BandsKeep part second.old second.new }
+{
+    let mut buffer = [0; 128];
+    for k in 0..3 * layout.depth() + 1 {
+        let (level, orient) = band_numbered(k);
+        let rect = layout.band_rect(size, level, place.sx, place.sy);
+        let index = matrix.quantiser(place.qindex, level, orient_numbered(orient));
+        let one = first.band_mut(level, orient);
+        let two = second.band_mut(level, orient);
+        if !fill_rects(block, one, two, rect, index, &mut buffer) {
+            return false;
+        }
+    }
+    true
+}
