@@ -2,3 +2,5 @@ pub mod WorkedSlices
 pub mod Dealt
 pub mod Rects
 pub mod Stacks
+pub mod Heads
+pub mod Whole

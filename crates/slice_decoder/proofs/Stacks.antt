@@ -53,11 +53,11 @@ pub quantisers-more : (each : ℕ) (p : Part) (k : ℕ) → quantisers_before ea
 unfolding quantisers_before
 quantisers-more each p k = ap (quantisers_before each p) (add-one k)
 
-quantisers_rest : ℕ → Part → ℕ → ℕ → List ℕ
+pub quantisers_rest : ℕ → Part → ℕ → ℕ → List ℕ
 quantisers_rest each p n zero = []
 quantisers_rest each p n (suc m) = quantisers_rest each p n m ++ quantisers_of each p (n + m)
 
-quantisers-split : (each : ℕ) (p : Part) (n m : ℕ) → quantisers_before each p (n + m) ≡ quantisers_before each p n ++ quantisers_rest each p n m
+pub quantisers-split : (each : ℕ) (p : Part) (n m : ℕ) → quantisers_before each p (n + m) ≡ quantisers_before each p n ++ quantisers_rest each p n m
 unfolding quantisers_rest
 quantisers-split each p n zero =
     let same : n + zero ≡ n = omega arith in
