@@ -1,0 +1,6 @@
+pub mod WorkedSlices
+pub mod Dealt
+pub mod Rects
+pub mod Stacks
+pub mod Heads
+pub mod Whole
