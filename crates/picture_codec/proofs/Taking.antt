@@ -5,7 +5,7 @@ use Rattle.std.proofs.lemmas.Bool.{cases_lt}
 use Rattle.std.proofs.lemmas.List.{length-append}
 use Rattle.planes.specs.Raster.{at}
 use Rattle.planes.specs.Rect.{IsInRect}
-use Rattle.planes.specs.Subbands.{BandStack, band_of}
+use Rattle.planes.specs.Subbands.{BandStack, BandExists, band_of}
 use Rattle.slice_geometry.specs.declared.Size.{Size}
 use Rattle.slice_geometry.specs.declared.Component.{Component}
 use Rattle.slice_geometry.specs.Slicing.{Slicing, AreSlicesAllowed, slice_number}
@@ -18,7 +18,7 @@ use Rattle.dc_prediction.proofs.Bands.{is_restored, restored_same}
 use Rattle.dc_prediction.proofs.PredictionLemmas.{prediction_same}
 use Rattle.transform_params.specs.Params.{Params}
 use Rattle.picture_codec.specs.Pictures.{Frame, size_of, slice_value, coefficient}
-use Rattle.picture_codec.specs.Taking.{holder, IsUpper, Took, TakesSlice}
+use Rattle.picture_codec.specs.Taking.{holder, Took, TakesSlice}
 
 -- ---- lists of slices
 
@@ -35,10 +35,10 @@ index-last (s ∷ slices) bytes (suc n) e = index-last slices bytes n (omega ari
 
 -- ---- the numbers of slices
 
-times-le : (a b k : ℕ) → a ≤ b → a * k ≤ b * k
+pub times-le : (a b k : ℕ) → a ≤ b → a * k ≤ b * k
 times-le a b k le = grind arith
 
-times-suc : (a k : ℕ) → (a + 1) * k ≡ a * k + k
+pub times-suc : (a k : ℕ) → (a + 1) * k ≡ a * k + k
 times-suc a k = grind arith
 
 -- a slice further up and left comes no later
@@ -96,17 +96,17 @@ record Step (f : Frame) (p : Params) (slices : List (List ℕ)) (bytes : List �
   across : sx < p.slicing.slices_x
   number : slice_number p.slicing sx sy ≡ length slices
 
-upper-more : (f : Frame) (p : Params) (slices : List (List ℕ)) (bytes : List ℕ) (c : Component) (sx sy : ℕ) (old new : BandStack) → Step f p slices bytes c sx sy old new → (level orient y x : ℕ) → IsUpper p.slicing.depth level orient → y < (band f p c level).h → x < (band f p c level).w
+upper-more : (f : Frame) (p : Params) (slices : List (List ℕ)) (bytes : List ℕ) (c : Component) (sx sy : ℕ) (old new : BandStack) → Step f p slices bytes c sx sy old new → (level orient y x : ℕ) → BandExists p.slicing.depth level orient → 1 ≤ level → y < (band f p c level).h → x < (band f p c level).w
     → holder p.slicing (band f p c level) y x < length slices + 1 → at (band_of new level orient) y x ≡ coefficient f p (slices ++ bytes ∷ []) c level orient y x
-upper-more f p slices bytes c sx sy old new g level orient y x is y_in x_in lt = elim (cases_lt (holder p.slicing (band f p c level) y x) (length slices)) [
+upper-more f p slices bytes c sx sy old new g level orient y x is some y_in x_in lt = elim (cases_lt (holder p.slicing (band f p c level) y x) (length slices)) [
   | inl before ↦
-      g.takes.upper_stays level orient y x is (λ inside. let one = alone p.slicing (band f p c level) y x sx sy g.allowed inside in
+      g.takes.upper_stays level orient y x is some (λ inside. let one = alone p.slicing (band f p c level) y x sx sy g.allowed inside in
           absurd (omega (arith, before, g.number, ap (λ a. slice_number p.slicing a sy) one.0, ap (λ b. slice_number p.slicing (holding p.slicing.slices_x (band f p c level).w x) b) one.1)))
-      ∙ g.took.upper level orient y x is y_in x_in before ∙ sym (coefficient-front f p slices bytes c level orient y x before)
+      ∙ g.took.upper level orient y x is some y_in x_in before ∙ sym (coefficient-front f p slices bytes c level orient y x before)
   | inr here ↦
       let one = held-by p.slicing (band f p c level) y x sx sy g.allowed x_in y_in g.across (omega (arith, g.number)) in
       let inside = held p.slicing (band f p c level) y x g.allowed x_in y_in in
-      g.takes.upper level orient y x is (subst (λ a. IsInRect (level_rect p.slicing (size_of f c) a sy level) y x) (sym one.0) (subst (λ b. IsInRect (level_rect p.slicing (size_of f c) (holding p.slicing.slices_x (band f p c level).w x) b level) y x) (sym one.1) inside.inside))
+      g.takes.upper level orient y x is some (subst (λ a. IsInRect (level_rect p.slicing (size_of f c) a sy level) y x) (sym one.0) (subst (λ b. IsInRect (level_rect p.slicing (size_of f c) (holding p.slicing.slices_x (band f p c level).w x) b level) y x) (sym one.1) inside.inside))
       ∙ sym (coefficient-last f p slices bytes c level orient y x sx sy one.0 one.1 g.number)
 ]
 
@@ -149,9 +149,9 @@ took_more f p slices bytes c sx sy old new allowed across number took takes =
     let one : length (slices ++ bytes ∷ []) ≡ length slices + 1 = length-append slices (bytes ∷ []) in
     record {
       lowest = λ y x y_in x_in lt. lowest-more f p slices bytes c sx sy old new g (y + x + 1) y x (omega arith) y_in x_in (omega (arith, one));
-      upper = λ level orient y x is y_in x_in lt. upper-more f p slices bytes c sx sy old new g level orient y x is y_in x_in (omega (arith, one));
+      upper = λ level orient y x is some y_in x_in lt. upper-more f p slices bytes c sx sy old new g level orient y x is some y_in x_in (omega (arith, one));
     }
 
 -- no slice yet
 pub took_none : (f : Frame) (p : Params) (c : Component) (b : BandStack) → Took f p [] c b
-took_none f p c b = record { lowest = λ y x y_in x_in lt. absurd (omega arith); upper = λ level orient y x is y_in x_in lt. absurd (omega arith) }
+took_none f p c b = record { lowest = λ y x y_in x_in lt. absurd (omega arith); upper = λ level orient y x is some y_in x_in lt. absurd (omega arith) }

@@ -1,3 +1,4 @@
 pub mod Pictures
-pub mod Taking
 pub mod Samples
+pub mod Taking
+pub mod Decoding

@@ -1,6 +1,7 @@
 //! Whole pictures: their samples, and the decoder that makes them of slices.
 #![tactic(auto)]
 
+mod decoder;
 mod picture;
 mod samples;
 

@@ -1,0 +1,120 @@
+-- The decoder of pictures.
+use Rattle.std.specs.Prelude.{◌≡◌, ℕ, ◌+◌, ◌*◌, ◌/◌, ◌%◌, ◌^◌, ◌<◌, ◌≤◌, nat_lt, Bool, true, false, ◌&&◌, if◌then◌else◌, Option, None, Some, List, ℤ}
+use Rattle.planes.specs.Numbers.{Within}
+use Rattle.planes.specs.Raster.{Raster, height, at}
+use Rattle.planes.specs.Subbands.{BandStack, BandExists, band_of, HaveSizes, AreZeroBands}
+use Rattle.planes.specs.declared.Trio.{Trio}
+use Rattle.dc_prediction.specs.Prediction.{reach}
+use Rattle.slice_geometry.specs.declared.Size.{Size}
+use Rattle.slice_geometry.specs.declared.Component.{Component}
+use Rattle.slice_geometry.specs.declared.Component.TheVariants.{Luma, C1, C2}
+use Rattle.slice_geometry.specs.declared.PictureShape.{PictureShape}
+use Rattle.slice_geometry.specs.Slicing.{Slicing, slice_count, slice_bytes}
+use Rattle.slice_geometry.specs.Geometry.{padded_length, band_size}
+use Rattle.lifting.specs.declared.Wavelet.{Wavelet}
+use Rattle.lifting.specs.Transform.{synthesis}
+use Rattle.lifting.specs.Bands.{coefficients_of}
+use Rattle.transform_params.specs.Params.{Params}
+use Rattle.picture_codec.specs.Pictures.{sample_of}
+use Rattle.picture_codec.specs.Samples.{SampleRows, PictureSamples, tabulated, frame_of}
+use Rattle.slice_decoder.specs.declared.SliceFault.{SliceFault}
+use Rattle.slice_decoder.specs.Slice.{Slice, slice_at, luma_values, colour_values, are_small}
+use Rattle.slice_decoder.specs.Decoded.{AllKeepOthers, IsRefused}
+use Rattle.picture_codec.specs.Taking.{holder, TakesSlice}
+
+-- ---- what is seen of a decoder
+
+-- its bands, the number of its next slice, whether it refused a slice, and the picture that it finished
+pub record Decoding : Type 0 where
+  pub shape : PictureShape
+  pub params : Params
+  pub bands : Trio
+  pub next : ℕ
+  pub refused : Bool
+  pub picture : Option PictureSamples
+
+-- the subbands of a component
+abbrev pub stack_of : Trio → Component → BandStack
+stack_of b Luma = b.luma
+stack_of b C1 = b.c1
+stack_of b C2 = b.c2
+
+-- ---- the samples of bands
+
+-- the samples of a component: the synthesis of its bands, trimmed, clipped and offset (SMPTE ST 2042-1:2017, 15)
+unfoldable pub synthesised : Wavelet → Size → ℕ → BandStack → SampleRows
+synthesised wavelet size depth b =
+    let lowest = band_size b.depth 0 size in
+    tabulated size (λ y x. sample_of depth (synthesis wavelet lowest.h lowest.w (coefficients_of b) b.depth y x))
+
+abbrev pub synthesised_picture : Decoding → PictureSamples
+synthesised_picture d = record {
+  luma = synthesised d.params.wavelet d.shape.luma d.shape.luma_depth d.bands.luma;
+  c1 = synthesised d.params.wavelet d.shape.colour d.shape.colour_depth d.bands.c1;
+  c2 = synthesised d.params.wavelet d.shape.colour d.shape.colour_depth d.bands.c2;
+}
+
+-- ---- what a decoder keeps
+
+-- The bands have their sizes, and where one of the first n slices holds a place, the number there is one that restoring or dequantising gives.
+pub record AreTaken (s : Slicing) (size : Size) (n : ℕ) (b : BandStack) : Type 0 where
+  pub depth : b.depth ≡ s.depth
+  pub sizes : HaveSizes b (padded_length s.depth size.w) (padded_length s.depth size.h)
+  pub lowest : (y x : ℕ) → y < (band_size s.depth 0 size).h → x < (band_size s.depth 0 size).w → holder s (band_size s.depth 0 size) y x < n → Within (reach y x) (at (band_of b 0 0) y x)
+  pub upper : (level orient y x : ℕ) → BandExists s.depth level orient → 1 ≤ level → y < (band_size s.depth level size).h → x < (band_size s.depth level size).w → holder s (band_size s.depth level size) y x < n
+      → Within (2 ^ 36) (at (band_of b level orient) y x)
+
+pub record AllTaken (s : Slicing) (shape : PictureShape) (n : ℕ) (bands : Trio) : Type 0 where
+  pub luma : AreTaken s shape.luma n bands.luma
+  pub c1 : AreTaken s shape.colour n bands.c1
+  pub c2 : AreTaken s shape.colour n bands.c2
+  pub few : n ≤ slice_count s
+
+-- two planes of a component's padded size
+pub record ArePadded (s : Slicing) (size : Size) (plane scratch : Raster ℤ) : Type 0 where
+  pub columns : plane.w ≡ padded_length s.depth size.w
+  pub rows : height plane ≡ padded_length s.depth size.h
+  pub scratch_columns : scratch.w ≡ padded_length s.depth size.w
+  pub scratch_rows : height scratch ≡ padded_length s.depth size.h
+
+-- ---- its calls
+
+-- the place of the next slice
+abbrev pub column_of : Decoding → ℕ
+column_of d = d.next % d.params.slicing.slices_x
+
+abbrev pub row_of_slices : Decoding → ℕ
+row_of_slices d = d.next / d.params.slicing.slices_x
+
+-- a new decoder: all bands are zero
+pub record IsNewDecoder (shape : PictureShape) (params : Params) (d : Decoding) : Type 0 where
+  pub shape_is : d.shape ≡ shape
+  pub params_are : d.params ≡ params
+  pub luma : AreZeroBands d.bands.luma params.slicing.depth (padded_length params.slicing.depth shape.luma.w) (padded_length params.slicing.depth shape.luma.h)
+  pub c1 : AreZeroBands d.bands.c1 params.slicing.depth (padded_length params.slicing.depth shape.colour.w) (padded_length params.slicing.depth shape.colour.h)
+  pub c2 : AreZeroBands d.bands.c2 params.slicing.depth (padded_length params.slicing.depth shape.colour.w) (padded_length params.slicing.depth shape.colour.h)
+  pub first : d.next ≡ 0
+  pub none_refused : d.refused ≡ false
+  pub unfinished : d.picture ≡ None
+
+-- the bytes of the next slice, until all were taken
+abbrev pub wanted_of : Decoding → Option ℕ
+wanted_of d = if nat_lt d.next (slice_count d.params.slicing) then Some (slice_bytes d.params.slicing.a d.params.slicing.b d.next) else None
+
+-- what these bytes say as the next slice
+abbrev pub next_slice : Decoding → List ℕ → Slice
+next_slice d bytes = slice_at d.params.slicing d.shape.luma d.shape.colour (column_of d) (row_of_slices d) bytes
+
+-- the next slice was taken: its own places have its values, and all others stay
+pub record IsTaken (bytes : List ℕ) (old new : Decoding) : Type 0 where
+  pub state : new ≡ record old { bands = new.bands; next = old.next + 1 }
+  pub fits : (next_slice old bytes).too_long ≡ false
+  pub small : (are_small (luma_values old.params.slicing old.shape.luma (column_of old) (row_of_slices old) old.params.matrix (next_slice old bytes))
+      && are_small (colour_values old.params.slicing old.shape.colour (column_of old) (row_of_slices old) old.params.matrix (next_slice old bytes))) ≡ true
+  pub each : (c : Component) → TakesSlice (frame_of old.shape) old.params c (column_of old) (row_of_slices old) bytes (stack_of old.bands c) (stack_of new.bands c)
+
+-- it was refused: its own places have any values, and all others stay
+pub record IsSliceRefused (bytes : List ℕ) (fault : SliceFault) (old new : Decoding) : Type 0 where
+  pub state : new ≡ record old { bands = new.bands; refused = true }
+  pub why : IsRefused old.params.slicing old.shape (column_of old) (row_of_slices old) old.params.matrix (next_slice old bytes) fault
+  pub others : AllKeepOthers old.params.slicing old.shape (column_of old) (row_of_slices old) old.bands new.bands
