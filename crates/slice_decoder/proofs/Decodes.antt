@@ -10,7 +10,7 @@ use Rattle.planes.specs.Numbers.{Within}
 use Rattle.planes.specs.Raster.{Raster, height, at}
 use Rattle.planes.specs.Rect.{IsInRect}
 use Rattle.planes.specs.Subbands.{BandStack, BandExists, band_index, band_of, no_band, subband_length}
-use Rattle.bit_codes.specs.Bits.{bits_of}
+use Rattle.bit_codes.specs.Bits.{bits_of, binary_after}
 use Rattle.bit_codes.proofs.BitLemmas.{length-rest}
 use Rattle.bounded_blocks.specs.Reading.{values}
 use Rattle.bounded_blocks.specs.Parts.{block_of}
@@ -18,11 +18,11 @@ use Rattle.dc_prediction.specs.Prediction.{prediction, reach, AllLookedAt}
 use Rattle.dc_prediction.specs.Restoring.{AllLookedAtOutside, CanRestore, RestoresRect}
 use Rattle.slice_geometry.specs.declared.Size.{Size}
 use Rattle.slice_geometry.specs.Shape.{IsSize}
-use Rattle.slice_geometry.specs.Slicing.{Slicing}
+use Rattle.slice_geometry.specs.Slicing.{Slicing, length_bits}
 use Rattle.slice_geometry.specs.Geometry.{padded_length}
 use Rattle.slice_geometry.proofs.Lengths.{padded_most}
 use Rattle.quant_factors.specs.Weights.{Weights}
-use Rattle.slice_decoder.specs.Slice.{Slice, level_rect, area, place_count, place_number, quantisers, dequantised, are_small, luma_values, colour_values}
+use Rattle.slice_decoder.specs.Slice.{Slice, level_rect, area, place_count, place_number, quantisers, dequantised, are_small, slice_at, luma_values, colour_values}
 use Rattle.slice_decoder.specs.Dealing.{dealt, behind, KeepsOutside}
 use Rattle.slice_decoder.specs.Components.{Part, level_of, numbered, rect_of, quantisers_before, BandsHold, BandsKeep}
 use Rattle.slice_decoder.specs.Decoded.{IsReady, HoldsSlice, KeepsOthers}
@@ -55,7 +55,7 @@ chosen false vs ws fits same = sym same
 
 -- ---- the values
 
-abbrev part_of : Slicing → Size → ℕ → ℕ → Weights → ℕ → Part
+abbrev pub part_of : Slicing → Size → ℕ → ℕ → Weights → ℕ → Part
 part_of s size sx sy matrix qindex = record { slicing = s; size = size; sx = sx; sy = sy; matrix = matrix; qindex = qindex }
 
 pub luma-are : (s : Slicing) (size : Size) (sx sy : ℕ) (matrix : Weights) (slice : Slice) (qindex : ℕ) (block : List Bool) → slice.luma ≡ values (place_count s size sx sy) block → qindex ≡ slice.qindex
@@ -74,6 +74,29 @@ colour-are s size sx sy matrix slice qindex block colour_is is =
     ∙ ap (λ q. dequantised (values (2 * place_count s size sx sy) block) (quantisers 2 s size sx sy matrix q s.depth)) (sym is)
     ∙ ap (dequantised (values (2 * place_count s size sx sy) block)) (quantisers-are 2 (part_of s size sx sy matrix qindex) s.depth)
     ∙ dequantised-values block (quantisers_before 2 (part_of s size sx sy matrix qindex) (3 * s.depth + 1)) (2 * place_count s size sx sy) (omega (arith, length-to_level 2 (part_of s size sx sy matrix qindex) s.depth))
+
+-- the values of both blocks
+pub record AreValues (s : Slicing) (luma colour : Size) (sx sy : ℕ) (matrix : Weights) (bytes : List ℕ) (qindex luma_bits : ℕ) : Type 0 where
+  pub of_luma : luma_values s luma sx sy matrix (slice_at s luma colour sx sy bytes) ≡ dealt (block_of bytes (7 + length_bits (length bytes)) (7 + length_bits (length bytes) + luma_bits)) (quantisers_before 1 (part_of s luma sx sy matrix qindex) (3 * s.depth + 1))
+  pub of_colour : colour_values s colour sx sy matrix (slice_at s luma colour sx sy bytes) ≡ dealt (block_of bytes (7 + length_bits (length bytes) + luma_bits) (8 * length bytes)) (quantisers_before 2 (part_of s colour sx sy matrix qindex) (3 * s.depth + 1))
+
+pub are-values : (s : Slicing) (luma colour : Size) (sx sy : ℕ) (matrix : Weights) (bytes : List ℕ) (qindex luma_bits : ℕ) → qindex ≡ binary_after 0 (take 7 (bits_of bytes)) → luma_bits ≡ binary_after 0 (take (length_bits (length bytes)) (drop 7 (bits_of bytes)))
+    → (slice_at s luma colour sx sy bytes).too_long ≡ false → AreValues s luma colour sx sy matrix bytes qindex luma_bits
+are-values s luma colour sx sy matrix bytes qindex luma_bits q_is bits_is fits_in =
+    let start : ℕ = 7 + length_bits (length bytes) in
+    let bits : ℕ = binary_after 0 (take (length_bits (length bytes)) (drop 7 (bits_of bytes))) in
+    let luma_count : ℕ = place_count s luma sx sy in
+    let colour_count : ℕ = 2 * place_count s colour sx sy in
+    record {
+      of_luma = luma-are s luma sx sy matrix (slice_at s luma colour sx sy bytes) qindex (block_of bytes start (start + luma_bits))
+          (chosen _ (values luma_count (take bits (drop start (bits_of bytes)))) (values luma_count (block_of bytes start (start + luma_bits))) fits_in (ap (values luma_count) (sym (luma_block_is bytes start bits luma_bits bits_is)))) q_is;
+      of_colour = colour-are s colour sx sy matrix (slice_at s luma colour sx sy bytes) qindex (block_of bytes (start + luma_bits) (8 * length bytes))
+          (chosen _ (values colour_count (drop bits (drop start (bits_of bytes)))) (values colour_count (block_of bytes (start + luma_bits) (8 * length bytes))) fits_in (ap (values colour_count) (sym (colour_block_is bytes start bits luma_bits bits_is)))) q_is;
+    }
+
+pub both-small : (lumas colours luma_list colour_list : List ℤ) (good : Bool) → lumas ≡ luma_list → colours ≡ colour_list → good ≡ (are_small luma_list && are_small colour_list) → (are_small lumas && are_small colours) ≡ good
+both-small lumas colours luma_list colour_list good luma_is colour_is is =
+    ap (λ vs. are_small vs && are_small colours) luma_is ∙ ap (λ vs. are_small luma_list && are_small vs) colour_is ∙ sym is
 
 -- ---- restoring
 
