@@ -4,3 +4,4 @@ pub mod Rects
 pub mod Stacks
 pub mod Heads
 pub mod Whole
+pub mod Decodes

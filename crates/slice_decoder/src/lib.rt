@@ -114,6 +114,8 @@ pub fn decode_slice(layout: &Layout, shape: &PictureShape, matrix: &Matrix, sx: 
         MatchResult result (λ head. IsDecoded layout.now shape.now sx sy matrix.now slice head bands.new) (IsRefused layout.now shape.now sx sy matrix.now slice) }
     ensures others { AllKeepOthers layout.now shape.now sx sy bands.old bands.new }
 {
+    let depth = layout.depth();
+    prove_eq!(matrix.depth(), depth);
     let head = head_of(bytes);
     let left = 8 * bytes.len() - 7 - length_bits(bytes.len() as u32) as usize;
     if head.luma_bits as usize > left {
