@@ -7,15 +7,15 @@ use Rattle.std.proofs.lemmas.Grind.{same_number_lists}
 use Rattle.slice_geometry.specs.declared.Size.{Size}
 use Rattle.picture_codec.specs.Samples.{SampleRows, sample_at, tabulated, blank, AreSamples}
 
-row_below : (k w h : ℕ) → k < h * w → k / w < h
+pub row_below : (k w h : ℕ) → k < h * w → k / w < h
 row_below k zero h lt = absurd (grind arith)
 row_below k (suc w) h lt = (div-lt_iff_lt-mul {k = suc w} {x = k} {y = h} (omega arith)).1 lt
 
-column_below : (k w h : ℕ) → k < h * w → k % w < w
+pub column_below : (k w h : ℕ) → k < h * w → k % w < w
 column_below k zero h lt = absurd (grind arith)
 column_below k (suc w) h lt = omega arith
 
-place_again : (k w h : ℕ) → k < h * w → k / w * w + k % w ≡ k
+pub place_again : (k w h : ℕ) → k < h * w → k / w * w + k % w ≡ k
 place_again k zero h lt = absurd (grind arith)
 place_again k (suc w) h lt = grind arith
 
@@ -51,7 +51,7 @@ get_or-zeros zero k = refl
 get_or-zeros (suc n) zero = refl
 get_or-zeros (suc n) (suc k) = get_or-zeros n k
 
-positive : (depth : ℕ) → 0 < 2 ^ depth
+pub positive : (depth : ℕ) → 0 < 2 ^ depth
 positive depth = pow-le-pow_right {n = 2} (omega arith) {i = 0} {j = depth} (omega arith)
 
 pub blank_fits : (size : Size) (depth : ℕ) → AreSamples size depth (blank size)

@@ -42,7 +42,7 @@ pub times-suc : (a k : ℕ) → (a + 1) * k ≡ a * k + k
 times-suc a k = grind arith
 
 -- a slice further up and left comes no later
-holder-rises : (s : Slicing) (band : Size) (j i y x : ℕ) → 1 ≤ band.w → 1 ≤ band.h → j ≤ y → i ≤ x → holder s band j i ≤ holder s band y x
+pub holder-rises : (s : Slicing) (band : Size) (j i y x : ℕ) → 1 ≤ band.w → 1 ≤ band.h → j ≤ y → i ≤ x → holder s band j i ≤ holder s band y x
 holder-rises s band j i y x some_w some_h down across =
     let a : holding s.slices_x band.w i ≤ holding s.slices_x band.w x = div-rises ((i + 1) * s.slices_x - 1) ((x + 1) * s.slices_x - 1) band.w some_w (omega (arith, times-le (i + 1) (x + 1) s.slices_x (omega arith))) in
     let b : holding s.slices_y band.h j ≤ holding s.slices_y band.h y = div-rises ((j + 1) * s.slices_y - 1) ((y + 1) * s.slices_y - 1) band.h some_h (omega (arith, times-le (j + 1) (y + 1) s.slices_y (omega arith))) in
@@ -59,7 +59,7 @@ same-slice k a b c d bk dk e = elim (cases_lt a c) [
 ]
 
 -- the slice of a number that holds a place
-held-by : (s : Slicing) (band : Size) (y x sx sy : ℕ) → AreSlicesAllowed s → x < band.w → y < band.h → sx < s.slices_x → slice_number s sx sy ≡ holder s band y x → (sx ≡ holding s.slices_x band.w x) × (sy ≡ holding s.slices_y band.h y)
+pub held-by : (s : Slicing) (band : Size) (y x sx sy : ℕ) → AreSlicesAllowed s → x < band.w → y < band.h → sx < s.slices_x → slice_number s sx sy ≡ holder s band y x → (sx ≡ holding s.slices_x band.w x) × (sy ≡ holding s.slices_y band.h y)
 held-by s band y x sx sy allowed x_in y_in across e =
     let both = same-slice s.slices_x sy sx (holding s.slices_y band.h y) (holding s.slices_x band.w x) across (holding_below band.w s.slices_x x allowed.some_across x_in) e in
     (both.1, both.0)

@@ -1,5 +1,5 @@
 -- The decoder of pictures.
-use Rattle.std.specs.Prelude.{◌≡◌, ℕ, ◌+◌, ◌*◌, ◌/◌, ◌%◌, ◌^◌, ◌<◌, ◌≤◌, nat_lt, Bool, true, false, ◌&&◌, if◌then◌else◌, Option, None, Some, List, ℤ}
+use Rattle.std.specs.Prelude.{◌≡◌, ℕ, ◌+◌, ◌*◌, ◌/◌, ◌%◌, ◌^◌, ◌<◌, ◌≤◌, nat_lt, Bool, true, false, ◌&&◌, if◌then◌else◌, Option, None, Some, List, length, ℤ}
 use Rattle.planes.specs.Numbers.{Within}
 use Rattle.planes.specs.Raster.{Raster, height, at}
 use Rattle.planes.specs.Subbands.{BandStack, BandExists, band_of, HaveSizes, AreZeroBands}
@@ -15,12 +15,12 @@ use Rattle.lifting.specs.declared.Wavelet.{Wavelet}
 use Rattle.lifting.specs.Transform.{synthesis}
 use Rattle.lifting.specs.Bands.{coefficients_of}
 use Rattle.transform_params.specs.Params.{Params}
-use Rattle.picture_codec.specs.Pictures.{sample_of}
-use Rattle.picture_codec.specs.Samples.{SampleRows, PictureSamples, tabulated, frame_of}
+use Rattle.picture_codec.specs.Pictures.{size_of, sample_of}
+use Rattle.picture_codec.specs.Samples.{SampleRows, PictureSamples, PictureSeen, tabulated, with_component, frame_of, bits_of}
 use Rattle.slice_decoder.specs.declared.SliceFault.{SliceFault}
 use Rattle.slice_decoder.specs.Slice.{Slice, slice_at, luma_values, colour_values, are_small}
 use Rattle.slice_decoder.specs.Decoded.{AllKeepOthers, IsRefused}
-use Rattle.picture_codec.specs.Taking.{holder, TakesSlice}
+use Rattle.picture_codec.specs.Taking.{holder, Took, TakesSlice}
 
 -- ---- what is seen of a decoder
 
@@ -46,6 +46,9 @@ unfoldable pub synthesised : Wavelet → Size → ℕ → BandStack → SampleRo
 synthesised wavelet size depth b =
     let lowest = band_size b.depth 0 size in
     tabulated size (λ y x. sample_of depth (synthesis wavelet lowest.h lowest.w (coefficients_of b) b.depth y x))
+
+abbrev pub with_synthesised : Wavelet → PictureSeen → Component → BandStack → PictureSeen
+with_synthesised wavelet p c b = record p { samples = with_component p.samples c (synthesised wavelet (size_of (frame_of p.shape) c) (bits_of p c) b) }
 
 abbrev pub synthesised_picture : Decoding → PictureSamples
 synthesised_picture d = record {
@@ -118,3 +121,14 @@ pub record IsSliceRefused (bytes : List ℕ) (fault : SliceFault) (old new : Dec
   pub state : new ≡ record old { bands = new.bands; refused = true }
   pub why : IsRefused old.params.slicing old.shape (column_of old) (row_of_slices old) old.params.matrix (next_slice old bytes) fault
   pub others : AllKeepOthers old.params.slicing old.shape (column_of old) (row_of_slices old) old.bands new.bands
+
+-- what a decoder keeps: the room for synthesis, and bands that the slices so far were taken into
+pub record IsSound (s : Slicing) (shape : PictureShape) (next : ℕ) (bands : Trio) (luma_plane luma_scratch colour_plane colour_scratch : Raster ℤ) : Type 0 where
+  pub taken : AllTaken s shape next bands
+  pub luma : ArePadded s shape.luma luma_plane luma_scratch
+  pub colour : ArePadded s shape.colour colour_plane colour_scratch
+
+-- A decoder that took these slices, in order, since it was made or last restarted.
+pub record HasTaken (slices : List (List ℕ)) (d : Decoding) : Type 0 where
+  pub number : d.next ≡ length slices
+  pub each : (c : Component) → Took (frame_of d.shape) d.params slices c (stack_of d.bands c)

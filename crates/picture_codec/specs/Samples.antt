@@ -5,8 +5,9 @@ use Rattle.slice_geometry.specs.declared.Component.{Component}
 use Rattle.slice_geometry.specs.declared.Component.TheVariants.{Luma, C1, C2}
 use Rattle.slice_geometry.specs.declared.Size.{Size}
 use Rattle.slice_geometry.specs.declared.PictureShape.{PictureShape}
+use Rattle.lifting.specs.Transform.{Grid}
 use Rattle.transform_params.specs.Params.{Params}
-use Rattle.picture_codec.specs.Pictures.{Frame, size_of, depth_of, sample}
+use Rattle.picture_codec.specs.Pictures.{Frame, size_of, depth_of, sample_of, sample}
 
 -- h rows of w samples, row by row from the top
 pub record SampleRows : Type 0 where
@@ -91,3 +92,7 @@ height_of p c = (size_of (frame_of p.shape) c).h
 
 abbrev pub bits_of : PictureSeen → Component → ℕ
 bits_of p c = depth_of (frame_of p.shape) c
+
+-- a component's samples from a plane: its numbers clipped and offset
+abbrev pub with_shown : PictureSeen → Component → Grid → PictureSeen
+with_shown p c g = record p { samples = with_component p.samples c (tabulated (size_of (frame_of p.shape) c) (λ y x. sample_of (bits_of p c) (g y x))) }

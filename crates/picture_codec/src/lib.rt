@@ -5,5 +5,7 @@ mod decoder;
 mod picture;
 mod samples;
 
+pub use decoder::PictureDecoder;
 pub use picture::Picture;
+pub use slice_decoder::SliceFault;
 pub use transform_params::{TransformFault, TransformParams, TransformReason};

@@ -1,10 +1,11 @@
 //! A picture.
 
-ghost use Rattle.std.specs.Prelude.{◌≡◌, ◌*◌, ◌^◌, ◌<◌, length, IfOk};
-ghost use Rattle.picture_codec.specs.Samples.{PictureSeen, blank_picture, shown, width_of, height_of, bits_of, sample_at, with_sample, with_component};
+ghost use Rattle.std.specs.Prelude.{◌≡◌, ◌*◌, ◌^◌, ◌<◌, ◌≤◌, length, IfOk};
+ghost use Rattle.planes.specs.Raster.{height, at};
+ghost use Rattle.picture_codec.specs.Samples.{PictureSeen, blank_picture, shown, width_of, height_of, bits_of, sample_at, with_sample, with_component, with_shown};
 
 use crate::samples::Samples;
-use planes::NoMemory;
+use planes::{NoMemory, Plane};
 use slice_geometry::{Component, PictureShape};
 use std::alloc::Global;
 use std::marker::Model;
@@ -13,10 +14,10 @@ use std::marker::Model;
 /// component's depth.
 #[derive(Drop)]
 pub struct Picture {
-    pub(crate) shape: PictureShape,
-    pub(crate) luma: Samples,
-    pub(crate) c1: Samples,
-    pub(crate) c2: Samples,
+    shape: PictureShape,
+    luma: Samples,
+    c1: Samples,
+    c2: Samples,
 }
 
 impl Model for Picture {
@@ -90,6 +91,21 @@ impl Picture {
             Component::Luma => self.luma.set(y, x, v as u16),
             Component::C1 => self.c1.set(y, x, v as u16),
             Component::C2 => self.c2.set(y, x, v as u16),
+        }
+    }
+
+    /// A component's samples from the first columns and rows of a plane: each number is clipped to the component's
+    /// depth and offset.
+    pub(crate) fn show(&mut self, c: Component, plane: &Plane)
+        requires fits { width_of self.old c ≤ plane.now.w }
+        requires high { height_of self.old c ≤ height plane.now }
+        ensures { self.new ≡ with_shown self.old c (at plane.now) }
+    {
+        let shape = self.shape;
+        match c {
+            Component::Luma => self.luma.show(plane, shape.luma_depth),
+            Component::C1 => self.c1.show(plane, shape.colour_depth),
+            Component::C2 => self.c2.show(plane, shape.colour_depth),
         }
     }
 }

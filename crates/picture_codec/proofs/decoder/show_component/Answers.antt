@@ -1,28 +1,37 @@
-use Rattle.std.proofs.Common.{◌≡◌, ℕ, refl, ap, ◌∙◌}
-use Rattle.planes.specs.Raster.{at}
+use Rattle.std.proofs.Common.{◌≡◌, refl, sym, ap, subst, ◌∙◌}
+use Rattle.slice_geometry.specs.declared.Size.{Size}
+use Rattle.slice_geometry.specs.declared.PictureShape.{PictureShape}
+use Rattle.slice_geometry.specs.Shape.{IsSize}
 use Rattle.slice_geometry.specs.Slicing.{slice_count}
-use Rattle.picture_codec.specs.Pictures.{sample_of}
-use Rattle.picture_codec.specs.Samples.{tabulated}
+use Rattle.picture_codec.specs.Pictures.{size_of}
+use Rattle.picture_codec.specs.Samples.{SampleRows, PictureSeen, frame_of, bits_of, with_component}
 use Rattle.picture_codec.proofs.Sizes as sizes
 use Rattle.picture_codec.proofs.decoder.show_component.Goals as goal
 
 pub synth-requires-clause-sizes : goal.synth-requires-clause-sizes
 synth-requires-clause-sizes c =
-    let q = c.requires in
-    let s = c.args.layout.now in
-    sizes.agree s c.args.size c.args.bands.now c.args.work.now.plane c.args.work.now.scratch (slice_count s) q.taken refl c.depth.ensures.allowed.slices c.depth.ensures.allowed.depth q.size q.room
+    let s = c.args.params.now.layout in
+    let size : Size = size_of (frame_of c.args.picture.now.shape) c.args.c in
+    let same : c.size_of.result ≡ size = c.size_of.ensures.value ∙ ap (λ (sh : PictureShape). size_of (frame_of sh) c.args.c) c.shape.ensures in
+    let is : IsSize size.w size.h = subst (λ (z : Size). IsSize z.w z.h) same c.size_of.ensures.allowed in
+    sizes.agree s size c.args.bands.now c.args.room.now.plane c.args.room.now.scratch (slice_count s) c.requires.taken refl c.depth.ensures.allowed.slices c.depth.ensures.allowed.depth is c.requires.room
 
 pub synth-requires-clause-small : goal.synth-requires-clause-small
 synth-requires-clause-small c =
-    let q = c.requires in
-    let s = c.args.layout.now in
-    sizes.small s c.args.size c.args.bands.now c.args.work.now.plane c.args.work.now.scratch (slice_count s) q.taken refl c.depth.ensures.allowed.slices c.depth.ensures.allowed.depth q.size q.room
+    let s = c.args.params.now.layout in
+    let size : Size = size_of (frame_of c.args.picture.now.shape) c.args.c in
+    let same : c.size_of.result ≡ size = c.size_of.ensures.value ∙ ap (λ (sh : PictureShape). size_of (frame_of sh) c.args.c) c.shape.ensures in
+    let is : IsSize size.w size.h = subst (λ (z : Size). IsSize z.w z.h) same c.size_of.ensures.allowed in
+    sizes.small s size c.args.bands.now c.args.room.now.plane c.args.room.now.scratch (slice_count s) c.requires.taken refl c.depth.ensures.allowed.slices c.depth.ensures.allowed.depth is c.requires.room
 
-pub returns-clause-samples : goal.returns-clause-samples
-returns-clause-samples c =
-    let q = c.requires in
-    let s = c.args.layout.now in
-    let g : ℕ → ℕ → ℕ = λ y x. sample_of c.args.depth (at c.synth.new.plane y x) in
+pub returns-clause-picture : goal.returns-clause-picture
+returns-clause-picture c =
+    let s = c.args.params.now.layout in
+    let p = c.args.picture.now in
+    let size : Size = size_of (frame_of p.shape) c.args.c in
+    let same : c.size_of.result ≡ size = c.size_of.ensures.value ∙ ap (λ (sh : PictureShape). size_of (frame_of sh) c.args.c) c.shape.ensures in
+    let is : IsSize size.w size.h = subst (λ (z : Size). IsSize z.w z.h) same c.size_of.ensures.allowed in
+    let with_rows : SampleRows → PictureSeen = λ rows. record p { samples = with_component p.samples c.args.c rows } in
     c.show.ensures
-    ∙ ap (λ w. tabulated (record { w = w; h = c.args.samples.now.h }) g) q.width ∙ ap (λ h. tabulated (record { w = c.args.size.w; h = h }) g) q.height
-    ∙ sizes.shown_is s c.args.size c.args.bands.now c.args.work.now.plane c.args.work.now.scratch (slice_count s) q.taken refl c.depth.ensures.allowed.slices c.depth.ensures.allowed.depth q.size q.room c.args.wavelet c.args.depth c.synth.new.plane c.synth.ensures.whole
+    ∙ ap with_rows (sizes.shown_is s size c.args.bands.now c.args.room.now.plane c.args.room.now.scratch (slice_count s) c.requires.taken refl c.depth.ensures.allowed.slices c.depth.ensures.allowed.depth is c.requires.room
+        c.args.params.now.wavelet (bits_of p c.args.c) c.synth.new.plane c.synth.ensures.whole)
