@@ -10,7 +10,7 @@ use Rattle.sequence_header.specs.declared.parts.RateField.TheVariants as rates
 use Rattle.sequence_header.specs.declared.parts.AspectField.TheVariants as aspects
 use Rattle.sequence_header.specs.declared.parts.SignalField.TheVariants as signals
 use Rattle.sequence_header.specs.declared.parts.ColourField.TheVariants as colours
-use Rattle.sequence_header.specs.Header.{reason_of, version_rows, height_rows, size_rows, sampling_index, sampling_rows, excursion, scan_rows, rate_rows, aspect_rows, clean_rows, signal_rows, flagged_index, colour_rows, coding_rows, header_fields, header_rows}
+use Rattle.sequence_header.specs.Header.{reason_of, version_rows, size_rows, sampling_rows, excursion, scan_rows, rate_rows, aspect_rows, clean_rows, signal_rows, flagged_index, colour_rows, coding_rows, header_fields, header_rows}
 
 abbrev header_of : List ℕ → Result (HeaderParts × Cursor) (Fault HeaderReason)
 header_of bytes = read reason_of header_rows (cursor_at bytes 0)
@@ -33,7 +33,7 @@ smallest : header_of (63 ∷ 39 ∷ 66 ∷ 74 ∷ []) ≡ Ok (
   },
   record { place = 32; rest = [] },
 )
-unfolding header_rows header_fields version_rows height_rows size_rows sampling_index sampling_rows excursion scan_rows rate_rows aspect_rows clean_rows signal_rows colour_rows coding_rows flagged_index field_at spelled read ◌>>=◌ number within number_under flag flag_set byte_end whole_bytes if_set
+unfolding header_rows header_fields version_rows size_rows sampling_rows excursion scan_rows rate_rows aspect_rows clean_rows signal_rows colour_rows coding_rows flagged_index field_at spelled read ◌>>=◌ number within number_under flag flag_set byte_end whole_bytes if_set
 smallest = refl
 
 -- every optional field
@@ -55,17 +55,17 @@ fullest : header_of (0x7F ∷ 0x2F ∷ 0x9D ∷ 0x9C ∷ 0x99 ∷ 0x7F ∷ 0x0B 
   },
   record { place = 80; rest = [] },
 )
-unfolding header_rows header_fields version_rows height_rows size_rows sampling_index sampling_rows excursion scan_rows rate_rows aspect_rows clean_rows signal_rows colour_rows coding_rows flagged_index field_at spelled read ◌>>=◌ number within number_under flag flag_set byte_end whole_bytes if_set
+unfolding header_rows header_fields version_rows size_rows sampling_rows excursion scan_rows rate_rows aspect_rows clean_rows signal_rows colour_rows coding_rows flagged_index field_at spelled read ◌>>=◌ number within number_under flag flag_set byte_end whole_bytes if_set
 fullest = refl
 
 too_large : header_of (0x3F ∷ 0 ∷ 0 ∷ 0 ∷ 0 ∷ 0 ∷ 0 ∷ 0 ∷ 0 ∷ 0 ∷ []) ≡ Err (record { place = 8; reason = NumberTooLarge })
-unfolding header_rows header_fields version_rows height_rows size_rows sampling_index sampling_rows excursion scan_rows rate_rows aspect_rows clean_rows signal_rows colour_rows coding_rows flagged_index field_at spelled read ◌>>=◌ number within number_under flag flag_set byte_end whole_bytes if_set
+unfolding header_rows header_fields version_rows size_rows sampling_rows excursion scan_rows rate_rows aspect_rows clean_rows signal_rows colour_rows coding_rows flagged_index field_at spelled read ◌>>=◌ number within number_under flag flag_set byte_end whole_bytes if_set
 too_large = refl
 
 short : header_of (0x3F ∷ 0 ∷ 0 ∷ 0 ∷ 0 ∷ 0 ∷ 0 ∷ 0 ∷ 0 ∷ []) ≡ Err (record { place = 8; reason = Truncated })
-unfolding header_rows header_fields version_rows height_rows size_rows sampling_index sampling_rows excursion scan_rows rate_rows aspect_rows clean_rows signal_rows colour_rows coding_rows flagged_index field_at spelled read ◌>>=◌ number within number_under flag flag_set byte_end whole_bytes if_set
+unfolding header_rows header_fields version_rows size_rows sampling_rows excursion scan_rows rate_rows aspect_rows clean_rows signal_rows colour_rows coding_rows flagged_index field_at spelled read ◌>>=◌ number within number_under flag flag_set byte_end whole_bytes if_set
 short = refl
 
 no_size : header_of (0x3E ∷ 39 ∷ 66 ∷ 74 ∷ []) ≡ Err (record { place = 7; reason = DefaultTaken field_names.Size })
-unfolding header_rows header_fields version_rows height_rows size_rows sampling_index sampling_rows excursion scan_rows rate_rows aspect_rows clean_rows signal_rows colour_rows coding_rows flagged_index field_at spelled read ◌>>=◌ number within number_under flag flag_set byte_end whole_bytes if_set
+unfolding header_rows header_fields version_rows size_rows sampling_rows excursion scan_rows rate_rows aspect_rows clean_rows signal_rows colour_rows coding_rows flagged_index field_at spelled read ◌>>=◌ number within number_under flag flag_set byte_end whole_bytes if_set
 no_size = refl
