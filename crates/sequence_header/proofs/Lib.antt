@@ -5,3 +5,4 @@ pub mod Groups
 pub mod Failing
 pub mod FieldKinds
 pub mod Whole
+pub mod Sums

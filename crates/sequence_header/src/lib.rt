@@ -4,6 +4,7 @@
 mod checking;
 mod fields;
 mod header;
+mod lengths;
 pub mod parts;
 mod reading;
 mod rules;
