@@ -6,3 +6,5 @@ pub mod Failing
 pub mod FieldKinds
 pub mod Whole
 pub mod Sums
+pub mod Indices
+pub mod WroteText

@@ -21,10 +21,10 @@ fn check_within(value: u32, low: u32, high: u32, reason: HeaderReason) -> Result
     Ok(())
 }
 
-pub fn check_version(version: Version) -> Result<(), HeaderReason>
-    ensures { Checks result version_rows (version_fields version) version }
+pub fn check_version(major: u32, minor: u32, level: u32) -> Result<(), HeaderReason>
+    ensures { Checks result version_rows (version_fields (record { major = major; minor = minor; level = level })) (record { major = major; minor = minor; level = level }) }
 {
-    check_within(version.major, 1, 2, HeaderReason::VersionRefused)
+    check_within(major, 1, 2, HeaderReason::VersionRefused)
 }
 
 pub fn check_size(size: Size) -> Result<(), HeaderReason>

@@ -3,7 +3,17 @@
 use crate::checking::{
     check_coding, check_rate, check_sampling, check_scan, check_signal, check_size, check_version,
 };
-use crate::parts::*;
+use crate::lengths::{
+    aspect_bits, clean_bits, coding_bits, colour_bits, rate_bits, sampling_bits, scan_bits,
+    signal_bits, size_bits, version_bits,
+};
+use crate::parts::{HeaderFault, HeaderParts, HeaderReason};
+use crate::reading::read_parts;
+use crate::writing::{
+    put_aspect, put_clean, put_coding, put_colour, put_rate, put_sampling, put_scan, put_signal,
+    put_size, put_version,
+};
+use bit_codes::BitWriter;
 use slice_geometry::Size;
 use std::marker::Model;
 
@@ -28,7 +38,11 @@ impl Model for SequenceHeader {
 }
 
 impl SequenceHeader {
-    ghost use Rattle.std.specs.Prelude.{◌≡◌};
+    ghost use Rattle.std.specs.Prelude.{◌≡◌, ◌≤◌, ◌*◌, ◌^◌, IfErr, length};
+    ghost use Rattle.bit_codes.specs.Bits.{bits_of, cursor_at};
+    ghost use Rattle.field_rows.specs.Rows.{GivesOf, read};
+    ghost use Rattle.sequence_header.specs.Header.{reason_of, fault_of, header_rows};
+    ghost use Rattle.sequence_header.specs.Bytes.{header_len, header_text, IsReadBack};
     ghost use Rattle.sequence_header.specs.Checking.{IsCheckOf, HasAspectIndex, HasColourIndex};
 
     /// The header of these parts, or the first rule that they break, in field order.
@@ -43,11 +57,7 @@ impl SequenceHeader {
             w: parts.width,
             h: parts.height,
         };
-        check_version(Version {
-            major: parts.major,
-            minor: parts.minor,
-            level: parts.level,
-        })?;
+        check_version(parts.major, parts.minor, parts.level)?;
         check_size(size)?;
         check_sampling(size, parts.sampling)?;
         check_scan(parts.scan)?;
@@ -57,10 +67,74 @@ impl SequenceHeader {
         Ok(SequenceHeader { parts })
     }
 
+    /// The header at the front of bytes, and its length in bytes; or its first fault. The bits up to
+    /// the last byte's end are skipped, and what follows isn't looked at.
+    pub fn read(bytes: &[u8]) -> Result<(SequenceHeader, usize), HeaderFault>
+        requires { length bytes.now ≤ 2 ^ 40 }
+        ensures exact { GivesOf (λ h. h) fault_of result bytes.now (read reason_of header_rows (cursor_at bytes.now 0)) }
+        ensures within { IfErr result (λ f. f.bit ≤ 8 * length bytes.now) }
+    {
+        let (parts, length) = read_parts(bytes)?;
+        Ok((SequenceHeader { parts }, length))
+    }
+
     /// What the header holds.
     pub fn parts(&self) -> &HeaderParts
         ensures { result.now ≡ self.now }
     {
         &self.parts
+    }
+
+    /// How many bytes the header is written in.
+    pub fn byte_len(&self) -> usize
+        ensures length { result ≡ header_len self.now }
+        ensures most { result ≤ 237 }
+    {
+        let parts = &self.parts;
+        let bits = version_bits(parts.major, parts.minor, parts.level)
+            + size_bits(parts.width, parts.height)
+            + sampling_bits(parts.sampling)
+            + scan_bits(parts.scan)
+            + rate_bits(parts.rate)
+            + aspect_bits(parts.aspect)
+            + clean_bits(parts.clean)
+            + signal_bits(parts.signal)
+            + colour_bits(parts.colour)
+            + coding_bits(parts.coding);
+        ((bits + 7) / 8) as usize
+    }
+
+    /// Writes the fields in their order, and zeros up to the last byte's end.
+    pub fn write(&self, bytes: &mut [u8])
+        requires { length bytes.old ≡ header_len self.now }
+        ensures text { bits_of bytes.new ≡ header_text self.now }
+        ensures read_back { IsReadBack bytes.new self.now }
+    {
+        let length = self.byte_len();
+        prove!(bytes.len() == length);
+        let mut w = BitWriter::new(bytes);
+        self.put(&mut w);
+    }
+
+    /// Writes the header into a new writer of exactly its bytes.
+    fn put(&self, w: &mut BitWriter<'_>)
+        requires start { w.old.place ≡ 0 }
+        requires room { length w.old.bytes.now ≡ header_len self.now }
+        ensures same_reference { w.new.bytes.ghost_name ≡ w.old.bytes.ghost_name }
+        ensures text { bits_of w.new.bytes.now ≡ header_text self.now }
+        ensures read_back { IsReadBack w.new.bytes.now self.now }
+    {
+        let parts = &self.parts;
+        put_version(w, parts.major, parts.minor, parts.level);
+        put_size(w, parts.width, parts.height);
+        put_sampling(w, parts.sampling);
+        put_scan(w, parts.scan);
+        put_rate(w, parts.rate);
+        put_aspect(w, parts.aspect);
+        put_clean(w, parts.clean);
+        put_signal(w, parts.signal);
+        put_colour(w, parts.colour);
+        put_coding(w, parts.coding);
+        w.align();
     }
 }

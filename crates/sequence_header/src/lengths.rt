@@ -7,22 +7,21 @@ ghost use Rattle.sequence_header.specs.Checking.{HasRateIndex, HasSignalIndex};
 
 use crate::parts::*;
 use bit_codes::uint_len;
-use slice_geometry::Size;
 
 #[tactic(auto, using(field_rows::proofs::Written::writing, crate::proofs::Sums::zero_bits))]
-pub fn version_bits(version: Version) -> u32
-    ensures length { result ≡ length (written (version_fields version)) }
+pub fn version_bits(major: u32, minor: u32, level: u32) -> u32
+    ensures length { result ≡ length (written (version_fields (record { major = major; minor = minor; level = level }))) }
     ensures most { result ≤ 197 }
 {
-    uint_len(version.major) + uint_len(version.minor) + uint_len(version.level) + 2
+    uint_len(major) + uint_len(minor) + uint_len(level) + 2
 }
 
 #[tactic(auto, using(field_rows::proofs::Written::writing, crate::proofs::Sums::zero_bits))]
-pub fn size_bits(size: Size) -> u32
-    ensures length { result ≡ length (written (size_fields size)) }
+pub fn size_bits(width: u32, height: u32) -> u32
+    ensures length { result ≡ length (written (size_fields (record { w = width; h = height }))) }
     ensures most { result ≤ 131 }
 {
-    1 + uint_len(size.w) + uint_len(size.h)
+    1 + uint_len(width) + uint_len(height)
 }
 
 #[tactic(auto, using(field_rows::proofs::Written::writing, crate::proofs::Sums::zero_bits))]

@@ -11,4 +11,3 @@ mod rules;
 mod writing;
 
 pub use header::SequenceHeader;
-pub use reading::read;

@@ -246,9 +246,10 @@ fn header(r: &mut BitReader<'_>) -> Result<HeaderParts, HeaderFault>
     })
 }
 
-/// The header at the front of bytes, and its length in bytes.
-pub fn read(bytes: &[u8]) -> Result<(HeaderParts, usize), HeaderFault>
+/// The parts of the header at the front of bytes, and its length in bytes. They pass every rule.
+pub fn read_parts(bytes: &[u8]) -> Result<(HeaderParts, usize), HeaderFault>
     requires { length bytes.now ≤ 2 ^ 40 }
+    ensures passes { IfOk result (λ x. Passes x.0) }
     ensures exact { GivesOf (λ x. x) fault_of result bytes.now (read reason_of header_rows (cursor_at bytes.now 0)) }
     ensures within { IfErr result (λ f. f.bit ≤ 8 * length bytes.now) }
 {

@@ -1,6 +1,6 @@
 //! Writes the parts of a header, a group at a time. Each function appends the bits of its fields.
 
-ghost use Rattle.std.specs.Prelude.{◌≡◌, ◌+◌, ◌*◌, ◌≤◌, ◌++◌, length};
+ghost use Rattle.std.specs.Prelude.{ℕ, ◌≡◌, ◌+◌, ◌*◌, ◌≤◌, ◌++◌, length};
 ghost use Rattle.bit_codes.specs.Bits.{bits_before};
 ghost use Rattle.field_rows.specs.Given.{written, AreOfKind};
 ghost use Rattle.sequence_header.specs.Header.{version_rows, size_rows, sampling_rows, scan_rows, rate_rows, aspect_rows, clean_rows, signal_rows, flagged_index, colour_rows, coding_rows};
@@ -13,34 +13,34 @@ use slice_geometry::Size;
 
 /// Versions, profile 0, the level and base video format 0.
 #[tactic(auto, using(field_rows::proofs::Written::writing))]
-pub fn put_version(w: &mut BitWriter<'_>, version: Version)
-    requires { w.old.place + length (written (version_fields version)) ≤ 8 * length w.old.bytes.now }
+pub fn put_version(w: &mut BitWriter<'_>, major: u32, minor: u32, level: u32)
+    requires { w.old.place + length (written (version_fields (record { major = major; minor = minor; level = level }))) ≤ 8 * length w.old.bytes.now }
     ensures same_reference { w.new.bytes.ghost_name ≡ w.old.bytes.ghost_name }
-    ensures place { w.new.place ≡ w.old.place + length (written (version_fields version)) }
-    ensures written { bits_before w.new.place w.new.bytes.now ≡ bits_before w.old.place w.old.bytes.now ++ written (version_fields version) }
+    ensures place { w.new.place ≡ w.old.place + length (written (version_fields (record { major = major; minor = minor; level = level }))) }
+    ensures written { bits_before w.new.place w.new.bytes.now ≡ bits_before w.old.place w.old.bytes.now ++ written (version_fields (record { major = major; minor = minor; level = level })) }
     ensures room { length w.new.bytes.now ≡ length w.old.bytes.now }
-    ensures kinds { AreOfKind version_rows (version_fields version) }
+    ensures kinds { AreOfKind version_rows (version_fields (record { major = major; minor = minor; level = level })) }
 {
-    w.put_uint(version.major);
-    w.put_uint(version.minor);
+    w.put_uint(major);
+    w.put_uint(minor);
     w.put_uint(0);
-    w.put_uint(version.level);
+    w.put_uint(level);
     w.put_uint(0);
 }
 
 /// A frame's size.
 #[tactic(auto, using(field_rows::proofs::Written::writing))]
-pub fn put_size(w: &mut BitWriter<'_>, size: Size)
-    requires { w.old.place + length (written (size_fields size)) ≤ 8 * length w.old.bytes.now }
+pub fn put_size(w: &mut BitWriter<'_>, width: u32, height: u32)
+    requires { w.old.place + length (written (size_fields (record { w = width; h = height }))) ≤ 8 * length w.old.bytes.now }
     ensures same_reference { w.new.bytes.ghost_name ≡ w.old.bytes.ghost_name }
-    ensures place { w.new.place ≡ w.old.place + length (written (size_fields size)) }
-    ensures written { bits_before w.new.place w.new.bytes.now ≡ bits_before w.old.place w.old.bytes.now ++ written (size_fields size) }
+    ensures place { w.new.place ≡ w.old.place + length (written (size_fields (record { w = width; h = height }))) }
+    ensures written { bits_before w.new.place w.new.bytes.now ≡ bits_before w.old.place w.old.bytes.now ++ written (size_fields (record { w = width; h = height })) }
     ensures room { length w.new.bytes.now ≡ length w.old.bytes.now }
-    ensures kinds { AreOfKind size_rows (size_fields size) }
+    ensures kinds { AreOfKind size_rows (size_fields (record { w = width; h = height })) }
 {
     w.put_flag(true);
-    w.put_uint(size.w);
-    w.put_uint(size.h);
+    w.put_uint(width);
+    w.put_uint(height);
 }
 
 /// A sampling index.
@@ -215,4 +215,17 @@ pub fn put_colour(w: &mut BitWriter<'_>, colour: ColourField)
             put_index(w, transfer);
         }
     }
+}
+
+/// A picture coding mode.
+#[tactic(auto, using(field_rows::proofs::Written::writing))]
+pub fn put_coding(w: &mut BitWriter<'_>, coding: u32)
+    requires { w.old.place + length (written (coding_fields coding)) ≤ 8 * length w.old.bytes.now }
+    ensures same_reference { w.new.bytes.ghost_name ≡ w.old.bytes.ghost_name }
+    ensures place { w.new.place ≡ w.old.place + length (written (coding_fields coding)) }
+    ensures written { bits_before w.new.place w.new.bytes.now ≡ bits_before w.old.place w.old.bytes.now ++ written (coding_fields coding) }
+    ensures room { length w.new.bytes.now ≡ length w.old.bytes.now }
+    ensures kinds { (size : Size) (sampling : ℕ) → AreOfKind (coding_rows size sampling) (coding_fields coding) }
+{
+    w.put_uint(coding);
 }

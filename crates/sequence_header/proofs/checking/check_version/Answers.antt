@@ -7,4 +7,4 @@ use Rattle.field_rows.specs.Given.{Fail}
 use Rattle.sequence_header.proofs.checking.check_version.Goals as goal
 
 pub returns : goal.returns
-returns c = from_within _ _ _ 1 2 c.args.version.major VersionRefused c.check_within.result c.check_within.ensures.ok c.check_within.ensures.err (version_pass c.args.version) (version_fail c.args.version)
+returns c = from_within _ _ _ 1 2 c.args.major VersionRefused c.check_within.result c.check_within.ensures.ok c.check_within.ensures.err (version_pass (record { major = c.args.major; minor = c.args.minor; level = c.args.level })) (version_fail (record { major = c.args.major; minor = c.args.minor; level = c.args.level }))
