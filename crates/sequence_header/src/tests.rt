@@ -5,6 +5,7 @@ use crate::{
     RateField, SequenceHeader, SignalField, SignalRange,
 };
 use slice_geometry::Size;
+use std::process::Abort;
 use std::test::Fail;
 
 /// 1x1, 4:4:4, 25 frames a second, 8 bits in full range, and all else by default.
@@ -67,6 +68,13 @@ fn large() -> HeaderParts {
         signal: SignalField::Index(3),
         ..smallest()
     }
+}
+
+/// The check, whose condition these parts meet.
+fn checked(rt: &impl Abort, parts: HeaderParts) -> Result<SequenceHeader, HeaderReason> {
+    assert!(rt; !matches!(parts.aspect, AspectField::Index(0)));
+    assert!(rt; !matches!(parts.colour, ColourField::Index(0)));
+    SequenceHeader::check(parts)
 }
 
 #[test]
@@ -135,9 +143,7 @@ fn headers_are_written_and_read_again(rt: HostRuntime) -> Result<(), Fail> {
         ),
     ];
     for (parts, text) in worked {
-        assert!(&rt; !matches!(parts.aspect, AspectField::Index(0)));
-        assert!(&rt; !matches!(parts.colour, ColourField::Index(0)));
-        let header = SequenceHeader::check(parts).map_err(|_| "refused")?;
+        let header = checked(&rt, parts).map_err(|_| "refused")?;
         let mut bytes = [0xAA; 237];
         let length = header.byte_len();
         assert_eq!(&rt; length, text.len());
@@ -299,9 +305,7 @@ fn each_rule_is_checked(rt: HostRuntime) {
         (sized(2, 2, 2, 1), Some(SizeNotDivisible)),
     ];
     for (parts, reason) in cases {
-        assert!(&rt; !matches!(parts.aspect, AspectField::Index(0)));
-        assert!(&rt; !matches!(parts.colour, ColourField::Index(0)));
-        assert_eq!(&rt; SequenceHeader::check(parts).err(), reason);
+        assert_eq!(&rt; checked(&rt, parts).err(), reason);
     }
 }
 
@@ -332,11 +336,8 @@ fn pictures_have_their_shapes(rt: HostRuntime) -> Result<(), Fail> {
         ),
     ];
     for (parts, luma, colour, luma_depth, colour_depth) in cases {
-        assert!(&rt; !matches!(parts.aspect, AspectField::Index(0)));
-        assert!(&rt; !matches!(parts.colour, ColourField::Index(0)));
-        let shape = SequenceHeader::check(parts)
-            .map_err(|_| "refused")?
-            .picture_shape();
+        let header = checked(&rt, parts).map_err(|_| "refused")?;
+        let shape = header.picture_shape();
         assert_eq!(&rt; shape.luma, luma);
         assert_eq!(&rt; shape.colour, colour);
         assert_eq!(&rt; shape.luma_depth, luma_depth);
