@@ -1,1 +1,6 @@
 pub mod Shape
+pub mod Slicing
+pub mod Geometry
+pub mod SliceLaws
+pub mod Units
+pub mod UnitsInside

@@ -1,7 +1,17 @@
 //! Where the parts of a picture lie: padded components, subbands, the rectangles and the bytes of slices.
 #![tactic(auto)]
 
+ghost use Rattle.std.specs.Prelude.{◌≡◌, ◌≤◌, ◌^◌};
 ghost use Rattle.slice_geometry.specs.Shape.{IsSize, IsDepth};
+ghost use Rattle.slice_geometry.specs.Slicing as slicing;
+ghost use Rattle.slice_geometry.specs.SliceLaws.{SharesSumToTheWhole, EachShareIsAtLeastOne, EachPlaceIsHeld, NoPlaceIsShared};
+
+mod slice_layout;
+mod unit_list;
+
+use bit_codes::intlog2;
+pub use slice_layout::{Layout, LayoutFault};
+pub use unit_list::{UnitShape, UnitShapes};
 
 /// A width and a height.
 #[derive(Clone, Copy, Debug, PartialEq, Eq)]
@@ -39,3 +49,27 @@ pub struct SliceHead {
     pub qindex: u32,
     pub luma_bits: u32,
 }
+
+/// How many bits give the length of the luma block in a slice of so many bytes, 1 to 2^28.
+pub fn length_bits(bytes: u32) -> u32
+    requires some { 1 ≤ bytes }
+    requires most { bytes ≤ 2 ^ 28 }
+    ensures { result ≡ slicing.length_bits bytes }
+{
+    intlog2(8 * bytes - 7)
+}
+
+/// A law: the bytes of the slices sum to the whole, and each slice has at least one.
+pub fn shares_sum_to_the_whole()
+    ensures whole { SharesSumToTheWhole }
+    ensures some { EachShareIsAtLeastOne }
+{}
+
+/// A law: each place of a subband lies in the rectangle of exactly one slice.
+pub fn each_place_lies_in_one_slice()
+    ensures held { EachPlaceIsHeld }
+    ensures alone { NoPlaceIsShared }
+{}
+
+#[cfg(test)]
+mod tests;

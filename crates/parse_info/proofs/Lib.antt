@@ -1,0 +1,2 @@
+pub mod HeadSteps
+pub mod Told

@@ -1,0 +1,6 @@
+pub mod Taken
+pub mod Heads
+pub mod ChainLaws
+pub mod Past
+pub mod Settling
+pub mod Parts

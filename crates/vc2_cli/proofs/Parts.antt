@@ -1,0 +1,99 @@
+-- What stands after a status, part by part, as the clauses of `run` have it.
+use Rattle.std.proofs.Common.{◌≡◌, ℕ, List, Option, None, Some, IfSome, Result, Ok, Err, refl, sym, subst}
+use Rattle.std.specs.Io.KnownBytes.{Appends, Keeps}
+use Rattle.vc2_io.specs.Outside.{GrewShort}
+use Rattle.vc2_cli.specs.declared.status.Status.{Status}
+use Rattle.vc2_cli.specs.declared.status.Status.TheVariants as st
+use Rattle.vc2_cli.specs.declared.status.Ending.{Ending}
+use Rattle.vc2_cli.specs.declared.status.Ending.TheVariants.{Done, Refused}
+use Rattle.vc2_cli.specs.declared.status.WordFault.{WordFault}
+use Rattle.vc2_cli.specs.declared.words.Command.{Command}
+use Rattle.vc2_cli.specs.declared.words.Command.TheVariants.{Chain}
+use Rattle.vc2_cli.specs.Reply.{Reply, Breaks, Stops, StopsShort, IsStatusOf, command_reply, command_due, status_of}
+use Rattle.vc2_cli.specs.Settled.{Settles}
+
+if_told : (known : Option (List ℕ)) (P : List ℕ → Type 0) → ((input : List ℕ) → known ≡ Some input → P input) → IfSome known P
+if_told None P h = tt
+if_told (Some input) P h = h input refl
+
+-- a status of a reply is none of the outside
+abbrev pub IsOwn : Status → Type 0
+IsOwn st.ReadFault = ⊥
+IsOwn st.OutFault = ⊥
+IsOwn st.NoteFault = ⊥
+IsOwn st.NoMemory = ⊥
+IsOwn other = Unit {0}
+
+own_ending : (ending : Ending) → IsOwn (status_of ending)
+own_ending Done = tt
+own_ending (Refused refusal) = tt
+
+own : (command : Result Command WordFault) (input : List ℕ) → IsOwn (command_reply command input).status
+own (Err fault) input = tt
+own (Ok Chain) input = own_ending _
+
+-- what stands, for every input that the source may tell
+abbrev pub AllSettled : Result Command WordFault → Option (List ℕ) → Option (List ℕ) → Option (List ℕ) → Option (List ℕ) → Option (List ℕ) → Option (List ℕ) → Status → Type 0
+AllSettled command known rest out0 out1 note0 note1 status = (input : List ℕ) → known ≡ Some input → Settles (command_reply command input) (command_due command) input rest out0 out1 note0 note1 status
+
+-- the same command by another name
+pub settled_by : (command other : Result Command WordFault) (known rest out0 out1 note0 note1 : Option (List ℕ)) (status : Status) → command ≡ other → AllSettled command known rest out0 out1 note0 note1 status → AllSettled other known rest out0 out1 note0 note1 status
+settled_by command other known rest out0 out1 note0 note1 status e all = subst (λ (r : Result Command WordFault). AllSettled r known rest out0 out1 note0 note1 status) e all
+
+at : (command : Result Command WordFault) (known rest out0 out1 note0 note1 : Option (List ℕ)) (status is : Status) → AllSettled command known rest out0 out1 note0 note1 status → status ≡ is → (input : List ℕ) → known ≡ Some input
+    → Settles (command_reply command input) (command_due command) input rest out0 out1 note0 note1 is
+at command known rest out0 out1 note0 note1 status is all e input told = subst (λ s. Settles (command_reply command input) (command_due command) input rest out0 out1 note0 note1 s) e (all input told)
+
+status_in : (reply : Reply) (due : List ℕ → List ℕ) (input : List ℕ) (rest out0 out1 note0 note1 : Option (List ℕ)) (status : Status) → Settles reply due input rest out0 out1 note0 note1 status → IsStatusOf reply status
+status_in reply due input rest out0 out1 note0 note1 st.Done h = h.0.0
+status_in reply due input rest out0 out1 note0 note1 (st.Refused refusal) h = h.0
+status_in reply due input rest out0 out1 note0 note1 (st.Usage fault) h = h.0
+status_in reply due input rest out0 out1 note0 note1 st.ReadFault h = tt
+status_in reply due input rest out0 out1 note0 note1 st.OutFault h = tt
+status_in reply due input rest out0 out1 note0 note1 st.NoteFault h = tt
+status_in reply due input rest out0 out1 note0 note1 st.NoMemory h = tt
+
+texts_in : (reply : Reply) (due : List ℕ → List ℕ) (input : List ℕ) (rest out0 out1 note0 note1 : Option (List ℕ)) (status : Status) → IsOwn reply.status → Settles reply due input rest out0 out1 note0 note1 status → status ≡ reply.status → Appends out0 out1 reply.out × Appends note0 note1 reply.note
+texts_in reply due input rest out0 out1 note0 note1 st.Done is_own h e = (h.0.1, h.0.2)
+texts_in reply due input rest out0 out1 note0 note1 (st.Refused refusal) is_own h e = (h.1, h.2)
+texts_in reply due input rest out0 out1 note0 note1 (st.Usage fault) is_own h e = (h.1, h.2)
+texts_in reply due input rest out0 out1 note0 note1 st.ReadFault is_own h e = absurd (subst IsOwn (sym e) is_own)
+texts_in reply due input rest out0 out1 note0 note1 st.OutFault is_own h e = absurd (subst IsOwn (sym e) is_own)
+texts_in reply due input rest out0 out1 note0 note1 st.NoteFault is_own h e = absurd (subst IsOwn (sym e) is_own)
+texts_in reply due input rest out0 out1 note0 note1 st.NoMemory is_own h e = absurd (subst IsOwn (sym e) is_own)
+
+-- ---- the clauses of `run`
+
+pub told_status : (command : Result Command WordFault) (known rest out0 out1 note0 note1 : Option (List ℕ)) (status : Status) → AllSettled command known rest out0 out1 note0 note1 status
+    → IfSome known (λ input. IsStatusOf (command_reply command input) status)
+told_status command known rest out0 out1 note0 note1 status all =
+    if_told known _ (λ input told. status_in (command_reply command input) (command_due command) input rest out0 out1 note0 note1 status (all input told))
+
+pub told_texts : (command : Result Command WordFault) (known rest out0 out1 note0 note1 : Option (List ℕ)) (status : Status) → AllSettled command known rest out0 out1 note0 note1 status
+    → IfSome known (λ input. status ≡ (command_reply command input).status → Appends out0 out1 (command_reply command input).out × Appends note0 note1 (command_reply command input).note)
+told_texts command known rest out0 out1 note0 note1 status all =
+    if_told known _ (λ input told. texts_in (command_reply command input) (command_due command) input rest out0 out1 note0 note1 status (own command input) (all input told))
+
+left_in : (rest : Option (List ℕ)) (left : List ℕ) → ((more : List ℕ) → rest ≡ Some more → more ≡ left) → IfSome rest (λ more. more ≡ left)
+left_in rest left h = if_told rest (λ more. more ≡ left) h
+
+pub told_done : (command : Result Command WordFault) (known rest out0 out1 note0 note1 : Option (List ℕ)) (status : Status) → AllSettled command known rest out0 out1 note0 note1 status
+    → IfSome known (λ input. status ≡ st.Done → IfSome rest (λ left. left ≡ (command_reply command input).rest))
+told_done command known rest out0 out1 note0 note1 status all =
+    if_told known _ (λ input told is. left_in rest (command_reply command input).rest (at command known rest out0 out1 note0 note1 status st.Done all is input told).1)
+
+pub told_read_fault : (command : Result Command WordFault) (known rest out0 out1 note0 note1 : Option (List ℕ)) (status : Status) → AllSettled command known rest out0 out1 note0 note1 status
+    → IfSome known (λ input. status ≡ st.ReadFault → Breaks (command_due command) input rest out0 out1 × Keeps note0 note1)
+told_read_fault command known rest out0 out1 note0 note1 status all = if_told known _ (λ input told is. at command known rest out0 out1 note0 note1 status st.ReadFault all is input told)
+
+pub told_out_fault : (command : Result Command WordFault) (known rest out0 out1 note0 note1 : Option (List ℕ)) (status : Status) → AllSettled command known rest out0 out1 note0 note1 status
+    → IfSome known (λ input. status ≡ st.OutFault → StopsShort (command_reply command input) (command_due command) input rest out0 out1 × Keeps note0 note1)
+told_out_fault command known rest out0 out1 note0 note1 status all = if_told known _ (λ input told is. at command known rest out0 out1 note0 note1 status st.OutFault all is input told)
+
+pub told_no_memory : (command : Result Command WordFault) (known rest out0 out1 note0 note1 : Option (List ℕ)) (status : Status) → AllSettled command known rest out0 out1 note0 note1 status
+    → IfSome known (λ input. status ≡ st.NoMemory → Stops (command_reply command input) (command_due command) input rest out0 out1 × Keeps note0 note1)
+told_no_memory command known rest out0 out1 note0 note1 status all = if_told known _ (λ input told is. at command known rest out0 out1 note0 note1 status st.NoMemory all is input told)
+
+pub told_note_fault : (command : Result Command WordFault) (known rest out0 out1 note0 note1 : Option (List ℕ)) (status : Status) → AllSettled command known rest out0 out1 note0 note1 status
+    → IfSome known (λ input. status ≡ st.NoteFault → Appends out0 out1 (command_reply command input).out × GrewShort note0 note1 (command_reply command input).note)
+told_note_fault command known rest out0 out1 note0 note1 status all = if_told known _ (λ input told is. at command known rest out0 out1 note0 note1 status st.NoteFault all is input told)

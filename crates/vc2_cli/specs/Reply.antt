@@ -1,0 +1,91 @@
+-- What the program replies to its words and its input, and what of it stands after a status.
+use Rattle.std.specs.Prelude.{◌≡◌, ◌≤◌, ◌<◌, ℕ, ◌-◌, List, [], length, take, Option, Some, Result, Ok, Err}
+use Rattle.std.specs.Io.KnownBytes.{Appends, Consumes, Keeps}
+use Rattle.vc2_io.specs.Outside.{Rose, GrewShort}
+use Rattle.vc2_run.specs.Walk.{Answer, answer_to, out_of, due, IsFront, IsShort}
+use Rattle.vc2_cli.specs.declared.words.Command.{Command}
+use Rattle.vc2_cli.specs.declared.words.Command.TheVariants.{Chain}
+use Rattle.vc2_cli.specs.declared.status.WordFault.{WordFault}
+use Rattle.vc2_cli.specs.declared.status.Status.{Status}
+use Rattle.vc2_cli.specs.declared.status.Status.TheVariants as status
+use Rattle.vc2_cli.specs.declared.status.Ending.{Ending}
+use Rattle.vc2_cli.specs.declared.status.Ending.TheVariants as ending
+use Rattle.vc2_cli.specs.Texts.{refusal_line, usage_line}
+use Rattle.vc2_cli.specs.Words.{command_of}
+use Rattle.vc2_cli.specs.Chain.{chain_limited}
+
+-- a status with its texts for `out` and `note`, and what is left of the input where the status is `Done`
+pub record Reply : Type 0 where
+  pub status : Status
+  pub rest : List ℕ
+  pub out : List ℕ
+  pub note : List ℕ
+
+abbrev pub status_of : Ending → Status
+status_of ending.Done = status.Done
+status_of (ending.Refused refusal) = status.Refused refusal
+
+abbrev pub note_of : Ending → List ℕ
+note_of ending.Done = []
+note_of (ending.Refused refusal) = refusal_line refusal
+
+-- the reply by a run's answer, of a command that leaves so much of its input
+abbrev pub reply_of : List ℕ → Answer Ending → Reply
+reply_of left answer = record { status = status_of answer.ending; rest = left; out = out_of answer; note = note_of answer.ending }
+
+-- the reply to a command, or to words that are refused
+abbrev pub command_reply : Result Command WordFault → List ℕ → Reply
+command_reply (Err fault) input = record { status = status.Usage fault; rest = input; out = []; note = usage_line fault }
+command_reply (Ok Chain) input = reply_of [] (answer_to chain_limited 0 input)
+
+-- the text for `out` that is due once these bytes were taken
+abbrev pub command_due : Result Command WordFault → List ℕ → List ℕ
+command_due (Err fault) taken = []
+command_due (Ok Chain) taken = due chain_limited 0 taken
+
+-- the same by the words
+abbrev pub reply_to : List (List ℕ) → List ℕ → Reply
+reply_to words input = command_reply (command_of words) input
+
+abbrev pub due_to : List (List ℕ) → List ℕ → List ℕ
+due_to words taken = command_due (command_of words) taken
+
+-- The status is the reply's, or something outside failed.
+abbrev pub IsStatusOf : Reply → Status → Type 0
+IsStatusOf reply status.ReadFault = Unit {0}
+IsStatusOf reply status.OutFault = Unit {0}
+IsStatusOf reply status.NoteFault = Unit {0}
+IsStatusOf reply status.NoMemory = Unit {0}
+IsStatusOf reply other = other ≡ reply.status
+
+-- what is due for all but the last 4096 bytes that were taken stands in the text
+abbrev pub IsPrompt : (List ℕ → List ℕ) → List ℕ → List ℕ → Type 0
+IsPrompt due taken text = 4096 < length taken → IsFront (due (take (length taken - 4096) taken)) text
+
+-- A write of the reply's text failed: a part of it went out, and not all.
+abbrev pub StopsShort : Reply → (List ℕ → List ℕ) → List ℕ → Option (List ℕ) → Option (List ℕ) → Option (List ℕ) → Type 0
+StopsShort reply due input rest out0 out1 = (taken : List ℕ) × Consumes (Some input) rest taken
+    × (text : List ℕ) × Appends out0 out1 text × IsShort text reply.out × IsPrompt due taken text
+
+-- No memory was found: a part of the reply's text went out, or all.
+abbrev pub Stops : Reply → (List ℕ → List ℕ) → List ℕ → Option (List ℕ) → Option (List ℕ) → Option (List ℕ) → Type 0
+Stops reply due input rest out0 out1 = (taken : List ℕ) × Consumes (Some input) rest taken
+    × (text : List ℕ) × Appends out0 out1 text × IsFront text reply.out × IsPrompt due taken text
+
+-- A read failed: all that was due went out.
+abbrev pub Breaks : (List ℕ → List ℕ) → List ℕ → Option (List ℕ) → Option (List ℕ) → Option (List ℕ) → Type 0
+Breaks due input rest out0 out1 = (taken : List ℕ) × Consumes (Some input) rest taken × Appends out0 out1 (due taken)
+
+-- A fault is answered only where its object's count rose; every other count stands still.
+abbrev pub HasCauses : ℕ → ℕ → ℕ → ℕ → ℕ → ℕ → Status → Type 0
+HasCauses src0 src1 out0 out1 note0 note1 status.ReadFault = (src0 ≤ src1) × Rose src0 src1 × (out1 ≡ out0) × (note1 ≡ note0)
+HasCauses src0 src1 out0 out1 note0 note1 status.OutFault = (src1 ≡ src0) × (out0 ≤ out1) × Rose out0 out1 × (note1 ≡ note0)
+HasCauses src0 src1 out0 out1 note0 note1 status.NoteFault = (src1 ≡ src0) × (out1 ≡ out0) × (note0 ≤ note1) × Rose note0 note1
+HasCauses src0 src1 out0 out1 note0 note1 other = (src1 ≡ src0) × (out1 ≡ out0) × (note1 ≡ note0)
+
+-- Words with this fault: the usage line went to `note`, or a part of it, or there was no memory for it.
+abbrev pub AnswersUsage : WordFault → Option (List ℕ) → Option (List ℕ) → Status → Type 0
+AnswersUsage fault note0 note1 (status.Usage told) = (told ≡ fault) × Appends note0 note1 (usage_line fault)
+AnswersUsage fault note0 note1 status.NoteFault = GrewShort note0 note1 (usage_line fault)
+AnswersUsage fault note0 note1 status.NoMemory = Keeps note0 note1
+AnswersUsage fault note0 note1 other = ⊥

@@ -1,0 +1,18 @@
+//! The program's top call: words, a source and two sinks in, a status out.
+#![tactic(auto)]
+
+mod chain;
+mod input;
+mod laws;
+mod status;
+mod texts;
+mod top;
+mod words;
+
+pub use laws::one_answer;
+pub use status::{Ending, Reason, Refusal, Status, WordFault, exit_code};
+pub use top::run;
+pub use words::{Command, read_words};
+
+#[cfg(test)]
+mod tests;

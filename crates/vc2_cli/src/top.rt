@@ -1,0 +1,158 @@
+// The top call.
+ghost use Rattle.std.specs.Prelude.{◌≡◌, ◌≤◌, ◌^◌, ◌+◌, ℕ, List, map, string_bytes, Some, IfSome, IfOk, IfErr};
+ghost use Rattle.std.specs.Io.KnownBytes.{Appends, Keeps};
+ghost use Rattle.vc2_io.specs.Outside.{GrewShort};
+ghost use Rattle.vc2_run.specs.Ran.{TakesAtMost};
+ghost use Rattle.vc2_cli.specs.Words.{command_of};
+ghost use Rattle.vc2_cli.specs.Reply.{reply_to, due_to, command_reply, command_due, status_of, note_of, IsStatusOf, Breaks, Stops, StopsShort, HasCauses, AnswersUsage};
+ghost use Rattle.vc2_cli.specs.Settled.{Settles, Concludes, HasNoteCause, status_of_halt};
+
+use crate::chain::chain;
+use crate::status::{Ending, Status, WordFault};
+use crate::texts::{refusal_text, usage_text};
+use crate::words::{Command, read_words};
+use std::alloc::{AllocError, Global};
+use vc2_io::{Sink, Source, write_whole};
+use vc2_run::Halt;
+
+fn status_of_halt(halt: Halt) -> Status
+    ensures { result ≡ status_of_halt halt }
+{
+    match halt {
+        Halt::ReadFault => Status::ReadFault,
+        Halt::OutFault => Status::OutFault,
+        Halt::NoMemory => Status::NoMemory,
+    }
+}
+
+fn status_of(ending: Ending) -> Status
+    ensures { result ≡ status_of ending }
+{
+    match ending {
+        Ending::Done => Status::Done,
+        Ending::Refused(refusal) => Status::Refused(refusal),
+    }
+}
+
+fn note_text(alloc: Global, ending: &Ending) -> Result<String, AllocError>
+    ensures { IfOk result (λ text. string_bytes text ≡ note_of ending.now) }
+{
+    match ending {
+        Ending::Done => Ok(String::new(alloc)),
+        Ending::Refused(refusal) => refusal_text(alloc, refusal),
+    }
+}
+
+// Tells how a command came out: writes the note of its ending, and gives the status.
+fn conclude<N: Sink>(alloc: Global, outcome: Result<Ending, Halt>, note: &mut N) -> Status
+    ensures told { Concludes outcome (N.written note.old) (N.written note.new) result }
+    ensures cause { HasNoteCause (N.faults note.old) (N.faults note.new) result }
+{
+    let ending = match outcome {
+        Ok(ending) => ending,
+        Err(halt) => return status_of_halt(halt),
+    };
+    let text = match note_text(alloc, &ending) {
+        Ok(text) => text,
+        Err(_) => return Status::NoMemory,
+    };
+    match write_whole(note, text.as_bytes()) {
+        Ok(()) => status_of(ending),
+        Err(_) => Status::NoteFault,
+    }
+}
+
+// Tells the fault of the words.
+fn refuse<N: Sink>(alloc: Global, fault: WordFault, note: &mut N) -> Status
+    ensures told { AnswersUsage fault (N.written note.old) (N.written note.new) result }
+    ensures cause { HasNoteCause (N.faults note.old) (N.faults note.new) result }
+{
+    let text = match usage_text(alloc, &fault) {
+        Ok(text) => text,
+        Err(_) => return Status::NoMemory,
+    };
+    match write_whole(note, text.as_bytes()) {
+        Ok(()) => Status::Usage(fault),
+        Err(_) => Status::NoteFault,
+    }
+}
+
+// Does what the command is, or tells the fault of the words. Each command has its arm, and its line in `command_reply`
+// and `command_due`.
+fn answer<S: Source, K: Sink, N: Sink>(
+    alloc: Global,
+    command: Result<Command, WordFault>,
+    src: &mut S,
+    out: &mut K,
+    note: &mut N,
+) -> Status
+    ensures settled { (input : List ℕ) → S.rest src.old ≡ Some input →
+        Settles (command_reply command input) (command_due command) input (S.rest src.new)
+        (K.written out.old) (K.written out.new) (N.written note.old) (N.written note.new) result }
+    ensures limit { TakesAtMost (2 ^ 40 + 1) (S.rest src.old) (S.rest src.new) }
+    ensures causes { HasCauses (S.faults src.old) (S.faults src.new) (K.faults out.old) (K.faults out.new) (N.faults note.old) (N.faults note.new) result }
+    ensures usage { IfErr command (λ fault. AnswersUsage fault (N.written note.old) (N.written note.new) result
+        × (S.rest src.new ≡ S.rest src.old) × (K.written out.new ≡ K.written out.old)) }
+{
+    match command {
+        Ok(Command::Chain) => conclude(alloc, chain(alloc, src, out), note),
+        Err(fault) => refuse(alloc, fault, note),
+    }
+}
+
+/// Does what the words ask for: reads the input from `src`, writes to `out`, and at last to `note`. `words` are the words
+/// after the program's name. Work goes on unit by unit, and what is due is written before the next read.
+///
+/// The clauses say of an input that the source tells:
+pub fn run<S: Source, K: Sink, N: Sink>(
+    alloc: Global,
+    words: &[String],
+    src: &mut S,
+    out: &mut K,
+    note: &mut N,
+) -> Status
+    // The status is that of the reply to these words and this input, or something outside failed.
+    ensures status { IfSome (S.rest src.old) (λ input. IsStatusOf (reply_to (map string_bytes words.now) input) result) }
+
+    // Where it is the reply's, both texts were written, and all of them.
+    ensures texts { IfSome (S.rest src.old) (λ input. let reply = reply_to (map string_bytes words.now) input in
+        result ≡ reply.status → Appends (K.written out.old) (K.written out.new) reply.out × Appends (N.written note.old) (N.written note.new) reply.note) }
+
+    // `Done` leaves of the input what the reply says: of a command that reads to the end, nothing.
+    ensures done { IfSome (S.rest src.old) (λ input. result ≡ Status.Done →
+        IfSome (S.rest src.new) (λ left. left ≡ (reply_to (map string_bytes words.now) input).rest)) }
+
+    // Where a read failed, all that was due for the bytes that were taken was written, and no note.
+    ensures read_fault { IfSome (S.rest src.old) (λ input. result ≡ Status.ReadFault →
+        Breaks (due_to (map string_bytes words.now)) input (S.rest src.new) (K.written out.old) (K.written out.new)
+        × Keeps (N.written note.old) (N.written note.new)) }
+
+    // Where a write of the output failed, a proper front of the reply's text was written, no note, and no later than
+    // 4096 bytes after it was due.
+    ensures out_fault { IfSome (S.rest src.old) (λ input. result ≡ Status.OutFault →
+        StopsShort (reply_to (map string_bytes words.now) input) (due_to (map string_bytes words.now)) input (S.rest src.new) (K.written out.old) (K.written out.new)
+        × Keeps (N.written note.old) (N.written note.new)) }
+
+    // Where no memory was found, a front of the reply's text was written, as promptly, and no note.
+    ensures no_memory { IfSome (S.rest src.old) (λ input. result ≡ Status.NoMemory →
+        Stops (reply_to (map string_bytes words.now) input) (due_to (map string_bytes words.now)) input (S.rest src.new) (K.written out.old) (K.written out.new)
+        × Keeps (N.written note.old) (N.written note.new)) }
+
+    // Where a write of the note failed, all of the output was written, and a proper front of the note.
+    ensures note_fault { IfSome (S.rest src.old) (λ input. let reply = reply_to (map string_bytes words.now) input in
+        result ≡ Status.NoteFault → Appends (K.written out.old) (K.written out.new) reply.out × GrewShort (N.written note.old) (N.written note.new) reply.note) }
+
+    // At most 2^40 bytes and one more are taken, however the run comes out.
+    ensures limit { TakesAtMost (2 ^ 40 + 1) (S.rest src.old) (S.rest src.new) }
+
+    // Whatever is told: a fault is answered only where its object's count rose. So a failed read ends the run, and is
+    // never taken for the end of input.
+    ensures causes { HasCauses (S.faults src.old) (S.faults src.new) (K.faults out.old) (K.faults out.new) (N.faults note.old) (N.faults note.new) result }
+
+    // Whatever is told: words that are refused are refused, nothing is read, and nothing is written to `out`.
+    ensures usage { IfErr (command_of (map string_bytes words.now)) (λ fault. AnswersUsage fault (N.written note.old) (N.written note.new) result
+        × (S.rest src.new ≡ S.rest src.old) × (K.written out.new ≡ K.written out.old)) }
+{
+    let command = read_words(words);
+    answer(alloc, command, src, out, note)
+}
