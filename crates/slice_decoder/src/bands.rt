@@ -46,7 +46,15 @@ pub fn fill_rect(block: &mut Block<'_>, plane: &mut Plane, rect: Rect, index: u3
 const CHUNK: u32 = 64;
 
 // Fills the places x0..x1 of two rows, at most 64.
-fn fill_chunk(block: &mut Block<'_>, first: &mut [i64], second: &mut [i64], x0: u32, x1: u32, index: u32, buffer: &mut [i64]) -> bool
+fn fill_chunk(
+    block: &mut Block<'_>,
+    first: &mut [i64],
+    second: &mut [i64],
+    x0: u32,
+    x1: u32,
+    index: u32,
+    buffer: &mut [i64],
+) -> bool
     requires index { index ≤ 127 }
     requires order { x0 ≤ x1 }
     requires few { x1 ≤ x0 + 64 }
@@ -61,11 +69,25 @@ fn fill_chunk(block: &mut Block<'_>, first: &mut [i64], second: &mut [i64], x0: 
     ensures second_stays { (x : ℕ) → (x < x0) ⊎ (x1 ≤ x) → slice_index_or second.new x (pos 0) ≡ slice_index_or second.old x (pos 0) }
 {
     let (from, to) = (x0 as usize, x1 as usize);
-    fill_pair(block, &mut first[from..to], &mut second[from..to], index, buffer)
+    fill_pair(
+        block,
+        &mut first[from..to],
+        &mut second[from..to],
+        index,
+        buffer,
+    )
 }
 
 // Fills the places x0..x1 of two rows, which take the values in turn.
-fn fill_parts(block: &mut Block<'_>, first: &mut [i64], second: &mut [i64], x0: u32, x1: u32, index: u32, buffer: &mut [i64]) -> bool
+fn fill_parts(
+    block: &mut Block<'_>,
+    first: &mut [i64],
+    second: &mut [i64],
+    x0: u32,
+    x1: u32,
+    index: u32,
+    buffer: &mut [i64],
+) -> bool
     requires index { index ≤ 127 }
     requires order { x0 ≤ x1 }
     requires first_inside { x1 ≤ length first.old }
@@ -90,7 +112,14 @@ fn fill_parts(block: &mut Block<'_>, first: &mut [i64], second: &mut [i64], x0: 
 }
 
 // Fills a rectangle of two bands, whose places take the values in turn.
-pub fn fill_rects(block: &mut Block<'_>, first: &mut Plane, second: &mut Plane, rect: Rect, index: u32, buffer: &mut [i64]) -> bool
+pub fn fill_rects(
+    block: &mut Block<'_>,
+    first: &mut Plane,
+    second: &mut Plane,
+    rect: Rect,
+    index: u32,
+    buffer: &mut [i64],
+) -> bool
     requires index { index ≤ 127 }
     requires across { rect.x0 ≤ rect.x1 }
     requires down { rect.y0 ≤ rect.y1 }
@@ -107,7 +136,15 @@ pub fn fill_rects(block: &mut Block<'_>, first: &mut Plane, second: &mut Plane, 
     ensures second_keeps { KeepsOutside rect second.old second.new }
 {
     for y in rect.y0..rect.y1 {
-        if !fill_parts(block, first.row_mut(y), second.row_mut(y), rect.x0, rect.x1, index, buffer) {
+        if !fill_parts(
+            block,
+            first.row_mut(y),
+            second.row_mut(y),
+            rect.x0,
+            rect.x1,
+            index,
+            buffer,
+        ) {
             return false;
         }
     }

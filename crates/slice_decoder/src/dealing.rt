@@ -38,7 +38,13 @@ pub fn fill_row(block: &mut Block<'_>, row: &mut [i64], index: u32) -> bool
 }
 
 // Fills two rows of one length, which take the values in turn.
-pub fn fill_pair(block: &mut Block<'_>, first: &mut [i64], second: &mut [i64], index: u32, buffer: &mut [i64]) -> bool
+pub fn fill_pair(
+    block: &mut Block<'_>,
+    first: &mut [i64],
+    second: &mut [i64],
+    index: u32,
+    buffer: &mut [i64],
+) -> bool
     requires index { index ≤ 127 }
     requires pair { length second.old ≡ length first.old }
     requires room { 2 * length first.old ≤ length buffer.old }
