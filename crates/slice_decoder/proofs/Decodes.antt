@@ -97,7 +97,7 @@ both-small lumas colours luma_list colour_list good luma_is colour_is is =
 
 -- ---- restoring
 
-within_abs : (z : ℤ) (m : ℕ) → unsigned_abs z ≤ m → Within m z
+pub within_abs : (z : ℤ) (m : ℕ) → unsigned_abs z ≤ m → Within m z
 within_abs (pos n) m le = record { low = omega (arith, ints); high = omega (arith, ints) }
 within_abs (negsuc n) m le = record { low = omega (arith, ints); high = omega (arith, ints) }
 

@@ -93,7 +93,10 @@ fn read_blocks(
     ensures { let start = 7 + slicing.length_bits (length bytes.now) in
         let luma_part = part_of layout.now shape.now.luma place.sx place.sy matrix.now place.qindex in
         let colour_part = part_of layout.now shape.now.colour place.sx place.sy matrix.now place.qindex in
-        IsRead luma_part colour_part (block_of bytes.now start (start + luma_bits)) (block_of bytes.now (start + luma_bits) (8 * length bytes.now)) bands.old bands.new result }
+        IsRead luma_part colour_part
+        (block_of bytes.now start (start + luma_bits))
+        (block_of bytes.now (start + luma_bits) (8 * length bytes.now))
+        bands.old bands.new result }
 {
     let start = 7 + u64::from(length_bits(bytes.len() as u32));
     let middle = start + u64::from(luma_bits);
@@ -139,7 +142,9 @@ pub fn decode_slice(
     requires entries { matrix.now.depth ≡ layout.now.depth }
     requires ready { AreReady layout.now shape.now sx sy bands.old }
     ensures decoded { let slice = slice_at layout.now shape.now.luma shape.now.colour sx sy bytes.now in
-        MatchResult result (λ head. IsDecoded layout.now shape.now sx sy matrix.now slice head bands.new) (IsRefused layout.now shape.now sx sy matrix.now slice) }
+        MatchResult result
+        (λ head. IsDecoded layout.now shape.now sx sy matrix.now slice head bands.new)
+        (IsRefused layout.now shape.now sx sy matrix.now slice) }
     ensures others { AllKeepOthers layout.now shape.now sx sy bands.old bands.new }
 {
     let depth = layout.depth();
