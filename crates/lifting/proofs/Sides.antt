@@ -1,13 +1,12 @@
 -- A level whose columns lie sorted, the even ones before the odd ones.
 use Rattle.std.proofs.Common.{◌≡◌, ◌∙◌, sym, ap, subst, ℕ, ◌+◌, ◌-◌, ◌*◌, ◌/◌, ◌%◌, ◌<◌, ◌≤◌, arith, inl, inr, ℤ}
-use Rattle.std.specs.Prelude.{nat_lt, if◌then◌else◌}
 use Rattle.std.proofs.lemmas.Bool.{cases_eq}
 use Rattle.std.proofs.lemmas.Bool.Decides.{nat_tests}
 use Rattle.planes.specs.Numbers.{Within}
 use Rattle.lifting.specs.declared.Wavelet.{Wavelet}
 use Rattle.lifting.specs.declared.PairStep.TheVariants.{EvenDown, OddUp}
 use Rattle.lifting.specs.Steps.{step, halved}
-use Rattle.lifting.specs.Lines.{Line, lift, synthesis_line}
+use Rattle.lifting.specs.Lines.{lift, synthesis_line}
 use Rattle.lifting.specs.Places.{woven, side_place}
 use Rattle.lifting.specs.Transform.{Grid, on_columns, synthesis_level}
 use Rattle.lifting.specs.Ranges.{GridWithin, SameInside, even_reach, line_reach}

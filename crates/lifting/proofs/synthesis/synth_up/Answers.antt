@@ -1,4 +1,4 @@
-use Rattle.std.proofs.Common.{◌≡◌, ◌∙◌, sym, subst, ◌^◌, ℕ, ◌*◌, lit≤}
+use Rattle.std.proofs.Common.{◌≡◌, sym, subst, ◌^◌, ℕ, ◌*◌, lit≤}
 use Rattle.planes.specs.Raster.{at, height}
 use Rattle.lifting.specs.Ranges.{GridWithin, SameInside, even_reach}
 use Rattle.lifting.specs.Transform.{Grid, interleaved, synthesis_level}
