@@ -113,6 +113,7 @@ impl Bands {
         requires { BandExists self.old.depth level orient }
         ensures* writes_back { sem 𝓛 (LendsBand self.entry level orient result) }
         ensures value { result.now ≡ band_of self.old level orient }
+        ensures there { band_index level orient < length self.old.bands }
     {
         let _ = &self.depth;
         let place = place_of(level, orient);

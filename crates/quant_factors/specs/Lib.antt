@@ -1,0 +1,4 @@
+pub mod Factors
+pub mod QuantLaws
+pub mod Weights
+pub mod MatrixInside
