@@ -1,15 +1,15 @@
 -- From the bands to the plane, level by level.
-use Rattle.std.proofs.Common.{◌≡◌, ◌∙◌, refl, sym, ap, subst, ℕ, zero, suc, ◌+◌, ◌-◌, ◌*◌, ◌/◌, ◌%◌, ◌^◌, ◌<◌, ◌≤◌, arith, lit≤, ℤ, false}
+use Rattle.std.proofs.Common.{◌≡◌, ◌∙◌, sym, ap, subst, ℕ, zero, suc, ◌+◌, ◌-◌, ◌*◌, ◌/◌, ◌%◌, ◌^◌, ◌<◌, ◌≤◌, arith, lit≤, ℤ, false}
 use Rattle.std.specs.Prelude.{◌==◌}
 use Rattle.std.proofs.lemmas.Bool.Decides.{nat_tests}
 use Rattle.std.proofs.Math.Nat.{pow-le-pow_right, mul-le-mul_left, mul_comm, mul_assoc, mul-div_cancel}
 use Rattle.std.proofs.lemmas.Nat.{pow-add, pow_pos}
 use Rattle.planes.specs.Numbers.{Within}
 use Rattle.planes.specs.Raster.{Raster, height, at}
-use Rattle.planes.specs.Subbands.{BandStack, BandExists, band_of, subband_length, HaveSizes}
+use Rattle.planes.specs.Subbands.{BandStack, band_of, subband_length}
 use Rattle.lifting.specs.declared.Wavelet.{Wavelet}
 use Rattle.lifting.specs.Bands.{coefficients_of, lowest}
-use Rattle.lifting.specs.Transform.{Grid, synthesis, synthesis_level, interleaved}
+use Rattle.lifting.specs.Transform.{synthesis, synthesis_level, interleaved}
 use Rattle.lifting.specs.Ranges.{GridWithin, BandsWithin, SameInside, reach}
 use Rattle.lifting.proofs.Undone.{even_size}
 use Rattle.lifting.proofs.Inside.{level_same, interleaved_same, twice_size}
@@ -17,7 +17,7 @@ use Rattle.lifting.proofs.Growth.{wider, interleaved_within, synthesis_stays}
 
 -- ---- sizes
 
-not_zero : (n : ℕ) → (n + 1 == 0) ≡ false
+pub not_zero : (n : ℕ) → (n + 1 == 0) ≡ false
 not_zero n = grind (arith, nat_tests)
 
 module _ (size depth : ℕ) (whole : size % 2 ^ depth ≡ 0) where

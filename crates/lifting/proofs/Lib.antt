@@ -6,6 +6,7 @@ pub mod Coefficients
 pub mod WovenLines
 pub mod Passes
 pub mod Sides
+pub mod Rolling
 pub mod Levels
 pub mod Rounding
 pub mod WorkedLines

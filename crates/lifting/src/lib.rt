@@ -50,3 +50,6 @@ pub enum OneStep {
     /// `v - a`
     OddDown,
 }
+
+#[cfg(test)]
+mod tests;

@@ -1,5 +1,5 @@
-//! Synthesis of all levels. Each level puts its bands side by side into the rows of the scratch, lifts down its
-//! columns there, and then lifts, shifts and weaves row by row into the plane.
+//! Synthesis of all levels. Each level puts its bands side by side into the rows of the scratch, lifting down its
+//! columns as the rows come, and then lifts, shifts and weaves row by row into the plane.
 
 ghost use Rattle.std.specs.Prelude.{◌≡◌, ◌≢◌, ℕ, ◌+◌, ◌-◌, ◌*◌, ◌^◌, ◌<◌, ◌≤◌, length, nat_lt, if◌then◌else◌};
 ghost use Rattle.planes.specs.Raster.{height, at};
@@ -7,11 +7,11 @@ ghost use Rattle.planes.specs.Subbands.{HaveSizes};
 ghost use Rattle.lifting.specs.Places.{place, woven, side_place};
 ghost use Rattle.lifting.specs.Steps.{halved};
 ghost use Rattle.lifting.specs.Lines.{synthesis_line};
-ghost use Rattle.lifting.specs.Transform.{interleaved, synthesis_level, synthesis};
+ghost use Rattle.lifting.specs.Transform.{on_columns, interleaved, synthesis_level, synthesis};
 ghost use Rattle.lifting.specs.Ranges.{LineWithin, GridWithin, SameInside, line_reach};
 ghost use Rattle.lifting.specs.Bands.{coefficients_of, lowest, AgreeInSize, AreSmall};
 
-use crate::columns::lift_columns;
+use crate::columns::lift_row;
 use crate::halves::synthesise_sides;
 use crate::{PairStep, Wavelet};
 use planes::{Bands, Plane};
@@ -45,23 +45,62 @@ fn put_row(scratch: &mut Plane, row: u32, left: &Plane, right: &Plane, y: u32, w
     put_beside(scratch.row_mut(row), left.row(y), right.row(y), w as usize);
 }
 
-// The bands of a level side by side: LL and HL in the even rows, LH and HH in the odd ones.
-fn put_bands(scratch: &mut Plane, ll: &Plane, hl: &Plane, lh: &Plane, hh: &Plane, w: u32, h: u32)
+// Two rows of a level side by side: LL and HL in the even one, LH and HH in the odd one.
+fn put_rows(scratch: &mut Plane, ll: &Plane, hl: &Plane, lh: &Plane, hh: &Plane, y: u32, w: u32)
+    requires short { w ≤ 4104 }
+    requires low { y ≤ 4104 }
+    requires fits { 2 * w ≤ scratch.old.w }
+    requires high { 2 * y + 1 < height scratch.old }
+    requires widths { (w ≤ ll.now.w) × (w ≤ hl.now.w) × (w ≤ lh.now.w) × (w ≤ hh.now.w) }
+    requires heights { (y < height ll.now) × (y < height hl.now) × (y < height lh.now) × (y < height hh.now) }
+    ensures same_width { scratch.new.w ≡ scratch.old.w }
+    ensures same_height { height scratch.new ≡ height scratch.old }
+    ensures even { (x : ℕ) → x < 2 * w
+        → at scratch.new (2 * y) x ≡ interleaved (at ll.now) (at hl.now) (at lh.now) (at hh.now) (2 * y) (side_place w x) }
+    ensures odd { (x : ℕ) → x < 2 * w
+        → at scratch.new (2 * y + 1) x
+        ≡ interleaved (at ll.now) (at hl.now) (at lh.now) (at hh.now) (2 * y + 1) (side_place w x) }
+    ensures above { (j x : ℕ) → j < 2 * y → at scratch.new j x ≡ at scratch.old j x }
+{
+    put_row(scratch, 2 * y, ll, hl, y, w);
+    put_row(scratch, 2 * y + 1, lh, hh, y, w);
+}
+
+// The bands of a level side by side, lifted down their columns as the rows come, while these are in the cache: an
+// even row when the odd one below it has come, and then the odd row above it.
+fn lift_bands(
+    scratch: &mut Plane,
+    ll: &Plane,
+    hl: &Plane,
+    lh: &Plane,
+    hh: &Plane,
+    w: u32,
+    h: u32,
+    wavelet: Wavelet,
+)
+    requires some { 1 ≤ h }
     requires short { w ≤ 4104 }
     requires low { h ≤ 4104 }
     requires fits { 2 * w ≤ scratch.old.w }
     requires high { 2 * h ≤ height scratch.old }
     requires widths { (w ≤ ll.now.w) × (w ≤ hl.now.w) × (w ≤ lh.now.w) × (w ≤ hh.now.w) }
     requires heights { (h ≤ height ll.now) × (h ≤ height hl.now) × (h ≤ height lh.now) × (h ≤ height hh.now) }
+    requires small { GridWithin (2 * h) (2 * w) (2 ^ 58) (interleaved (at ll.now) (at hl.now) (at lh.now) (at hh.now)) }
     ensures same_width { scratch.new.w ≡ scratch.old.w }
     ensures same_height { height scratch.new ≡ height scratch.old }
-    ensures put { (y x : ℕ) → y < 2 * h → x < 2 * w
-        → at scratch.new y x ≡ interleaved (at ll.now) (at hl.now) (at lh.now) (at hh.now) y (side_place w x) }
+    ensures lifted { (y x : ℕ) → y < 2 * h → x < 2 * w
+        → at scratch.new y x
+        ≡ on_columns (synthesis_line wavelet (2 * h))
+        (interleaved (at ll.now) (at hl.now) (at lh.now) (at hh.now)) y (side_place w x) }
 {
-    for y in 0..h {
-        put_row(scratch, 2 * y, ll, hl, y, w);
-        put_row(scratch, 2 * y + 1, lh, hh, y, w);
+    put_rows(scratch, ll, hl, lh, hh, 0, w);
+    lift_row(scratch, 0, 2 * w, 2 * h, wavelet, PairStep::EvenDown);
+    for y in 1..h {
+        put_rows(scratch, ll, hl, lh, hh, y, w);
+        lift_row(scratch, 2 * y, 2 * w, 2 * h, wavelet, PairStep::EvenDown);
+        lift_row(scratch, 2 * y - 1, 2 * w, 2 * h, wavelet, PairStep::OddUp);
     }
+    lift_row(scratch, 2 * h - 1, 2 * w, 2 * h, wavelet, PairStep::OddUp);
 }
 
 // Row y of the scratch, lifted, shifted and woven into the plane. The scratch's row holds any values afterwards.
@@ -137,12 +176,10 @@ fn synth_up(
     // A plane's sizes are at most 8208, so that places of rows are small numbers.
     let _ = (plane.w(), plane.h());
     let (w, h) = (hl.w(), hl.h());
-    if w == 0 {
+    if w == 0 || h == 0 {
         return;
     }
-    put_bands(scratch, plane, hl, lh, hh, w, h);
-    lift_columns(scratch, 2 * w, 2 * h, 0, wavelet, PairStep::EvenDown);
-    lift_columns(scratch, 2 * w, 2 * h, 1, wavelet, PairStep::OddUp);
+    lift_bands(scratch, plane, hl, lh, hh, w, h, wavelet);
     synth_all_sides(plane, scratch, w, h, wavelet);
 }
 

@@ -1,5 +1,5 @@
 -- The rows of a head over bytes, field by field.
-use Rattle.std.proofs.Common.{◌≡◌, ℕ, suc, ◌+◌, List, [], ◌∷◌, length, take, drop, Bool, true, false, cond, ltb, Option, Some, None, Result, Ok, Err, refl, ap, ◌∙◌, arith}
+use Rattle.std.proofs.Common.{◌≡◌, ℕ, suc, ◌+◌, ◌*◌, ◌≤◌, List, [], ◌∷◌, length, take, drop, Bool, true, false, cond, ltb, Option, Some, None, Result, Ok, Err, refl, ap, ◌∙◌, arith}
 use Rattle.std.specs.Prelude.{slice_index, ◌==◌}
 use Rattle.std.specs.Int.{from_be_bytes, w32}
 use Rattle.std.proofs.lemmas.Bool.{ltb-false, ltb-true, cond_above}
@@ -7,7 +7,11 @@ use Rattle.std.proofs.lemmas.List.{get_or-drop}
 use Rattle.bit_codes.specs.declared.CodeFault.{CodeFault}
 use Rattle.bit_codes.specs.declared.CodeFault.TheVariants as codes
 use Rattle.bit_codes.specs.Bits.{Cursor, bits_of}
-use Rattle.field_rows.specs.Rows.{Rule, ◌or_else◌, Rows, done, ◌>>=◌, word_under, byte_under, Fault, read, and_then, judged, first_broken}
+use Rattle.field_rows.specs.Rows.{Value, Number, Flag, Bytes, Skipped, Here, IsEnd, some_bytes, bytes_in, Rule, ◌or_else◌, Rows, done, ◌>>=◌, word_under, byte_under, Fault, read, and_then, judged, first_broken}
+use Rattle.field_rows.specs.Standing.{IsSpelling, Stand}
+use Rattle.field_rows.proofs.Answers.{found_fields}
+use Rattle.field_rows.proofs.Pieces.{Stand-along}
+use Rattle.bit_codes.proofs.BitLemmas.{length-bits}
 use Rattle.field_rows.proofs.Reading.{read-bind, read-done}
 use Rattle.field_rows.proofs.Words.{IsBytes, read-word, read-word_short, read-byte, read-byte_short, read-word_under, read-byte_under}
 use Rattle.parse_info.specs.declared.Code.{Code}
@@ -145,3 +149,56 @@ plain_steps bytes = answer_of bytes (head_steps (λ fault. IsShort) IsBadPrefix 
 pub info_at-steps : (bytes : List ℕ) → IsBytes bytes → info_at bytes ≡ plain_steps bytes
 unfolding info_at plain_rows
 info_at-steps bytes fits = ap (answer_of bytes) (read-head (λ fault. IsShort) IsBadPrefix IsUnsupported (λ code. []) (λ code next. []) (λ code next previous. []) 0 bytes fits)
+
+-- ---- a head that is read has 13 bytes
+
+bytes_long : (n : ℕ) (v : Value) (c : Cursor) (text rest : List Bool) → IsSpelling (some_bytes n) v c text rest → length text ≡ 8 * n
+bytes_long n (Bytes bytes) c text rest h = ap length h.2 ∙ length-bits bytes ∙ ap (λ m. 8 * m) h.0
+bytes_long n (Number m) c text rest h = absurd h
+bytes_long n (Flag b) c text rest h = absurd h
+bytes_long n (Skipped bits) c text rest h = absurd h
+bytes_long n (Here place) c text rest h = absurd h
+bytes_long n (IsEnd is_end) c text rest h = absurd h
+
+-- so many bits further on these rows stand
+record Behind {R A : Type 0} (next : ℕ → Rows R A) (place : ℕ) (a : A) (behind : Cursor) : Type 0 where
+  value : ℕ
+  others : List Value
+  mid : Cursor
+  at : mid.place ≡ place
+  stands : Stand (next value) others mid a behind
+
+behind_word : {R A : Type 0} (rules : ℕ → List (Rule R)) (next : ℕ → Rows R A) (vs : List Value) (c : Cursor) (a : A) (behind : Cursor) → Stand (word_under rules >>= next) vs c a behind → Behind next (c.place + 32) a behind
+unfolding word_under ◌>>=◌
+behind_word rules next [] c a behind f = absurd f
+behind_word rules next (v ∷ vs) c a behind f = record {
+  value = from_be_bytes w32 (bytes_in v);
+  others = vs;
+  mid = f.0;
+  at = f.1.along ∙ ap (λ n. c.place + n) (bytes_long 4 v c f.1.text f.0.rest f.1.spelled);
+  stands = f.3;
+}
+
+behind_byte : {R A : Type 0} (rules : ℕ → List (Rule R)) (next : ℕ → Rows R A) (vs : List Value) (c : Cursor) (a : A) (behind : Cursor) → Stand (byte_under rules >>= next) vs c a behind → Behind next (c.place + 8) a behind
+unfolding byte_under ◌>>=◌
+behind_byte rules next [] c a behind f = absurd f
+behind_byte rules next (v ∷ vs) c a behind f = record {
+  value = slice_index (bytes_in v) 0;
+  others = vs;
+  mid = f.0;
+  at = f.1.along ∙ ap (λ n. c.place + n) (bytes_long 1 v c f.1.text f.0.rest f.1.spelled);
+  stands = f.3;
+}
+
+pub head_moves : {R : Type 0} (reason_of : CodeFault → R) (bad_prefix : R) (unsupported : ℕ → R) (code_rules : Code → List (Rule R)) (next_rules : Code → ℕ → List (Rule R)) (previous_rules : Code → ℕ → ℕ → List (Rule R)) (c behind : Cursor) (info : ParseInfo)
+    → read reason_of (head_rows bad_prefix unsupported code_rules next_rules previous_rules) c ≡ Ok (info, behind) → c.place + 104 ≤ behind.place
+unfolding head_rows
+head_moves {R} reason_of bad_prefix unsupported code_rules next_rules previous_rules c behind info e =
+    let found = found_fields reason_of (head_rows bad_prefix unsupported code_rules next_rules previous_rules) c info behind e in
+    let prefix = behind_word (λ v. ((v == 0x42424344) or_else bad_prefix) ∷ []) (λ prefix. code_part unsupported code_rules next_rules previous_rules) found.0 c info behind found.1 in
+    let byte = behind_byte (λ v. (is_supported v or_else unsupported v) ∷ code_rules (code_in v)) (λ byte. next_part next_rules previous_rules (code_in byte)) prefix.others prefix.mid info behind prefix.stands in
+    let code = code_in byte.value in
+    let next = behind_word (next_rules code) (λ next. previous_part previous_rules code next) byte.others byte.mid info behind byte.stands in
+    let previous = behind_word (previous_rules code next.value) (λ previous. done (record { code = code; next = next.value; previous = previous })) next.others next.mid info behind next.stands in
+    let along = Stand-along {R = R} (done (record { code = code; next = next.value; previous = previous.value })) previous.others previous.mid info behind previous.stands in
+    omega (arith, prefix.at, byte.at, next.at, previous.at, along.along)

@@ -3,27 +3,19 @@ use Rattle.std.proofs.Common.{ℕ}
 use Rattle.field_rows.specs.Moved.{IsMovable}
 use Rattle.field_rows.proofs.Movable.{movable}
 use Rattle.slice_geometry.specs.declared.Size.{Size}
-use Rattle.sequence_header.specs.Header.{version_rows, height_rows, size_rows, sampling_index, sampling_rows, scan_rows, rate_rows, aspect_rows, clean_rows, excursion, signal_rows, flagged_index, colour_rows, coding_rows, header_fields, header_rows}
+use Rattle.sequence_header.specs.Header.{version_rows, size_rows, sampling_rows, scan_rows, rate_rows, aspect_rows, clean_rows, excursion, signal_rows, flagged_index, colour_rows, coding_rows, header_fields, header_rows}
 
 pub version_movable : IsMovable version_rows
 unfolding version_rows
 version_movable = search (movable) depth 20
 
-pub height_movable : (width : ℕ) → IsMovable (height_rows width)
-unfolding height_rows
-height_movable width = search (movable) depth 20
-
 pub size_movable : IsMovable size_rows
 unfolding size_rows
-size_movable = search (movable, height_movable) depth 20
-
-pub index_movable : (size : Size) → IsMovable (sampling_index size)
-unfolding sampling_index
-index_movable size = search (movable) depth 20
+size_movable = search (movable) depth 20
 
 pub sampling_movable : (size : Size) → IsMovable (sampling_rows size)
 unfolding sampling_rows
-sampling_movable size = search (movable, index_movable) depth 20
+sampling_movable size = search (movable) depth 20
 
 pub scan_movable : IsMovable scan_rows
 unfolding scan_rows

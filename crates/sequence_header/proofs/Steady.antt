@@ -3,27 +3,19 @@ use Rattle.std.proofs.Common.{ℕ}
 use Rattle.field_rows.specs.Pieces.{IsSteady}
 use Rattle.field_rows.proofs.Steady.{steady}
 use Rattle.slice_geometry.specs.declared.Size.{Size}
-use Rattle.sequence_header.specs.Header.{version_rows, height_rows, size_rows, sampling_index, sampling_rows, scan_rows, rate_rows, aspect_rows, clean_rows, excursion, signal_rows, flagged_index, colour_rows, coding_rows, header_fields, header_rows}
+use Rattle.sequence_header.specs.Header.{version_rows, size_rows, sampling_rows, scan_rows, rate_rows, aspect_rows, clean_rows, excursion, signal_rows, flagged_index, colour_rows, coding_rows, header_fields, header_rows}
 
 pub version_steady : IsSteady version_rows
 unfolding version_rows
 version_steady = search (steady) depth 20
 
-pub height_steady : (width : ℕ) → IsSteady (height_rows width)
-unfolding height_rows
-height_steady width = search (steady) depth 20
-
 pub size_steady : IsSteady size_rows
 unfolding size_rows
-size_steady = search (steady, height_steady) depth 20
-
-pub index_steady : (size : Size) → IsSteady (sampling_index size)
-unfolding sampling_index
-index_steady size = search (steady) depth 20
+size_steady = search (steady) depth 20
 
 pub sampling_steady : (size : Size) → IsSteady (sampling_rows size)
 unfolding sampling_rows
-sampling_steady size = search (steady, index_steady) depth 20
+sampling_steady size = search (steady) depth 20
 
 pub scan_steady : IsSteady scan_rows
 unfolding scan_rows

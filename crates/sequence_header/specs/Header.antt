@@ -1,9 +1,9 @@
 -- The rows of the sequence header, in order (SMPTE ST 2042-1:2017, 11: sequence_header). A number past its rule is refused at its own field.
-use Rattle.std.specs.Prelude.{ℕ, ◌+◌, ◌*◌, ◌-◌, ◌^◌, ◌%◌, ◌&&◌, ◌||◌, Bool, true, false, not, List, [], ◌∷◌, Option, Some, None, nat_le, nat_lt, ◌==◌, if◌then◌else◌}
+use Rattle.std.specs.Prelude.{ℕ, ◌*◌, ◌-◌, ◌^◌, ◌%◌, ◌&&◌, ◌||◌, not, List, [], ◌∷◌, Option, nat_le, ◌==◌, if◌then◌else◌}
 use Rattle.std.specs.Int.{is_in_range}
 use Rattle.bit_codes.specs.declared.CodeFault.{CodeFault}
 use Rattle.bit_codes.specs.declared.CodeFault.TheVariants as codes
-use Rattle.field_rows.specs.Rows.{Rule, ◌or_else◌, Rows, done, row, ◌>>=◌, number, within, number_under, flag, flag_set, if_set, whole_bytes, Fault}
+use Rattle.field_rows.specs.Rows.{Rule, ◌or_else◌, Rows, done, ◌>>=◌, number, within, number_under, flag, flag_set, if_set, whole_bytes, Fault}
 use Rattle.sequence_header.specs.declared.parts.FieldName.TheVariants as field_names
 use Rattle.sequence_header.specs.declared.parts.HeaderReason.{HeaderReason}
 use Rattle.sequence_header.specs.declared.parts.HeaderReason.TheVariants.{Truncated, NumberTooLarge, VersionRefused, NotLowDelay, PresetFormat, DefaultTaken, SizeRefused, SamplingUnknown, SizeNotDivisible, ScanUnknown, RateRefused, SignalRefused, CodingModeUnknown}
@@ -12,7 +12,6 @@ use Rattle.sequence_header.specs.declared.parts.HeaderParts.{HeaderParts}
 use Rattle.sequence_header.specs.declared.parts.Version.{Version}
 use Rattle.slice_geometry.specs.declared.Size.{Size}
 use Rattle.sequence_header.specs.declared.parts.CleanArea.{CleanArea}
-use Rattle.sequence_header.specs.declared.parts.SignalRange.{SignalRange}
 use Rattle.sequence_header.specs.declared.parts.RateField.{RateField}
 use Rattle.sequence_header.specs.declared.parts.RateField.TheVariants as rates
 use Rattle.sequence_header.specs.declared.parts.AspectField.{AspectField}
@@ -39,27 +38,28 @@ version_rows = do
   base ← within 0 0 PresetFormat
   done (record { major = major; minor = minor; level = level })
 
-unfoldable pub height_rows : ℕ → Rows HeaderReason ℕ
-height_rows width = number_under (λ v. ((is_in_range 1 8192 v && nat_le (width * v) (2 ^ 24)) or_else SizeRefused) ∷ [])
+-- the rules of a height beside this width
+abbrev pub height_rules : ℕ → ℕ → List (Rule HeaderReason)
+height_rules width v = ((is_in_range 1 8192 v && nat_le (width * v) (2 ^ 24)) or_else SizeRefused) ∷ []
 
 unfoldable pub size_rows : Rows HeaderReason Size
 size_rows = do
   size_flag ← flag_set (DefaultTaken field_names.Size)
   width ← within 1 8192 SizeRefused
-  height ← height_rows width
+  height ← number_under (height_rules width)
   done (record { w = width; h = height })
 
--- 0 is 4:4:4, 1 is 4:2:2, 2 is 4:2:0
-unfoldable pub sampling_index : Size → Rows HeaderReason ℕ
-sampling_index size = number_under (λ v.
+-- The rules of a sampling index beside this size of a frame. 0 is 4:4:4, 1 is 4:2:2, 2 is 4:2:0.
+abbrev pub sampling_rules : Size → ℕ → List (Rule HeaderReason)
+sampling_rules size v =
     (nat_le v 2 or_else SamplingUnknown)
     ∷ ((v == 0 || size.w % 2 == 0) or_else SizeNotDivisible)
-    ∷ ((not (v == 2) || size.h % 2 == 0) or_else SizeNotDivisible) ∷ [])
+    ∷ ((not (v == 2) || size.h % 2 == 0) or_else SizeNotDivisible) ∷ []
 
 unfoldable pub sampling_rows : Size → Rows HeaderReason ℕ
 sampling_rows size = do
   sampling_flag ← flag_set (DefaultTaken field_names.Sampling)
-  index ← sampling_index size
+  index ← number_under (sampling_rules size)
   done index
 
 unfoldable pub scan_rows : Rows HeaderReason (Option ℕ)
@@ -138,10 +138,14 @@ colour_rows = do
             else done (colours.Index index))
       else done colours.Default
 
-unfoldable pub coding_rows : Size → ℕ → Rows HeaderReason ℕ
-coding_rows size sampling = number_under (λ v.
+-- The rules of a picture coding mode beside this size of a frame and this sampling. 0 is frames, 1 is fields.
+abbrev pub coding_rules : Size → ℕ → ℕ → List (Rule HeaderReason)
+coding_rules size sampling v =
     (nat_le v 1 or_else CodingModeUnknown)
-    ∷ ((v == 0 || (size.h % 2 == 0 && (not (sampling == 2) || size.h % 4 == 0))) or_else SizeNotDivisible) ∷ [])
+    ∷ ((v == 0 || (size.h % 2 == 0 && (not (sampling == 2) || size.h % 4 == 0))) or_else SizeNotDivisible) ∷ []
+
+unfoldable pub coding_rows : Size → ℕ → Rows HeaderReason ℕ
+coding_rows size sampling = number_under (coding_rules size sampling)
 
 -- all fields of the header
 unfoldable pub header_fields : Rows HeaderReason HeaderParts

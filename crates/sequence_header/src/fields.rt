@@ -1,6 +1,6 @@
 //! Single fields, with the place of their fault.
 
-ghost use Rattle.std.specs.Prelude.{◌≡◌, ◌∷◌, []};
+ghost use Rattle.std.specs.Prelude.{◌≡◌, ◌<◌, ◌≤◌, ◌^◌, IfOk, ◌∷◌, []};
 ghost use Rattle.field_rows.specs.Rows.{Gives, read, number, within, flag, flag_set};
 ghost use Rattle.sequence_header.specs.Header.{reason_of, fault_of};
 
@@ -38,7 +38,8 @@ pub fn number_within(
     high: u32,
     reason: HeaderReason,
 ) -> Result<u32, HeaderFault>
-    ensures { Gives (λ v. v) fault_of result r.new (read reason_of (within low high reason) r.old) }
+    ensures read { Gives (λ v. v) fault_of result r.new (read reason_of (within low high reason) r.old) }
+    ensures range { IfOk result (λ v. (low ≤ v) × (v ≤ high)) }
 {
     let bit = r.place();
     match r.uint() {

@@ -1,5 +1,5 @@
 -- Values that are dealt out, one list of quantisers after another.
-use Rattle.std.proofs.Common.{◌≡◌, ◌≢◌, ℕ, zero, suc, ◌+◌, ◌-◌, ◌*◌, ◌^◌, ◌<◌, ◌≤◌, Bool, true, false, ◌&&◌, List, [], ◌∷◌, ◌++◌, length, map, replicate, get_or, refl, sym, ap, subst, ◌∙◌, inl, inr, arith, zero-add, ℤ, pos, unsigned_abs}
+use Rattle.std.proofs.Common.{◌≡◌, ℕ, zero, suc, ◌+◌, ◌-◌, ◌^◌, ◌<◌, ◌≤◌, Bool, true, false, ◌&&◌, List, [], ◌∷◌, ◌++◌, length, map, replicate, get_or, refl, sym, ap, ◌∙◌, inl, inr, arith, zero-add, ℤ, pos, unsigned_abs}
 use Rattle.std.specs.Prelude.{nat_le}
 use Rattle.std.specs.List.{AllByRecursion}
 use Rattle.std.proofs.lemmas.Bool.{cases_lt}
@@ -127,7 +127,7 @@ pub none_large : (vs : List ℤ) (q : ℕ) → ((k : ℕ) → k < length vs → 
 none_large vs q h =
     are_small-all (map (λ v. inverse_of v q) vs)
     (λ k lt. let inside : k < length vs = omega (arith, lt, length-map vs (λ v. inverse_of v q)) in
-        rw (get_or-map (λ v. inverse_of v q) vs k (pos 0) (pos 0) inside) (h k inside))
+    rw (get_or-map (λ v. inverse_of v q) vs k (pos 0) (pos 0) inside) (h k inside))
 
 -- ---- one list of quantisers after another
 
@@ -149,9 +149,9 @@ pub more-new : (block block' : List Bool) (qs rs : List ℕ) (k : ℕ) → block
 more-new block block' qs rs k is =
     ap (λ b. get_or (dealt b rs) k (pos 0)) is
     ∙ sym (
-      ap (λ vs. get_or vs (length qs + k) (pos 0)) (dealt-append block qs rs)
-      ∙ ap (λ n. get_or (dealt block qs ++ dealt (behind block qs) rs) (n + k) (pos 0)) (sym (length-dealt block qs))
-      ∙ get_or-append-add (dealt block qs) (dealt (behind block qs) rs) k (pos 0)
+    ap (λ vs. get_or vs (length qs + k) (pos 0)) (dealt-append block qs rs)
+    ∙ ap (λ n. get_or (dealt block qs ++ dealt (behind block qs) rs) (n + k) (pos 0)) (sym (length-dealt block qs))
+    ∙ get_or-append-add (dealt block qs) (dealt (behind block qs) rs) k (pos 0)
     )
 
 pub replicate-add : (m n q : ℕ) → replicate (m + n) q ≡ replicate m q ++ replicate n q
@@ -190,9 +190,9 @@ stopped block block' m n total q le small left is =
     let whole : total ≡ m + n + (total - (m + n)) = omega arith in
     let here : false ≡ are_small (dealt block (replicate (m + n) q)) = grow-small block block' m n (m + n) q false refl small left is in
     sym (
-      ap (λ k. are_small (dealt block (replicate k q))) whole
-      ∙ ap (λ qs. are_small (dealt block qs)) (replicate-add (m + n) (total - (m + n)) q)
-      ∙ ap are_small (dealt-append block (replicate (m + n) q) (replicate (total - (m + n)) q))
-      ∙ are_small-append (dealt block (replicate (m + n) q)) _
-      ∙ ap (λ b. b && are_small (dealt (behind block (replicate (m + n) q)) (replicate (total - (m + n)) q))) (sym here)
+    ap (λ k. are_small (dealt block (replicate k q))) whole
+    ∙ ap (λ qs. are_small (dealt block qs)) (replicate-add (m + n) (total - (m + n)) q)
+    ∙ ap are_small (dealt-append block (replicate (m + n) q) (replicate (total - (m + n)) q))
+    ∙ are_small-append (dealt block (replicate (m + n) q)) _
+    ∙ ap (λ b. b && are_small (dealt (behind block (replicate (m + n) q)) (replicate (total - (m + n)) q))) (sym here)
     )

@@ -1,5 +1,5 @@
 -- A slice that was read, restored: what its definition says stands in the bands.
-use Rattle.std.proofs.Common.{◌≡◌, ◌≢◌, ℕ, zero, suc, ◌+◌, ◌-◌, ◌*◌, ◌/◌, ◌^◌, ◌<◌, ◌≤◌, ◌⊎◌, List, [], ◌++◌, Bool, true, false, ◌&&◌, cond, length, take, drop, get_or, ℤ, pos, negsuc, neg_ℤ, ◌+ℤ◌, ◌≤ℤ◌, unsigned_abs, refl, sym, ap, subst, ◌∙◌, inl, inr, arith}
+use Rattle.std.proofs.Common.{◌≡◌, ℕ, zero, suc, ◌+◌, ◌-◌, ◌*◌, ◌/◌, ◌^◌, ◌<◌, ◌≤◌, List, [], Bool, true, false, ◌&&◌, cond, length, take, drop, get_or, ℤ, pos, negsuc, ◌+ℤ◌, unsigned_abs, refl, sym, ap, subst, ◌∙◌, inl, inr, arith}
 use Rattle.std.specs.Prelude.{nat_lt}
 use Rattle.std.proofs.Math.Nat.{div-le_self}
 use Rattle.std.proofs.lemmas.Int.{ints}
@@ -9,26 +9,26 @@ use Rattle.planes.specs.declared.Rect.{Rect}
 use Rattle.planes.specs.Numbers.{Within}
 use Rattle.planes.specs.Raster.{Raster, height, at}
 use Rattle.planes.specs.Rect.{IsInRect}
-use Rattle.planes.specs.Subbands.{BandStack, BandExists, band_index, band_of, no_band, subband_length}
+use Rattle.planes.specs.Subbands.{BandStack, BandExists, band_index, band_of}
 use Rattle.bit_codes.specs.Bits.{bits_of, binary_after}
 use Rattle.bit_codes.proofs.BitLemmas.{length-rest}
 use Rattle.bounded_blocks.specs.Reading.{values}
 use Rattle.bounded_blocks.specs.Parts.{block_of}
-use Rattle.dc_prediction.specs.Prediction.{prediction, reach, AllLookedAt}
-use Rattle.dc_prediction.specs.Restoring.{AllLookedAtOutside, CanRestore, RestoresRect}
+use Rattle.dc_prediction.specs.Prediction.{prediction, reach}
+use Rattle.dc_prediction.specs.Restoring.{CanRestore, RestoresRect}
 use Rattle.slice_geometry.specs.declared.Size.{Size}
 use Rattle.slice_geometry.specs.Shape.{IsSize}
 use Rattle.slice_geometry.specs.Slicing.{Slicing, length_bits}
 use Rattle.slice_geometry.specs.Geometry.{padded_length}
 use Rattle.slice_geometry.proofs.Lengths.{padded_most}
 use Rattle.quant_factors.specs.Weights.{Weights}
-use Rattle.slice_decoder.specs.Slice.{Slice, level_rect, area, place_count, place_number, quantisers, dequantised, are_small, slice_at, luma_values, colour_values}
-use Rattle.slice_decoder.specs.Dealing.{dealt, behind, KeepsOutside}
-use Rattle.slice_decoder.specs.Components.{Part, level_of, numbered, rect_of, quantisers_before, BandsHold, BandsKeep}
+use Rattle.slice_decoder.specs.Slice.{Slice, level_rect, place_count, place_number, quantisers, dequantised, are_small, slice_at, luma_values, colour_values}
+use Rattle.slice_decoder.specs.Dealing.{dealt, KeepsOutside}
+use Rattle.slice_decoder.specs.Components.{Part, part_of, numbered, rect_of, quantisers_before, BandsHold, BandsKeep}
 use Rattle.slice_decoder.specs.Decoded.{IsReady, HoldsSlice, KeepsOthers}
 use Rattle.slice_decoder.proofs.Dealt.{dequantised-values, are_small-at}
 use Rattle.slice_decoder.proofs.Stacks.{FitsIn, fits}
-use Rattle.slice_decoder.proofs.Whole.{quantisers-are, length-to_level, IsBand, is_band, place-holds}
+use Rattle.slice_decoder.proofs.Whole.{quantisers-are, length-to_level, is_band, place-holds}
 
 pub lt_tests : (m n : ℕ) → m < n → nat_lt m n ≡ true
 lt_tests m n h = grind (arith, nat_tests)
@@ -54,9 +54,6 @@ chosen true vs ws fits same = cc
 chosen false vs ws fits same = sym same
 
 -- ---- the values
-
-abbrev pub part_of : Slicing → Size → ℕ → ℕ → Weights → ℕ → Part
-part_of s size sx sy matrix qindex = record { slicing = s; size = size; sx = sx; sy = sy; matrix = matrix; qindex = qindex }
 
 pub luma-are : (s : Slicing) (size : Size) (sx sy : ℕ) (matrix : Weights) (slice : Slice) (qindex : ℕ) (block : List Bool) → slice.luma ≡ values (place_count s size sx sy) block → qindex ≡ slice.qindex
     → luma_values s size sx sy matrix slice ≡ dealt block (quantisers_before 1 (part_of s size sx sy matrix qindex) (3 * s.depth + 1))
@@ -100,7 +97,7 @@ both-small lumas colours luma_list colour_list good luma_is colour_is is =
 
 -- ---- restoring
 
-within_abs : (z : ℤ) (m : ℕ) → unsigned_abs z ≤ m → Within m z
+pub within_abs : (z : ℤ) (m : ℕ) → unsigned_abs z ≤ m → Within m z
 within_abs (pos n) m le = record { low = omega (arith, ints); high = omega (arith, ints) }
 within_abs (negsuc n) m le = record { low = omega (arith, ints); high = omega (arith, ints) }
 
@@ -115,7 +112,7 @@ can-restore each from p block old b rect lt rect_is deep size across down ready 
     let tall : height (numbered old 0) ≡ padded_length old.depth p.size.h / 2 ^ old.depth = ready.sizes.heights 0 0 (inl (refl, refl)) ∙ ap (λ d. padded_length d p.size.h / 2 ^ old.depth) (sym ready.depth) in
     let shallow : old.depth ≤ 4 = omega (arith, ready.depth, deep) in
     let moved : (j i : ℕ) → (IsInRect (level_rect p.slicing p.size p.sx p.sy 0) j i → ⊥) → Within (reach j i) (at (numbered old 0) j i) → Within (reach j i) (at (numbered b 0) j i) =
-        λ j i out w. let Q : ℤ → Type 0 = λ z. Within (reach j i) z in subst Q (sym (lowest.outside j i out)) w
+    λ j i out w. let Q : ℤ → Type 0 = λ z. Within (reach j i) z in subst Q (sym (lowest.outside j i out)) w
     in
     let P : Rect → Type 0 = λ r. CanRestore r (numbered b 0) in
     subst P (sym rect_is) (record {
@@ -127,9 +124,9 @@ can-restore each from p block old b rect lt rect_is deep size across down ready 
           let is = place-holds each from p block old b 0 0 y x lt held (inl (refl, refl)) here in
           within_abs (at (numbered b 0) y x) (2 ^ 36) (omega (arith, ap unsigned_abs is, are_small-at (dealt block (quantisers_before each p (3 * p.slicing.depth + 1))) (each * place_number p.slicing p.size p.sx p.sy 0 0 y x + from) small));
       outside = λ y x here. let looked = ready.outside y x here in record {
-          left = λ some out. moved y (x - 1) out (looked.left some out);
-          above = λ some out. moved (y - 1) x out (looked.above some out);
-          corner = λ below right out. moved (y - 1) (x - 1) out (looked.corner below right out);
+        left = λ some out. moved y (x - 1) out (looked.left some out);
+        above = λ some out. moved (y - 1) x out (looked.above some out);
+        corner = λ below right out. moved (y - 1) (x - 1) out (looked.corner below right out);
       };
     })
 
@@ -158,8 +155,8 @@ holds-slice each from p block old b new rect values lt rect_is values_are held r
       restored = λ y x here.
           done.restored y x here
           ∙ ap (λ z. z +ℤ prediction (at (numbered new 0)) y x)
-            (place-holds each from p block old b 0 0 y x lt held (inl (refl, refl)) here
-            ∙ ap (λ vs. get_or vs (each * place_number p.slicing p.size p.sx p.sy 0 0 y x + from) (pos 0)) (sym values_are));
+          (place-holds each from p block old b 0 0 y x lt held (inl (refl, refl)) here
+          ∙ ap (λ vs. get_or vs (each * place_number p.slicing p.size p.sx p.sy 0 0 y x + from) (pos 0)) (sym values_are));
       small = done.small;
       dequantised = λ level orient y x e some here.
           ap (λ r. at r y x) (others (band_index level orient) (number_some p.slicing.depth level orient e some))

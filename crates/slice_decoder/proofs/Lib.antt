@@ -5,3 +5,4 @@ pub mod Stacks
 pub mod Heads
 pub mod Whole
 pub mod Decodes
+pub mod Ready

@@ -1,5 +1,5 @@
 -- One more row of a rectangle.
-use Rattle.std.proofs.Common.{◌≡◌, ◌≢◌, ℕ, ◌+◌, ◌-◌, ◌*◌, ◌<◌, ◌≤◌, ◌⊎◌, List, Bool, true, false, length, replicate, get_or, ℤ, pos, refl, sym, ap, subst, ◌∙◌, inl, inr, arith}
+use Rattle.std.proofs.Common.{◌≡◌, ◌≢◌, ℕ, ◌+◌, ◌-◌, ◌*◌, ◌<◌, ◌≤◌, ◌⊎◌, List, Bool, length, replicate, get_or, ℤ, pos, sym, ap, subst, ◌∙◌, inl, inr, arith}
 use Rattle.std.proofs.Math.Nat.{mul-le-mul_left, mul-le-mul_right}
 use Rattle.std.proofs.lemmas.Bool.{cases_lt, cases_eq}
 use Rattle.planes.specs.declared.Rect.{Rect}
@@ -44,9 +44,9 @@ outside_row : (r : Rect) (y x : ℕ) → r.y0 ≤ y → y < r.y1 → (IsInRect r
 outside_row r y x top bottom out = elim (cases_lt x r.x0) [
   | inl before ↦ inl before
   | inr from ↦ elim (cases_lt x r.x1) [
-      | inl within ↦ absurd (out (record { left = from; right = within; top = top; bottom = bottom }))
-      | inr past ↦ inr past
-    ]
+    | inl within ↦ absurd (out (record { left = from; right = within; top = top; bottom = bottom }))
+    | inr past ↦ inr past
+  ]
 ]
 
 at_same : (p : Raster ℤ) (y x : ℕ) (row old : List ℤ) → y < height p → old ≡ row_of p y → length row ≡ length old → at (with_row p y row) y x ≡ get_or row x (pos 0)

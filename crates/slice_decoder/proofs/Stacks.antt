@@ -1,22 +1,20 @@
 -- One more band of a component.
-use Rattle.std.proofs.Common.{◌≡◌, ◌≢◌, ℕ, zero, suc, ◌+◌, ◌-◌, ◌*◌, ◌/◌, ◌<◌, ◌≤◌, ◌⊎◌, List, [], ◌++◌, Bool, true, false, ◌&&◌, length, replicate, get_or, set, ℤ, pos, refl, sym, ap, subst, ◌∙◌, inl, inr, arith, add-one, append_assoc, append-nil}
+use Rattle.std.proofs.Common.{◌≡◌, ◌≢◌, ℕ, zero, suc, ◌+◌, ◌-◌, ◌*◌, ◌<◌, ◌≤◌, List, [], ◌++◌, Bool, true, false, ◌&&◌, length, replicate, get_or, set, ℤ, refl, sym, ap, subst, ◌∙◌, inl, inr, arith, add-one, append_assoc, append-nil}
 use Rattle.std.proofs.Math.Nat.{mul-le-mul_left, div-le_of_le-mul}
-use Rattle.std.proofs.lemmas.Bool.{cases_lt, cases_eq}
+use Rattle.std.proofs.lemmas.Bool.{cases_eq}
 use Rattle.std.proofs.lemmas.Bool.Decides.{nat_tests}
-use Rattle.std.proofs.lemmas.List.{get_or-set_same, get_or-set_other, length-set}
+use Rattle.std.proofs.lemmas.List.{get_or-set_same, get_or-set_other}
 use Rattle.planes.specs.declared.Rect.{Rect}
-use Rattle.planes.specs.Raster.{Raster, height, at}
-use Rattle.planes.specs.Rect.{IsInRect}
+use Rattle.planes.specs.Raster.{Raster, height}
 use Rattle.planes.specs.Subbands.{BandStack, BandExists, band_index, band_of, with_band, no_band, subband_length, HaveSizes}
 use Rattle.slice_geometry.specs.declared.Size.{Size}
-use Rattle.slice_geometry.specs.Slicing.{Slicing}
 use Rattle.slice_geometry.specs.Geometry.{padded_length, band_size, slice_start, slice_end, slice_rect}
 use Rattle.slice_geometry.proofs.Quotients.{div-rises}
 use Rattle.quant_factors.specs.Weights.{entry_of, quantiser_of}
 use Rattle.slice_decoder.specs.Slice.{are_small, area}
 use Rattle.slice_decoder.specs.Dealing.{dealt, behind, HoldsRect, KeepsOutside}
 use Rattle.slice_decoder.specs.Components.{Part, level_of, orient_of, numbered, rect_of, index_of, quantisers_of, quantisers_before, BandsHold, BandsKeep}
-use Rattle.slice_decoder.proofs.Dealt.{dealt-append, behind-append, are_small-append, more-small, more-behind}
+use Rattle.slice_decoder.proofs.Dealt.{dealt-append, are_small-append, more-small, more-behind}
 
 -- ---- numbers of bands
 
@@ -92,11 +90,11 @@ pub bands-stopped : (each : ℕ) (p : Part) (k total : ℕ) (block : List Bool) 
 bands-stopped each p k total block le large =
     let whole : total ≡ k + 1 + (total - (k + 1)) = omega arith in
     sym (
-      ap (λ n. are_small (dealt block (quantisers_before each p n))) whole
-      ∙ ap (λ qs. are_small (dealt block qs)) (quantisers-split each p (k + 1) (total - (k + 1)))
-      ∙ ap are_small (dealt-append block (quantisers_before each p (k + 1)) (quantisers_rest each p (k + 1) (total - (k + 1))))
-      ∙ are_small-append (dealt block (quantisers_before each p (k + 1))) _
-      ∙ ap (λ b. b && are_small (dealt (behind block (quantisers_before each p (k + 1))) (quantisers_rest each p (k + 1) (total - (k + 1))))) (sym large)
+    ap (λ n. are_small (dealt block (quantisers_before each p n))) whole
+    ∙ ap (λ qs. are_small (dealt block qs)) (quantisers-split each p (k + 1) (total - (k + 1)))
+    ∙ ap are_small (dealt-append block (quantisers_before each p (k + 1)) (quantisers_rest each p (k + 1) (total - (k + 1))))
+    ∙ are_small-append (dealt block (quantisers_before each p (k + 1))) _
+    ∙ ap (λ b. b && are_small (dealt (behind block (quantisers_before each p (k + 1))) (quantisers_rest each p (k + 1) (total - (k + 1))))) (sym large)
     )
 
 -- ---- bands
@@ -117,8 +115,8 @@ bands-keep p k old b before after level orient rect is lt before_is rect_is keep
         let P : ℕ → Type 0 = λ j. KeepsOutside (rect_of p j) (numbered old j) (numbered (with_band b level orient after) j) in
         let Q : Rect → Raster ℤ → Raster ℤ → Type 0 = λ r q n. KeepsOutside r q n in
         let moved : KeepsOutside (rect_of p k) (numbered b k) (numbered (with_band b level orient after) k) =
-            subst (λ n. Q (rect_of p k) (numbered b k) n) (sym (numbered-same b level orient k after is lt))
-            (subst (λ q. Q (rect_of p k) q after) before_is (subst (λ r. Q r before after) rect_is here))
+        subst (λ n. Q (rect_of p k) (numbered b k) n) (sym (numbered-same b level orient k after is lt))
+        (subst (λ q. Q (rect_of p k) q after) before_is (subst (λ r. Q r before after) rect_is here))
         in
         subst P (sym same) (keeps-after (rect_of p k) (numbered old k) (numbered b k) (numbered (with_band b level orient after) k) (keeps.bands k) moved)
     | inr ne ↦

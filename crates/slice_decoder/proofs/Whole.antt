@@ -1,18 +1,17 @@
 -- From the bands by their numbers to the slice as it is defined.
-use Rattle.std.proofs.Common.{◌≡◌, ◌≢◌, ℕ, zero, suc, ◌+◌, ◌-◌, ◌*◌, ◌/◌, ◌<◌, ◌≤◌, ◌⊎◌, List, [], ◌++◌, Bool, true, false, ◌&&◌, length, replicate, take, drop, get_or, ℤ, pos, refl, sym, ap, subst, ◌∙◌, inl, inr, arith, append_assoc, add-one}
+use Rattle.std.proofs.Common.{◌≡◌, ℕ, zero, suc, ◌+◌, ◌-◌, ◌*◌, ◌<◌, ◌≤◌, List, ◌++◌, Bool, length, replicate, get_or, pos, refl, sym, ap, subst, ◌∙◌, inl, inr, arith, append_assoc}
 use Rattle.std.proofs.Math.Nat.{mul-le-mul_left, mul-le-mul_right}
 use Rattle.std.proofs.lemmas.Bool.Decides.{nat_tests}
 use Rattle.std.proofs.lemmas.List.{length-replicate, length-append}
 use Rattle.planes.specs.declared.Rect.{Rect}
-use Rattle.planes.specs.Raster.{Raster, at}
+use Rattle.planes.specs.Raster.{at}
 use Rattle.planes.specs.Rect.{IsInRect}
-use Rattle.planes.specs.Subbands.{BandStack, BandExists, band_index, band_of, no_band}
-use Rattle.bounded_blocks.specs.Reading.{values}
-use Rattle.slice_decoder.specs.Slice.{level_rect, area, places_to, place_count, places_before, number_in, place_number, band_quantiser, quantisers, dequantised}
-use Rattle.slice_decoder.specs.Dealing.{dealt, behind, HoldsRect}
-use Rattle.slice_decoder.specs.Components.{Part, level_of, orient_of, numbered, rect_of, index_of, quantisers_of, quantisers_before, BandsHold}
-use Rattle.slice_decoder.proofs.Dealt.{dequantised-values, more-old, more-new}
-use Rattle.slice_decoder.proofs.Stacks.{quantisers-more, quantisers-split, index-numbered, band-exists}
+use Rattle.planes.specs.Subbands.{BandStack, BandExists, band_index, band_of}
+use Rattle.slice_decoder.specs.Slice.{level_rect, area, places_to, places_before, number_in, place_number, band_quantiser, quantisers}
+use Rattle.slice_decoder.specs.Dealing.{dealt, behind}
+use Rattle.slice_decoder.specs.Components.{Part, level_of, orient_of, rect_of, index_of, quantisers_of, quantisers_before, BandsHold}
+use Rattle.slice_decoder.proofs.Dealt.{more-old, more-new}
+use Rattle.slice_decoder.proofs.Stacks.{quantisers-more, quantisers-split}
 
 -- ---- the quantisers, level by level
 
@@ -51,14 +50,14 @@ quantisers-are each p (suc level) =
     let two : 3 * level + 2 ≡ 3 * level + 1 + 1 = omega arith in
     let one = quantisers-are each p level in
     sym (
-      step each p (3 * level + 3) (3 * suc level + 1) last
-      ∙ ap (λ qs. qs ++ quantisers_of each p (3 * level + 3)) (step each p (3 * level + 2) (3 * level + 3) three)
-      ∙ ap (λ qs. (qs ++ quantisers_of each p (3 * level + 2)) ++ quantisers_of each p (3 * level + 3)) (step each p (3 * level + 1) (3 * level + 2) two)
-      ∙ ap (λ qs. ((qs ++ quantisers_of each p (3 * level + 1)) ++ quantisers_of each p (3 * level + 2)) ++ quantisers_of each p (3 * level + 3)) (sym one)
-      ∙ regroup (to_level each p level) (quantisers_of each p (3 * level + 1)) (quantisers_of each p (3 * level + 2)) (quantisers_of each p (3 * level + 3))
-      ∙ ap (λ qs. to_level each p level ++ (qs ++ (quantisers_of each p (3 * level + 2) ++ quantisers_of each p (3 * level + 3)))) (at_level each p level 1 (omega arith) (omega arith))
-      ∙ ap (λ qs. to_level each p level ++ (level_list each p (suc level) 1 ++ (qs ++ quantisers_of each p (3 * level + 3)))) (at_level each p level 2 (omega arith) (omega arith))
-      ∙ ap (λ qs. to_level each p level ++ (level_list each p (suc level) 1 ++ (level_list each p (suc level) 2 ++ qs))) (at_level each p level 3 (omega arith) (omega arith))
+    step each p (3 * level + 3) (3 * suc level + 1) last
+    ∙ ap (λ qs. qs ++ quantisers_of each p (3 * level + 3)) (step each p (3 * level + 2) (3 * level + 3) three)
+    ∙ ap (λ qs. (qs ++ quantisers_of each p (3 * level + 2)) ++ quantisers_of each p (3 * level + 3)) (step each p (3 * level + 1) (3 * level + 2) two)
+    ∙ ap (λ qs. ((qs ++ quantisers_of each p (3 * level + 1)) ++ quantisers_of each p (3 * level + 2)) ++ quantisers_of each p (3 * level + 3)) (sym one)
+    ∙ regroup (to_level each p level) (quantisers_of each p (3 * level + 1)) (quantisers_of each p (3 * level + 2)) (quantisers_of each p (3 * level + 3))
+    ∙ ap (λ qs. to_level each p level ++ (qs ++ (quantisers_of each p (3 * level + 2) ++ quantisers_of each p (3 * level + 3)))) (at_level each p level 1 (omega arith) (omega arith))
+    ∙ ap (λ qs. to_level each p level ++ (level_list each p (suc level) 1 ++ (qs ++ quantisers_of each p (3 * level + 3)))) (at_level each p level 2 (omega arith) (omega arith))
+    ∙ ap (λ qs. to_level each p level ++ (level_list each p (suc level) 1 ++ (level_list each p (suc level) 2 ++ qs))) (at_level each p level 3 (omega arith) (omega arith))
     )
 
 -- ---- how many there are
@@ -158,7 +157,7 @@ place-holds each from p block old b level orient y x lt held e inside =
     let here : IsInRect (rect_of p k) y x = subst P (sym rect) inside in
     let number : number_in (rect_of p k) y x ≡ number_in (level_rect p.slicing p.size p.sx p.sy level) y x = ap (λ r. number_in r y x) rect in
     let place : length (quantisers_before each p k) + (each * number_in (rect_of p k) y x + from) ≡ each * place_number p.slicing p.size p.sx p.sy level orient y x + from =
-        ap (λ n. length (quantisers_before each p k) + (each * n + from)) number ∙ omega (arith, length-before_band each p level orient e)
+    ap (λ n. length (quantisers_before each p k) + (each * n + from)) number ∙ omega (arith, length-before_band each p level orient e)
     in
     (held.bands k band.below).inside y x here
     ∙ in_all each p k (3 * p.slicing.depth + 1) (each * number_in (rect_of p k) y x + from) block band.below (number_below each from y x (rect_of p k) lt here)

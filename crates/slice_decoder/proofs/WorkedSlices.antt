@@ -1,11 +1,11 @@
 -- Worked slices, by evaluation.
-use Rattle.std.proofs.Common.{◌≡◌, ℕ, List, [], ◌∷◌, refl, true, false}
-use Rattle.std.specs.Prelude.{ℤ, pos, negsuc}
+use Rattle.std.proofs.Common.{◌≡◌, [], ◌∷◌, refl, true, false}
+use Rattle.std.specs.Prelude.{pos, negsuc}
 use Rattle.slice_geometry.specs.declared.Size.{Size}
 use Rattle.slice_geometry.specs.Slicing.{Slicing}
 use Rattle.bit_codes.specs.Codes.{intlog2}
 use Rattle.quant_factors.specs.Factors.{inverse_of, restored_of, factor_of, offset_of}
-use Rattle.slice_decoder.specs.Slice.{Slice, slice_at, luma_values, colour_values, are_small, place_number}
+use Rattle.slice_decoder.specs.Slice.{slice_at, luma_values, colour_values, are_small}
 
 abbrev one : Size
 one = record { w = 2; h = 2 }

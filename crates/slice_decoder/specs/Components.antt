@@ -28,6 +28,9 @@ pub record Part : Type 0 where
   pub matrix : Weights
   pub qindex : ℕ
 
+abbrev pub part_of : Slicing → Size → ℕ → ℕ → Weights → ℕ → Part
+part_of s size sx sy matrix qindex = record { slicing = s; size = size; sx = sx; sy = sy; matrix = matrix; qindex = qindex }
+
 -- its places in band k, and their quantiser
 abbrev pub rect_of : Part → ℕ → Rect
 rect_of p k = level_rect p.slicing p.size p.sx p.sy (level_of k)

@@ -1,5 +1,5 @@
 -- The values of a block as they are dealt out to places, each by its quantiser.
-use Rattle.std.specs.Prelude.{◌≡◌, ℕ, ◌+◌, ◌-◌, ◌*◌, ◌<◌, ◌≤◌, Bool, List, [], ◌∷◌, ◌++◌, length, replicate, slice_index_or, ℤ, pos}
+use Rattle.std.specs.Prelude.{◌≡◌, ℕ, ◌+◌, ◌*◌, ◌<◌, ◌≤◌, ◌⊎◌, Bool, List, [], ◌∷◌, replicate, slice_index_or, ℤ, pos}
 use Rattle.planes.specs.declared.Rect.{Rect}
 use Rattle.planes.specs.Raster.{Raster, height, at}
 use Rattle.planes.specs.Rect.{IsInRect}
@@ -16,6 +16,17 @@ dealt block (q ∷ quantisers) = inverse_of (value_at block).0 q ∷ dealt (valu
 abbrev pub behind : List Bool → List ℕ → List Bool
 behind block [] = block
 behind block (q ∷ quantisers) = behind (value_at block).1 quantisers
+
+-- the next n values, all by one quantiser, and what is left behind them
+abbrev pub next_values : List Bool → ℕ → ℕ → List ℤ
+next_values block n q = dealt block (replicate n q)
+
+abbrev pub behind_next : List Bool → ℕ → ℕ → List Bool
+behind_next block n q = behind block (replicate n q)
+
+-- all places of a row but x0..x1 stay
+abbrev pub StaysBeside : ℕ → ℕ → List ℤ → List ℤ → Type 0
+StaysBeside x0 x1 old new = (x : ℕ) → (x < x0) ⊎ (x1 ≤ x) → slice_index_or new x (pos 0) ≡ slice_index_or old x (pos 0)
 
 -- The places of a rectangle hold values of a list. Each place, row by row, has so many values there, of which it holds the one that is counted from 0 by
 -- `from`; and all other places stay.

@@ -1,5 +1,5 @@
 -- A slice as a function of its bytes (SMPTE ST 2042-1:2017, 13.5.3: ld_slice, luma_slice_band, color_diff_slice_band).
-use Rattle.std.specs.Prelude.{ℕ, zero, suc, ◌+◌, ◌-◌, ◌*◌, ◌^◌, ◌==◌, ◌&&◌, Bool, true, false, not, if◌then◌else◌, nat_le, nat_lt, List, [], ◌∷◌, ◌++◌, length, take, drop, replicate, slice_index_or, ℤ, pos, unsigned_abs}
+use Rattle.std.specs.Prelude.{ℕ, zero, suc, ◌+◌, ◌-◌, ◌*◌, ◌^◌, ◌&&◌, Bool, true, if◌then◌else◌, nat_le, nat_lt, List, [], ◌∷◌, ◌++◌, length, take, drop, replicate, ℤ, unsigned_abs}
 use Rattle.bit_codes.specs.Bits.{bits_of, binary_after}
 use Rattle.bounded_blocks.specs.Reading.{values}
 use Rattle.planes.specs.declared.Rect.{Rect}

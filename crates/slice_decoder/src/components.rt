@@ -6,7 +6,7 @@ ghost use Rattle.slice_geometry.specs.Shape.{IsSize};
 ghost use Rattle.slice_geometry.specs.Geometry.{padded_length};
 ghost use Rattle.slice_decoder.specs.Slice.{are_small};
 ghost use Rattle.slice_decoder.specs.Dealing.{dealt, behind};
-ghost use Rattle.slice_decoder.specs.Components.{Part, level_of, orient_of, quantisers_before, BandsHold, BandsKeep};
+ghost use Rattle.slice_decoder.specs.Components.{part_of, level_of, orient_of, quantisers_before, BandsHold, BandsKeep};
 
 use crate::bands::{fill_rect, fill_rects};
 use bounded_blocks::Block;
@@ -46,7 +46,14 @@ fn orient_numbered(number: u32) -> Orient
 }
 
 // Fills a component's subbands with the next values. It answers false where a magnitude passes 2^36.
-pub fn read_luma(block: &mut Block<'_>, bands: &mut Bands, layout: &Layout, size: Size, matrix: &Matrix, place: Place) -> bool
+pub fn read_luma(
+    block: &mut Block<'_>,
+    bands: &mut Bands,
+    layout: &Layout,
+    size: Size,
+    matrix: &Matrix,
+    place: Place,
+) -> bool
     requires size { IsSize size.w size.h }
     requires across { place.sx < layout.now.slices_x }
     requires down { place.sy < layout.now.slices_y }
@@ -54,14 +61,11 @@ pub fn read_luma(block: &mut Block<'_>, bands: &mut Bands, layout: &Layout, size
     requires depth { bands.old.depth ≡ layout.now.depth }
     requires entries { matrix.now.depth ≡ layout.now.depth }
     requires sizes { HaveSizes bands.old (padded_length layout.now.depth size.w) (padded_length layout.now.depth size.h) }
-    ensures small {
-        let part : Part = record { slicing = layout.now; size = size; sx = place.sx; sy = place.sy; matrix = matrix.now; qindex = place.qindex } in
+    ensures small { let part = part_of layout.now size place.sx place.sy matrix.now place.qindex in
         result ≡ are_small (dealt block.old (quantisers_before 1 part (3 * layout.now.depth + 1))) }
-    ensures holds {
-        let part : Part = record { slicing = layout.now; size = size; sx = place.sx; sy = place.sy; matrix = matrix.now; qindex = place.qindex } in
+    ensures holds { let part = part_of layout.now size place.sx place.sy matrix.now place.qindex in
         result ≡ true → BandsHold 1 0 part (3 * layout.now.depth + 1) block.old bands.old bands.new }
-    ensures keeps {
-        let part : Part = record { slicing = layout.now; size = size; sx = place.sx; sy = place.sy; matrix = matrix.now; qindex = place.qindex } in
+    ensures keeps { let part = part_of layout.now size place.sx place.sy matrix.now place.qindex in
         BandsKeep part bands.old bands.new }
 {
     for k in 0..3 * layout.depth() + 1 {
@@ -77,7 +81,15 @@ pub fn read_luma(block: &mut Block<'_>, bands: &mut Bands, layout: &Layout, size
 
 // Fills the subbands of the two colour components, whose places take the values in turn. It answers false where a
 // magnitude passes 2^36.
-pub fn read_colour(block: &mut Block<'_>, first: &mut Bands, second: &mut Bands, layout: &Layout, size: Size, matrix: &Matrix, place: Place) -> bool
+pub fn read_colour(
+    block: &mut Block<'_>,
+    first: &mut Bands,
+    second: &mut Bands,
+    layout: &Layout,
+    size: Size,
+    matrix: &Matrix,
+    place: Place,
+) -> bool
     requires size { IsSize size.w size.h }
     requires across { place.sx < layout.now.slices_x }
     requires down { place.sy < layout.now.slices_y }
@@ -87,20 +99,15 @@ pub fn read_colour(block: &mut Block<'_>, first: &mut Bands, second: &mut Bands,
     requires entries { matrix.now.depth ≡ layout.now.depth }
     requires first_sizes { HaveSizes first.old (padded_length layout.now.depth size.w) (padded_length layout.now.depth size.h) }
     requires second_sizes { HaveSizes second.old (padded_length layout.now.depth size.w) (padded_length layout.now.depth size.h) }
-    ensures small {
-        let part : Part = record { slicing = layout.now; size = size; sx = place.sx; sy = place.sy; matrix = matrix.now; qindex = place.qindex } in
+    ensures small { let part = part_of layout.now size place.sx place.sy matrix.now place.qindex in
         result ≡ are_small (dealt block.old (quantisers_before 2 part (3 * layout.now.depth + 1))) }
-    ensures first {
-        let part : Part = record { slicing = layout.now; size = size; sx = place.sx; sy = place.sy; matrix = matrix.now; qindex = place.qindex } in
+    ensures first { let part = part_of layout.now size place.sx place.sy matrix.now place.qindex in
         result ≡ true → BandsHold 2 0 part (3 * layout.now.depth + 1) block.old first.old first.new }
-    ensures second {
-        let part : Part = record { slicing = layout.now; size = size; sx = place.sx; sy = place.sy; matrix = matrix.now; qindex = place.qindex } in
+    ensures second { let part = part_of layout.now size place.sx place.sy matrix.now place.qindex in
         result ≡ true → BandsHold 2 1 part (3 * layout.now.depth + 1) block.old second.old second.new }
-    ensures first_keeps {
-        let part : Part = record { slicing = layout.now; size = size; sx = place.sx; sy = place.sy; matrix = matrix.now; qindex = place.qindex } in
+    ensures first_keeps { let part = part_of layout.now size place.sx place.sy matrix.now place.qindex in
         BandsKeep part first.old first.new }
-    ensures second_keeps {
-        let part : Part = record { slicing = layout.now; size = size; sx = place.sx; sy = place.sy; matrix = matrix.now; qindex = place.qindex } in
+    ensures second_keeps { let part = part_of layout.now size place.sx place.sy matrix.now place.qindex in
         BandsKeep part second.old second.new }
 {
     let mut buffer = [0; 128];

@@ -9,7 +9,7 @@ ghost use Rattle.dc_prediction.specs.Restoring.{CanRestore, RestoresRect};
 ghost use Rattle.slice_geometry.specs.Slicing as slicing;
 ghost use Rattle.slice_decoder.specs.Slice.{slice_at, are_small};
 ghost use Rattle.slice_decoder.specs.Dealing.{dealt};
-ghost use Rattle.slice_decoder.specs.Components.{Part, numbered};
+ghost use Rattle.slice_decoder.specs.Components.{part_of, numbered};
 ghost use Rattle.slice_decoder.specs.Read.{IsRead};
 ghost use Rattle.slice_decoder.specs.Decoded.{AreReady, AllKeepOthers, IsDecoded, IsRefused};
 
@@ -73,7 +73,15 @@ fn restore(bands: &mut Bands, rect: Rect)
 }
 
 // Reads the values of both blocks into the subbands. It answers false where a magnitude passes 2^36.
-fn read_blocks(layout: &Layout, shape: &PictureShape, matrix: &Matrix, place: Place, bytes: &[u8], luma_bits: u32, bands: &mut Trio) -> bool
+fn read_blocks(
+    layout: &Layout,
+    shape: &PictureShape,
+    matrix: &Matrix,
+    place: Place,
+    bytes: &[u8],
+    luma_bits: u32,
+    bands: &mut Trio,
+) -> bool
     requires some { 1 ≤ length bytes.now }
     requires most { length bytes.now ≤ 2 ^ 28 }
     requires fits { luma_bits + 7 + slicing.length_bits (length bytes.now) ≤ 8 * length bytes.now }
@@ -82,18 +90,34 @@ fn read_blocks(layout: &Layout, shape: &PictureShape, matrix: &Matrix, place: Pl
     requires qindex { place.qindex ≤ 127 }
     requires entries { matrix.now.depth ≡ layout.now.depth }
     requires ready { AreReady layout.now shape.now place.sx place.sy bands.old }
-    ensures {
-        let start = 7 + slicing.length_bits (length bytes.now) in
-        let luma_part : Part = record { slicing = layout.now; size = shape.now.luma; sx = place.sx; sy = place.sy; matrix = matrix.now; qindex = place.qindex } in
-        let colour_part : Part = record { slicing = layout.now; size = shape.now.colour; sx = place.sx; sy = place.sy; matrix = matrix.now; qindex = place.qindex } in
-        IsRead luma_part colour_part (block_of bytes.now start (start + luma_bits)) (block_of bytes.now (start + luma_bits) (8 * length bytes.now)) bands.old bands.new result }
+    ensures { let start = 7 + slicing.length_bits (length bytes.now) in
+        let luma_part = part_of layout.now shape.now.luma place.sx place.sy matrix.now place.qindex in
+        let colour_part = part_of layout.now shape.now.colour place.sx place.sy matrix.now place.qindex in
+        IsRead luma_part colour_part
+        (block_of bytes.now start (start + luma_bits))
+        (block_of bytes.now (start + luma_bits) (8 * length bytes.now))
+        bands.old bands.new result }
 {
     let start = 7 + u64::from(length_bits(bytes.len() as u32));
     let middle = start + u64::from(luma_bits);
     let mut luma = Block::new(bytes, start, u64::from(luma_bits));
     let mut colour = Block::new(bytes, middle, 8 * bytes.len() as u64 - middle);
-    read_luma(&mut luma, &mut bands.luma, layout, shape.luma, matrix, place)
-        && read_colour(&mut colour, &mut bands.c1, &mut bands.c2, layout, shape.colour, matrix, place)
+    read_luma(
+        &mut luma,
+        &mut bands.luma,
+        layout,
+        shape.luma,
+        matrix,
+        place,
+    ) && read_colour(
+        &mut colour,
+        &mut bands.c1,
+        &mut bands.c2,
+        layout,
+        shape.colour,
+        matrix,
+        place,
+    )
 }
 
 /// Decodes the slice in column sx and row sy from its bytes, 1 to 2^28 of them: its values stand dequantised at their
@@ -102,16 +126,25 @@ fn read_blocks(layout: &Layout, shape: &PictureShape, matrix: &Matrix, place: Pl
 /// The matrix has the layout's depth; the bands have the sizes of the layout and the shape; and each value of a lowest
 /// subband that is looked at outside the slice has a magnitude of at most (y + x + 1) * 2^36. After a refusal the
 /// slice's own places hold any values. All other places stay.
-pub fn decode_slice(layout: &Layout, shape: &PictureShape, matrix: &Matrix, sx: u32, sy: u32, bytes: &[u8], bands: &mut Trio) -> Result<SliceHead, SliceFault>
+pub fn decode_slice(
+    layout: &Layout,
+    shape: &PictureShape,
+    matrix: &Matrix,
+    sx: u32,
+    sy: u32,
+    bytes: &[u8],
+    bands: &mut Trio,
+) -> Result<SliceHead, SliceFault>
     requires across { sx < layout.now.slices_x }
     requires down { sy < layout.now.slices_y }
     requires some { 1 ≤ length bytes.now }
     requires most { length bytes.now ≤ 2 ^ 28 }
     requires entries { matrix.now.depth ≡ layout.now.depth }
     requires ready { AreReady layout.now shape.now sx sy bands.old }
-    ensures decoded {
-        let slice = slice_at layout.now shape.now.luma shape.now.colour sx sy bytes.now in
-        MatchResult result (λ head. IsDecoded layout.now shape.now sx sy matrix.now slice head bands.new) (IsRefused layout.now shape.now sx sy matrix.now slice) }
+    ensures decoded { let slice = slice_at layout.now shape.now.luma shape.now.colour sx sy bytes.now in
+        MatchResult result
+        (λ head. IsDecoded layout.now shape.now sx sy matrix.now slice head bands.new)
+        (IsRefused layout.now shape.now sx sy matrix.now slice) }
     ensures others { AllKeepOthers layout.now shape.now sx sy bands.old bands.new }
 {
     let depth = layout.depth();
@@ -136,3 +169,6 @@ pub fn decode_slice(layout: &Layout, shape: &PictureShape, matrix: &Matrix, sx: 
     restore(&mut bands.c2, colour);
     Ok(head)
 }
+
+#[cfg(test)]
+mod tests;

@@ -4,3 +4,4 @@ pub mod ChainLaws
 pub mod Past
 pub mod Settling
 pub mod Parts
+pub mod WorkedRows

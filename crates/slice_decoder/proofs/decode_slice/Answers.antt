@@ -1,13 +1,12 @@
-use Rattle.std.proofs.Common.{◌≡◌, ℕ, ◌+◌, ◌-◌, ◌*◌, ◌<◌, ◌≤◌, List, Bool, true, false, length, take, drop, refl, sym, ap, ◌∙◌, arith}
-use Rattle.bit_codes.specs.Bits.{bits_of}
+use Rattle.std.proofs.Common.{◌≡◌, ℕ, ◌+◌, ◌*◌, List, Bool, true, false, length, sym, ◌∙◌, arith}
 use Rattle.bit_codes.proofs.BitLemmas.{length-rest}
 use Rattle.bounded_blocks.specs.Parts.{block_of}
 use Rattle.slice_geometry.specs.Slicing.{length_bits}
-use Rattle.slice_decoder.specs.Slice.{slice_at, are_small}
-use Rattle.slice_decoder.specs.Components.{Part, BandsKeep}
+use Rattle.slice_decoder.specs.Slice.{slice_at}
+use Rattle.slice_decoder.specs.Components.{Part, part_of, BandsKeep}
 use Rattle.slice_decoder.proofs.Dealt.{and-left, and-right}
 use Rattle.slice_decoder.proofs.Heads.{length_bits-fit}
-use Rattle.slice_decoder.proofs.Decodes.{lt_tests, ge_tests, part_of, AreValues, are-values, both-small, can-restore, holds-slice, keeps-others, bands-restored}
+use Rattle.slice_decoder.proofs.Decodes.{lt_tests, ge_tests, AreValues, are-values, both-small, can-restore, holds-slice, keeps-others, bands-restored}
 use Rattle.slice_decoder.proofs.decode_slice.Goals as goal
 
 pub overflow_sub-left-2 : goal.overflow_sub-left-2
@@ -23,10 +22,10 @@ read_blocks-requires-clause-fits c = omega (arith, c.if-head-left.false, c.lengt
 pub returns-then-not-read_blocks-clause-decoded : goal.returns-then-not-read_blocks-clause-decoded
 returns-then-not-read_blocks-clause-decoded c =
     let fits_in : (slice_at c.args.layout.now c.args.shape.now.luma c.args.shape.now.colour c.args.sx c.args.sy c.args.bytes.now).too_long ≡ false =
-        ge_tests _ _ (omega (arith, c.if-head-left.false, c.length_bits.ensures, c.head_of-head.ensures.luma_bits, length-rest c.args.bytes.now (7 + length_bits (length c.args.bytes.now)), length_bits-fit (length c.args.bytes.now) c.requires.some))
+    ge_tests _ _ (omega (arith, c.if-head-left.false, c.length_bits.ensures, c.head_of-head.ensures.luma_bits, length-rest c.args.bytes.now (7 + length_bits (length c.args.bytes.now)), length_bits-fit (length c.args.bytes.now) c.requires.some))
     in
     let are : AreValues c.args.layout.now c.args.shape.now.luma c.args.shape.now.colour c.args.sx c.args.sy c.args.matrix.now c.args.bytes.now c.head_of-head.result.qindex c.head_of-head.result.luma_bits =
-        are-values c.args.layout.now c.args.shape.now.luma c.args.shape.now.colour c.args.sx c.args.sy c.args.matrix.now c.args.bytes.now c.head_of-head.result.qindex c.head_of-head.result.luma_bits c.head_of-head.ensures.qindex c.head_of-head.ensures.luma_bits fits_in
+    are-values c.args.layout.now c.args.shape.now.luma c.args.shape.now.colour c.args.sx c.args.sy c.args.matrix.now c.args.bytes.now c.head_of-head.result.qindex c.head_of-head.result.luma_bits c.head_of-head.ensures.qindex c.head_of-head.ensures.luma_bits fits_in
     in
     let read = c.read_blocks.ensures in
     (fits_in, both-small _ _ _ _ false are.of_luma are.of_colour (sym c.if-not-read_blocks.true ∙ read.small))
@@ -80,10 +79,10 @@ restore-requires-3 c =
 pub returns-clause-decoded : goal.returns-clause-decoded
 returns-clause-decoded c =
     let fits_in : (slice_at c.args.layout.now c.args.shape.now.luma c.args.shape.now.colour c.args.sx c.args.sy c.args.bytes.now).too_long ≡ false =
-        ge_tests _ _ (omega (arith, c.if-head-left.false, c.length_bits.ensures, c.head_of-head.ensures.luma_bits, length-rest c.args.bytes.now (7 + length_bits (length c.args.bytes.now)), length_bits-fit (length c.args.bytes.now) c.requires.some))
+    ge_tests _ _ (omega (arith, c.if-head-left.false, c.length_bits.ensures, c.head_of-head.ensures.luma_bits, length-rest c.args.bytes.now (7 + length_bits (length c.args.bytes.now)), length_bits-fit (length c.args.bytes.now) c.requires.some))
     in
     let are : AreValues c.args.layout.now c.args.shape.now.luma c.args.shape.now.colour c.args.sx c.args.sy c.args.matrix.now c.args.bytes.now c.head_of-head.result.qindex c.head_of-head.result.luma_bits =
-        are-values c.args.layout.now c.args.shape.now.luma c.args.shape.now.colour c.args.sx c.args.sy c.args.matrix.now c.args.bytes.now c.head_of-head.result.qindex c.head_of-head.result.luma_bits c.head_of-head.ensures.qindex c.head_of-head.ensures.luma_bits fits_in
+    are-values c.args.layout.now c.args.shape.now.luma c.args.shape.now.colour c.args.sx c.args.sy c.args.matrix.now c.args.bytes.now c.head_of-head.result.qindex c.head_of-head.result.luma_bits c.head_of-head.ensures.qindex c.head_of-head.ensures.luma_bits fits_in
     in
     let read = c.read_blocks.ensures in
     let luma : Part = part_of c.args.layout.now c.args.shape.now.luma c.args.sx c.args.sy c.args.matrix.now c.head_of-head.result.qindex in

@@ -1,6 +1,5 @@
-use Rattle.std.proofs.Common.{◌≡◌, ◌-◌, ◌*◌, length, drop, ap, ◌∙◌, arith}
+use Rattle.std.proofs.Common.{length, ap, arith}
 use Rattle.std.proofs.lemmas.List.{length-drop}
-use Rattle.bit_codes.specs.Bits.{bits_of}
 use Rattle.bit_codes.proofs.BitLemmas.{length-rest}
 use Rattle.slice_decoder.proofs.Heads.{length_bits-most, length_bits-fit}
 use Rattle.slice_decoder.proofs.head_of.Goals as goal

@@ -1,4 +1,4 @@
-use Rattle.std.proofs.Common.{◌≡◌, ◌^◌, ◌<◌, arith}
+use Rattle.std.proofs.Common.{◌^◌, ◌<◌, arith}
 use Rattle.slice_decoder.proofs.Heads.{bits-number, number-small, fits_32}
 use Rattle.slice_decoder.proofs.next_bits.Goals as goal
 

@@ -1,6 +1,6 @@
-use Rattle.std.proofs.Common.{◌≡◌, ◌∙◌, ap, ℕ, ◌^◌, ◌<◌, ◌*◌, length, arith, List, ℤ, lit≤}
+use Rattle.std.proofs.Common.{◌≡◌, ◌∙◌, ap, ℕ, ◌^◌, ◌<◌, length, arith, List, ℤ, lit≤}
 use Rattle.lifting.specs.declared.Wavelet.{Wavelet}
-use Rattle.lifting.specs.declared.PairStep.TheVariants.{EvenDown, OddUp}
+use Rattle.lifting.specs.declared.PairStep.TheVariants.{OddUp}
 use Rattle.lifting.specs.Steps.{step}
 use Rattle.lifting.specs.Lines.{Line}
 use Rattle.lifting.specs.Places.{place, EachWithin, odd_stepped}

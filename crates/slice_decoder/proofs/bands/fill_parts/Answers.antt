@@ -1,4 +1,4 @@
-use Rattle.std.proofs.Common.{◌≡◌, ℕ, ◌+◌, ◌-◌, ◌*◌, ◌<◌, ◌≤◌, replicate, get_or, pos, sym, ap, ◌∙◌, arith}
+use Rattle.std.proofs.Common.{◌≡◌, ℕ, ◌+◌, ◌-◌, ◌*◌, ◌≤◌, replicate, get_or, pos, sym, ap, ◌∙◌, arith}
 use Rattle.slice_decoder.specs.Dealing.{dealt}
 use Rattle.slice_decoder.proofs.Dealt.{grow-small, grow-behind, stopped}
 use Rattle.slice_decoder.proofs.Rects.{CellsHold, cells_sum, cells-more}

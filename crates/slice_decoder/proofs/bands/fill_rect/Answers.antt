@@ -1,6 +1,5 @@
-use Rattle.std.proofs.Common.{◌≡◌, ℕ, ◌+◌, ◌-◌, ◌*◌, ◌<◌, ◌≤◌, length, replicate, get_or, pos, sym, ap, ◌∙◌, arith}
+use Rattle.std.proofs.Common.{◌≡◌, ℕ, ◌+◌, ◌-◌, ◌*◌, ◌≤◌, replicate, get_or, pos, sym, ap, ◌∙◌, arith}
 use Rattle.std.proofs.Math.Nat.{mul-le-mul_right}
-use Rattle.planes.specs.Raster.{height, row_of}
 use Rattle.slice_decoder.specs.Dealing.{dealt}
 use Rattle.slice_decoder.proofs.Dealt.{grow-small, grow-behind, stopped}
 use Rattle.slice_decoder.proofs.Rects.{RowHolds, RowsHold, rows_sum, rows-more}

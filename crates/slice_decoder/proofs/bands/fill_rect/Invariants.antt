@@ -1,5 +1,5 @@
 use Rattle.std.proofs.Common.{◌≡◌, ℕ, ◌+◌, ◌-◌, ◌*◌, ◌<◌, ◌≤◌, true, replicate, get_or, pos}
-use Rattle.planes.specs.Raster.{height, row_of, at}
+use Rattle.planes.specs.Raster.{height, at}
 use Rattle.planes.specs.Rect.{IsInRect}
 use Rattle.slice_decoder.specs.Slice.{are_small, number_in}
 use Rattle.slice_decoder.specs.Dealing.{dealt, behind}

@@ -1,6 +1,5 @@
-use Rattle.std.proofs.Common.{◌≡◌, ℕ, ◌+◌, ◌-◌, ◌*◌, ◌<◌, ◌≤◌, sym, ◌∙◌, arith}
+use Rattle.std.proofs.Common.{ℕ, ◌+◌, ◌-◌, ◌*◌, ◌≤◌, sym, ◌∙◌, arith}
 use Rattle.std.proofs.Math.Nat.{mul-le-mul_right}
-use Rattle.planes.specs.Raster.{height}
 use Rattle.slice_decoder.proofs.Dealt.{grow-small, grow-behind, stopped}
 use Rattle.slice_decoder.proofs.Rects.{RowHolds, rows_sum, rows-more}
 use Rattle.slice_decoder.proofs.bands.fill_rects.Goals as goal

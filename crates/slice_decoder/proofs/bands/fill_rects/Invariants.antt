@@ -1,4 +1,4 @@
-use Rattle.std.proofs.Common.{◌≡◌, ℕ, ◌-◌, ◌*◌, ◌≤◌, true, replicate}
+use Rattle.std.proofs.Common.{◌≡◌, ◌-◌, ◌*◌, ◌≤◌, true, replicate}
 use Rattle.slice_decoder.specs.Slice.{are_small}
 use Rattle.slice_decoder.specs.Dealing.{dealt, behind}
 use Rattle.slice_decoder.proofs.Rects.{RowsHold}

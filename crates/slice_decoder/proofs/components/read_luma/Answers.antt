@@ -1,5 +1,5 @@
-use Rattle.std.proofs.Common.{◌≡◌, ◌≢◌, ℕ, ◌+◌, ◌*◌, ◌<◌, ◌≤◌, length, refl, sym, ap, subst, ◌∙◌, arith}
-use Rattle.slice_decoder.specs.Components.{Part, numbered, rect_of, index_of}
+use Rattle.std.proofs.Common.{◌≡◌, ◌+◌, ◌*◌, ◌<◌, length, refl, sym, ◌∙◌, arith}
+use Rattle.slice_decoder.specs.Components.{Part, rect_of, index_of}
 use Rattle.slice_decoder.proofs.Stacks.{numbered-other, bands-small, bands-left, bands-stopped, bands-keep, bands-hold, FitsIn, fits, rect_here, index_here, number_here, before_here}
 use Rattle.slice_decoder.specs.Components.{quantisers_before}
 use Rattle.slice_decoder.proofs.components.read_luma.Goals as goal

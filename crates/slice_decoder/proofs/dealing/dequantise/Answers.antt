@@ -1,4 +1,4 @@
-use Rattle.std.proofs.Common.{◌≡◌, ◌^◌, ◌<◌, ◌≤◌, get_or, length, ℤ, pos, unsigned_abs, w64, sym, ap, subst, ◌∙◌, arith}
+use Rattle.std.proofs.Common.{◌^◌, ◌<◌, get_or, ℤ, pos, unsigned_abs, w64, sym, ap, subst, ◌∙◌, arith}
 use Rattle.std.proofs.lemmas.Int.{to_z-of_z, fits_signed_from_abs}
 use Rattle.quant_factors.specs.Factors.{inverse_of}
 use Rattle.slice_decoder.proofs.Dealt.{large_there, none_large}

@@ -1,4 +1,4 @@
-use Rattle.std.proofs.Common.{◌≡◌, ℕ, ◌<◌, get_or, length, pos, sym, ap, ◌∙◌, arith}
+use Rattle.std.proofs.Common.{◌<◌, length, sym, ◌∙◌, arith}
 use Rattle.slice_decoder.proofs.Dealt.{row-false, row-small, row-at, row-behind}
 use Rattle.slice_decoder.proofs.dealing.fill_row.Goals as goal
 

@@ -1,10 +1,9 @@
-use Rattle.std.proofs.Common.{rules, arith, refl, sym, ap, ◌∙◌, ◌≡◌, ◌≢◌, ℕ, ◌+◌, ◌-◌, ◌*◌, ◌/◌, ◌%◌, ◌<◌, inl, inr, ℤ, Bool, true, false}
+use Rattle.std.proofs.Common.{arith, refl, ◌∙◌, ◌≡◌, ℕ, ◌+◌, ◌-◌, ◌*◌, ◌/◌, ◌%◌, ℤ, Bool, true, false}
 use Rattle.std.specs.Prelude.{nat_lt, if◌then◌else◌, ◌==◌}
-use Rattle.std.proofs.lemmas.Bool.{cases_eq}
 use Rattle.planes.specs.Raster.{at}
 use Rattle.lifting.specs.Places.{side_place}
 use Rattle.lifting.specs.Transform.{Grid, interleaved}
-use Rattle.lifting.proofs.synthesis.put_bands.Goals as goal
+use Rattle.lifting.proofs.synthesis.put_rows.Goals as goal
 
 -- a row of the left band and then of the right one holds the even places and then the odd ones
 sides : (a b : ℕ → ℤ) (w x : ℕ) → (if nat_lt x w then a x else b (x - w)) ≡ (if side_place w x % 2 == 0 then a (side_place w x / 2) else b (side_place w x / 2))
@@ -31,23 +30,19 @@ odd_row a b c d k x =
     let h : (2 * k + 1) / 2 ≡ k = omega arith in
     rw (e, h) refl
 
-pub loop-y-preserved : goal.loop-y-preserved
-loop-y-preserved c =
-    let k : ℕ = c.loop-y.y in
+pub returns-clause-even : goal.returns-clause-even
+returns-clause-even c x lx =
+    let y = c.args.y in
     let w = c.args.w in
-    let ll = at c.args.ll.now in
-    let hl = at c.args.hl.now in
-    let lh = at c.args.lh.now in
-    let hh = at c.args.hh.now in
-    record {
-      same_width = search rules;
-      same_height = search rules;
-      put = λ y x ly lx. elim (cases_eq y (2 * k + 1)) [
-        | inl e ↦ rw e (c.put_row-in-loop-y.ensures.put x lx ∙ sides (lh k) (hh k) w x ∙ odd_row ll hl lh hh k (side_place w x))
-        | inr ne ↦ c.put_row-in-loop-y.ensures.others y x ne
-            ∙ elim (cases_eq y (2 * k)) as (λ _. at c.put_row.new.scratch y x ≡ interleaved ll hl lh hh y (side_place w x)) [
-              | inl e ↦ rw e (c.put_row.ensures.put x lx ∙ sides (ll k) (hl k) w x ∙ even_row ll hl lh hh k (side_place w x))
-              | inr ne2 ↦ c.put_row.ensures.others y x ne2 ∙ c.loop-y.invariant.put y x (omega arith) lx
-            ]
-      ];
-    }
+    c.put_row-2.ensures.others (2 * y) x (omega arith)
+    ∙ c.put_row.ensures.put x lx
+    ∙ sides (at c.args.ll.now y) (at c.args.hl.now y) w x
+    ∙ even_row (at c.args.ll.now) (at c.args.hl.now) (at c.args.lh.now) (at c.args.hh.now) y (side_place w x)
+
+pub returns-clause-odd : goal.returns-clause-odd
+returns-clause-odd c x lx =
+    let y = c.args.y in
+    let w = c.args.w in
+    c.put_row-2.ensures.put x lx
+    ∙ sides (at c.args.lh.now y) (at c.args.hh.now y) w x
+    ∙ odd_row (at c.args.ll.now) (at c.args.hl.now) (at c.args.lh.now) (at c.args.hh.now) y (side_place w x)
