@@ -28,7 +28,6 @@ struct Workspace {
 }
 
 impl Workspace {
-    #[tactic(auto, using(slice_geometry::proofs::Lengths::padded_most))]
     fn new(alloc: Global, layout: &Layout, size: Size) -> Result<Workspace, NoMemory>
         requires { IsSize size.w size.h }
         ensures { IfOk result (λ w. ArePadded layout.now size w.plane w.scratch) }
