@@ -39,10 +39,12 @@ impl Model for SequenceHeader {
 }
 
 impl SequenceHeader {
-    ghost use Rattle.std.specs.Prelude.{◌≡◌, ◌≤◌, ◌*◌, ◌^◌, IfErr, length};
+    ghost use Rattle.std.specs.Prelude.{◌≡◌, ◌≤◌, ◌*◌, ◌^◌, IfErr, [], length};
     ghost use Rattle.bit_codes.specs.Bits.{bits_of, cursor_at};
     ghost use Rattle.field_rows.specs.Rows.{GivesOf, read};
-    ghost use Rattle.sequence_header.specs.Header.{reason_of, fault_of, header_rows};
+    ghost use Rattle.field_rows.specs.Given.{checked};
+    ghost use Rattle.sequence_header.specs.Fields.{fields_of};
+    ghost use Rattle.sequence_header.specs.Header.{reason_of, fault_of, header_fields, header_rows};
     ghost use Rattle.sequence_header.specs.Coding.{IsShapeOf};
     ghost use Rattle.sequence_header.specs.Bytes.{header_len, header_text, IsReadBack};
     ghost use Rattle.sequence_header.specs.Checking.{IsCheckOf, HasAspectIndex, HasColourIndex};
@@ -80,9 +82,10 @@ impl SequenceHeader {
         Ok((SequenceHeader { parts }, length))
     }
 
-    /// What the header holds.
+    /// What the header holds. These parts pass the check.
     pub fn parts(&self) -> &HeaderParts
-        ensures { result.now ≡ self.now }
+        ensures value { result.now ≡ self.now }
+        ensures passes { checked header_fields (fields_of self.now) ≡ Ok (self.now, []) }
     {
         &self.parts
     }
