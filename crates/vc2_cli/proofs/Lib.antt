@@ -5,3 +5,4 @@ pub mod Past
 pub mod Settling
 pub mod Parts
 pub mod WorkedRows
+pub mod Fronts
