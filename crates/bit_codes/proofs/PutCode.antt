@@ -43,3 +43,10 @@ put-zero p p' old new total h place e same =
 -- the code's test of a bit
 pub bit_tested : (n k : ℕ) → eqb (bit_and (n / 2 ^ k) 1) 1 ≡ bit n k
 bit_tested n k = rw (shr_and_one n k) refl
+
+pub log_allowed : (k n : ℕ) → 2 ^ k ≤ n → n ≤ 2 ^ 32 → k ≤ 32
+log_allowed k n h le =
+    elim (cases_lt 32 k) [
+      | inl lt ↦ absurd (let two : 0 < 2 = omega arith in let up : 33 ≤ k = omega arith in omega (arith, pow-le-pow_right {n = 2} two {i = 33} {j = k} up))
+      | inr small ↦ small
+    ]

@@ -1,0 +1,24 @@
+-- A header as bytes: its fields, and zeros up to the byte's end.
+use Rattle.std.specs.Prelude.{◌≡◌, ℕ, ◌+◌, ◌*◌, ◌/◌, Bool, List, ◌++◌, length, Result, Ok}
+use Rattle.bit_codes.specs.Bits.{cursor_at, zeros_to_byte_end}
+use Rattle.field_rows.specs.Rows.{read}
+use Rattle.field_rows.specs.Given.{written}
+use Rattle.sequence_header.specs.declared.parts.HeaderParts.{HeaderParts}
+use Rattle.sequence_header.specs.Header.{reason_of, header_rows}
+use Rattle.sequence_header.specs.Fields.{fields_of}
+
+-- the bits of a header's fields
+unfoldable pub header_bits : HeaderParts → List Bool
+header_bits p = written (fields_of p)
+
+-- how many bytes they fill
+abbrev pub header_len : HeaderParts → ℕ
+header_len p = (length (header_bits p) + 7) / 8
+
+-- the bits of a header's bytes
+abbrev pub header_text : HeaderParts → List Bool
+header_text p = header_bits p ++ zeros_to_byte_end (length (header_bits p))
+
+-- The bytes are read whole, as this header, whatever bytes follow.
+abbrev pub IsReadBack : List ℕ → HeaderParts → Type 0
+IsReadBack bytes p = (more : List ℕ) → read reason_of header_rows (cursor_at (bytes ++ more) 0) ≡ Ok (p, cursor_at (bytes ++ more) (8 * length bytes))

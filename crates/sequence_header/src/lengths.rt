@@ -1,0 +1,137 @@
+//! How many bits the parts of a header are coded in, a group at a time.
+
+ghost use Rattle.std.specs.Prelude.{◌≡◌, ◌≤◌, length};
+ghost use Rattle.field_rows.specs.Given.{written};
+ghost use Rattle.sequence_header.specs.Fields.{version_fields, size_fields, sampling_fields, scan_fields, rate_fields, aspect_fields, clean_fields, signal_fields, index_fields, colour_fields, coding_fields};
+ghost use Rattle.sequence_header.specs.Checking.{HasRateIndex, HasSignalIndex};
+
+use crate::parts::*;
+use bit_codes::uint_len;
+
+#[tactic(auto, using(field_rows::proofs::Written::writing, crate::proofs::Sums::zero_bits))]
+pub fn version_bits(major: u32, minor: u32, level: u32) -> u32
+    ensures length { result ≡ length (written (version_fields (record { major = major; minor = minor; level = level }))) }
+    ensures most { result ≤ 197 }
+{
+    uint_len(major) + uint_len(minor) + uint_len(level) + 2
+}
+
+#[tactic(auto, using(field_rows::proofs::Written::writing, crate::proofs::Sums::zero_bits))]
+pub fn size_bits(width: u32, height: u32) -> u32
+    ensures length { result ≡ length (written (size_fields (record { w = width; h = height }))) }
+    ensures most { result ≤ 131 }
+{
+    1 + uint_len(width) + uint_len(height)
+}
+
+#[tactic(auto, using(field_rows::proofs::Written::writing, crate::proofs::Sums::zero_bits))]
+pub fn sampling_bits(index: u32) -> u32
+    ensures length { result ≡ length (written (sampling_fields index)) }
+    ensures most { result ≤ 66 }
+{
+    1 + uint_len(index)
+}
+
+#[tactic(auto, using(field_rows::proofs::Written::writing, crate::proofs::Sums::zero_bits))]
+pub fn scan_bits(scan: Option<u32>) -> u32
+    ensures length { result ≡ length (written (scan_fields scan)) }
+    ensures most { result ≤ 66 }
+{
+    match scan {
+        None => 1,
+        Some(index) => 1 + uint_len(index),
+    }
+}
+
+#[tactic(auto, using(field_rows::proofs::Written::writing, crate::proofs::Sums::zero_bits))]
+pub fn rate_bits(rate: RateField) -> u32
+    requires { HasRateIndex rate }
+    ensures length { result ≡ length (written (rate_fields rate)) }
+    ensures most { result ≤ 132 }
+{
+    match rate {
+        RateField::Index(index) => 1 + uint_len(index),
+        RateField::Pair(numerator, denominator) => 2 + uint_len(numerator) + uint_len(denominator),
+    }
+}
+
+#[tactic(auto, using(field_rows::proofs::Written::writing, crate::proofs::Sums::zero_bits))]
+pub fn aspect_bits(aspect: AspectField) -> u32
+    ensures length { result ≡ length (written (aspect_fields aspect)) }
+    ensures most { result ≤ 132 }
+{
+    match aspect {
+        AspectField::Default => 1,
+        AspectField::Index(index) => 1 + uint_len(index),
+        AspectField::Pair(numerator, denominator) => 2
+            + uint_len(numerator)
+            + uint_len(denominator),
+    }
+}
+
+#[tactic(auto, using(field_rows::proofs::Written::writing, crate::proofs::Sums::zero_bits))]
+pub fn clean_bits(clean: Option<CleanArea>) -> u32
+    ensures length { result ≡ length (written (clean_fields clean)) }
+    ensures most { result ≤ 261 }
+{
+    match clean {
+        None => 1,
+        Some(area) => 1
+            + uint_len(area.width)
+            + uint_len(area.height)
+            + uint_len(area.left)
+            + uint_len(area.top),
+    }
+}
+
+#[tactic(auto, using(field_rows::proofs::Written::writing, crate::proofs::Sums::zero_bits))]
+pub fn signal_bits(signal: SignalField) -> u32
+    requires { HasSignalIndex signal }
+    ensures length { result ≡ length (written (signal_fields signal)) }
+    ensures most { result ≤ 262 }
+{
+    match signal {
+        SignalField::Index(index) => 1 + uint_len(index),
+        SignalField::Custom(range) => {
+            2 + uint_len(range.luma_offset)
+                + uint_len(range.luma_excursion)
+                + uint_len(range.colour_offset)
+                + uint_len(range.colour_excursion)
+        }
+    }
+}
+
+#[tactic(auto, using(field_rows::proofs::Written::writing, crate::proofs::Sums::zero_bits))]
+fn index_bits(index: Option<u32>) -> u32
+    ensures length { result ≡ length (written (index_fields index)) }
+    ensures most { result ≤ 66 }
+{
+    match index {
+        None => 1,
+        Some(index) => 1 + uint_len(index),
+    }
+}
+
+#[tactic(auto, using(field_rows::proofs::Written::writing, crate::proofs::Sums::zero_bits))]
+pub fn colour_bits(colour: ColourField) -> u32
+    ensures length { result ≡ length (written (colour_fields colour)) }
+    ensures most { result ≤ 200 }
+{
+    match colour {
+        ColourField::Default => 1,
+        ColourField::Index(index) => 1 + uint_len(index),
+        ColourField::Custom {
+            primaries,
+            matrix,
+            transfer,
+        } => 2 + index_bits(primaries) + index_bits(matrix) + index_bits(transfer),
+    }
+}
+
+#[tactic(auto, using(field_rows::proofs::Written::writing, crate::proofs::Sums::zero_bits))]
+pub fn coding_bits(coding: u32) -> u32
+    ensures length { result ≡ length (written (coding_fields coding)) }
+    ensures most { result ≤ 65 }
+{
+    uint_len(coding)
+}
