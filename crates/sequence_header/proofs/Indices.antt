@@ -17,7 +17,7 @@ use Rattle.sequence_header.specs.Checking.{HasRateIndex, HasAspectIndex, HasSign
 use Rattle.sequence_header.proofs.Failing.{rate_fail, signal_fail}
 
 -- fields do not both pass and fail
-not_both : {A : Type 0} (rows : Rows HeaderReason A) (vs : List Value) (a : A) (reason : HeaderReason) → Pass rows vs a → Fail rows vs reason → ⊥
+pub not_both : {A : Type 0} (rows : Rows HeaderReason A) (vs : List Value) (a : A) (reason : HeaderReason) → Pass rows vs a → Fail rows vs reason → ⊥
 not_both rows vs a reason p f = let e = p.passed [] in let g = f.failed [] in cc
 
 pub rate_index : (r : RateField) → Pass rate_rows (rate_fields r) r → HasRateIndex r

@@ -8,3 +8,4 @@ pub mod Whole
 pub mod Sums
 pub mod Indices
 pub mod WroteText
+pub mod Shapes

@@ -3,6 +3,7 @@
 use crate::checking::{
     check_coding, check_rate, check_sampling, check_scan, check_signal, check_size, check_version,
 };
+use crate::coding::{colour_size, depth_of, luma_size, signal_range};
 use crate::lengths::{
     aspect_bits, clean_bits, coding_bits, colour_bits, rate_bits, sampling_bits, scan_bits,
     signal_bits, size_bits, version_bits,
@@ -14,7 +15,7 @@ use crate::writing::{
     put_size, put_version,
 };
 use bit_codes::BitWriter;
-use slice_geometry::Size;
+use slice_geometry::{PictureShape, Size};
 use std::marker::Model;
 
 /// A sequence header that meets every rule. It is seen as its parts; the values of this type are
@@ -42,6 +43,7 @@ impl SequenceHeader {
     ghost use Rattle.bit_codes.specs.Bits.{bits_of, cursor_at};
     ghost use Rattle.field_rows.specs.Rows.{GivesOf, read};
     ghost use Rattle.sequence_header.specs.Header.{reason_of, fault_of, header_rows};
+    ghost use Rattle.sequence_header.specs.Coding.{IsShapeOf};
     ghost use Rattle.sequence_header.specs.Bytes.{header_len, header_text, IsReadBack};
     ghost use Rattle.sequence_header.specs.Checking.{IsCheckOf, HasAspectIndex, HasColourIndex};
 
@@ -83,6 +85,20 @@ impl SequenceHeader {
         ensures { result.now ≡ self.now }
     {
         &self.parts
+    }
+
+    /// The sizes of a picture's components and the depths of their samples.
+    pub fn picture_shape(&self) -> PictureShape
+        ensures { IsShapeOf result self.now }
+    {
+        let parts = &self.parts;
+        let range = signal_range(parts.signal);
+        PictureShape {
+            luma: luma_size(parts),
+            colour: colour_size(parts),
+            luma_depth: depth_of(range.luma_excursion),
+            colour_depth: depth_of(range.colour_excursion),
+        }
     }
 
     /// How many bytes the header is written in.

@@ -2,6 +2,7 @@
 #![tactic(auto)]
 
 mod checking;
+mod coding;
 mod fields;
 mod header;
 mod lengths;
