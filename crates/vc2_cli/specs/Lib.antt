@@ -5,3 +5,5 @@ pub mod Turns
 pub mod Reply
 pub mod Settled
 pub mod Exit
+pub mod HeaderTexts
+pub mod First

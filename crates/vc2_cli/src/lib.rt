@@ -2,6 +2,8 @@
 #![tactic(auto)]
 
 mod chain;
+mod header;
+mod header_texts;
 mod input;
 mod laws;
 mod status;
