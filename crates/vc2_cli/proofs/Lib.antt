@@ -6,3 +6,4 @@ pub mod Settling
 pub mod Parts
 pub mod WorkedRows
 pub mod Fronts
+pub mod FirstUnit

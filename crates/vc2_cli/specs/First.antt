@@ -45,6 +45,10 @@ header_reason headers.RateRefused = reasons.RateRefused
 header_reason headers.SignalRefused = reasons.SignalRefused
 header_reason headers.CodingModeUnknown = reasons.CodingModeUnknown
 
+-- a next offset of 0, or of the unit's length
+abbrev pub leads_behind : ℕ → ℕ → Bool
+leads_behind next length = next == 0 || next == length
+
 -- the rows of the first unit, up to the check of its next offset, which is refused at the field
 unfoldable pub first_rows : Rows Reason HeaderParts
 first_rows = do
@@ -53,7 +57,7 @@ first_rows = do
     (λ code next. [])
     (λ code next previous. ((previous == 0) or_else reasons.PreviousWrong) ∷ [])
   parts ← renamed header_reason header_rows
-  length ← check_at 40 (λ place. ((head.next == 0 || head.next == place / 8) or_else reasons.OffsetWrong) ∷ [])
+  length ← check_at 40 (λ place. (leads_behind head.next (place / 8) or_else reasons.OffsetWrong) ∷ [])
   done parts
 
 -- what stands in front of the bytes

@@ -1,6 +1,6 @@
 // The command `header`.
 ghost use Rattle.std.specs.Prelude.{◌≡◌, ◌+◌, ◌^◌, ◌<◌, ◌≤◌, List, ℕ, length};
-ghost use Rattle.vc2_cli.specs.First.{header_reason, head_refusal, IsFirst};
+ghost use Rattle.vc2_cli.specs.First.{is_header, leads_behind, header_reason, head_refusal, IsFirst};
 
 use crate::status::{Reason, Refusal};
 use parse_info::{Code, InfoFault, ParseInfo};
@@ -49,6 +49,19 @@ fn head_refusal(fault: InfoFault) -> Refusal
     }
 }
 
+fn is_header(code: Code) -> bool
+    ensures { result ≡ is_header code }
+{
+    code == Code::SequenceHeader
+}
+
+// A next offset of 0, or of the unit's length.
+fn leads_behind(next: u32, length: u64) -> bool
+    ensures { result ≡ leads_behind next length }
+{
+    next == 0 || next as u64 == length
+}
+
 /// The sequence header that stands in front of the bytes, or the first unit's refusal.
 fn first_unit(bytes: &[u8]) -> Result<SequenceHeader, Refusal>
     requires { length bytes.now ≤ 2 ^ 40 }
@@ -58,7 +71,7 @@ fn first_unit(bytes: &[u8]) -> Result<SequenceHeader, Refusal>
         Ok(info) => info,
         Err(fault) => return Err(head_refusal(fault)),
     };
-    if info.code != Code::SequenceHeader {
+    if !is_header(info.code) {
         return Err(refusal(4, Reason::NoSequenceHeader));
     }
     if info.previous != 0 {
@@ -68,7 +81,7 @@ fn first_unit(bytes: &[u8]) -> Result<SequenceHeader, Refusal>
         Ok(read) => read,
         Err(fault) => return Err(refusal(13 + fault.bit / 8, header_reason(fault.reason))),
     };
-    if info.next != 0 && info.next as usize != 13 + len {
+    if !leads_behind(info.next, 13 + len as u64) {
         return Err(refusal(5, Reason::OffsetWrong));
     }
     Ok(header)
