@@ -7,3 +7,4 @@ pub mod Parts
 pub mod WorkedRows
 pub mod Fronts
 pub mod FirstUnit
+pub mod HeaderRuns

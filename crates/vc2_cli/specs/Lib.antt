@@ -7,3 +7,4 @@ pub mod Settled
 pub mod Exit
 pub mod HeaderTexts
 pub mod First
+pub mod FirstTurn

@@ -1,11 +1,28 @@
 // The command `header`.
-ghost use Rattle.std.specs.Prelude.{◌≡◌, ◌+◌, ◌^◌, ◌<◌, ◌≤◌, List, ℕ, length};
-ghost use Rattle.vc2_cli.specs.First.{is_header, leads_behind, header_reason, head_refusal, IsFirst};
+ghost use Rattle.std.specs.Prelude.{◌≡◌, ◌+◌, ◌^◌, ◌<◌, ◌≤◌, List, ℕ, length, Some, Ok};
+ghost use Rattle.vc2_run.specs.Ran.{Ran, TakesAtMost, HaltHasCause};
+ghost use Rattle.vc2_cli.specs.First.{is_header, leads_behind, header_reason, head_refusal, IsFirst, header_machine, behind_first};
+ghost use Rattle.vc2_cli.specs.FirstTurn.{TookFirst};
 
-use crate::status::{Reason, Refusal};
+use crate::chain::is_truncated;
+use crate::header_texts::header_text;
+use crate::status::{Ending, Reason, Refusal};
 use parse_info::{Code, InfoFault, ParseInfo};
 use sequence_header::SequenceHeader;
 use sequence_header::parts::HeaderReason;
+use std::alloc::Global;
+use vc2_io::{Sink, Source, fill, write_whole};
+use vc2_run::Halt;
+
+// More bytes than any first unit has.
+const MOST: usize = 250;
+
+/// What stands in front of the source.
+#[derive(Clone, Copy, Debug, PartialEq, Eq)]
+pub(crate) enum First {
+    Header(SequenceHeader),
+    Refused(Refusal),
+}
 
 fn refusal(place: u64, reason: Reason) -> Refusal
     ensures { result ≡ record { place = place; reason = reason } }
@@ -85,4 +102,65 @@ fn first_unit(bytes: &[u8]) -> Result<SequenceHeader, Refusal>
         return Err(refusal(5, Reason::OffsetWrong));
     }
     Ok(header)
+}
+
+// Takes the first unit byte by byte, and no byte behind it.
+fn take_first<S: Source>(alloc: Global, src: &mut S) -> Result<First, Halt>
+    ensures took { TookFirst (S.rest src.old) (S.rest src.new) result }
+    ensures cause { HaltHasCause (S.faults src.old) (S.faults src.new) 0 0 result }
+{
+    let mut bytes = Vec::new(alloc);
+    loop {
+        let refusal = match first_unit(bytes.as_slice()) {
+            Ok(header) => return Ok(First::Header(header)),
+            Err(refusal) => refusal,
+        };
+        if !is_truncated(refusal.reason) {
+            return Ok(First::Refused(refusal));
+        }
+        if bytes.len() >= MOST {
+            return Err(Halt::NoMemory);
+        }
+        let mut byte = [0; 1];
+        let count = match fill(src, &mut byte) {
+            Ok(count) => count,
+            Err(_) => return Err(Halt::ReadFault),
+        };
+        if count == 0 {
+            return Ok(First::Refused(refusal));
+        }
+        match bytes.push(byte[0]) {
+            Ok(()) => {}
+            Err(_) => return Err(Halt::NoMemory),
+        }
+    }
+}
+
+/// Writes the nine lines of the first unit, a sequence header. What lies behind it is left.
+pub(crate) fn header<S: Source, K: Sink>(
+    alloc: Global,
+    src: &mut S,
+    out: &mut K,
+) -> Result<Ending, Halt>
+    ensures left { (input : List ℕ) → S.rest src.old ≡ Some input → result ≡ Ok Ending.Done → (more : List ℕ) → S.rest src.new ≡ Some more → more ≡ behind_first input }
+    ensures limit { TakesAtMost 250 (S.rest src.old) (S.rest src.new) }
+    ensures ran { Ran header_machine 0 (S.rest src.old) (S.rest src.new) (K.written out.old) (K.written out.new) result }
+    ensures cause { HaltHasCause (S.faults src.old) (S.faults src.new) (K.faults out.old) (K.faults out.new) result }
+{
+    let first = match take_first(alloc, src) {
+        Ok(first) => first,
+        Err(halt) => return Err(halt),
+    };
+    let header = match first {
+        First::Header(header) => header,
+        First::Refused(refusal) => return Ok(Ending::Refused(refusal)),
+    };
+    let text = match header_text(alloc, &header) {
+        Ok(text) => text,
+        Err(_) => return Err(Halt::NoMemory),
+    };
+    match write_whole(out, text.as_bytes()) {
+        Ok(()) => Ok(Ending::Done),
+        Err(_) => Err(Halt::OutFault),
+    }
 }
