@@ -1,16 +1,15 @@
 -- What the rows of the first unit read, from its head and its sequence header.
-use Rattle.std.proofs.Common.{◌≡◌, ◌≢◌, ℕ, ◌+◌, ◌*◌, ◌/◌, ◌≤◌, List, [], ◌∷◌, length, take, drop, Result, Ok, Err, Bool, true, false, cond, arith, ap, ◌∙◌, sym, refl}
+use Rattle.std.proofs.Common.{◌≡◌, ℕ, ◌+◌, ◌*◌, ◌/◌, ◌≤◌, List, [], ◌∷◌, length, drop, Result, Ok, Err, Bool, true, false, cond, arith, ap, ◌∙◌, sym, refl}
 use Rattle.std.specs.Prelude.{◌==◌}
-use Rattle.std.proofs.lemmas.List.{drop-drop, length-drop}
+use Rattle.std.proofs.lemmas.List.{drop-drop}
 use Rattle.bit_codes.specs.declared.CodeFault.{CodeFault}
 use Rattle.bit_codes.specs.declared.CodeFault.TheVariants as codes
 use Rattle.bit_codes.specs.Bits.{Cursor, cursor_at, bits_of}
-use Rattle.field_rows.specs.Rows.{◌or_else◌, Rows, done, ◌>>=◌, renamed, check_at, Fault, read, and_then, judged, first_broken}
-use Rattle.field_rows.specs.Moved.{moved, moved_answer, renamed_answer}
-use Rattle.field_rows.proofs.Reading.{read-bind, read-done, then_ok, then_err}
+use Rattle.field_rows.specs.Rows.{◌or_else◌, Rows, done, ◌>>=◌, renamed, check_at, Fault, read, judged, first_broken}
+use Rattle.field_rows.specs.Moved.{moved_answer, renamed_answer}
+use Rattle.field_rows.proofs.Reading.{read-done, then_ok, then_err}
 use Rattle.field_rows.proofs.Words.{IsBytes, split-bits, read-check_at}
 use Rattle.field_rows.proofs.Moves.{read-renamed, read-moved}
-use Rattle.parse_info.specs.declared.Code.{Code}
 use Rattle.parse_info.specs.declared.ParseInfo.{ParseInfo}
 use Rattle.parse_info.specs.declared.InfoFault.{InfoFault}
 use Rattle.parse_info.specs.declared.InfoFault.TheVariants as f

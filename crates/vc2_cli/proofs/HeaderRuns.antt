@@ -1,6 +1,6 @@
 -- How `header` comes out, from what the reading of its first unit took.
-use Rattle.std.proofs.Common.{◌≡◌, ◌≢◌, ℕ, ◌+◌, ◌*◌, ◌/◌, ◌^◌, ◌<◌, ◌≤◌, List, [], ◌∷◌, ◌++◌, length, drop, Option, Some, None, Result, Ok, Err, true, false, refl, sym, ap, ◌∙◌, subst, append-nil, arith, ◌⊎◌, inl, inr, ⊎_elim}
-use Rattle.std.proofs.lemmas.List.{length-append, length-drop, nil_from_length, drop_at}
+use Rattle.std.proofs.Common.{◌≡◌, ◌≢◌, ℕ, ◌*◌, ◌/◌, ◌<◌, ◌≤◌, List, [], ◌∷◌, ◌++◌, length, drop, Option, Some, None, Result, Ok, Err, true, false, refl, sym, ap, ◌∙◌, append-nil, arith, ◌⊎◌, inl, inr, ⊎_elim}
+use Rattle.std.proofs.lemmas.List.{length-drop, nil_from_length, drop_at}
 use Rattle.std.proofs.lemmas.Bool.{cases_lt}
 use Rattle.std.specs.Io.KnownBytes.{Appends, Consumes, IsAtEnd}
 use Rattle.vc2_io.specs.Outside.{GrewShort}
@@ -14,12 +14,11 @@ use Rattle.field_rows.proofs.Steady.{steady}
 use Rattle.sequence_header.specs.declared.parts.HeaderParts.{HeaderParts}
 use Rattle.sequence_header.proofs.Steady.{header_steady}
 use Rattle.parse_info.specs.Head.{head_rows}
-use Rattle.vc2_run.specs.Walk.{Step, Ends, Whole, IsMachine, NoneWhole}
+use Rattle.vc2_run.specs.Walk.{Ends, Whole, IsMachine, NoneWhole}
 use Rattle.vc2_run.specs.Ran.{Ran, TakesAtMost}
 use Rattle.vc2_run.specs.declared.Halt.{Halt}
 use Rattle.vc2_run.specs.declared.Halt.TheVariants.{ReadFault, OutFault, NoMemory}
 use Rattle.vc2_run.proofs.Windows.{holds_none, holds_lost, holds_no_memory, holds_ended, holds_last_fault}
-use Rattle.vc2_cli.specs.declared.status.Ending.{Ending}
 use Rattle.vc2_cli.specs.declared.status.Ending.TheVariants as ending
 use Rattle.vc2_cli.specs.declared.status.Reason.{Reason}
 use Rattle.vc2_cli.specs.declared.status.Reason.TheVariants as reasons
@@ -29,7 +28,7 @@ use Rattle.vc2_cli.specs.declared.header.First.TheVariants.{Header, Refused}
 use Rattle.vc2_cli.specs.HeaderTexts.{header_lines}
 use Rattle.vc2_cli.specs.Chain.{is_truncated}
 use Rattle.vc2_cli.specs.First.{first_reason, first_rows, first_at, first_step, header_machine, left_behind, behind_first, IsFirst}
-use Rattle.vc2_cli.specs.FirstTurn.{FirstOver, TookFirst}
+use Rattle.vc2_cli.specs.FirstTurn.{TookFirst}
 use Rattle.vc2_cli.proofs.Heads.{with_bytes, whole_bits, nothing_follows}
 use Rattle.vc2_cli.proofs.Fronts.{read-before}
 
@@ -68,7 +67,7 @@ all_used bytes parts size (inr (front, byte, place, is, short)) le e = ⊎_elim
     let whole : read first_reason first_rows (with_more (cursor_at front 0) bits) ≡ Ok (parts, record { place = 8 * size; rest = bits_of (drop size bytes) })
     = ap (read first_reason first_rows) (sym (with_bytes front (byte ∷ []))) ∙ ap first_at (sym is) ∙ e in
     let before = read-before first_reason first_rows (cursor_at front 0) bits parts (record { place = 8 * size; rest = bits_of (drop size bytes) }) first_steady.steady whole
-        (omega (arith, length-bits (byte ∷ []), length-bits (drop size bytes), length-drop size bytes)) in
+    (omega (arith, length-bits (byte ∷ []), length-bits (drop size bytes), length-drop size bytes)) in
     absurd (clash _ (parts, before.of) _ short before.reads))
     (λ (ge : length bytes ≤ size). omega arith)
     (cases_lt size (length bytes))

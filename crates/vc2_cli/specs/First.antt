@@ -1,9 +1,9 @@
 -- The first unit, which `header` reads: a sequence header.
-use Rattle.std.specs.Prelude.{◌≡◌, ◌≤◌, ℕ, ◌+◌, ◌*◌, ◌/◌, List, [], ◌∷◌, length, drop, nat_le, ◌==◌, if◌then◌else◌, Bool, true, false, ◌||◌, Result, Ok, Err}
+use Rattle.std.specs.Prelude.{◌≡◌, ◌≤◌, ℕ, ◌*◌, ◌/◌, List, [], ◌∷◌, length, drop, ◌==◌, if◌then◌else◌, Bool, true, false, ◌||◌, Result, Ok, Err}
 use Rattle.bit_codes.specs.declared.CodeFault.{CodeFault}
 use Rattle.bit_codes.specs.declared.CodeFault.TheVariants as codes
 use Rattle.bit_codes.specs.Bits.{Cursor, cursor_at, bits_of}
-use Rattle.field_rows.specs.Rows.{Rule, ◌or_else◌, Rows, done, ◌>>=◌, renamed, check_at, Fault, read}
+use Rattle.field_rows.specs.Rows.{◌or_else◌, Rows, done, ◌>>=◌, renamed, check_at, Fault, read}
 use Rattle.parse_info.specs.declared.Code.{Code}
 use Rattle.parse_info.specs.declared.Code.TheVariants.{SequenceHeader}
 use Rattle.parse_info.specs.declared.InfoFault.{InfoFault}
@@ -13,7 +13,7 @@ use Rattle.sequence_header.specs.declared.parts.HeaderParts.{HeaderParts}
 use Rattle.sequence_header.specs.declared.parts.HeaderReason.{HeaderReason}
 use Rattle.sequence_header.specs.declared.parts.HeaderReason.TheVariants as headers
 use Rattle.sequence_header.specs.Header.{header_rows}
-use Rattle.vc2_run.specs.Walk.{Step, Ends, Whole, Machine}
+use Rattle.vc2_run.specs.Walk.{Step, Ends, Machine}
 use Rattle.vc2_cli.specs.HeaderTexts.{header_lines}
 use Rattle.vc2_cli.specs.declared.status.Reason.{Reason}
 use Rattle.vc2_cli.specs.declared.status.Reason.TheVariants as reasons
@@ -53,9 +53,9 @@ leads_behind next length = next == 0 || next == length
 unfoldable pub first_rows : Rows Reason HeaderParts
 first_rows = do
   head ← head_rows reasons.BadPrefix reasons.UnsupportedCode
-    (λ code. (is_header code or_else reasons.NoSequenceHeader) ∷ [])
-    (λ code next. [])
-    (λ code next previous. ((previous == 0) or_else reasons.PreviousWrong) ∷ [])
+      (λ code. (is_header code or_else reasons.NoSequenceHeader) ∷ [])
+      (λ code next. [])
+      (λ code next previous. ((previous == 0) or_else reasons.PreviousWrong) ∷ [])
   parts ← renamed header_reason header_rows
   length ← check_at 40 (λ place. (leads_behind head.next (place / 8) or_else reasons.OffsetWrong) ∷ [])
   done parts

@@ -149,7 +149,12 @@ fn clean(alloc: Global, parts: &HeaderParts) -> Result<String, AllocError>
     format!(in alloc; "clean {clean}\n")
 }
 
-const fn range(offset: u32, excursion: u32, colour_offset: u32, colour_excursion: u32) -> SignalRange
+const fn range(
+    offset: u32,
+    excursion: u32,
+    colour_offset: u32,
+    colour_excursion: u32,
+) -> SignalRange
     ensures { result ≡ record { luma_offset = offset; luma_excursion = excursion; colour_offset = colour_offset; colour_excursion = colour_excursion } }
 {
     SignalRange {

@@ -1,6 +1,5 @@
-use Rattle.std.proofs.Common.{[], Ok, Err, Result, ap, ◌∙◌, subst, sym, arith}
+use Rattle.std.proofs.Common.{[], Ok, Result, ap, ◌∙◌, subst, sym, arith}
 use Rattle.vc2_cli.specs.declared.words.Command.{Command}
-use Rattle.vc2_cli.specs.declared.words.Command.TheVariants.{Chain, Header}
 use Rattle.vc2_cli.specs.declared.status.WordFault.{WordFault}
 use Rattle.vc2_cli.specs.Reply.{command_reply, command_due}
 use Rattle.vc2_cli.specs.Settled.{Settles}
