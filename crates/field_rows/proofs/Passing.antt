@@ -1,14 +1,14 @@
 -- Groups of fields that pass, one after the other, and what is written for them.
-use Rattle.std.proofs.Common.{inl, inr, ◌≡◌, ℕ, ◌+◌, ◌-◌, ◌*◌, ◌/◌, ◌%◌, ◌^◌, ◌≤◌, min, Bool, true, false, List, [], ◌∷◌, ◌++◌, length, drop, replicate, Option, Some, None, Result, Ok, Err, refl, sym, ap, subst, ◌∙◌, append_assoc, arith, ◌<◌, cond}
+use Rattle.std.proofs.Common.{inl, inr, ◌≡◌, ℕ, ◌+◌, ◌-◌, ◌*◌, ◌/◌, ◌%◌, ◌≤◌, Bool, true, false, List, [], ◌∷◌, ◌++◌, length, Some, None, Result, Ok, Err, refl, sym, ap, subst, ◌∙◌, append_assoc, arith, ◌<◌, cond}
 use Rattle.std.specs.Int.{is_in_range}
 use Rattle.std.proofs.lemmas.Bool.{le-leb, lt-leb, cases_lt}
 use Rattle.std.proofs.lemmas.List.{append-nil, length-append, length-replicate}
 use Rattle.bit_codes.specs.declared.CodeFault.{CodeFault}
-use Rattle.bit_codes.specs.Bits.{Cursor, cursor_at, bits_of, bits_to_byte_end, at_byte_end, zeros_to_byte_end}
+use Rattle.bit_codes.specs.Bits.{Cursor, cursor_at, bits_of, at_byte_end, zeros_to_byte_end}
 use Rattle.bit_codes.proofs.BitLemmas.{length-bits}
 use Rattle.bit_codes.proofs.Numbers.{bits_of-append}
-use Rattle.field_rows.specs.Rows.{Value, Number, ◌or_else◌, Rule, first_broken, Rows, done, row, ◌>>=◌, Fault, read, and_then, whole_bytes, flag, flag_set, number, number_under, within, Flag, if_set}
-use Rattle.field_rows.specs.Given.{checked, asked, written, AreOfKind, Pass, Fail}
+use Rattle.field_rows.specs.Rows.{Value, Number, ◌or_else◌, Rule, first_broken, Rows, done, row, ◌>>=◌, Fault, read, whole_bytes, flag, flag_set, number, number_under, within, Flag, if_set}
+use Rattle.field_rows.specs.Given.{checked, written, AreOfKind, Pass, Fail}
 use Rattle.field_rows.proofs.Written.{asked_ok, checked-bind, read-written}
 use Rattle.field_rows.proofs.Pieces.{read-whole}
 

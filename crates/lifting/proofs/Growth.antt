@@ -1,9 +1,8 @@
 -- How large lifting makes numbers.
-use Rattle.std.proofs.Common.{◌≡◌, refl, ap, ◌∙◌, subst, ℕ, zero, suc, ◌+◌, ◌-◌, ◌*◌, ◌/◌, ◌%◌, ◌^◌, ◌<◌, ◌≤◌, ◌≢◌, arith, ℤ, pos, ◌+ℤ◌, ◌-ℤ◌, inl, inr}
+use Rattle.std.proofs.Common.{◌≡◌, subst, ℕ, zero, suc, ◌+◌, ◌*◌, ◌/◌, ◌%◌, ◌^◌, ◌<◌, ◌≤◌, ◌≢◌, arith, ℤ, pos, ◌+ℤ◌, inl, inr}
 use Rattle.std.specs.Prelude.{◌==◌, if◌then◌else◌, true, false}
 use Rattle.std.proofs.lemmas.Int.{ints}
 use Rattle.std.proofs.lemmas.Bool.{cases_eq}
-use Rattle.std.proofs.Math.Nat.{pow-suc}
 use Rattle.std.specs.Int.{int_shr}
 use Rattle.planes.specs.Numbers.{Within}
 use Rattle.planes.proofs.Floors.{IsFloor, floor_half, floor_quarter}
@@ -12,8 +11,8 @@ use Rattle.lifting.specs.declared.Wavelet.TheVariants.{LeGall, HaarFlat, HaarShi
 use Rattle.lifting.specs.declared.PairStep.TheVariants.{EvenDown, OddUp, EvenUp, OddDown}
 use Rattle.lifting.specs.Steps.{pair_step, one_step, haar_step, step, halved, doubled}
 use Rattle.lifting.specs.Lines.{Line, before, after, lift, synthesis_line, analysis_line}
-use Rattle.lifting.specs.Transform.{Grid, on_columns, Coefficients, synthesis_level, analysis_level, interleaved, every_other, synthesis, remaining, analysed, analysis}
-use Rattle.lifting.specs.Ranges.{LineWithin, GridWithin, BandsWithin, even_reach, line_reach, level_reach, reach, LineStays, LevelStays, SynthesisStays, AnalysisStays}
+use Rattle.lifting.specs.Transform.{Grid, on_columns, Coefficients, synthesis_level, analysis_level, interleaved, synthesis}
+use Rattle.lifting.specs.Ranges.{LineWithin, GridWithin, BandsWithin, even_reach, line_reach, level_reach, reach, LineStays, LevelStays, SynthesisStays}
 use Rattle.lifting.proofs.Undone.{before_parity, after_parity, lift_at, lift_other, even_size}
 use Rattle.lifting.proofs.Inside.{before_inside, after_inside, twice_size}
 

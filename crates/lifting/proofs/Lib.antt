@@ -3,6 +3,10 @@ pub mod SameTable
 pub mod Growth
 pub mod Inside
 pub mod Coefficients
+pub mod WovenLines
 pub mod Passes
+pub mod Sides
+pub mod Rolling
+pub mod Levels
 pub mod Rounding
 pub mod WorkedLines

@@ -1,5 +1,5 @@
 -- Slices of numbers, as lines.
-use Rattle.std.specs.Prelude.{ℕ, ◌+◌, ◌-◌, ◌/◌, ◌%◌, ◌<◌, ◌==◌, if◌then◌else◌, ℤ, pos, List, length, slice_index_or}
+use Rattle.std.specs.Prelude.{ℕ, ◌+◌, ◌-◌, ◌*◌, nat_lt, ◌/◌, ◌%◌, ◌<◌, ◌==◌, if◌then◌else◌, ℤ, pos, List, length, slice_index_or}
 use Rattle.planes.specs.Numbers.{Within}
 use Rattle.lifting.specs.Lines.{Line}
 
@@ -22,3 +22,7 @@ even_stepped f even odd k = f (even k) (odd (k - 1)) (odd k)
 -- the odd places after a step from their even neighbours, of which there are `half`
 abbrev pub odd_stepped : (ℤ → ℤ → ℤ → ℤ) → ℕ → Line → Line → Line
 odd_stepped f half even odd k = f (odd k) (even k) (even (if k + 1 == half then k else k + 1))
+
+-- which place of a line stands at place x where the w even places come first and the odd ones behind them
+abbrev pub side_place : ℕ → ℕ → ℕ
+side_place w x = if nat_lt x w then 2 * x else 2 * (x - w) + 1

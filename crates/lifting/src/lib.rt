@@ -2,13 +2,16 @@
 #![tactic(auto)]
 
 mod columns;
+mod halves;
 mod kernels;
 pub mod laws;
 mod level;
 mod rows;
+mod synthesis;
 
 pub use kernels::{lift_one, lift_pair};
 pub use level::synth_level;
+pub use synthesis::synth;
 
 /// The wavelets of the profile.
 #[derive(Clone, Copy, Debug, PartialEq, Eq)]
@@ -47,3 +50,6 @@ pub enum OneStep {
     /// `v - a`
     OddDown,
 }
+
+#[cfg(test)]
+mod tests;

@@ -68,8 +68,8 @@ fn halve(line: &mut [i64])
     }
 }
 
-// A level's last step on each number.
-fn shift(line: &mut [i64], wavelet: Wavelet)
+/// A level's last step on each number.
+pub(crate) fn shift(line: &mut [i64], wavelet: Wavelet)
     requires { EachWithin (2 ^ 61) line.old }
     ensures { (i : ℕ) → i < length line.old → place line.new i ≡ halved wavelet (place line.old i) }
 {

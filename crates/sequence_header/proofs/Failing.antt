@@ -1,20 +1,18 @@
 -- Groups of a header's parts that break a rule of their rows.
-use Rattle.std.proofs.Common.{◌≡◌, ◌≢◌, ℕ, zero, suc, ◌+◌, ◌-◌, ◌*◌, ◌^◌, ◌<◌, ◌≤◌, Bool, true, false, eqb, List, [], ◌∷◌, ◌++◌, Option, Some, None, Result, Ok, Err, refl, sym, ap, subst, ◌∙◌, inl, inr, arith}
+use Rattle.std.proofs.Common.{◌≡◌, ℕ, zero, suc, ◌-◌, ◌^◌, ◌<◌, ◌≤◌, true, false, List, [], ◌∷◌, Some, Result, Ok, Err, refl, sym, subst, ◌∙◌, inl, inr, arith}
 use Rattle.std.specs.Prelude.{OnOk, IfErr}
 use Rattle.sequence_header.specs.Checking.{Checks}
 use Rattle.std.specs.Int.{is_in_range}
 use Rattle.std.proofs.lemmas.Bool.{le-leb, cases_lt}
 use Rattle.field_rows.specs.Given.{Pass, Fail}
-use Rattle.field_rows.specs.Rows.{Value, Number, Flag, Rows, done, ◌>>=◌, if_set, first_broken}
-use Rattle.field_rows.proofs.Passing.{Pass-number, Pass-within, Pass-flag, Pass-flag_set, Fail-first, Fail-later, Fail-number_under, Fail-within, above_range, below_range}
+use Rattle.field_rows.specs.Rows.{Value, Rows, ◌>>=◌, if_set, first_broken}
+use Rattle.field_rows.proofs.Passing.{Pass-number, Pass-within, Pass-flag, Pass-flag_set, Fail-first, Fail-later, Fail-number_under, Fail-within, above_range}
 use Rattle.slice_geometry.specs.declared.Size.{Size}
 use Rattle.sequence_header.specs.declared.parts.HeaderReason.{HeaderReason}
 use Rattle.sequence_header.specs.declared.parts.HeaderReason.TheVariants.{VersionRefused, SizeRefused, ScanUnknown, RateRefused, SignalRefused}
 use Rattle.sequence_header.specs.declared.parts.Version.{Version}
 use Rattle.sequence_header.specs.declared.parts.SignalRange.{SignalRange}
-use Rattle.sequence_header.specs.declared.parts.RateField.{RateField}
 use Rattle.sequence_header.specs.declared.parts.RateField.TheVariants as rates
-use Rattle.sequence_header.specs.declared.parts.SignalField.{SignalField}
 use Rattle.sequence_header.specs.declared.parts.SignalField.TheVariants as signals
 use Rattle.sequence_header.specs.Header.{version_rows, height_rules, size_rows, sampling_rules, sampling_rows, scan_rows, rate_rows, excursion, signal_rows, coding_rules, coding_rows}
 use Rattle.sequence_header.specs.Fields.{version_fields, size_fields, sampling_fields, scan_fields, rate_fields, signal_fields, coding_fields}

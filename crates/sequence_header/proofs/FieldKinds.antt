@@ -1,8 +1,8 @@
 -- The fields of a header's groups are of their rows' kinds, where the numbers fit.
-use Rattle.std.proofs.Common.{◌≡◌, ℕ, zero, suc, ◌+◌, ◌-◌, ◌*◌, ◌^◌, ◌<◌, ◌≤◌, Bool, true, false, eqb, List, [], ◌∷◌, ◌++◌, Option, Some, None, refl, sym, ap, subst, ◌∙◌, arith}
+use Rattle.std.proofs.Common.{◌≡◌, ℕ, zero, suc, ◌^◌, ◌<◌, ◌≤◌, true, false, eqb, List, [], ◌∷◌, ◌++◌, Option, Some, None, refl, subst, arith}
 use Rattle.std.proofs.lemmas.Bool.{ne_eqb}
 use Rattle.std.proofs.lemmas.List.{append-nil}
-use Rattle.field_rows.specs.Given.{AreOfKind, Pass}
+use Rattle.field_rows.specs.Given.{AreOfKind}
 use Rattle.field_rows.specs.Rows.{Value, Number, Flag, Rows, done, ◌>>=◌, number, within, number_under, flag, flag_set, if_set}
 use Rattle.field_rows.proofs.Passing.{kinds-bind, Pass-flag, Pass-number}
 use Rattle.sequence_header.specs.declared.parts.HeaderReason.{HeaderReason}
@@ -11,16 +11,12 @@ use Rattle.slice_geometry.specs.declared.Size.{Size}
 use Rattle.sequence_header.specs.declared.parts.Version.{Version}
 use Rattle.sequence_header.specs.declared.parts.CleanArea.{CleanArea}
 use Rattle.sequence_header.specs.declared.parts.SignalRange.{SignalRange}
-use Rattle.sequence_header.specs.declared.parts.RateField.{RateField}
 use Rattle.sequence_header.specs.declared.parts.RateField.TheVariants as rates
-use Rattle.sequence_header.specs.declared.parts.AspectField.{AspectField}
 use Rattle.sequence_header.specs.declared.parts.AspectField.TheVariants as aspects
-use Rattle.sequence_header.specs.declared.parts.SignalField.{SignalField}
 use Rattle.sequence_header.specs.declared.parts.SignalField.TheVariants as signals
 use Rattle.sequence_header.specs.declared.parts.ColourField.{ColourField}
 use Rattle.sequence_header.specs.declared.parts.ColourField.TheVariants as colours
-use Rattle.sequence_header.specs.Header.{version_rows, height_rules, size_rows, sampling_rules, sampling_rows, scan_rows, rate_rows, aspect_rows, clean_rows, excursion, signal_rows, flagged_index, colour_rows, coding_rules, coding_rows}
-use Rattle.sequence_header.specs.Checking.{HasAspectIndex, HasColourIndex}
+use Rattle.sequence_header.specs.Header.{version_rows, size_rows, sampling_rows, scan_rows, rate_rows, aspect_rows, clean_rows, excursion, signal_rows, flagged_index, colour_rows, coding_rows}
 use Rattle.sequence_header.specs.Fields.{version_fields, size_fields, sampling_fields, scan_fields, rate_fields, aspect_fields, clean_fields, signal_fields, index_fields, colour_fields, coding_fields}
 
 pub version_kinds : (v : Version) → v.major < 2 ^ 32 → v.minor < 2 ^ 32 → v.level < 2 ^ 32 → AreOfKind version_rows (version_fields v)

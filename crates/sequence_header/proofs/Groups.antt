@@ -1,19 +1,17 @@
 -- Groups of a header's parts that pass their rows, by plain facts on their numbers.
-use Rattle.std.proofs.Common.{◌≡◌, ◌≢◌, ℕ, zero, suc, ◌+◌, ◌-◌, ◌*◌, ◌%◌, ◌^◌, ◌<◌, ◌≤◌, Bool, true, false, eqb, List, [], ◌∷◌, ◌++◌, Option, Some, None, refl, sym, ap, subst, ◌∙◌, arith}
+use Rattle.std.proofs.Common.{◌≡◌, ℕ, zero, suc, ◌-◌, ◌^◌, ◌<◌, ◌≤◌, true, false, eqb, List, [], ◌∷◌, ◌++◌, Option, Some, None, subst, arith}
 use Rattle.std.proofs.lemmas.List.{append-nil}
 use Rattle.std.proofs.lemmas.Bool.{ne_eqb}
 use Rattle.field_rows.specs.Given.{Pass}
-use Rattle.field_rows.specs.Rows.{Value, Number, Flag, Rows, done, ◌>>=◌, first_broken}
-use Rattle.field_rows.proofs.Passing.{Pass-then, Pass-bind, Pass-done, Pass-number, Pass-within, Pass-flag, Pass-flag_set, Pass-number_under, Pass-if_set, Pass-if_not_set, Pass-if_true, Pass-if_false}
+use Rattle.field_rows.specs.Rows.{Value, Number, done, ◌>>=◌, first_broken}
+use Rattle.field_rows.proofs.Passing.{Pass-then, Pass-bind, Pass-done, Pass-number, Pass-within, Pass-flag, Pass-flag_set, Pass-number_under, Pass-if_set, Pass-if_not_set}
 use Rattle.slice_geometry.specs.declared.Size.{Size}
 use Rattle.sequence_header.specs.declared.parts.Version.{Version}
 use Rattle.sequence_header.specs.declared.parts.CleanArea.{CleanArea}
 use Rattle.sequence_header.specs.declared.parts.SignalRange.{SignalRange}
-use Rattle.sequence_header.specs.declared.parts.RateField.{RateField}
 use Rattle.sequence_header.specs.declared.parts.RateField.TheVariants as rates
 use Rattle.sequence_header.specs.declared.parts.AspectField.{AspectField}
 use Rattle.sequence_header.specs.declared.parts.AspectField.TheVariants as aspects
-use Rattle.sequence_header.specs.declared.parts.SignalField.{SignalField}
 use Rattle.sequence_header.specs.declared.parts.SignalField.TheVariants as signals
 use Rattle.sequence_header.specs.declared.parts.ColourField.{ColourField}
 use Rattle.sequence_header.specs.declared.parts.ColourField.TheVariants as colours

@@ -1,7 +1,7 @@
 -- Indices in the parts of a header that pass.
-use Rattle.std.proofs.Common.{◌≡◌, ℕ, zero, suc, ◌≤◌, Bool, true, false, List, [], ◌∷◌, ◌++◌, Result, Ok, Err, refl, sym, ◌∙◌, arith, None, ap}
+use Rattle.std.proofs.Common.{◌≡◌, zero, suc, List, [], Result, Ok, refl, arith, None, ap}
 use Rattle.field_rows.specs.Given.{Pass, Fail, checked}
-use Rattle.field_rows.specs.Rows.{Value, Rows, Number, Flag, number, flag, ◌>>=◌, if_set}
+use Rattle.field_rows.specs.Rows.{Value, Rows, number, flag, ◌>>=◌, if_set}
 use Rattle.sequence_header.specs.declared.parts.HeaderReason.{HeaderReason}
 use Rattle.sequence_header.specs.declared.parts.RateField.{RateField}
 use Rattle.sequence_header.specs.declared.parts.RateField.TheVariants as rates

@@ -1,13 +1,11 @@
 -- The sizes and depths of a header that passes lie within the limits of a picture.
-use Rattle.std.proofs.Common.{◌≡◌, ℕ, zero, suc, ◌+◌, ◌-◌, ◌*◌, ◌/◌, ◌%◌, ◌^◌, ◌<◌, ◌≤◌, Bool, true, false, cond, eqb, leb, not, ◌&&◌, ◌||◌, List, [], Option, Some, None, Result, Ok, Err, ◌⊎◌, refl, sym, ap, subst, ◌∙◌, inl, inr, arith}
+use Rattle.std.proofs.Common.{◌≡◌, ℕ, zero, suc, ◌+◌, ◌-◌, ◌*◌, ◌/◌, ◌%◌, ◌^◌, ◌<◌, ◌≤◌, Bool, true, false, cond, eqb, not, ◌&&◌, ◌||◌, Option, Some, None, refl, sym, ap, subst, ◌∙◌, inl, inr, arith}
 use Rattle.std.specs.Int.{is_in_range}
-use Rattle.std.proofs.lemmas.Bool.{le-leb, lt-leb, leb-true, cases_lt, cases_eq}
-use Rattle.std.proofs.lemmas.Bool.Decides.{nat_tests}
-use Rattle.std.proofs.Math.Nat.{mul-le-mul_left}
+use Rattle.std.proofs.lemmas.Bool.{leb-true, cases_lt}
 use Rattle.bit_codes.specs.Codes.{intlog2}
 use Rattle.bit_codes.proofs.Digits.{intlog2-is}
-use Rattle.field_rows.specs.Given.{Pass, Fail}
-use Rattle.field_rows.specs.Rows.{Value, Rows, Rule, first_broken}
+use Rattle.field_rows.specs.Given.{Pass}
+use Rattle.field_rows.specs.Rows.{first_broken}
 use Rattle.slice_geometry.specs.Shape.{IsSize, IsDepth}
 use Rattle.slice_geometry.specs.declared.Size.{Size}
 use Rattle.sequence_header.specs.declared.parts.HeaderReason.{HeaderReason}
@@ -17,7 +15,7 @@ use Rattle.sequence_header.specs.declared.parts.SignalField.TheVariants as signa
 use Rattle.sequence_header.specs.Header.{height_rules, size_rows, sampling_rules, sampling_rows, signal_rows, coding_rules, coding_rows}
 use Rattle.sequence_header.specs.Fields.{size_fields, sampling_fields, signal_fields, coding_fields, frame_size}
 use Rattle.sequence_header.specs.Checking.{Passes}
-use Rattle.sequence_header.specs.Coding.{preset_range, signal_range, picture_height, luma_size, colour_size, luma_depth, colour_depth}
+use Rattle.sequence_header.specs.Coding.{signal_range, picture_height, luma_size, colour_size}
 use Rattle.sequence_header.proofs.Failing.{width_fail, height_fail, sampling_fail, signal_fail, luma_fail, colour_fail, coding_fail}
 use Rattle.field_rows.proofs.Passing.{above_range, below_range}
 use Rattle.std.proofs.lemmas.Bool.{eqb-true, ne_eqb, eq-eqb}

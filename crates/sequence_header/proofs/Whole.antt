@@ -1,7 +1,6 @@
 -- The groups of a header that pass, put together.
-use Rattle.std.proofs.Common.{◌≡◌, ◌++◌, List, [], Result, Ok, Err, refl}
+use Rattle.std.proofs.Common.{◌≡◌, [], Ok, Err}
 use Rattle.field_rows.specs.Given.{Pass, Fail, checked}
-use Rattle.field_rows.specs.Rows.{Value, Rows, done, ◌>>=◌}
 use Rattle.field_rows.proofs.Passing.{Pass-bind, Pass-then, Pass-done, passed_alone, Fail-first, Fail-later, failed_alone}
 use Rattle.sequence_header.specs.declared.parts.HeaderParts.{HeaderParts}
 use Rattle.sequence_header.specs.declared.parts.HeaderReason.{HeaderReason}

@@ -1,11 +1,10 @@
 -- What was written is the header's text, and it is read back.
-use Rattle.std.proofs.Common.{◌≡◌, ℕ, ◌+◌, ◌-◌, ◌*◌, ◌/◌, ◌%◌, ◌≤◌, Bool, false, List, [], ◌∷◌, ◌++◌, length, take, replicate, Result, Ok, refl, sym, ap, subst, ◌∙◌, append_assoc, arith}
-use Rattle.std.proofs.lemmas.List.{append-nil, length-append, length-replicate}
+use Rattle.std.proofs.Common.{◌≡◌, ℕ, ◌-◌, ◌*◌, ◌%◌, Bool, false, List, [], ◌++◌, length, take, refl, sym, ap, ◌∙◌, append_assoc}
+use Rattle.std.proofs.lemmas.List.{length-replicate}
 use Rattle.std.proofs.Math.Seq.{take-length}
-use Rattle.bit_codes.specs.Bits.{bits_of, bits_before, cursor_at, zeros_to_byte_end}
+use Rattle.bit_codes.specs.Bits.{bits_of, bits_before, zeros_to_byte_end}
 use Rattle.bit_codes.proofs.BitLemmas.{length-bits}
-use Rattle.field_rows.specs.Rows.{Value, read}
-use Rattle.field_rows.specs.Given.{written, AreOfKind, Pass}
+use Rattle.field_rows.specs.Given.{AreOfKind}
 use Rattle.field_rows.proofs.Passing.{kinds-bind, Pass-read_bytes}
 use Rattle.sequence_header.specs.declared.parts.HeaderParts.{HeaderParts}
 use Rattle.sequence_header.specs.Header.{reason_of, version_rows, size_rows, sampling_rows, scan_rows, rate_rows, aspect_rows, clean_rows, signal_rows, colour_rows, coding_rows, header_fields, header_rows}

@@ -1,5 +1,5 @@
 -- A header as bytes: its fields, and zeros up to the byte's end.
-use Rattle.std.specs.Prelude.{◌≡◌, ℕ, ◌+◌, ◌*◌, ◌/◌, Bool, List, ◌++◌, length, Result, Ok}
+use Rattle.std.specs.Prelude.{◌≡◌, ℕ, ◌+◌, ◌*◌, ◌/◌, Bool, List, ◌++◌, length, Ok}
 use Rattle.bit_codes.specs.Bits.{cursor_at, zeros_to_byte_end}
 use Rattle.field_rows.specs.Rows.{read}
 use Rattle.field_rows.specs.Given.{written}

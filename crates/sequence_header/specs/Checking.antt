@@ -1,5 +1,5 @@
 -- When the parts of a header pass the rules of its rows.
-use Rattle.std.specs.Prelude.{◌≡◌, ◌≤◌, ℕ, List, [], Option, Result, Ok, Err}
+use Rattle.std.specs.Prelude.{◌≡◌, ◌≤◌, List, [], Result, Ok, Err}
 use Rattle.field_rows.specs.Rows.{Value, Rows}
 use Rattle.field_rows.specs.Given.{checked, Pass, Fail}
 use Rattle.sequence_header.specs.declared.parts.HeaderReason.{HeaderReason}

@@ -1,11 +1,10 @@
 -- The parts of a header as fields, in the order of the rows.
-use Rattle.std.specs.Prelude.{ℕ, zero, suc, Bool, true, false, List, [], ◌∷◌, ◌++◌, Option, Some, None}
+use Rattle.std.specs.Prelude.{ℕ, zero, suc, true, false, List, [], ◌∷◌, ◌++◌, Option, Some, None}
 use Rattle.field_rows.specs.Rows.{Value, Number, Flag}
 use Rattle.slice_geometry.specs.declared.Size.{Size}
 use Rattle.sequence_header.specs.declared.parts.HeaderParts.{HeaderParts}
 use Rattle.sequence_header.specs.declared.parts.Version.{Version}
 use Rattle.sequence_header.specs.declared.parts.CleanArea.{CleanArea}
-use Rattle.sequence_header.specs.declared.parts.SignalRange.{SignalRange}
 use Rattle.sequence_header.specs.declared.parts.RateField.{RateField}
 use Rattle.sequence_header.specs.declared.parts.RateField.TheVariants as rates
 use Rattle.sequence_header.specs.declared.parts.AspectField.{AspectField}

@@ -1,9 +1,9 @@
 -- The rows of the sequence header, in order (SMPTE ST 2042-1:2017, 11: sequence_header). A number past its rule is refused at its own field.
-use Rattle.std.specs.Prelude.{ℕ, ◌+◌, ◌*◌, ◌-◌, ◌^◌, ◌%◌, ◌&&◌, ◌||◌, Bool, true, false, not, List, [], ◌∷◌, Option, Some, None, nat_le, nat_lt, ◌==◌, if◌then◌else◌}
+use Rattle.std.specs.Prelude.{ℕ, ◌*◌, ◌-◌, ◌^◌, ◌%◌, ◌&&◌, ◌||◌, not, List, [], ◌∷◌, Option, nat_le, ◌==◌, if◌then◌else◌}
 use Rattle.std.specs.Int.{is_in_range}
 use Rattle.bit_codes.specs.declared.CodeFault.{CodeFault}
 use Rattle.bit_codes.specs.declared.CodeFault.TheVariants as codes
-use Rattle.field_rows.specs.Rows.{Rule, ◌or_else◌, Rows, done, row, ◌>>=◌, number, within, number_under, flag, flag_set, if_set, whole_bytes, Fault}
+use Rattle.field_rows.specs.Rows.{Rule, ◌or_else◌, Rows, done, ◌>>=◌, number, within, number_under, flag, flag_set, if_set, whole_bytes, Fault}
 use Rattle.sequence_header.specs.declared.parts.FieldName.TheVariants as field_names
 use Rattle.sequence_header.specs.declared.parts.HeaderReason.{HeaderReason}
 use Rattle.sequence_header.specs.declared.parts.HeaderReason.TheVariants.{Truncated, NumberTooLarge, VersionRefused, NotLowDelay, PresetFormat, DefaultTaken, SizeRefused, SamplingUnknown, SizeNotDivisible, ScanUnknown, RateRefused, SignalRefused, CodingModeUnknown}
@@ -12,7 +12,6 @@ use Rattle.sequence_header.specs.declared.parts.HeaderParts.{HeaderParts}
 use Rattle.sequence_header.specs.declared.parts.Version.{Version}
 use Rattle.slice_geometry.specs.declared.Size.{Size}
 use Rattle.sequence_header.specs.declared.parts.CleanArea.{CleanArea}
-use Rattle.sequence_header.specs.declared.parts.SignalRange.{SignalRange}
 use Rattle.sequence_header.specs.declared.parts.RateField.{RateField}
 use Rattle.sequence_header.specs.declared.parts.RateField.TheVariants as rates
 use Rattle.sequence_header.specs.declared.parts.AspectField.{AspectField}

@@ -1,4 +1,4 @@
-ghost use Rattle.std.specs.Prelude.{◌≡◌, ◌<◌, ◌≤◌, MatchResult};
+ghost use Rattle.std.specs.Prelude.{◌≡◌, ◌%◌, ◌^◌, ◌<◌, ◌≤◌, MatchResult};
 ghost use Rattle.slice_geometry.specs.Shape.{IsSize};
 ghost use Rattle.slice_geometry.specs.Slicing.{Slicing, IsAllowed, IsBroken, slice_count, slice_bytes};
 ghost use Rattle.slice_geometry.specs.Slicing as slicing;
@@ -48,6 +48,7 @@ fn padded_length(depth: u32, length: u32) -> u32
     requires length { length ≤ 8192 }
     ensures value { result ≡ geometry.padded_length depth length }
     ensures most { result ≤ 8192 }
+    ensures whole { result % 2 ^ depth ≡ 0 }
 {
     let step = 1u32 << depth;
     step * ((length + step - 1) / step)
@@ -158,7 +159,11 @@ impl Layout {
     /// The size of a component once it is padded for the transform, at most 8192 by 8192.
     pub fn padded_size(&self, size: Size) -> Size
         requires { IsSize size.w size.h }
-        ensures { result ≡ geometry.padded_size self.now.depth size }
+        ensures value { result ≡ geometry.padded_size self.now.depth size }
+        ensures w_most { result.w ≤ 8192 }
+        ensures h_most { result.h ≤ 8192 }
+        ensures w_whole { result.w % 2 ^ self.now.depth ≡ 0 }
+        ensures h_whole { result.h % 2 ^ self.now.depth ≡ 0 }
     {
         Size {
             w: padded_length(self.depth, size.w),

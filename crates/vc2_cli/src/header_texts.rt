@@ -3,9 +3,9 @@ ghost use Rattle.std.specs.Prelude.{◌≡◌, ◌++◌, IfOk, string_bytes};
 ghost use Rattle.sequence_header.specs.Coding.{signal_range};
 ghost use Rattle.vc2_cli.specs.HeaderTexts.{version_line, sampling_name, size_line, scan_name, scan_line, ratio, preset_rate, rate_text, rate_line, index_text, aspect_text, aspect_line, area_text, clean_text, clean_line, range_text, signal_line, part_text, custom_text, colour_text, colour_line, coding_name, coding_line, header_lines};
 
-use sequence_header::SequenceHeader;
-use sequence_header::parts::{
-    AspectField, CleanArea, ColourField, HeaderParts, RateField, SignalField, SignalRange,
+use sequence_header::{
+    AspectField, CleanArea, ColourField, HeaderParts, RateField, SequenceHeader, SignalField,
+    SignalRange,
 };
 use std::alloc::{AllocError, Global};
 

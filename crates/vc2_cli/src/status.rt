@@ -2,7 +2,7 @@
 ghost use Rattle.std.specs.Prelude.{◌≡◌};
 ghost use Rattle.vc2_cli.specs.Exit.{exit_code_of};
 
-use sequence_header::parts::FieldName;
+use sequence_header::FieldName;
 
 /// Why an input is refused.
 #[derive(Clone, Copy, Debug, PartialEq, Eq)]

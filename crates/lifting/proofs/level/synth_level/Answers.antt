@@ -1,4 +1,4 @@
-use Rattle.std.proofs.Common.{◌^◌, ℕ, lit≤}
+use Rattle.std.proofs.Common.{◌^◌, lit≤}
 use Rattle.planes.specs.Raster.{at}
 use Rattle.lifting.specs.Ranges.{even_reach}
 use Rattle.lifting.proofs.Growth.{wider}

@@ -1,11 +1,10 @@
-use Rattle.std.proofs.Common.{◌≡◌, ◌∙◌, sym, ap, subst, ℕ, ◌^◌, ◌<◌, length, arith, ℤ, List, lit≤}
-use Rattle.planes.specs.Numbers.{Within}
-use Rattle.lifting.specs.declared.PairStep.TheVariants.{EvenDown, OddUp}
+use Rattle.std.proofs.Common.{◌≡◌, ◌∙◌, ap, ℕ, ◌^◌, ◌<◌, length, arith, ℤ, List, lit≤}
+use Rattle.lifting.specs.declared.PairStep.TheVariants.{OddUp}
 use Rattle.lifting.specs.declared.Wavelet.{Wavelet}
 use Rattle.lifting.specs.Places.{place}
 use Rattle.lifting.specs.Steps.{step, halved}
-use Rattle.lifting.specs.Lines.{Line, lift}
-use Rattle.lifting.specs.Ranges.{LineWithin, even_reach, line_reach}
+use Rattle.lifting.specs.Lines.{lift}
+use Rattle.lifting.specs.Ranges.{even_reach, line_reach}
 use Rattle.lifting.proofs.Growth.{wider}
 use Rattle.lifting.proofs.Passes.{SameLine, after_first, after_second, line_made}
 use Rattle.lifting.proofs.rows.synthesise_line.Goals as goal

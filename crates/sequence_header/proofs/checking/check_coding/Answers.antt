@@ -1,4 +1,4 @@
-use Rattle.std.proofs.Common.{◌≡◌, ◌<◌, ◌≤◌, ◌^◌, ◌-◌, ◌∙◌, sym, subst, arith}
+use Rattle.std.proofs.Common.{◌∙◌, sym}
 use Rattle.sequence_header.proofs.Groups.{coding_pass}
 use Rattle.sequence_header.proofs.Failing.{coding_fail}
 use Rattle.sequence_header.proofs.checking.check_coding.Goals as goal

@@ -1,10 +1,8 @@
-use Rattle.std.proofs.Common.{◌≡◌, ◌<◌, ◌≤◌, ◌^◌, ◌-◌, ◌∙◌, sym, subst, arith}
+use Rattle.std.proofs.Common.{◌^◌, ◌-◌, arith}
 use Rattle.sequence_header.proofs.Groups.{rate_pass, rate_pass_pair}
 use Rattle.sequence_header.proofs.Failing.{rate_fail, numerator_fail, denominator_fail, from_within}
 use Rattle.std.proofs.lemmas.Result.{err_from_is_err_and}
-use Rattle.sequence_header.specs.declared.parts.HeaderReason.{HeaderReason}
-use Rattle.sequence_header.specs.declared.parts.HeaderReason.TheVariants.{VersionRefused, SizeRefused, ScanUnknown, RateRefused, SignalRefused}
-use Rattle.field_rows.specs.Given.{Fail}
+use Rattle.sequence_header.specs.declared.parts.HeaderReason.TheVariants.{RateRefused}
 use Rattle.sequence_header.proofs.checking.check_rate.Goals as goal
 
 pub returns-in-Index : goal.returns-in-Index

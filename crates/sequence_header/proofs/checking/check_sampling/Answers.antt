@@ -1,4 +1,4 @@
-use Rattle.std.proofs.Common.{◌≡◌, ◌<◌, ◌≤◌, ◌^◌, ◌-◌, ◌∙◌, sym, subst, arith}
+use Rattle.std.proofs.Common.{◌∙◌, sym}
 use Rattle.sequence_header.proofs.Groups.{sampling_pass}
 use Rattle.sequence_header.proofs.Failing.{sampling_fail}
 use Rattle.sequence_header.proofs.checking.check_sampling.Goals as goal

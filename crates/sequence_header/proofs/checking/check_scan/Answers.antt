@@ -1,9 +1,6 @@
-use Rattle.std.proofs.Common.{◌≡◌, ◌<◌, ◌≤◌, ◌^◌, ◌-◌, ◌∙◌, sym, subst, arith}
 use Rattle.sequence_header.proofs.Groups.{scan_pass, scan_pass_none}
 use Rattle.sequence_header.proofs.Failing.{scan_fail, from_within}
-use Rattle.sequence_header.specs.declared.parts.HeaderReason.{HeaderReason}
-use Rattle.sequence_header.specs.declared.parts.HeaderReason.TheVariants.{VersionRefused, SizeRefused, ScanUnknown, RateRefused, SignalRefused}
-use Rattle.field_rows.specs.Given.{Fail}
+use Rattle.sequence_header.specs.declared.parts.HeaderReason.TheVariants.{ScanUnknown}
 use Rattle.sequence_header.proofs.checking.check_scan.Goals as goal
 
 pub returns-in-Some : goal.returns-in-Some

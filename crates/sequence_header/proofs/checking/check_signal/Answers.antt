@@ -1,10 +1,7 @@
-use Rattle.std.proofs.Common.{◌≡◌, ◌<◌, ◌≤◌, ◌^◌, ◌-◌, ◌∙◌, sym, subst, arith}
 use Rattle.sequence_header.proofs.Groups.{signal_pass, signal_pass_custom}
 use Rattle.sequence_header.proofs.Failing.{signal_fail, luma_fail, colour_fail, from_within}
 use Rattle.std.proofs.lemmas.Result.{err_from_is_err_and}
-use Rattle.sequence_header.specs.declared.parts.HeaderReason.{HeaderReason}
-use Rattle.sequence_header.specs.declared.parts.HeaderReason.TheVariants.{VersionRefused, SizeRefused, ScanUnknown, RateRefused, SignalRefused}
-use Rattle.field_rows.specs.Given.{Fail}
+use Rattle.sequence_header.specs.declared.parts.HeaderReason.TheVariants.{SignalRefused}
 use Rattle.sequence_header.proofs.checking.check_signal.Goals as goal
 
 pub returns-in-Index : goal.returns-in-Index

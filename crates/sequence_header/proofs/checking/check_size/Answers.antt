@@ -1,10 +1,7 @@
-use Rattle.std.proofs.Common.{◌≡◌, ◌<◌, ◌≤◌, ◌^◌, ◌-◌, ◌∙◌, sym, subst, arith}
+use Rattle.std.proofs.Common.{◌∙◌, sym}
 use Rattle.sequence_header.proofs.Groups.{size_pass}
 use Rattle.sequence_header.proofs.Failing.{width_fail, height_fail}
 use Rattle.std.proofs.lemmas.Result.{err_from_is_err_and}
-use Rattle.sequence_header.specs.declared.parts.HeaderReason.{HeaderReason}
-use Rattle.sequence_header.specs.declared.parts.HeaderReason.TheVariants.{VersionRefused, SizeRefused, ScanUnknown, RateRefused, SignalRefused}
-use Rattle.field_rows.specs.Given.{Fail}
 use Rattle.sequence_header.proofs.checking.check_size.Goals as goal
 
 pub returns-in_err-check_within : goal.returns-in_err-check_within

@@ -1,9 +1,6 @@
-use Rattle.std.proofs.Common.{◌≡◌, ◌<◌, ◌≤◌, ◌^◌, ◌-◌, ◌∙◌, sym, subst, arith}
 use Rattle.sequence_header.proofs.Groups.{version_pass}
 use Rattle.sequence_header.proofs.Failing.{version_fail, from_within}
-use Rattle.sequence_header.specs.declared.parts.HeaderReason.{HeaderReason}
-use Rattle.sequence_header.specs.declared.parts.HeaderReason.TheVariants.{VersionRefused, SizeRefused, ScanUnknown, RateRefused, SignalRefused}
-use Rattle.field_rows.specs.Given.{Fail}
+use Rattle.sequence_header.specs.declared.parts.HeaderReason.TheVariants.{VersionRefused}
 use Rattle.sequence_header.proofs.checking.check_version.Goals as goal
 
 pub returns : goal.returns

@@ -1,4 +1,4 @@
-use Rattle.std.proofs.Common.{◌≡◌, ◌<◌, ◌≤◌, ◌^◌, arith}
+use Rattle.std.proofs.Common.{arith}
 use Rattle.sequence_header.proofs.Groups.{aspect_pass, aspect_pass_pair}
 use Rattle.sequence_header.proofs.reading.aspect.Goals as goal
 

@@ -1,4 +1,3 @@
-use Rattle.std.proofs.Common.{◌≡◌, ◌<◌, ◌≤◌, ◌^◌, arith}
 use Rattle.sequence_header.proofs.Groups.{clean_pass}
 use Rattle.sequence_header.proofs.reading.clean.Goals as goal
 

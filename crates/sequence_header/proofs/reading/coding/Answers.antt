@@ -1,4 +1,4 @@
-use Rattle.std.proofs.Common.{◌≡◌, ◌<◌, ◌≤◌, ◌^◌, sym, ◌∙◌, arith}
+use Rattle.std.proofs.Common.{sym, ◌∙◌}
 use Rattle.sequence_header.proofs.Groups.{coding_pass}
 use Rattle.sequence_header.proofs.reading.coding.Goals as goal
 

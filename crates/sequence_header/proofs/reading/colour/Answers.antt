@@ -1,4 +1,4 @@
-use Rattle.std.proofs.Common.{◌≡◌, ◌<◌, ◌≤◌, ◌^◌, arith}
+use Rattle.std.proofs.Common.{arith}
 use Rattle.sequence_header.proofs.Groups.{colour_pass, colour_pass_custom}
 use Rattle.sequence_header.proofs.reading.colour.Goals as goal
 

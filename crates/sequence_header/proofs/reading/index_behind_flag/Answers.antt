@@ -1,4 +1,3 @@
-use Rattle.std.proofs.Common.{◌≡◌, ◌<◌, ◌≤◌, ◌^◌, arith}
 use Rattle.sequence_header.proofs.Groups.{index_pass}
 use Rattle.sequence_header.proofs.reading.index_behind_flag.Goals as goal
 

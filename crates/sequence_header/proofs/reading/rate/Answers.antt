@@ -1,4 +1,4 @@
-use Rattle.std.proofs.Common.{◌≡◌, ◌<◌, ◌≤◌, ◌^◌, arith}
+use Rattle.std.proofs.Common.{arith}
 use Rattle.sequence_header.proofs.Groups.{rate_pass, rate_pass_pair}
 use Rattle.sequence_header.proofs.reading.rate.Goals as goal
 

@@ -1,4 +1,4 @@
-use Rattle.std.proofs.Common.{◌≡◌, ◌<◌, ◌≤◌, ◌^◌, arith}
+use Rattle.std.proofs.Common.{arith}
 use Rattle.sequence_header.proofs.Groups.{signal_pass, signal_pass_custom}
 use Rattle.sequence_header.proofs.reading.signal.Goals as goal
 

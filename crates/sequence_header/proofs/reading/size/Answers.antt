@@ -1,4 +1,3 @@
-use Rattle.std.proofs.Common.{◌≡◌, ◌<◌, ◌≤◌, ◌^◌, arith}
 use Rattle.sequence_header.proofs.Groups.{size_pass}
 use Rattle.sequence_header.proofs.reading.size.Goals as goal
 

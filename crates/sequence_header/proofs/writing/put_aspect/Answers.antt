@@ -1,4 +1,4 @@
-use Rattle.std.proofs.Common.{◌≡◌, ◌<◌, ◌≤◌, ◌^◌, arith}
+use Rattle.std.proofs.Common.{◌≤◌, arith}
 use Rattle.sequence_header.proofs.FieldKinds.{aspect_kinds, aspect_kinds_none, aspect_kinds_pair}
 use Rattle.sequence_header.proofs.writing.put_aspect.Goals as goal
 

@@ -1,4 +1,4 @@
-use Rattle.std.proofs.Common.{◌≡◌, ◌<◌, ◌≤◌, ◌^◌, arith}
+use Rattle.std.proofs.Common.{arith}
 use Rattle.sequence_header.proofs.FieldKinds.{clean_kinds, clean_kinds_none}
 use Rattle.sequence_header.proofs.writing.put_clean.Goals as goal
 

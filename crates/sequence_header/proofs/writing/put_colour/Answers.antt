@@ -1,4 +1,4 @@
-use Rattle.std.proofs.Common.{◌≡◌, ◌<◌, ◌≤◌, ◌^◌, arith}
+use Rattle.std.proofs.Common.{◌≤◌, arith}
 use Rattle.sequence_header.proofs.FieldKinds.{colour_kinds, colour_kinds_none, colour_kinds_custom}
 use Rattle.sequence_header.proofs.writing.put_colour.Goals as goal
 

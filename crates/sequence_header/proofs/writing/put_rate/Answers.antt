@@ -1,4 +1,4 @@
-use Rattle.std.proofs.Common.{◌≡◌, ◌<◌, ◌≤◌, ◌^◌, arith}
+use Rattle.std.proofs.Common.{◌≤◌, arith}
 use Rattle.sequence_header.proofs.FieldKinds.{rate_kinds, rate_kinds_pair}
 use Rattle.sequence_header.proofs.writing.put_rate.Goals as goal
 

@@ -1,4 +1,4 @@
-use Rattle.std.proofs.Common.{◌≡◌, ◌<◌, ◌≤◌, ◌^◌, arith}
+use Rattle.std.proofs.Common.{arith}
 use Rattle.sequence_header.proofs.FieldKinds.{sampling_kinds}
 use Rattle.sequence_header.proofs.writing.put_sampling.Goals as goal
 

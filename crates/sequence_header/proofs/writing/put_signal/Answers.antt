@@ -1,4 +1,4 @@
-use Rattle.std.proofs.Common.{◌≡◌, ◌<◌, ◌≤◌, ◌^◌, arith}
+use Rattle.std.proofs.Common.{◌≤◌, arith}
 use Rattle.sequence_header.proofs.FieldKinds.{signal_kinds, signal_kinds_custom}
 use Rattle.sequence_header.proofs.writing.put_signal.Goals as goal
 

@@ -1,5 +1,4 @@
-use Rattle.std.proofs.Common.{◌≡◌, ℕ, ◌+◌, ◌*◌, ◌/◌, ◌≤◌, length, ap, sym, ◌∙◌, arith}
-use Rattle.sequence_header.specs.declared.parts.HeaderParts.{HeaderParts}
+use Rattle.std.proofs.Common.{◌≡◌, ◌+◌, ◌/◌, length, ap, arith}
 use Rattle.sequence_header.specs.Bytes.{header_bits, header_len}
 use Rattle.sequence_header.proofs.Indices.{rate_index, signal_index}
 use Rattle.sequence_header.proofs.Sums.{length-header_bits}

@@ -1,6 +1,6 @@
-use Rattle.std.proofs.Common.{◌≡◌, ◌<◌, ◌≤◌, ◌^◌, refl, sym, arith}
+use Rattle.std.proofs.Common.{refl}
 use Rattle.std.proofs.lemmas.Result.{err_from_is_err_and}
-use Rattle.sequence_header.proofs.Whole.{header_pass, passed_whole, version_fails, size_fails, sampling_fails, scan_fails, rate_fails, signal_fails, coding_fails}
+use Rattle.sequence_header.proofs.Whole.{passed_whole, version_fails, size_fails, sampling_fails, scan_fails, rate_fails, signal_fails, coding_fails}
 use Rattle.sequence_header.proofs.Groups.{aspect_passing, clean_passing, colour_passing}
 use Rattle.sequence_header.proofs.header.SequenceHeader.check.Goals as goal
 

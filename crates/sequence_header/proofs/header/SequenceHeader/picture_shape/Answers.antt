@@ -1,4 +1,4 @@
-use Rattle.std.proofs.Common.{◌≡◌, ℕ, ◌+◌, ◌≤◌, ap, sym, subst, ◌∙◌, arith}
+use Rattle.std.proofs.Common.{◌+◌, ap, sym, subst, ◌∙◌}
 use Rattle.bit_codes.specs.Codes.{intlog2}
 use Rattle.slice_geometry.specs.Shape.{IsSize, IsDepth}
 use Rattle.slice_geometry.specs.declared.Size.{Size}
