@@ -5,3 +5,6 @@ pub mod Past
 pub mod Settling
 pub mod Parts
 pub mod WorkedRows
+pub mod Fronts
+pub mod FirstUnit
+pub mod HeaderRuns

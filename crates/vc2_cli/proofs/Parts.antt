@@ -8,7 +8,7 @@ use Rattle.vc2_cli.specs.declared.status.Ending.{Ending}
 use Rattle.vc2_cli.specs.declared.status.Ending.TheVariants.{Done, Refused}
 use Rattle.vc2_cli.specs.declared.status.WordFault.{WordFault}
 use Rattle.vc2_cli.specs.declared.words.Command.{Command}
-use Rattle.vc2_cli.specs.declared.words.Command.TheVariants.{Chain}
+use Rattle.vc2_cli.specs.declared.words.Command.TheVariants.{Chain, Header}
 use Rattle.vc2_cli.specs.Reply.{Reply, Breaks, Stops, StopsShort, IsStatusOf, command_reply, command_due, status_of}
 use Rattle.vc2_cli.specs.Settled.{Settles}
 
@@ -31,6 +31,7 @@ own_ending (Refused refusal) = tt
 own : (command : Result Command WordFault) (input : List ℕ) → IsOwn (command_reply command input).status
 own (Err fault) input = tt
 own (Ok Chain) input = own_ending _
+own (Ok Header) input = own_ending _
 
 -- what stands, for every input that the source may tell
 abbrev pub AllSettled : Result Command WordFault → Option (List ℕ) → Option (List ℕ) → Option (List ℕ) → Option (List ℕ) → Option (List ℕ) → Option (List ℕ) → Status → Type 0

@@ -5,3 +5,6 @@ pub mod Turns
 pub mod Reply
 pub mod Settled
 pub mod Exit
+pub mod HeaderTexts
+pub mod First
+pub mod FirstTurn

@@ -4,7 +4,7 @@ use Rattle.std.specs.Io.KnownBytes.{Appends, Consumes, Keeps}
 use Rattle.vc2_io.specs.Outside.{Rose, GrewShort}
 use Rattle.vc2_run.specs.Walk.{Answer, answer_to, out_of, due, IsFront, IsShort}
 use Rattle.vc2_cli.specs.declared.words.Command.{Command}
-use Rattle.vc2_cli.specs.declared.words.Command.TheVariants.{Chain}
+use Rattle.vc2_cli.specs.declared.words.Command.TheVariants.{Chain, Header}
 use Rattle.vc2_cli.specs.declared.status.WordFault.{WordFault}
 use Rattle.vc2_cli.specs.declared.status.Status.{Status}
 use Rattle.vc2_cli.specs.declared.status.Status.TheVariants as status
@@ -13,6 +13,7 @@ use Rattle.vc2_cli.specs.declared.status.Ending.TheVariants as ending
 use Rattle.vc2_cli.specs.Texts.{refusal_line, usage_line}
 use Rattle.vc2_cli.specs.Words.{command_of}
 use Rattle.vc2_cli.specs.Chain.{chain_limited}
+use Rattle.vc2_cli.specs.First.{header_machine, behind_first}
 
 -- a status with its texts for `out` and `note`, and what is left of the input where the status is `Done`
 pub record Reply : Type 0 where
@@ -37,11 +38,13 @@ reply_of left answer = record { status = status_of answer.ending; rest = left; o
 abbrev pub command_reply : Result Command WordFault → List ℕ → Reply
 command_reply (Err fault) input = record { status = status.Usage fault; rest = input; out = []; note = usage_line fault }
 command_reply (Ok Chain) input = reply_of [] (answer_to chain_limited 0 input)
+command_reply (Ok Header) input = reply_of (behind_first input) (answer_to header_machine 0 input)
 
 -- the text for `out` that is due once these bytes were taken
 abbrev pub command_due : Result Command WordFault → List ℕ → List ℕ
 command_due (Err fault) taken = []
 command_due (Ok Chain) taken = due chain_limited 0 taken
+command_due (Ok Header) taken = due header_machine 0 taken
 
 -- the same by the words
 abbrev pub reply_to : List (List ℕ) → List ℕ → Reply

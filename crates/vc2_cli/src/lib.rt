@@ -2,6 +2,8 @@
 #![tactic(auto)]
 
 mod chain;
+mod header;
+mod header_texts;
 mod input;
 mod laws;
 mod status;
@@ -9,7 +11,7 @@ mod texts;
 mod top;
 mod words;
 
-pub use laws::one_answer;
+pub use laws::{one_answer, one_header_answer};
 pub use status::{Ending, Reason, Refusal, Status, WordFault, exit_code};
 pub use top::run;
 pub use words::{Command, read_words};

@@ -8,6 +8,7 @@ ghost use Rattle.vc2_cli.specs.Reply.{reply_to, due_to, command_reply, command_d
 ghost use Rattle.vc2_cli.specs.Settled.{Settles, Concludes, HasNoteCause, status_of_halt};
 
 use crate::chain::chain;
+use crate::header::header;
 use crate::status::{Ending, Status, WordFault};
 use crate::texts::{refusal_text, usage_text};
 use crate::words::{Command, read_words};
@@ -95,7 +96,10 @@ fn answer<S: Source, K: Sink, N: Sink>(
         × (S.rest src.new ≡ S.rest src.old) × (K.written out.new ≡ K.written out.old)) }
 {
     match command {
-        Ok(Command::Chain) => conclude(alloc, chain(alloc, src, out), note),
+        Ok(command) => match command {
+            Command::Chain => conclude(alloc, chain(alloc, src, out), note),
+            Command::Header => conclude(alloc, header(alloc, src, out), note),
+        },
         Err(fault) => refuse(alloc, fault, note),
     }
 }

@@ -9,6 +9,8 @@ use crate::status::WordFault;
 pub enum Command {
     /// A line for each unit, by its head alone.
     Chain,
+    /// The nine lines of the first unit, a sequence header.
+    Header,
 }
 
 fn command_named(word: &str) -> Option<Command>
@@ -16,6 +18,7 @@ fn command_named(word: &str) -> Option<Command>
 {
     match word {
         "chain" => Some(Command::Chain),
+        "header" => Some(Command::Header),
         _ => None,
     }
 }

@@ -1,25 +1,38 @@
-use Rattle.std.proofs.Common.{◌≡◌, [], Ok, Result, refl, ap, ◌∙◌, subst, sym}
+use Rattle.std.proofs.Common.{[], Ok, Result, ap, ◌∙◌, subst, sym, arith}
 use Rattle.vc2_cli.specs.declared.words.Command.{Command}
-use Rattle.vc2_cli.specs.declared.words.Command.TheVariants.{Chain}
 use Rattle.vc2_cli.specs.declared.status.WordFault.{WordFault}
 use Rattle.vc2_cli.specs.Reply.{command_reply, command_due}
 use Rattle.vc2_cli.specs.Settled.{Settles}
 use Rattle.vc2_cli.specs.Chain.{chain_limited}
+use Rattle.vc2_cli.specs.First.{header_machine, behind_first}
+use Rattle.vc2_cli.proofs.HeaderRuns.{header_laws}
 use Rattle.vc2_cli.proofs.ChainLaws.{limited_chain_laws}
 use Rattle.vc2_cli.proofs.Heads.{nothing_follows}
 use Rattle.vc2_cli.proofs.Settling.{settled, settled_usage}
 use Rattle.vc2_cli.proofs.top.answer.Goals as goal
 
-is_chain : (command : Command) → command ≡ Chain
-is_chain Chain = refl
+pub returns-in-Chain-clause-settled : goal.returns-in-Chain-clause-settled
+returns-in-Chain-clause-settled g c = λ input e.
+    let rest = g.S.Source.rest in
+    let out = g.K.Sink.written in
+    let note = g.N.Sink.written in
+    subst (λ (r : Result Command WordFault). Settles (command_reply r input) (command_due r) input (rest c.chain.new.src) (out c.args.out.now) (out c.chain.new.out) (note c.args.note.now) (note c.conclude.new.note) c.conclude.result)
+    (sym (c.in-Ok.is ∙ ap Ok c.in-Chain.is))
+    (settled chain_limited limited_chain_laws 0 [] (rest c.args.src.now) (rest c.chain.new.src) (out c.args.out.now) (out c.chain.new.out) (note c.args.note.now) (note c.conclude.new.note) input c.chain.result c.conclude.result e
+    (λ done more told. nothing_follows (rest c.chain.new.src) more (c.chain.ensures.end done) told) c.chain.ensures.ran c.conclude.ensures.told)
 
-pub returns-in-Ok-Chain-clause-settled : goal.returns-in-Ok-Chain-clause-settled
-returns-in-Ok-Chain-clause-settled g c = λ input e.
-    subst (λ (r : Result Command WordFault). Settles (command_reply r input) (command_due r) input (g.S.Source.rest c.chain.new.src) (g.K.Sink.written c.args.out.now) (g.K.Sink.written c.chain.new.out)
-    (g.N.Sink.written c.args.note.now) (g.N.Sink.written c.conclude.new.note) c.conclude.result) (sym (c.in-Ok-Chain.is ∙ ap Ok (is_chain c.in-Ok-Chain.field-0)))
-    (settled chain_limited limited_chain_laws 0 [] (g.S.Source.rest c.args.src.now) (g.S.Source.rest c.chain.new.src) (g.K.Sink.written c.args.out.now) (g.K.Sink.written c.chain.new.out)
-    (g.N.Sink.written c.args.note.now) (g.N.Sink.written c.conclude.new.note) input c.chain.result c.conclude.result e
-    (λ done more told. nothing_follows (g.S.Source.rest c.chain.new.src) more (c.chain.ensures.end done) told) c.chain.ensures.ran c.conclude.ensures.told)
+pub returns-in-Header-clause-settled : goal.returns-in-Header-clause-settled
+returns-in-Header-clause-settled g c = λ input e.
+    let rest = g.S.Source.rest in
+    let out = g.K.Sink.written in
+    let note = g.N.Sink.written in
+    subst (λ (r : Result Command WordFault). Settles (command_reply r input) (command_due r) input (rest c.header.new.src) (out c.args.out.now) (out c.header.new.out) (note c.args.note.now) (note c.conclude-in-Header.new.note) c.conclude-in-Header.result)
+    (sym (c.in-Ok.is ∙ ap Ok c.in-Header.is))
+    (settled header_machine header_laws 0 (behind_first input) (rest c.args.src.now) (rest c.header.new.src) (out c.args.out.now) (out c.header.new.out) (note c.args.note.now) (note c.conclude-in-Header.new.note) input c.header.result c.conclude-in-Header.result e
+    (c.header.ensures.left input e) c.header.ensures.ran c.conclude-in-Header.ensures.told)
+
+pub returns-in-Header-clause-limit : goal.returns-in-Header-clause-limit
+returns-in-Header-clause-limit g c = let few = c.header.ensures.limit in (few.0, omega (arith, few.1), few.2)
 
 pub returns-in-Err-clause-settled : goal.returns-in-Err-clause-settled
 returns-in-Err-clause-settled g c = λ input e.
