@@ -1,8 +1,8 @@
 -- A layout whose numbers break no rule breaks none.
-use Rattle.std.proofs.Common.{◌≡◌, ℕ, ◌+◌, ◌*◌, ◌/◌, ◌≤◌, ◌<◌, ◌^◌, arith}
+use Rattle.std.proofs.Common.{arith}
 use Rattle.slice_geometry.specs.declared.slice_layout.LayoutFault.{LayoutFault}
 use Rattle.slice_geometry.specs.declared.slice_layout.LayoutFault.TheVariants.{Depth, Slices, Share}
-use Rattle.slice_geometry.specs.Slicing.{Slicing, AreSlicesAllowed, IsShareAllowed, IsAllowed, IsBroken}
+use Rattle.slice_geometry.specs.Slicing.{Slicing, IsAllowed, IsBroken}
 
 pub none_broken : (s : Slicing) (fault : LayoutFault) → IsAllowed s → IsBroken s fault → ⊥
 none_broken s Depth f b = omega (arith, f.depth)

@@ -1,12 +1,11 @@
 -- What is written of lawful parameters is read back, whatever follows.
-use Rattle.std.proofs.Common.{◌≡◌, ℕ, zero, suc, ◌+◌, ◌-◌, ◌*◌, ◌/◌, ◌^◌, ◌<◌, ◌≤◌, Bool, true, false, List, [], ◌∷◌, ◌++◌, length, map, Option, Some, None, Result, Ok, Err, refl, sym, ap, subst, ◌∙◌, arith, append-nil}
+use Rattle.std.proofs.Common.{◌≡◌, ℕ, ◌+◌, ◌*◌, ◌^◌, ◌<◌, true, List, [], ◌∷◌, ◌++◌, length, Ok, refl, subst, arith, append-nil}
 use Rattle.std.specs.List.{AllByRecursion}
 use Rattle.std.proofs.lemmas.Bool.Decides.{nat_tests}
 use Rattle.bit_codes.specs.Bits.{cursor_at}
-use Rattle.field_rows.specs.Rows.{Value, Number, Flag, Rows, done, ◌>>=◌, number, within, number_under, flag_set, numbers, read, first_broken}
+use Rattle.field_rows.specs.Rows.{Value, Number, Flag, Rows, done, ◌>>=◌, number, within, number_under, flag_set, numbers, read}
 use Rattle.field_rows.specs.Given.{checked, AreOfKind, Pass}
 use Rattle.field_rows.proofs.Passing.{Pass-bind, kinds-bind, Pass-read_bytes}
-use Rattle.field_rows.proofs.Written.{checking}
 use Rattle.slice_geometry.specs.Slicing.{Slicing, IsAllowed}
 use Rattle.quant_factors.specs.Weights.{Weights}
 use Rattle.lifting.specs.declared.Wavelet.{Wavelet}

@@ -1,10 +1,10 @@
 -- The rows of the transform parameters, in order (SMPTE ST 2042-1:2017, 12.4: transform_parameters, slice_parameters, quant_matrix).
 -- A number past its rule is refused at its own field.
-use Rattle.std.specs.Prelude.{ℕ, ◌+◌, ◌*◌, ◌/◌, ◌^◌, ◌==◌, ◌&&◌, ◌||◌, Bool, List, [], ◌∷◌, nat_le, if◌then◌else◌}
+use Rattle.std.specs.Prelude.{ℕ, ◌+◌, ◌*◌, ◌/◌, ◌^◌, ◌==◌, ◌&&◌, ◌||◌, Bool, [], ◌∷◌, nat_le, if◌then◌else◌}
 use Rattle.std.specs.Int.{is_in_range}
 use Rattle.bit_codes.specs.declared.CodeFault.{CodeFault}
 use Rattle.bit_codes.specs.declared.CodeFault.TheVariants as codes
-use Rattle.field_rows.specs.Rows.{Rule, ◌or_else◌, Rows, done, ◌>>=◌, number, within, number_under, flag_set, numbers, whole_bytes, Fault}
+use Rattle.field_rows.specs.Rows.{◌or_else◌, Rows, done, ◌>>=◌, number, within, number_under, flag_set, numbers, whole_bytes, Fault}
 use Rattle.slice_geometry.specs.Slicing.{Slicing}
 use Rattle.quant_factors.specs.Weights.{Weights}
 use Rattle.lifting.specs.declared.Wavelet.{Wavelet}

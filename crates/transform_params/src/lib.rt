@@ -5,12 +5,11 @@ ghost use Rattle.std.specs.Prelude.{◌≡◌};
 
 mod faults;
 mod fields;
-mod reading;
 pub mod laws;
+mod reading;
 mod writing;
 
 pub use faults::{TransformFault, TransformReason};
-
 use lifting::Wavelet;
 use quant_factors::Matrix;
 use slice_geometry::Layout;

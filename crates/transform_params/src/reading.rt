@@ -6,8 +6,8 @@ ghost use Rattle.field_rows.specs.Rows.{Gives, GivesOf, read, numbers};
 ghost use Rattle.transform_params.specs.Params.{reason_of, fault_of, wavelet_index_rows, wavelet_of, wavelet_rows, slices_y_rows, denominator_rows, slicing_rows, matrix_rows, params_fields, params_rows};
 ghost use Rattle.transform_params.specs.Views.{params_of};
 
-use crate::faults::{TransformFault, TransformReason};
 use crate::TransformParams;
+use crate::faults::{TransformFault, TransformReason};
 use crate::fields::{flag_set, number, number_within};
 use bit_codes::BitReader;
 use lifting::Wavelet;

@@ -1,6 +1,6 @@
-use Rattle.std.proofs.Common.{◌≡◌, ℕ, ◌*◌, ◌/◌, ◌≤◌, Result, Ok, Err, ap, subst, sym, ◌∙◌, length}
+use Rattle.std.proofs.Common.{◌≡◌, Ok, Err, ap, subst, ◌∙◌}
 use Rattle.std.proofs.lemmas.Result.{err_from_is_err_and}
-use Rattle.bit_codes.specs.Bits.{Cursor, cursor_at, at_byte_end}
+use Rattle.bit_codes.specs.Bits.{Cursor, cursor_at}
 use Rattle.field_rows.specs.Rows.{read}
 use Rattle.field_rows.proofs.Pieces.{read-whole, read-whole_err}
 use Rattle.std.proofs.Common.{arith}

@@ -1,7 +1,7 @@
-use Rattle.std.proofs.Common.{◌≡◌, ◌+◌, ◌*◌, ◌≤◌, ◌++◌, ◌<◌, ◌^◌, ℕ, Bool, List, [], ◌∷◌, length, drop, get_or, sym, ap, subst, ◌∙◌, arith, append-nil}
+use Rattle.std.proofs.Common.{◌≡◌, ◌*◌, ◌≤◌, ◌++◌, ℕ, List, length, sym, ap, ◌∙◌, arith}
 use Rattle.bit_codes.specs.Bits.{bits_of, bits_before}
 use Rattle.bit_codes.specs.Codes.{code_of}
-use Rattle.transform_params.specs.Fields.{IsLawful, bit_length}
+use Rattle.transform_params.specs.Fields.{bit_length}
 use Rattle.transform_params.proofs.Entries.{all_written, all_bits, bit_length-parts, length-zeros}
 use Rattle.transform_params.specs.Views.{params_of}
 use Rattle.transform_params.proofs.WrittenBack.{written_back}

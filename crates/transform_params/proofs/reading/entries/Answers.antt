@@ -1,4 +1,4 @@
-use Rattle.std.proofs.Common.{ℕ, List, Result, Ok, ap, ◌∙◌, ◌≡◌, ◌<◌, ◌≤◌, ◌-◌, ◌+◌, ◌++◌, ◌∷◌, [], take, length, set, arith}
+use Rattle.std.proofs.Common.{ℕ, List, Result, Ok, ap, ◌∙◌, ◌≡◌, ◌<◌, take, length, arith}
 use Rattle.std.proofs.lemmas.Result.{err_from_is_err_and}
 use Rattle.std.proofs.lemmas.List.{take_more_set, length-set}
 use Rattle.field_rows.specs.Rows.{Fault, read, numbers}

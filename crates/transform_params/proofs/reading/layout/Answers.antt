@@ -1,5 +1,3 @@
-use Rattle.std.proofs.Common.{◌≡◌, ◌≤◌, ◌+◌, ◌*◌, ◌^◌, ℕ, arith}
-use Rattle.slice_geometry.specs.Slicing.{Slicing, AreSlicesAllowed, IsShareAllowed, IsAllowed, IsBroken}
 use Rattle.transform_params.proofs.Allowed.{none_broken}
 use Rattle.transform_params.proofs.reading.layout.Goals as goal
 

@@ -1,4 +1,4 @@
-use Rattle.std.proofs.Common.{◌≡◌, ◌+◌, ◌*◌, ◌≤◌, ℕ, Bool, List, length, drop, get_or, ap, arith}
+use Rattle.std.proofs.Common.{◌+◌, Bool, List, length, drop, get_or, ap, arith}
 use Rattle.std.proofs.lemmas.List.{length-append}
 use Rattle.bit_codes.specs.Codes.{code_of}
 use Rattle.field_rows.specs.Given.{written}
