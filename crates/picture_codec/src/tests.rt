@@ -176,7 +176,12 @@ fn pictures_in_turn(rt: HostRuntime) -> Result<(), Fail> {
 /// A new picture is zeros; a sample that is put there is read back.
 #[test]
 fn a_picture_keeps_samples(rt: HostRuntime) -> Result<(), Fail> {
-    let shape = shape(LINE, ONE);
+    let shape = PictureShape {
+        luma: LINE,
+        colour: ONE,
+        luma_depth: 8,
+        colour_depth: 8,
+    };
     let mut picture = Picture::new(rt.alloc(), &shape)?;
     picture.set(Component::Luma, 0, 1, 0xFF);
     picture.set(Component::C2, 0, 0, 7);
