@@ -90,7 +90,7 @@ module _ (s : Slicing) (size : Size) (b : BandStack) (plane scratch : Raster ℤ
         let y_in : y < (band_size s.depth 0 size).h = subst (λ v. y < v) lowest_rows ly in
         let x_in : x < (band_size s.depth 0 size).w = subst (λ v. x < v) lowest_columns lx in
         wider (reach y x) (2 ^ 50) (at (band_of b 0 0) y x) (omega (arith, y_in, x_in, lowest_most s.depth size.h low is_size.height, lowest_most s.depth size.w low is_size.width))
-            (taken.lowest y x y_in x_in (subst (λ v. holder s (band_size s.depth 0 size) y x < v) (sym all) (holder_below s (band_size s.depth 0 size) y x allowed y_in x_in)));
+        (taken.lowest y x y_in x_in (subst (λ v. holder s (band_size s.depth 0 size) y x < v) (sym all) (holder_below s (band_size s.depth 0 size) y x allowed y_in x_in)));
     hl = λ m lt. upper m 1 lt (omega arith) (omega arith);
     lh = λ m lt. upper m 2 lt (omega arith) (omega arith);
     hh = λ m lt. upper m 3 lt (omega arith) (omega arith);
@@ -104,7 +104,7 @@ module _ (s : Slicing) (size : Size) (b : BandStack) (plane scratch : Raster ℤ
       let rows : lowest b.depth (height plane) ≡ (band_size b.depth 0 size).h = ap (λ (p : ℕ). p / 2 ^ b.depth) (room.rows ∙ ap (λ (d : ℕ). padded_length d size.h) (sym taken.depth)) in
       let columns : lowest b.depth plane.w ≡ (band_size b.depth 0 size).w = ap (λ (p : ℕ). p / 2 ^ b.depth) (room.columns ∙ ap (λ (d : ℕ). padded_length d size.w) (sym taken.depth)) in
       tabulated_same size (λ y x. sample_of depth (at out y x)) (λ y x. sample_of depth (synthesis wavelet (band_size b.depth 0 size).h (band_size b.depth 0 size).w (coefficients_of b) b.depth y x))
-          (λ y x y_in x_in. ap (λ v. sample_of depth v)
-              (same y x (omega (arith, y_in, padded_covers s.depth size.h low, room.rows)) (omega (arith, x_in, padded_covers s.depth size.w low, room.columns))
-              ∙ ap (λ (h : ℕ). synthesis wavelet h (lowest b.depth plane.w) (coefficients_of b) b.depth y x) rows
-              ∙ ap (λ (w : ℕ). synthesis wavelet (band_size b.depth 0 size).h w (coefficients_of b) b.depth y x) columns))
+      (λ y x y_in x_in. ap (λ v. sample_of depth v)
+      (same y x (omega (arith, y_in, padded_covers s.depth size.h low, room.rows)) (omega (arith, x_in, padded_covers s.depth size.w low, room.columns))
+      ∙ ap (λ (h : ℕ). synthesis wavelet h (lowest b.depth plane.w) (coefficients_of b) b.depth y x) rows
+      ∙ ap (λ (w : ℕ). synthesis wavelet (band_size b.depth 0 size).h w (coefficients_of b) b.depth y x) columns))

@@ -140,7 +140,7 @@ module _ (s : Slicing) (size : Size) (n : ℕ) (lt : n < slice_count s) (allowed
           | inr here ↦
               let k = each * place_number s size column row level orient y x + from in
               subst (λ v. Within (2 ^ 36) v) (sym (holds.dequantised level orient y x is some (in_rect level y x y_in x_in (omega (arith, here, below)))))
-                  (within_abs (slice_index_or values k (pos 0)) (2 ^ 36) (are_small-at values k small))
+              (within_abs (slice_index_or values k (pos 0)) (2 ^ 36) (are_small-at values k small))
         ];
       }
 

@@ -25,8 +25,8 @@ tabulated_is s g count each =
     let f : ℕ → ℕ = λ k. g (k / s.w) (k % s.w) in
     let size : Size = record { w = s.w; h = s.h } in
     let same : s.cells ≡ map f (range_with_len 0 (s.h * s.w)) = same_number_lists s.cells (map f (range_with_len 0 (s.h * s.w))) (count ∙ sym (length-map-range_with_len f 0 (s.h * s.w)))
-        (λ k lt. let inside : k < s.h * s.w = omega (arith, lt, count) in
-            ap (λ i. get_or s.cells i 0) (sym (place_again k s.w s.h inside)) ∙ each (k / s.w) (k % s.w) (row_below k s.w s.h inside) (column_below k s.w s.h inside) ∙ sym (get_or-map-range_with_len f 0 (s.h * s.w) k k 0 (omega (arith, lt, count)) (omega arith))) in
+    (λ k lt. let inside : k < s.h * s.w = omega (arith, lt, count) in
+    ap (λ i. get_or s.cells i 0) (sym (place_again k s.w s.h inside)) ∙ each (k / s.w) (k % s.w) (row_below k s.w s.h inside) (column_below k s.w s.h inside) ∙ sym (get_or-map-range_with_len f 0 (s.h * s.w) k k 0 (omega (arith, lt, count)) (omega arith))) in
     ap (λ cells. record s { cells = cells }) same
 
 -- samples that agree place by place
@@ -37,8 +37,8 @@ tabulated_same size f g each =
     let n = size.h * size.w in
     let count : length (map first (range_with_len 0 n)) ≡ n = length-map-range_with_len first 0 n in
     let same : map first (range_with_len 0 n) ≡ map second (range_with_len 0 n) = same_number_lists (map first (range_with_len 0 n)) (map second (range_with_len 0 n)) (count ∙ sym (length-map-range_with_len second 0 n))
-        (λ k lt. let inside : k < size.h * size.w = omega (arith, lt, count) in
-            get_or-map-range_with_len first 0 n k k 0 inside (omega arith) ∙ each (k / size.w) (k % size.w) (row_below k size.w size.h inside) (column_below k size.w size.h inside) ∙ sym (get_or-map-range_with_len second 0 n k k 0 inside (omega arith))) in
+    (λ k lt. let inside : k < size.h * size.w = omega (arith, lt, count) in
+    get_or-map-range_with_len first 0 n k k 0 inside (omega arith) ∙ each (k / size.w) (k % size.w) (row_below k size.w size.h inside) (column_below k size.w size.h inside) ∙ sym (get_or-map-range_with_len second 0 n k k 0 inside (omega arith))) in
     let with_cells : List ℕ → SampleRows = λ cells. record { w = size.w; h = size.h; cells = cells } in
     ap with_cells same
 

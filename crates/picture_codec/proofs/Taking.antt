@@ -53,9 +53,9 @@ same-slice : (k a b c d : ℕ) → b < k → d < k → a * k + b ≡ c * k + d �
 same-slice k a b c d bk dk e = elim (cases_lt a c) [
   | inl lt ↦ absurd (omega (arith, times-le (a + 1) c k (omega arith), times-suc a k))
   | inr le ↦ elim (cases_lt c a) [
-      | inl gt ↦ absurd (omega (arith, times-le (c + 1) a k (omega arith), times-suc c k))
-      | inr ge ↦ let same : a ≡ c = omega arith in (same, omega (arith, ap (λ n. n * k) same))
-    ]
+    | inl gt ↦ absurd (omega (arith, times-le (c + 1) a k (omega arith), times-suc c k))
+    | inr ge ↦ let same : a ≡ c = omega arith in (same, omega (arith, ap (λ n. n * k) same))
+  ]
 ]
 
 -- the slice of a number that holds a place
@@ -101,7 +101,7 @@ upper-more : (f : Frame) (p : Params) (slices : List (List ℕ)) (bytes : List �
 upper-more f p slices bytes c sx sy old new g level orient y x is some y_in x_in lt = elim (cases_lt (holder p.slicing (band f p c level) y x) (length slices)) [
   | inl before ↦
       g.takes.upper_stays level orient y x is some (λ inside. let one = alone p.slicing (band f p c level) y x sx sy g.allowed inside in
-          absurd (omega (arith, before, g.number, ap (λ a. slice_number p.slicing a sy) one.0, ap (λ b. slice_number p.slicing (holding p.slicing.slices_x (band f p c level).w x) b) one.1)))
+      absurd (omega (arith, before, g.number, ap (λ a. slice_number p.slicing a sy) one.0, ap (λ b. slice_number p.slicing (holding p.slicing.slices_x (band f p c level).w x) b) one.1)))
       ∙ g.took.upper level orient y x is some y_in x_in before ∙ sym (coefficient-front f p slices bytes c level orient y x before)
   | inr here ↦
       let one = held-by p.slicing (band f p c level) y x sx sy g.allowed x_in y_in g.across (omega (arith, g.number)) in
@@ -124,7 +124,7 @@ lowest-more f p slices bytes c sx sy old new g (suc m) y x small y_in x_in lt =
     elim (cases_lt (holder s b y x) (length slices)) [
       | inl first ↦
           g.takes.lowest_stays y x (λ inside. let one = alone s b y x sx sy g.allowed inside in
-              absurd (omega (arith, first, g.number, ap (λ a. slice_number s a sy) one.0, ap (λ k. slice_number s (holding s.slices_x b.w x) k) one.1)))
+          absurd (omega (arith, first, g.number, ap (λ a. slice_number s a sy) one.0, ap (λ k. slice_number s (holding s.slices_x b.w x) k) one.1)))
           ∙ g.took.lowest y x y_in x_in first
           ∙ restored_same before now y x (λ j i down across. sym (coefficient-front f p slices bytes c 0 0 j i (omega (arith, rises j i down across))))
       | inr here ↦

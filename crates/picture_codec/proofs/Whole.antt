@@ -112,10 +112,10 @@ module _ (f : Frame) (p : Params) (slices : List (List ℕ)) (c : Component) (b 
   picture_is =
       ap (λ (d : ℕ). tabulated size (λ y x. sample_of (depth_of f c) (synthesis p.wavelet (band_size d 0 size).h (band_size d 0 size).w (coefficients_of b) d y x))) deep
       ∙ tabulated_same size (λ y x. sample_of (depth_of f c) (synthesis p.wavelet (band 0).h (band 0).w (coefficients_of b) depth y x)) (sample f p slices c)
-          (λ y x y_in x_in. ap (λ v. sample_of (depth_of f c) v)
-              (synthesis_same p.wavelet (band 0).h (band 0).w depth (coefficients_of b) (coefficients f p slices c) same_bands depth (omega arith) y x
-                  (omega (arith, y_in, padded_covers depth size.h low, levels.whole_size (padded_length depth size.h) depth (padded_whole depth size.h low)))
-                  (omega (arith, x_in, padded_covers depth size.w low, levels.whole_size (padded_length depth size.w) depth (padded_whole depth size.w low)))))
+      (λ y x y_in x_in. ap (λ v. sample_of (depth_of f c) v)
+      (synthesis_same p.wavelet (band 0).h (band 0).w depth (coefficients_of b) (coefficients f p slices c) same_bands depth (omega arith) y x
+      (omega (arith, y_in, padded_covers depth size.h low, levels.whole_size (padded_length depth size.h) depth (padded_whole depth size.h low)))
+      (omega (arith, x_in, padded_covers depth size.w low, levels.whole_size (padded_length depth size.w) depth (padded_whole depth size.w low)))))
 
 -- all three components
 pub unit_is : (d : Decoding) (slices : List (List ℕ)) (n : ℕ) → IsAllowed d.params.slicing → AllTaken d.params.slicing d.shape n d.bands → HasTaken slices d → length slices ≡ slice_count d.params.slicing

@@ -14,7 +14,6 @@ use crate::picture::Picture;
 use lifting::synth;
 use planes::{Bands, NoMemory, Plane, Trio};
 use slice_decoder::{SliceFault, decode_slice};
-
 use slice_geometry::{Component, Layout, PictureShape, Size};
 use std::alloc::Global;
 use std::marker::Model;
@@ -63,7 +62,13 @@ fn size_of(shape: &PictureShape, c: Component) -> Size
 }
 
 // The samples of a component from its bands.
-fn show_component(params: &TransformParams, bands: &Bands, room: &mut Workspace, c: Component, picture: &mut Picture)
+fn show_component(
+    params: &TransformParams,
+    bands: &Bands,
+    room: &mut Workspace,
+    c: Component,
+    picture: &mut Picture,
+)
     requires taken { AreTaken params.now.layout (pictures.size_of (frame_of picture.old.shape) c) (slice_count params.now.layout) bands.now }
     requires room { ArePadded params.now.layout (pictures.size_of (frame_of picture.old.shape) c) room.old.plane room.old.scratch }
     ensures picture { picture.new ≡ with_synthesised params.now.wavelet picture.old c bands.now }
@@ -101,12 +106,13 @@ impl Model for PictureDecoder {
     ghost Value = { Decoding };
 
     ghost view = { λ d. record {
-        shape = d.picture.shape;
-        params = params_of d.params;
-        bands = d.bands;
-        next = d.next;
-        refused = d.refused;
-        picture = if d.finished then Some d.picture.samples else None } };
+      shape = d.picture.shape;
+      params = params_of d.params;
+      bands = d.bands;
+      next = d.next;
+      refused = d.refused;
+      picture = if d.finished then Some d.picture.samples else None;
+    } };
 
     ghost invariant = { λ d. IsSound d.params.layout d.picture.shape d.next d.bands d.luma_room.plane d.luma_room.scratch d.colour_room.plane d.colour_room.scratch };
 }
@@ -158,7 +164,15 @@ impl PictureDecoder {
         let (params, shape) = (self.params, *self.picture.shape());
         let across = params.layout.slices_x();
         let (sx, sy) = (self.next % across, self.next / across);
-        match decode_slice(&params.layout, &shape, &params.matrix, sx, sy, bytes, &mut self.bands) {
+        match decode_slice(
+            &params.layout,
+            &shape,
+            &params.matrix,
+            sx,
+            sy,
+            bytes,
+            &mut self.bands,
+        ) {
             Ok(_) => {
                 self.next += 1;
                 Ok(())
@@ -178,9 +192,27 @@ impl PictureDecoder {
         ensures unit { (slices : List (List ℕ)) → HasTaken slices self.old → synthesised_picture self.old ≡ picture_of (frame_of self.old.shape) self.old.params slices }
     {
         let params = self.params;
-        show_component(&params, &self.bands.luma, &mut self.luma_room, Component::Luma, &mut self.picture);
-        show_component(&params, &self.bands.c1, &mut self.colour_room, Component::C1, &mut self.picture);
-        show_component(&params, &self.bands.c2, &mut self.colour_room, Component::C2, &mut self.picture);
+        show_component(
+            &params,
+            &self.bands.luma,
+            &mut self.luma_room,
+            Component::Luma,
+            &mut self.picture,
+        );
+        show_component(
+            &params,
+            &self.bands.c1,
+            &mut self.colour_room,
+            Component::C1,
+            &mut self.picture,
+        );
+        show_component(
+            &params,
+            &self.bands.c2,
+            &mut self.colour_room,
+            Component::C2,
+            &mut self.picture,
+        );
         self.finished = true;
     }
 

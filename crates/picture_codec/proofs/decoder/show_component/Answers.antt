@@ -34,4 +34,4 @@ returns-clause-picture c =
     let with_rows : SampleRows → PictureSeen = λ rows. record p { samples = with_component p.samples c.args.c rows } in
     c.show.ensures
     ∙ ap with_rows (sizes.shown_is s size c.args.bands.now c.args.room.now.plane c.args.room.now.scratch (slice_count s) c.requires.taken refl c.depth.ensures.allowed.slices c.depth.ensures.allowed.depth is c.requires.room
-        c.args.params.now.wavelet (bits_of p c.args.c) c.synth.new.plane c.synth.ensures.whole)
+    c.args.params.now.wavelet (bits_of p c.args.c) c.synth.new.plane c.synth.ensures.whole)

@@ -25,7 +25,7 @@ show_component-requires-2-clause-taken c =
     let all : n ≡ slice_count s = omega (arith, taken.few, wanted_none n (slice_count s) (slice_bytes s.a s.b n) none) in
     let same = ap (λ p. p.shape) c.show_component.ensures.picture in
     subst (λ (sh : PictureShape). AreTaken s sh.colour (slice_count s) c.self.inside.bands.c1) (sym same)
-        (subst (λ m. AreTaken s c.self.inside.picture.shape.colour m c.self.inside.bands.c1) all taken.c1)
+    (subst (λ m. AreTaken s c.self.inside.picture.shape.colour m c.self.inside.bands.c1) all taken.c1)
 
 pub show_component-requires-3-clause-taken : goal.show_component-requires-3-clause-taken
 show_component-requires-3-clause-taken c =
@@ -36,7 +36,7 @@ show_component-requires-3-clause-taken c =
     let all : n ≡ slice_count s = omega (arith, taken.few, wanted_none n (slice_count s) (slice_bytes s.a s.b n) none) in
     let same = ap (λ p. p.shape) c.show_component-2.ensures.picture ∙ ap (λ p. p.shape) c.show_component.ensures.picture in
     subst (λ (sh : PictureShape). AreTaken s sh.colour (slice_count s) c.self.inside.bands.c2) (sym same)
-        (subst (λ m. AreTaken s c.self.inside.picture.shape.colour m c.self.inside.bands.c2) all taken.c2)
+    (subst (λ m. AreTaken s c.self.inside.picture.shape.colour m c.self.inside.bands.c2) all taken.c2)
 
 pub returns-clause-unit : goal.returns-clause-unit
 returns-clause-unit c =
@@ -46,4 +46,4 @@ returns-clause-unit c =
     let none = ap wanted_of c.self.view_is ∙ c.requires.whole in
     let all : n ≡ slice_count s = omega (arith, taken.few, wanted_none n (slice_count s) (slice_bytes s.a s.b n) none) in
     subst (λ (d : Decoding). (slices : List (List ℕ)) → HasTaken slices d → synthesised_picture d ≡ picture_of (frame_of d.shape) d.params slices) c.self.view_is
-        (λ slices has. unit_is _ slices n c.show_component.ensures.allowed taken has (sym has.number ∙ all))
+    (λ slices has. unit_is _ slices n c.show_component.ensures.allowed taken has (sym has.number ∙ all))

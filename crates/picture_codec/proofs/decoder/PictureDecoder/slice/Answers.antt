@@ -30,7 +30,7 @@ decode_slice-requires-clause-ready c =
     let bands = c.self.inside.bands in
     let is = all_ready s shape n wanted.0 allowed.slices bands c.self.invariant.taken in
     subst (λ (sh : PictureShape). AreReady s sh (n % c.slices_x-across.result) (n / c.slices_x-across.result) bands) (sym c.shape.ensures)
-        (subst (λ a. AreReady s shape (n % a) (n / a) bands) (sym c.slices_x-across.ensures.value) is)
+    (subst (λ a. AreReady s shape (n % a) (n / a) bands) (sym c.slices_x-across.ensures.value) is)
 
 pub invariant_of-self : goal.invariant_of-self
 invariant_of-self c =
@@ -46,9 +46,9 @@ invariant_of-self c =
     let new = c.decode_slice.new.bands in
     let across = c.slices_x-across.result in
     let keeps = subst (λ a. AllKeepOthers s shape (n % a) (n / a) old new) c.slices_x-across.ensures.value
-        (subst (λ (sh : PictureShape). AllKeepOthers s sh (n % across) (n / across) old new) c.shape.ensures c.in-Ok.ensures.others) in
+    (subst (λ (sh : PictureShape). AllKeepOthers s sh (n % across) (n / across) old new) c.shape.ensures c.in-Ok.ensures.others) in
     let decoded = subst (λ a. IsDecoded s shape (n % a) (n / a) matrix (slice_at s shape.luma shape.colour (n % a) (n / a) bytes) head new) c.slices_x-across.ensures.value
-        (subst (λ (sh : PictureShape). IsDecoded s sh (n % across) (n / across) matrix (slice_at s sh.luma sh.colour (n % across) (n / across) bytes) head new) c.shape.ensures c.in-Ok.ensures.decoded) in
+    (subst (λ (sh : PictureShape). IsDecoded s sh (n % across) (n / across) matrix (slice_at s sh.luma sh.colour (n % across) (n / across) bytes) head new) c.shape.ensures c.in-Ok.ensures.decoded) in
     record {
       taken = all_more s shape n wanted.0 allowed.slices matrix (slice_at s shape.luma shape.colour (n % s.slices_x) (n / s.slices_x) bytes) head old new c.self.invariant.taken keeps decoded;
       luma = c.self.invariant.luma;
@@ -66,7 +66,7 @@ invariant_of-self-in-Err c =
     let new = c.decode_slice.new.bands in
     let across = c.slices_x-across.result in
     let keeps = subst (λ a. AllKeepOthers s shape (n % a) (n / a) old new) c.slices_x-across.ensures.value
-        (subst (λ (sh : PictureShape). AllKeepOthers s sh (n % across) (n / across) old new) c.shape.ensures c.in-Err.ensures.others) in
+    (subst (λ (sh : PictureShape). AllKeepOthers s sh (n % across) (n / across) old new) c.shape.ensures c.in-Err.ensures.others) in
     record {
       taken = all_same s shape n wanted.0 allowed.slices old new c.self.invariant.taken keeps;
       luma = c.self.invariant.luma;
@@ -86,14 +86,14 @@ returns-in-Ok c =
     let new = c.decode_slice.new.bands in
     let across = c.slices_x-across.result in
     let keeps = subst (λ a. AllKeepOthers s shape (n % a) (n / a) old new) c.slices_x-across.ensures.value
-        (subst (λ (sh : PictureShape). AllKeepOthers s sh (n % across) (n / across) old new) c.shape.ensures c.in-Ok.ensures.others) in
+    (subst (λ (sh : PictureShape). AllKeepOthers s sh (n % across) (n / across) old new) c.shape.ensures c.in-Ok.ensures.others) in
     let decoded = subst (λ a. IsDecoded s shape (n % a) (n / a) matrix (slice_at s shape.luma shape.colour (n % a) (n / a) bytes) head new) c.slices_x-across.ensures.value
-        (subst (λ (sh : PictureShape). IsDecoded s sh (n % across) (n / across) matrix (slice_at s sh.luma sh.colour (n % across) (n / across) bytes) head new) c.shape.ensures c.in-Ok.ensures.decoded) in
+    (subst (λ (sh : PictureShape). IsDecoded s sh (n % across) (n / across) matrix (slice_at s sh.luma sh.colour (n % across) (n / across) bytes) head new) c.shape.ensures c.in-Ok.ensures.decoded) in
     let after : Decoding = record { shape = shape; params = p; bands = new; next = n + 1; refused = c.self.inside.refused; picture = if c.self.inside.finished then Some c.self.inside.picture.samples else None } in
     subst (λ (d : Decoding). IsTaken bytes d after) c.self.view_is
-        (record {
-          state = refl;
-          fits = decoded.fits;
-          small = decoded.small;
-          each = takes_each shape p (n % s.slices_x) (n / s.slices_x) bytes head old new keeps decoded;
-        })
+    (record {
+      state = refl;
+      fits = decoded.fits;
+      small = decoded.small;
+      each = takes_each shape p (n % s.slices_x) (n / s.slices_x) bytes head old new keeps decoded;
+    })
