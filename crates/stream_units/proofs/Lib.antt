@@ -1,0 +1,6 @@
+pub mod Steady
+pub mod Whole
+pub mod OneAnswer
+pub mod StreamLaws
+pub mod Answering
+pub mod WorkedStreams

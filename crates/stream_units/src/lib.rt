@@ -1,0 +1,8 @@
+//! Streams: the rows of their units, and the reader that takes them from any source.
+#![tactic(auto)]
+
+mod laws;
+pub mod reason;
+
+pub use laws::one_answer;
+pub use reason::{Reason, Refusal};
