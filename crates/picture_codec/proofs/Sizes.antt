@@ -1,10 +1,9 @@
 -- Sizes of padded components, and what synthesis asks of taken bands.
-use Rattle.std.proofs.Common.{◌≡◌, ℕ, zero, suc, ◌+◌, ◌-◌, ◌*◌, ◌/◌, ◌%◌, ◌^◌, ◌<◌, ◌≤◌, inl, inr, refl, sym, ap, subst, ◌∙◌, arith}
+use Rattle.std.proofs.Common.{◌≡◌, ℕ, zero, suc, ◌+◌, ◌*◌, ◌/◌, ◌%◌, ◌^◌, ◌<◌, ◌≤◌, inr, sym, ap, subst, ◌∙◌, arith}
 use Rattle.std.proofs.Math.Nat.{mul_comm}
 use Rattle.std.specs.Prelude.{ℤ}
-use Rattle.planes.specs.Numbers.{Within}
 use Rattle.planes.specs.Raster.{Raster, height, at}
-use Rattle.planes.specs.Subbands.{BandStack, BandExists, band_of, subband_length}
+use Rattle.planes.specs.Subbands.{BandStack, band_of, subband_length}
 use Rattle.dc_prediction.specs.Prediction.{reach}
 use Rattle.dc_prediction.proofs.PredictionLemmas.{wider}
 use Rattle.slice_geometry.specs.declared.Size.{Size}
@@ -20,7 +19,7 @@ use Rattle.lifting.specs.declared.Wavelet.{Wavelet}
 use Rattle.lifting.specs.Transform.{synthesis}
 use Rattle.lifting.specs.Ranges.{SameInside}
 use Rattle.picture_codec.specs.Pictures.{sample_of}
-use Rattle.picture_codec.specs.Samples.{SampleRows, tabulated}
+use Rattle.picture_codec.specs.Samples.{tabulated}
 use Rattle.picture_codec.specs.Decoding.{AreTaken, ArePadded, synthesised}
 use Rattle.picture_codec.proofs.Tables.{tabulated_same}
 use Rattle.picture_codec.specs.Taking.{holder}

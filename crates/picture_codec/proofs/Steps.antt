@@ -1,15 +1,15 @@
 -- From slice to slice: what a decoder keeps.
-use Rattle.std.proofs.Common.{◌≡◌, ℕ, zero, suc, ◌+◌, ◌-◌, ◌*◌, ◌/◌, ◌%◌, ◌^◌, ◌<◌, ◌≤◌, inl, inr, refl, sym, ap, subst, ◌∙◌, arith, true, false, Bool, List, length}
+use Rattle.std.proofs.Common.{◌≡◌, ℕ, ◌+◌, ◌-◌, ◌*◌, ◌/◌, ◌%◌, ◌^◌, ◌<◌, ◌≤◌, inl, inr, refl, sym, ap, subst, ◌∙◌, arith, true, false, Bool, List}
 use Rattle.std.specs.Prelude.{ℤ, pos, negsuc, ◌+ℤ◌, unsigned_abs, slice_index_or, ◌&&◌}
 use Rattle.std.proofs.lemmas.Int.{ints}
 use Rattle.std.proofs.lemmas.Bool.{cases_lt}
 use Rattle.std.proofs.Math.Nat.{mul_comm}
 use Rattle.planes.specs.Numbers.{Within}
-use Rattle.planes.specs.Raster.{Raster, height, at}
+use Rattle.planes.specs.Raster.{at}
 use Rattle.planes.specs.Rect.{IsInRect}
 use Rattle.planes.specs.Subbands.{BandStack, BandExists, band_of, subband_length, AreZeroBands}
 use Rattle.planes.proofs.BandLemmas.{HaveSizes-zero}
-use Rattle.dc_prediction.specs.Prediction.{prediction, reach, AllLookedAt}
+use Rattle.dc_prediction.specs.Prediction.{prediction, reach}
 use Rattle.slice_geometry.specs.declared.Size.{Size}
 use Rattle.slice_geometry.specs.declared.Component.{Component}
 use Rattle.slice_geometry.specs.declared.Component.TheVariants.{Luma, C1, C2}

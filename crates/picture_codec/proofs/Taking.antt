@@ -1,6 +1,6 @@
 -- One slice more.
-use Rattle.std.proofs.Common.{◌≡◌, ◌≢◌, ℕ, zero, suc, ◌+◌, ◌-◌, ◌*◌, ◌/◌, ◌%◌, ◌<◌, ◌≤◌, List, [], ◌∷◌, ◌++◌, length, get_or, inl, inr, ◌⊎◌, refl, sym, ap, subst, ◌∙◌, arith}
-use Rattle.std.specs.Prelude.{ℤ, ◌+ℤ◌, slice_index_or}
+use Rattle.std.proofs.Common.{◌≡◌, ℕ, zero, suc, ◌+◌, ◌-◌, ◌*◌, ◌<◌, ◌≤◌, List, [], ◌∷◌, ◌++◌, length, get_or, inl, inr, refl, sym, ap, subst, ◌∙◌, arith}
+use Rattle.std.specs.Prelude.{◌+ℤ◌}
 use Rattle.std.proofs.lemmas.Bool.{cases_lt}
 use Rattle.std.proofs.lemmas.List.{length-append}
 use Rattle.planes.specs.Raster.{at}
@@ -13,7 +13,7 @@ use Rattle.slice_geometry.specs.Geometry.{band_size, holding}
 use Rattle.slice_geometry.proofs.Places.{held, alone, holding_below}
 use Rattle.slice_geometry.proofs.Quotients.{div-rises}
 use Rattle.slice_decoder.specs.Slice.{level_rect}
-use Rattle.dc_prediction.specs.Prediction.{Grid, prediction, restored, AllLookedAt}
+use Rattle.dc_prediction.specs.Prediction.{prediction, restored}
 use Rattle.dc_prediction.proofs.Bands.{is_restored, restored_same}
 use Rattle.dc_prediction.proofs.PredictionLemmas.{prediction_same}
 use Rattle.transform_params.specs.Params.{Params}

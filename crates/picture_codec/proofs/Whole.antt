@@ -1,21 +1,20 @@
 -- All slices of a unit, and its picture.
-use Rattle.std.proofs.Common.{◌≡◌, ℕ, zero, suc, ◌+◌, ◌-◌, ◌*◌, ◌/◌, ◌%◌, ◌^◌, ◌<◌, ◌≤◌, inl, inr, refl, sym, ap, subst, ◌∙◌, arith, List, [], ◌∷◌, ◌++◌, length, map, get_or}
+use Rattle.std.proofs.Common.{◌≡◌, ℕ, zero, suc, ◌+◌, ◌-◌, ◌*◌, ◌/◌, ◌%◌, ◌^◌, ◌<◌, ◌≤◌, inl, inr, refl, sym, ap, subst, ◌∙◌, arith, List, [], ◌∷◌, length, map, get_or}
 use Rattle.std.specs.Prelude.{ℤ, pos, neg_ℤ, ◌+ℤ◌, unsigned_abs, nat_lt, if◌then◌else◌, Option, None, Some}
 use Rattle.std.specs.Int.{int_min, int_max}
 use Rattle.lifting.specs.declared.Wavelet.{Wavelet}
 use Rattle.std.specs.List.{range_with_len}
 use Rattle.std.proofs.lemmas.Int.{ints, int_max_is, int_min_is}
 use Rattle.std.proofs.lemmas.Bool.{cases_lt}
-use Rattle.std.proofs.lemmas.List.{length-append}
 use Rattle.std.proofs.lemmas.List.FromFn.{length-map-range_with_len, get_or-map-range_with_len}
 use Rattle.planes.specs.Raster.{at}
-use Rattle.planes.specs.Subbands.{BandStack, BandExists, band_of, subband_length}
+use Rattle.planes.specs.Subbands.{BandStack, band_of, subband_length}
 use Rattle.slice_geometry.specs.declared.Size.{Size}
 use Rattle.slice_geometry.specs.declared.Component.{Component}
-use Rattle.slice_geometry.specs.Shape.{IsSize, IsDepth}
+use Rattle.slice_geometry.specs.Shape.{IsDepth}
 use Rattle.slice_geometry.specs.declared.Component.TheVariants.{Luma, C1, C2}
 use Rattle.slice_decoder.proofs.Decodes.{lt_tests, ge_tests}
-use Rattle.slice_geometry.specs.Slicing.{Slicing, IsAllowed, AreSlicesAllowed, slice_count}
+use Rattle.slice_geometry.specs.Slicing.{IsAllowed, AreSlicesAllowed, slice_count}
 use Rattle.slice_geometry.specs.Geometry.{padded_length, band_size}
 use Rattle.lifting.specs.Bands.{coefficients_of, lowest}
 use Rattle.lifting.specs.Ranges.{SameInside, SameBands}
@@ -23,11 +22,11 @@ use Rattle.lifting.specs.Transform.{Grid, synthesis}
 use Rattle.lifting.proofs.Inside.{synthesis_same}
 use Rattle.lifting.proofs.Levels as levels
 use Rattle.transform_params.specs.Params.{Params}
-use Rattle.picture_codec.specs.Pictures.{Frame, size_of, depth_of, coefficient, coefficients, clipped, sample_of, sample}
+use Rattle.picture_codec.specs.Pictures.{Frame, size_of, depth_of, coefficient, coefficients, sample_of, sample}
 use Rattle.picture_codec.specs.Samples.{SampleRows, PictureSamples, tabulated, AreSamples, frame_of, picture_of}
 use Rattle.picture_codec.specs.Taking.{holder, Took}
 use Rattle.picture_codec.specs.Decoding.{Decoding, AllTaken, HasTaken, synthesised, synthesised_picture}
-use Rattle.picture_codec.proofs.Halves.{half_some, half_most, doubled}
+use Rattle.picture_codec.proofs.Halves.{half_some, doubled}
 use Rattle.picture_codec.proofs.Tables.{tabulated_same, positive}
 use Rattle.picture_codec.proofs.Sizes.{padded_whole, padded_covers, holder_below}
 

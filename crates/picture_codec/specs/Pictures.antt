@@ -4,9 +4,9 @@ use Rattle.std.specs.Int.{int_min, int_max}
 use Rattle.slice_geometry.specs.declared.Size.{Size}
 use Rattle.slice_geometry.specs.declared.Component.{Component}
 use Rattle.slice_geometry.specs.declared.Component.TheVariants.{Luma, C1, C2}
-use Rattle.slice_geometry.specs.Slicing.{Slicing, slice_number}
+use Rattle.slice_geometry.specs.Slicing.{slice_number}
 use Rattle.slice_geometry.specs.Geometry.{band_size, holding}
-use Rattle.slice_decoder.specs.Slice.{Slice, slice_at, luma_values, colour_values, place_number}
+use Rattle.slice_decoder.specs.Slice.{slice_at, luma_values, colour_values, place_number}
 use Rattle.dc_prediction.specs.Prediction.{restored}
 use Rattle.lifting.specs.Transform.{Grid, Coefficients, synthesis}
 use Rattle.transform_params.specs.Params.{Params}

@@ -1,5 +1,5 @@
 -- Slices that are taken one after another, and the bands that hold them.
-use Rattle.std.specs.Prelude.{◌≡◌, ℕ, ◌+◌, ◌*◌, ◌<◌, ◌≤◌, List, length, ◌+ℤ◌}
+use Rattle.std.specs.Prelude.{◌≡◌, ℕ, ◌<◌, ◌≤◌, List, length, ◌+ℤ◌}
 use Rattle.planes.specs.Raster.{at}
 use Rattle.planes.specs.Rect.{IsInRect}
 use Rattle.planes.specs.Subbands.{BandStack, BandExists, band_of}

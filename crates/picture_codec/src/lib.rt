@@ -2,6 +2,7 @@
 #![tactic(auto)]
 
 mod decoder;
+pub mod laws;
 mod picture;
 mod samples;
 

@@ -1,5 +1,4 @@
 use Rattle.std.proofs.Common.{◌≡◌, ℕ, sym, ap, subst, ◌∙◌, arith, List}
-use Rattle.std.specs.Prelude.{None}
 use Rattle.slice_geometry.specs.declared.PictureShape.{PictureShape}
 use Rattle.slice_geometry.specs.Slicing.{slice_count, slice_bytes}
 use Rattle.picture_codec.specs.Samples.{frame_of, picture_of}

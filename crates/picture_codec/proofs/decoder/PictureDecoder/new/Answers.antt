@@ -1,4 +1,4 @@
-use Rattle.std.proofs.Common.{◌≡◌, ℕ, ◌≤◌, ap, sym, subst, arith}
+use Rattle.std.proofs.Common.{◌≡◌, ap, sym, subst, arith}
 use Rattle.slice_geometry.specs.declared.PictureShape.{PictureShape}
 use Rattle.planes.specs.declared.Trio.{Trio}
 use Rattle.picture_codec.specs.Decoding.{IsSound}

@@ -1,4 +1,4 @@
-use Rattle.std.proofs.Common.{◌≡◌, ℕ, ◌+◌, ◌%◌, ◌/◌, ◌<◌, sym, ap, subst, ◌∙◌, arith, refl, length}
+use Rattle.std.proofs.Common.{◌+◌, ◌%◌, ◌/◌, sym, ap, subst, ◌∙◌, arith, refl, length}
 use Rattle.std.specs.Prelude.{if◌then◌else◌, None, Some}
 use Rattle.slice_geometry.specs.declared.PictureShape.{PictureShape}
 use Rattle.slice_geometry.specs.Slicing.{slice_count, slice_bytes}
@@ -6,7 +6,6 @@ use Rattle.slice_geometry.proofs.Shares.{share_most}
 use Rattle.slice_decoder.specs.Slice.{slice_at}
 use Rattle.slice_decoder.specs.Decoded.{AreReady, AllKeepOthers, IsDecoded}
 use Rattle.transform_params.specs.Views.{params_of}
-use Rattle.picture_codec.specs.Samples.{frame_of}
 use Rattle.picture_codec.specs.Decoding.{Decoding, IsTaken, wanted_of}
 use Rattle.picture_codec.proofs.Steps.{all_ready, all_same, all_more, takes_each}
 use Rattle.picture_codec.proofs.Whole.{wanted_some}

@@ -1,4 +1,4 @@
-use Rattle.std.proofs.Common.{◌≡◌, ℕ, ◌+◌, ◌*◌, ◌/◌, ◌%◌, ◌<◌, length, slice_index_or}
+use Rattle.std.proofs.Common.{◌≡◌, ℕ, ◌*◌, ◌<◌, length}
 use Rattle.planes.specs.Raster.{at}
 use Rattle.picture_codec.specs.Pictures.{sample_of}
 use Rattle.picture_codec.specs.Samples.{sample_at}
