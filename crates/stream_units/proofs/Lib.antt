@@ -4,3 +4,4 @@ pub mod OneAnswer
 pub mod StreamLaws
 pub mod Answering
 pub mod WorkedStreams
+pub mod Gets

@@ -1,2 +1,3 @@
 pub mod Units
 pub mod Streams
+pub mod Asking

@@ -2,6 +2,7 @@
 #![tactic(auto)]
 
 mod laws;
+mod window;
 pub mod reason;
 
 pub use laws::one_answer;

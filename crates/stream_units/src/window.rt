@@ -1,0 +1,145 @@
+//! Bytes that were read and not used yet.
+
+ghost use Rattle.std.specs.Prelude.{◌≡◌, ◌+◌, ◌≤◌, ◌<◌, [], ℕ, length, slice_index, take, drop, Ok, Err, true, false, OnErr};
+ghost use Rattle.std.specs.Io.KnownBytes.{IsAtEnd};
+ghost use Rattle.vc2_run.specs.Ran.{within};
+ghost use Rattle.unit_table.specs.Begun.{Got};
+ghost use Rattle.stream_units.specs.Asking.{Refilled, Dropped, HaltCause};
+
+use bytes::BytesMut;
+use std::alloc::Global;
+use std::marker::Model;
+use vc2_io::Source;
+
+/// Why no more bytes came.
+#[derive(Clone, Copy, Debug, PartialEq, Eq)]
+pub(crate) enum Halt {
+    ReadFault,
+    NoMemory,
+}
+
+/// The most bytes that one read asks for.
+const PIECE: usize = 4096;
+
+/// The bytes that are held, and how many more may come before the limit.
+#[derive(Drop)]
+pub(crate) struct Window {
+    held: BytesMut<Global>,
+    room: u64,
+}
+
+impl Model for Window {
+    ghost use Rattle.stream_units.specs.Asking.{WindowSeen};
+
+    ghost Value = { WindowSeen };
+
+    ghost view = { λ w. record { held = w.held.items; room = w.room } };
+}
+
+impl Window {
+    /// No bytes, and room for so many.
+    pub fn new(alloc: Global, room: u64) -> Window
+        ensures { result ≡ record { held = []; room = room } }
+    {
+        Window {
+            held: BytesMut::new(alloc),
+            room,
+        }
+    }
+
+    /// How many bytes are held.
+    pub fn len(&self) -> usize
+        ensures { result ≡ length self.now.held }
+    {
+        self.held.len()
+    }
+
+    /// How many bytes may still come before the limit.
+    pub fn room(&self) -> u64
+        ensures { result ≡ self.now.room }
+    {
+        self.room
+    }
+
+    /// The first bytes that are held.
+    pub fn front(&self, count: usize) -> &[u8]
+        requires { count ≤ length self.now.held }
+        ensures value { result.now ≡ take count self.now.held }
+        ensures fits { (i : ℕ) → slice_index result.now i < 256 }
+    {
+        &self.held[..count]
+    }
+
+    /// Drops the first bytes that are held.
+    pub fn advance(&mut self, count: usize)
+        requires { count ≤ length self.old.held }
+        ensures held { self.new.held ≡ drop count self.old.held }
+        ensures room { self.new.room ≡ self.old.room }
+    {
+        self.held.advance(count);
+    }
+
+    // Reads once, at most 4096 bytes, and no more than there is room for before the limit. Room is made first, so no
+    // byte that was read is lost.
+    fn refill<S: Source>(&mut self, src: &mut S) -> Result<bool, Halt>
+        ensures got { Refilled self.old self.new (S.rest src.old) (S.rest src.new) }
+        ensures some { result ≡ Ok true → length self.old.held < length self.new.held }
+        ensures end { result ≡ Ok false → (self.new.held ≡ self.old.held) × IsAtEnd (within self.new.room (S.rest src.new)) }
+        ensures err { OnErr result (self.new.held ≡ self.old.held) }
+        ensures cause { HaltCause (S.faults src.old) (S.faults src.new) result }
+    {
+        if self.held.reserve(PIECE).is_err() {
+            return Err(Halt::NoMemory);
+        }
+        let mut piece = [0; PIECE];
+        let most = if self.room < PIECE as u64 { self.room as usize } else { PIECE };
+        let count = match src.read(&mut piece[..most]) {
+            Ok(count) => count,
+            Err(_) => return Err(Halt::ReadFault),
+        };
+        match self.held.extend_from_slice(&piece[..count]) {
+            Ok(()) => {}
+            Err(_) => return Err(Halt::NoMemory),
+        }
+        self.room -= count as u64;
+        Ok(count != 0)
+    }
+
+    /// Reads until so many bytes are held, and says whether they are: they aren't where the input has ended.
+    pub fn hold<S: Source>(&mut self, src: &mut S, count: usize) -> Result<bool, Halt>
+        ensures got { Got count self.old.held self.new.held (S.rest src.old) (S.rest src.new) [] }
+        ensures room { length self.new.held + self.new.room ≡ length self.old.held + self.old.room }
+        ensures enough { result ≡ Ok true → count ≤ length self.new.held }
+        ensures short { result ≡ Ok false → (length self.new.held < count) × IsAtEnd (within self.new.room (S.rest src.new)) }
+        ensures err { OnErr result (length self.new.held < count) }
+        ensures cause { HaltCause (S.faults src.old) (S.faults src.new) result }
+    {
+        while self.held.len() < count {
+            match self.refill(src) {
+                Ok(true) => {}
+                Ok(false) => return Ok(false),
+                Err(halt) => return Err(halt),
+            }
+        }
+        Ok(true)
+    }
+
+    /// Drops so many bytes in pieces, and never holds them all; says whether they were there.
+    pub fn skip<S: Source>(&mut self, src: &mut S, count: u64) -> Result<bool, Halt>
+        ensures dropped { Dropped count self.old self.new (S.rest src.old) (S.rest src.new) result }
+        ensures cause { HaltCause (S.faults src.old) (S.faults src.new) result }
+    {
+        let mut left = count;
+        while (self.held.len() as u64) < left {
+            left -= self.held.len() as u64;
+            self.held.clear();
+            match self.refill(src) {
+                Ok(true) => {}
+                Ok(false) => return Ok(false),
+                Err(halt) => return Err(halt),
+            }
+        }
+        self.held.advance(left as usize);
+        Ok(true)
+    }
+}
