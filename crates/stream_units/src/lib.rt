@@ -1,9 +1,13 @@
 //! Streams: the rows of their units, and the reader that takes them from any source.
 #![tactic(auto)]
 
+mod earlier;
 mod laws;
-mod window;
+mod pictures;
 pub mod reason;
+mod stop;
+mod window;
 
 pub use laws::one_answer;
 pub use reason::{Reason, Refusal};
+pub use stop::{Item, ReadStop};

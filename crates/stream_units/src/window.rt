@@ -101,7 +101,11 @@ impl Window {
             return Err(Halt::NoMemory);
         }
         let mut piece = [0; PIECE];
-        let most = if self.room < PIECE as u64 { self.room as usize } else { PIECE };
+        let most = if self.room < PIECE as u64 {
+            self.room as usize
+        } else {
+            PIECE
+        };
         let count = match src.read(&mut piece[..most]) {
             Ok(count) => count,
             Err(_) => return Err(Halt::ReadFault),
