@@ -2,3 +2,5 @@ pub mod Units
 pub mod Streams
 pub mod Asking
 pub mod Turns
+pub mod Reader
+pub mod ReaderInside

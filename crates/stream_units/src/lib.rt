@@ -3,11 +3,14 @@
 
 mod earlier;
 mod laws;
+mod parts;
 mod pictures;
+mod reader;
 pub mod reason;
 mod stop;
 mod window;
 
 pub use laws::one_answer;
+pub use reader::StreamReader;
 pub use reason::{Reason, Refusal};
 pub use stop::{Item, ReadStop};
