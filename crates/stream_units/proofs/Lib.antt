@@ -8,3 +8,4 @@ pub mod Gets
 pub mod Exact
 pub mod Groups
 pub mod UnitGroups
+pub mod Stopping
