@@ -5,3 +5,4 @@ pub mod StreamLaws
 pub mod Answering
 pub mod WorkedStreams
 pub mod Gets
+pub mod HeadRows

@@ -1,3 +1,4 @@
 pub mod Units
 pub mod Streams
 pub mod Asking
+pub mod Heads

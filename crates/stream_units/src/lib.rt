@@ -1,9 +1,11 @@
 //! Streams: the rows of their units, and the reader that takes them from any source.
 #![tactic(auto)]
 
+mod heads;
 mod laws;
-mod window;
 pub mod reason;
+mod window;
 
+pub use heads::first_unit;
 pub use laws::one_answer;
 pub use reason::{Reason, Refusal};
