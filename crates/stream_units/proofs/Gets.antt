@@ -3,19 +3,19 @@ use Rattle.std.proofs.Common.{◌≡◌, ℕ, ◌+◌, ◌<◌, ◌≤◌, List,
 use Rattle.std.proofs.lemmas.List.{length-append}
 use Rattle.vc2_io.proofs.Known.{Consumes-then, Consumes-none}
 use Rattle.unit_table.specs.Begun.{Got}
-use Rattle.stream_units.specs.Asking.{Refilled}
+use Rattle.stream_units.specs.Asking.{WindowSeen, Refilled}
 
 pub got_none : (n : ℕ) (held : List ℕ) (rest : Option (List ℕ)) → Got n held held rest rest []
 got_none n held rest = record { read = []; took = Consumes-none rest; parts = append-nil held; asked = λ h. absurd (omega arith); few = λ h. absurd (omega arith) }
 
 -- one read more, while there are too few
-pub got_refill : {n : ℕ} {held0 held1 held2 gone : List ℕ} {rest0 rest1 rest2 : Option (List ℕ)} {room1 room2 : ℕ} → Got n held0 held1 rest0 rest1 gone → Refilled held1 held2 room1 room2 rest1 rest2 → length gone + length held1 < n → Got n held0 held2 rest0 rest2 gone
-got_refill {held0 = held0} {held1 = held1} {held2 = held2} {gone = gone} {rest0 = rest0} {rest1 = rest1} {rest2 = rest2} got more short = record {
+pub got_refill : {n : ℕ} {held0 gone : List ℕ} {rest0 rest1 rest2 : Option (List ℕ)} {mid new : WindowSeen} → Got n held0 mid.held rest0 rest1 gone → Refilled mid new rest1 rest2 → length gone + length mid.held < n → Got n held0 new.held rest0 rest2 gone
+got_refill {held0 = held0} {gone = gone} {rest0 = rest0} {rest1 = rest1} {rest2 = rest2} {mid = mid} got more short = record {
   read = got.read ++ more.read;
   took = Consumes-then rest0 rest1 rest2 got.read more.read got.took more.took;
-  parts = sym (append_assoc held0 got.read more.read) ∙ ap (λ l. l ++ more.read) got.parts ∙ append_assoc gone held1 more.read ∙ ap (λ l. gone ++ l) (sym more.parts);
+  parts = sym (append_assoc held0 got.read more.read) ∙ ap (λ l. l ++ more.read) got.parts ∙ append_assoc gone mid.held more.read ∙ ap (λ l. gone ++ l) (sym more.parts);
   asked = λ h. omega (arith, short);
-  few = λ h. omega (arith, short, more.few, length-append got.read more.read, ap (λ (l : List ℕ). length l) got.parts, length-append held0 got.read, length-append gone held1);
+  few = λ h. omega (arith, short, more.few, length-append got.read more.read, ap (λ (l : List ℕ). length l) got.parts, length-append held0 got.read, length-append gone mid.held);
 }
 
 -- bytes from the front are dropped
@@ -29,6 +29,6 @@ got_drops {gone = gone} piece held2 held1 got split = record {
 }
 
 -- all that is held is dropped, and then a read
-pub skip_step : {n : ℕ} {held0 gone : List ℕ} {rest0 rest1 : Option (List ℕ)} (held1 held2 cleared : List ℕ) (rest2 : Option (List ℕ)) (room1 room2 : ℕ) → Got n held0 held1 rest0 rest1 gone → cleared ≡ [] → Refilled cleared held2 room1 room2 rest1 rest2 → length gone + length held1 < n → Got n held0 held2 rest0 rest2 (gone ++ held1)
-skip_step {gone = gone} {rest1 = rest1} held1 held2 cleared rest2 room1 room2 got none more short =
-    got_refill (got_drops held1 [] held1 got (sym (append-nil held1))) (subst (λ l. Refilled l held2 room1 room2 rest1 rest2) none more) (omega (arith, length-append gone held1))
+pub skip_step : {n : ℕ} {held0 gone : List ℕ} {rest0 rest1 : Option (List ℕ)} {cleared new : WindowSeen} (held1 : List ℕ) (rest2 : Option (List ℕ)) → Got n held0 held1 rest0 rest1 gone → cleared.held ≡ [] → Refilled cleared new rest1 rest2 → length gone + length held1 < n → Got n held0 new.held rest0 rest2 (gone ++ held1)
+skip_step {n = n} {held0 = held0} {gone = gone} {rest0 = rest0} {rest1 = rest1} {cleared = cleared} held1 rest2 got none more short =
+    got_refill (subst (λ l. Got n held0 l rest0 rest1 (gone ++ held1)) (sym none) (got_drops held1 [] held1 got (sym (append-nil held1)))) more (omega (arith, length-append gone held1, ap (λ (l : List ℕ). length l) none))

@@ -2,3 +2,4 @@ pub mod Units
 pub mod Streams
 pub mod Asking
 pub mod Heads
+pub mod Turns

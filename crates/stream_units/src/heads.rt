@@ -2,30 +2,40 @@
 
 ghost use Rattle.std.specs.Prelude.{◌≡◌, ◌+◌, ◌^◌, ◌≤◌, length, Err};
 ghost use Rattle.field_rows.specs.Rows.{first_broken};
-ghost use Rattle.stream_units.specs.Units.{Past, is_header, is_end_code, is_skipped, header_reason, transform_reason, next_rules};
+ghost use Rattle.stream_units.specs.Units.{is_header, is_end_code, is_skipped, header_reason, transform_reason, next_rules};
 ghost use Rattle.stream_units.specs.Heads.{looking_back, are_fields, passes, code_rules_behind, previous_rules_behind, judged_head, HeadAt, leads_behind, IsFirstUnit};
 
+use crate::earlier::Earlier;
 use crate::reason::{Reason, Refusal};
 use parse_info::{Code, InfoFault, ParseInfo};
 use sequence_header::{HeaderReason, SequenceHeader};
 use transform_params::TransformReason;
 
-/// What a head looks back at: where its unit begins, the length of the unit before, the picture coding mode of the first
-/// sequence header, and how many pictures there were.
+// What a head looks back at: where its unit begins, the length of the unit before, the picture coding mode of the first
+// sequence header, and how many pictures there were.
 #[derive(Clone, Copy, Debug, PartialEq, Eq)]
-pub(crate) struct Before {
-    pub place: u64,
-    pub previous: u32,
-    pub coding: Option<u32>,
-    pub pictures: u64,
+struct Before {
+    place: u64,
+    previous: u32,
+    coding: Option<u32>,
+    pictures: u64,
 }
 
-const NOTHING_YET: Before = Before {
-    place: 0,
-    previous: 0,
-    coding: None,
-    pictures: 0,
-};
+fn look_back(earlier: &Earlier) -> Before
+    ensures value { result ≡ looking_back earlier.now }
+    ensures most { result.place ≤ 2 ^ 40 }
+{
+    let coding = match earlier.first() {
+        Some(first) => Some(first.header().parts().coding),
+        None => None,
+    };
+    Before {
+        place: earlier.place(),
+        previous: earlier.previous(),
+        coding,
+        pictures: earlier.pictures(),
+    }
+}
 
 /// The reason of a sequence header's refusal.
 pub(crate) fn header_reason(reason: HeaderReason) -> Reason
@@ -180,11 +190,10 @@ fn judge(before: Before, read: Result<ParseInfo, InfoFault>) -> Result<ParseInfo
 }
 
 /// The head of the unit in front of the bytes, or its first fault.
-pub(crate) fn read_head(before: Before, bytes: &[u8]) -> Result<ParseInfo, Refusal>
-    requires { before.place ≤ 2 ^ 40 }
-    ensures { (z : Past) → before ≡ looking_back z → HeadAt z bytes.now result }
+pub(crate) fn read_head(earlier: &Earlier, bytes: &[u8]) -> Result<ParseInfo, Refusal>
+    ensures { HeadAt earlier.now bytes.now result }
 {
-    judge(before, ParseInfo::read(bytes))
+    judge(look_back(earlier), ParseInfo::read(bytes))
 }
 
 /// A next offset of 0, or of the unit's length.
@@ -200,7 +209,7 @@ pub fn first_unit(bytes: &[u8]) -> Result<(SequenceHeader, usize), Refusal>
     requires { length bytes.now ≤ 2 ^ 40 }
     ensures { IsFirstUnit bytes.now result }
 {
-    let info = read_head(NOTHING_YET, bytes)?;
+    let info = read_head(&Earlier::new(), bytes)?;
     let (header, length) = match SequenceHeader::read(&bytes[13..]) {
         Ok(read) => read,
         Err(fault) => {

@@ -67,7 +67,8 @@ impl Window {
         ensures value { result.now ≡ take count self.now.held }
         ensures fits { (i : ℕ) → slice_index result.now i < 256 }
     {
-        &self.held[..count]
+        let held: &[u8] = &self.held;
+        &held[..count]
     }
 
     /// Drops the first bytes that are held.
@@ -77,6 +78,14 @@ impl Window {
         ensures room { self.new.room ≡ self.old.room }
     {
         self.held.advance(count);
+    }
+
+    // Drops all bytes that are held.
+    fn clear(&mut self)
+        ensures held { self.new.held ≡ [] }
+        ensures room { self.new.room ≡ self.old.room }
+    {
+        self.held.clear();
     }
 
     // Reads once, at most 4096 bytes, and no more than there is room for before the limit. Room is made first, so no
@@ -92,7 +101,11 @@ impl Window {
             return Err(Halt::NoMemory);
         }
         let mut piece = [0; PIECE];
-        let most = if self.room < PIECE as u64 { self.room as usize } else { PIECE };
+        let most = if self.room < PIECE as u64 {
+            self.room as usize
+        } else {
+            PIECE
+        };
         let count = match src.read(&mut piece[..most]) {
             Ok(count) => count,
             Err(_) => return Err(Halt::ReadFault),
@@ -114,7 +127,7 @@ impl Window {
         ensures err { OnErr result (length self.new.held < count) }
         ensures cause { HaltCause (S.faults src.old) (S.faults src.new) result }
     {
-        while self.held.len() < count {
+        while self.len() < count {
             match self.refill(src) {
                 Ok(true) => {}
                 Ok(false) => return Ok(false),
@@ -130,16 +143,16 @@ impl Window {
         ensures cause { HaltCause (S.faults src.old) (S.faults src.new) result }
     {
         let mut left = count;
-        while (self.held.len() as u64) < left {
-            left -= self.held.len() as u64;
-            self.held.clear();
+        while (self.len() as u64) < left {
+            left -= self.len() as u64;
+            self.clear();
             match self.refill(src) {
                 Ok(true) => {}
                 Ok(false) => return Ok(false),
                 Err(halt) => return Err(halt),
             }
         }
-        self.held.advance(left as usize);
+        self.advance(left as usize);
         Ok(true)
     }
 }

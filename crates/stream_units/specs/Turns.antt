@@ -1,0 +1,102 @@
+-- How the unit in front of a stream is read from a source: what each answer says of the bytes that were held at entry
+-- and then those that were read.
+use Rattle.std.specs.Prelude.{◌≡◌, ◌≤◌, ◌<◌, ℕ, ◌+◌, ◌-◌, ◌^◌, Bool, true, false, List, [], ◌∷◌, ◌++◌, length, drop, Option, Some, None, Result, Ok, Err, MatchResult}
+use Rattle.std.specs.Io.KnownBytes.{IsAtEnd}
+use Rattle.vc2_io.specs.Outside.{Rose}
+use Rattle.vc2_run.specs.Ran.{within}
+use Rattle.field_rows.specs.Rows.{Fault}
+use Rattle.slice_geometry.specs.declared.unit_list.UnitShape.{UnitShape}
+use Rattle.slice_geometry.specs.Slicing.{slice_count, total_bytes}
+use Rattle.sequence_header.specs.declared.parts.HeaderParts.{HeaderParts}
+use Rattle.transform_params.specs.Params.{Params}
+use Rattle.picture_codec.specs.Samples.{PictureSamples, PictureSeen, frame_of, picture_of}
+use Rattle.picture_codec.specs.Decoding.{Decoding}
+use Rattle.unit_table.specs.Fronts.{Finishes, Refuses}
+use Rattle.unit_table.specs.Begun.{Begun, Lost, Due, Taken, Over}
+use Rattle.unit_table.specs.Turn.{TakesUnit, MeetsFront}
+use Rattle.stream_units.specs.declared.reason.Reason.{Reason}
+use Rattle.stream_units.specs.declared.reason.Reason.TheVariants as reasons
+use Rattle.stream_units.specs.declared.reason.Refusal.{Refusal}
+use Rattle.stream_units.specs.declared.stop.ReadStop.{ReadStop}
+use Rattle.stream_units.specs.declared.stop.ReadStop.TheVariants as stops
+use Rattle.stream_units.specs.declared.stop.Item.{Item}
+use Rattle.stream_units.specs.declared.stop.Item.TheVariants as items
+use Rattle.stream_units.specs.declared.window.Halt.{Halt}
+use Rattle.stream_units.specs.declared.window.Halt.TheVariants as halts
+use Rattle.stream_units.specs.declared.pictures.Shown.{Shown}
+use Rattle.stream_units.specs.Asking.{WindowSeen}
+use Rattle.stream_units.specs.Units.{Past, First, DataUnit, Sequence, Repeated, Picture, Skipped, End, units, after}
+use Rattle.stream_units.specs.Streams.{limit, past_limit, refusal_of, frame_under}
+
+abbrev pub stop_of : Halt → ReadStop
+stop_of halts.ReadFault = stops.ReadFault
+stop_of halts.NoMemory = stops.NoMemory
+
+-- ---- one unit, of an input that ends where the room does
+
+-- a unit of which this is true was taken; the bytes behind it are held
+pub record Takes (z : Past) (held0 : List ℕ) (rest0 rest1 : Option (List ℕ)) (room : ℕ) (held1 : List ℕ) (IsSuch : DataUnit → List ℕ → Type 0) : Type 0 where
+  pub unit : DataUnit
+  pub bytes : List ℕ
+  pub such : IsSuch unit bytes
+  pub total : z.place + length bytes + length held1 + room ≡ limit
+  pub short : length bytes < 2 ^ 32
+  pub taken : Taken units z held0 rest0 rest1 bytes held1 unit
+
+-- the stream ends with this unit, and nothing is behind it
+pub record Ends (z : Past) (held0 : List ℕ) (rest0 rest1 : Option (List ℕ)) (room : ℕ) (held1 : List ℕ) : Type 0 where
+  pub bytes : List ℕ
+  pub none : held1 ≡ []
+  pub last : IsAtEnd (within room rest1)
+  pub total : z.place + length bytes + room ≡ limit
+  pub short : length bytes < 2 ^ 32
+  pub over : Over units z held0 rest0 rest1 (within room rest1) (z.place + length bytes) (Finishes (length bytes) End)
+
+-- the unit is refused; where the input ends inside it, nothing more comes
+pub record Refused (z : Past) (held0 : List ℕ) (rest0 rest1 : Option (List ℕ)) (room : ℕ) (refusal : Refusal) : Type 0 where
+  pub fault : Fault Reason
+  pub there : refusal ≡ refusal_of fault
+  pub top : ℕ
+  pub total : top + room ≡ limit
+  pub at_end : refusal.reason ≡ reasons.Truncated → IsAtEnd (within room rest1)
+  pub over : Over units z held0 rest0 rest1 (within room rest1) top (Refuses fault)
+
+abbrev pub StopsOver : Past → List ℕ → Option (List ℕ) → Option (List ℕ) → ℕ → ReadStop → Type 0
+StopsOver z held0 rest0 rest1 room (stops.Refused refusal) = Refused z held0 rest0 rest1 room refusal
+StopsOver z held0 rest0 rest1 room stops.ReadFault = (top : ℕ) × (top ≤ limit) × Lost units z held0 rest0 rest1 top
+StopsOver z held0 rest0 rest1 room stops.NoMemory = (top : ℕ) × (top ≤ limit) × Due units z held0 rest0 rest1 top
+
+-- a failed read has its cause, and without one the count stands still
+abbrev pub StopCause : {X : Type 0} → ℕ → ℕ → Result X ReadStop → Type 0
+StopCause before now (Ok x) = now ≡ before
+StopCause before now (Err stops.ReadFault) = (before ≤ now) × Rose before now
+StopCause before now (Err other) = now ≡ before
+
+-- ---- what units are
+
+-- the first header, with the bytes of its payload
+abbrev pub IsFirst : First → DataUnit → List ℕ → Type 0
+IsFirst first unit bytes = (unit ≡ Sequence first.parts) × (first.payload ≡ drop 13 bytes)
+
+-- the decoder shows the picture of these slices
+pub record Shows (parts : HeaderParts) (params : Params) (slices : List (List ℕ)) (d : Decoding) : Type 0 where
+  pub frame : frame_of d.shape ≡ frame_under parts
+  pub picture : d.picture ≡ Some (picture_of (frame_under parts) params slices)
+
+-- the shape of a unit's bytes: a picture's slices stand behind its head
+abbrev pub shape_of : Past → DataUnit → List ℕ → UnitShape
+shape_of z (Picture parts number params slices) bytes = record { start = z.place; head = length bytes - total_bytes params.slicing; slices = slice_count params.slicing; a = params.slicing.a; b = params.slicing.b }
+shape_of z other bytes = record { start = z.place; head = length bytes; slices = 0; a = 1; b = 1 }
+
+-- a picture that was read, of pictures under this header
+pub record IsShown (parts : HeaderParts) (shown : Shown) (unit : DataUnit) (bytes : List ℕ) : Type 0 where
+  pub params : Params
+  pub slices : List (List ℕ)
+  pub is_picture : unit ≡ Picture parts shown.number params slices
+  pub layout : shown.layout ≡ params.slicing
+  pub head : length bytes ≡ shown.head + total_bytes params.slicing
+  pub shows : Shows parts params slices shown.decoder
+
+-- how the payload of a picture comes out
+abbrev pub PictureOver : Past → List ℕ → Option (List ℕ) → Option (List ℕ) → WindowSeen → HeaderParts → Result Shown ReadStop → Type 0
+PictureOver z held0 rest0 rest1 window parts result = MatchResult result (λ shown. Takes z held0 rest0 rest1 window.room window.held (IsShown parts shown)) (λ stop. StopsOver z held0 rest0 rest1 window.room stop)

@@ -1,0 +1,148 @@
+//! What earlier units leave.
+
+use parse_info::Chain;
+use sequence_header::SequenceHeader;
+use std::marker::Model;
+
+/// The first sequence header, with the bytes of its payload.
+#[derive(Drop)]
+pub(crate) struct First {
+    header: SequenceHeader,
+    payload: Vec<u8>,
+}
+
+impl Model for First {
+    ghost use Rattle.stream_units.specs.Units as units;
+
+    ghost Value = { units.First };
+
+    ghost view = { λ a. record { parts = a.header; payload = a.payload.items } };
+}
+
+impl First {
+    ghost use Rattle.std.specs.Prelude.{◌≡◌};
+
+    /// A header of these bytes.
+    pub fn new(header: SequenceHeader, payload: Vec<u8>) -> First
+        ensures { result ≡ record { parts = header; payload = payload.items } }
+    {
+        First { header, payload }
+    }
+
+    /// The header.
+    pub fn header(&self) -> &SequenceHeader
+        ensures { result.now ≡ self.now.parts }
+    {
+        &self.header
+    }
+
+    /// The bytes of its payload.
+    pub fn payload(&self) -> &[u8]
+        ensures { result.now ≡ self.now.payload }
+    {
+        self.payload.as_slice()
+    }
+}
+
+/// What earlier units leave: where the next one begins and the length of the one before, the first sequence header, how
+/// many pictures there were, and the number of the last.
+#[derive(Drop)]
+pub(crate) struct Earlier {
+    chain: Chain,
+    first: Option<First>,
+    pictures: u64,
+    last: u32,
+}
+
+impl Model for Earlier {
+    ghost use Rattle.std.specs.Prelude.{◌≤◌};
+    ghost use Rattle.stream_units.specs.Units.{Past};
+
+    ghost Value = { Past };
+
+    ghost view = { λ a. record { place = a.chain.place; previous = a.chain.previous; first = a.first; pictures = a.pictures; last = a.last } };
+
+    ghost invariant = { λ a. a.pictures ≤ a.chain.place };
+}
+
+impl Earlier {
+    ghost use Rattle.std.specs.Prelude.{◌≡◌, ◌≤◌, ◌<◌, ◌+◌, ◌^◌, Some, None, IfSome, IsNone, ◌↔◌};
+    ghost use Rattle.stream_units.specs.Units.{nothing_yet};
+
+    /// Before the first unit.
+    pub fn new() -> Earlier
+        ensures { result ≡ nothing_yet }
+    {
+        Earlier {
+            chain: Chain::new(),
+            first: None,
+            pictures: 0,
+            last: 0,
+        }
+    }
+
+    /// The place of the next unit.
+    pub fn place(&self) -> u64
+        ensures value { result ≡ self.now.place }
+        ensures most { result ≤ 2 ^ 40 }
+    {
+        self.chain.place()
+    }
+
+    /// The true previous offset of the next unit.
+    pub fn previous(&self) -> u32
+        ensures { result ≡ self.now.previous }
+    {
+        self.chain.previous()
+    }
+
+    /// The first sequence header, where there was one.
+    pub fn first(&self) -> Option<&First>
+        ensures some { IfSome result (λ first. self.now.first ≡ Some first.now) }
+        ensures none { IsNone result ↔ (self.now.first ≡ None) }
+    {
+        self.first.as_ref()
+    }
+
+    /// How many pictures there were.
+    pub fn pictures(&self) -> u64
+        ensures { result ≡ self.now.pictures }
+    {
+        self.pictures
+    }
+
+    /// The number of the last picture, and 0 before the first.
+    pub fn last(&self) -> u32
+        ensures { result ≡ self.now.last }
+    {
+        self.last
+    }
+
+    /// Goes on behind a unit of so many bytes.
+    pub fn step(&mut self, length: u32)
+        requires { self.old.place + length ≤ 2 ^ 40 }
+        ensures { self.new ≡ record self.old { place = self.old.place + length; previous = length } }
+    {
+        self.chain.step(length);
+    }
+
+    /// Goes on behind the first sequence header's unit.
+    pub fn step_first(&mut self, first: First, length: u32)
+        requires { self.old.place + length ≤ 2 ^ 40 }
+        ensures { self.new ≡ record self.old { place = self.old.place + length; previous = length; first = Some first } }
+    {
+        self.first = Some(first);
+        self.chain.step(length);
+    }
+
+    /// Goes on behind a picture's unit, which has a byte at least.
+    pub fn step_picture(&mut self, number: u32, length: u32)
+        requires some { 0 < length }
+        requires most { self.old.place + length ≤ 2 ^ 40 }
+        ensures { self.new ≡ record self.old { place = self.old.place + length; previous = length; pictures = self.old.pictures + 1; last = number } }
+    {
+        self.pictures += 1;
+        self.last = number;
+        self.chain.step(length);
+    }
+}
