@@ -9,3 +9,4 @@ pub mod Exact
 pub mod Groups
 pub mod UnitGroups
 pub mod Stopping
+pub mod HeadRows

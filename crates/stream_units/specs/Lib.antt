@@ -1,4 +1,5 @@
 pub mod Units
 pub mod Streams
 pub mod Asking
+pub mod Heads
 pub mod Turns

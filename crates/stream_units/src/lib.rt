@@ -2,12 +2,14 @@
 #![tactic(auto)]
 
 mod earlier;
+mod heads;
 mod laws;
 mod pictures;
 pub mod reason;
 mod stop;
 mod window;
 
+pub use heads::first_unit;
 pub use laws::one_answer;
 pub use reason::{Reason, Refusal};
 pub use stop::{Item, ReadStop};
