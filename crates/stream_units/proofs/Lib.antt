@@ -5,3 +5,8 @@ pub mod StreamLaws
 pub mod Answering
 pub mod WorkedStreams
 pub mod Gets
+pub mod Exact
+pub mod Groups
+pub mod UnitGroups
+pub mod Stopping
+pub mod HeadRows
