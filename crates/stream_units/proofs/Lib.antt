@@ -10,3 +10,4 @@ pub mod Groups
 pub mod UnitGroups
 pub mod Stopping
 pub mod HeadRows
+pub mod PartTurns

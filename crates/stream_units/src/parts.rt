@@ -54,7 +54,7 @@ pub(crate) fn skipped<S: Source>(
         → PartOver earlier.now held0 rest0 (S.rest src.new) window.new (λ _ unit bytes. unit ≡ Skipped) result }
     ensures cause { StopCause (S.faults src.old) (S.faults src.new) result }
 {
-    match window.skip(src, u64::from(next - 13)) {
+    match window.skip(src, (next - 13) as u64) {
         Ok(true) => Ok(()),
         Ok(false) => Err(refused(earlier.place() + 13, Reason::Truncated)),
         Err(halt) => Err(stop_of(halt)),
