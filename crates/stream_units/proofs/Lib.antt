@@ -11,3 +11,4 @@ pub mod UnitGroups
 pub mod Stopping
 pub mod HeadRows
 pub mod PartTurns
+pub mod HeaderTurns
