@@ -1,6 +1,6 @@
 -- How the payload of the first sequence header comes out.
 use Rattle.std.proofs.Common.{◌≡◌, ◌≢◌, ℕ, ◌+◌, ◌-◌, ◌*◌, ◌/◌, ◌^◌, ◌<◌, ◌≤◌, Bool, true, false, List, [], ◌∷◌, ◌++◌, length, take, drop, Option, Some, None, Result, Ok, Err, refl, sym, ap, subst, ◌∙◌, arith, append-nil}
-use Rattle.std.proofs.lemmas.List.{length-append, length-take, nil_from_length, take-append-drop, drop_at, take_all}
+use Rattle.std.proofs.lemmas.List.{length-append, length-take, length-drop, nil_from_length, take-append-drop, drop_at, take_all}
 use Rattle.std.specs.Io.KnownBytes.{IsAtEnd}
 use Rattle.bit_codes.specs.Bits.{cursor_at}
 use Rattle.field_rows.specs.Rows.{Rows, done, read, ◌>>=◌, renamed, Fault}
@@ -20,10 +20,12 @@ use Rattle.stream_units.specs.declared.stop.ReadStop.{ReadStop}
 use Rattle.stream_units.specs.declared.stop.ReadStop.TheVariants as stops
 use Rattle.stream_units.specs.Units.{Past, First, DataUnit, Sequence, reason_of, header_reason, next_checked, first_payload, units}
 use Rattle.stream_units.specs.Streams.{limit, is_truncated}
-use Rattle.stream_units.specs.Turns.{stop_of, StopsOver, ReadsHeader}
+use Rattle.stream_units.specs.Turns.{stop_of, StopsOver, Takes, IsFirst, ReadsHeader}
+use Rattle.stream_units.specs.Heads.{leads_behind}
 use Rattle.stream_units.proofs.Steady.{units_laws}
 use Rattle.stream_units.proofs.Groups.{group_moves, group_refused, group_lacks}
 use Rattle.stream_units.proofs.UnitGroups.{header_group}
+use Rattle.stream_units.proofs.PartTurns.{checked_refused, checked_takes_gone}
 use Rattle.stream_units.proofs.Stopping.{stops_lacking, stops_short, stops_refused, stops_due}
 
 abbrev behind : Past → ℕ → HeaderParts → Rows Reason DataUnit
@@ -103,3 +105,26 @@ header_lost {held1 = held1} next bytes fault rest2 held2 room halt stop b same e
     let still : held2 ≡ held1 = got_nothing got (omega (arith, few)) in
     let b2 = header_more next bytes fault rest2 held2 b same e got in
     stops_lacking room halt stop b2 (header_lacks next bytes fault b2 (same ∙ sym still) e) total is
+
+-- ---- behind a header that stands
+
+pub behind_due : {z : Past} {held0 held1 : List ℕ} {rest0 rest1 : Option (List ℕ)} (next : ℕ) (parts : HeaderParts) (len room : ℕ) (stop : ReadStop) → ReadsHeader z next held0 rest0 rest1 held1 parts len → z.place + 13 + length held1 + room ≡ limit → stop ≡ stops.NoMemory → StopsOver z held0 rest0 rest1 room stop
+behind_due {z} {held0} {held1} {rest0} {rest1} next parts len room stop r total e =
+    subst (StopsOver z held0 rest0 rest1 room) (sym e) (stops_due room r.begun (omega (arith, total, r.inside, length-drop len held1)))
+
+at_behind : {z : Past} {held0 held1 : List ℕ} {rest0 rest1 : Option (List ℕ)} (next : ℕ) (parts : HeaderParts) (len : ℕ) (still : List ℕ) → ReadsHeader z next held0 rest0 rest1 held1 parts len → still ≡ drop len held1
+    → (b : Begun units z held0 rest0 rest1 (z.place + (13 + len)) still (behind z next parts)) × (drop 13 b.gone ≡ take len held1)
+at_behind {z} {held0} {held1} {rest0} {rest1} next parts len still r left =
+    subst (λ l. (b : Begun units z held0 rest0 rest1 (z.place + (13 + len)) l (behind z next parts)) × (drop 13 b.gone ≡ take len held1)) (sym left)
+    (subst (λ p. (b : Begun units z held0 rest0 rest1 p (drop len held1) (behind z next parts)) × (drop 13 b.gone ≡ take len held1)) (omega arith) (r.begun, r.payload))
+
+pub behind_refused : {z : Past} {held0 held1 : List ℕ} {rest0 rest1 : Option (List ℕ)} (next : ℕ) (parts : HeaderParts) (len : ℕ) (still : List ℕ) (room : ℕ) (stop : ReadStop) → ReadsHeader z next held0 rest0 rest1 held1 parts len → still ≡ drop len held1 → leads_behind next (13 + len) ≡ false
+    → z.place + 13 + length held1 + room ≡ limit → stop ≡ stops.Refused (record { place = z.place + 5; reason = reasons.OffsetWrong }) → StopsOver z held0 rest0 rest1 room stop
+behind_refused {held1 = held1} next parts len still room stop r left leads total e =
+    checked_refused room next (13 + len) (Sequence parts) stop (at_behind next parts len still r left).0 leads (omega (arith, total, r.inside, length-drop len held1, ap (λ (l : List ℕ). length l) left)) e
+
+pub behind_takes : {z : Past} {held0 held1 : List ℕ} {rest0 rest1 : Option (List ℕ)} (next : ℕ) (len : ℕ) (still : List ℕ) (room : ℕ) (first : First) → ReadsHeader z next held0 rest0 rest1 held1 first.parts len → still ≡ drop len held1 → leads_behind next (13 + len) ≡ true
+    → z.place + 13 + length held1 + room ≡ limit → len ≤ 8192 → first.payload ≡ take len held1 → Takes z held0 rest0 rest1 room still (IsFirst first)
+behind_takes {held1 = held1} next len still room first r left leads total few copy =
+    let b = at_behind next first.parts len still r left in
+    checked_takes_gone room next (13 + len) (IsFirst first) (Sequence first.parts) b.0 leads refl (omega (arith, total, r.inside, length-drop len held1, ap (λ (l : List ℕ). length l) left)) (omega (arith, few)) (refl, copy ∙ sym b.1)
