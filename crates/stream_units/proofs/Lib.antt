@@ -10,3 +10,5 @@ pub mod Groups
 pub mod UnitGroups
 pub mod Stopping
 pub mod HeadRows
+pub mod PictureTurns
+pub mod Ready

@@ -3,3 +3,4 @@ pub mod Streams
 pub mod Asking
 pub mod Heads
 pub mod Turns
+pub mod Parts
