@@ -148,13 +148,16 @@ same_held n held1 held2 rest1 rest2 all got few =
     let none : got.read ≡ [] = nil_from_length got.read (omega (arith, all, few, ap (λ (l : List ℕ). length l) got.parts, length-append held1 got.read)) in
     sym got.parts ∙ ap (λ l. held1 ++ l) none ∙ append-nil held1
 
-pub params_short : {z : Past} {held0 held1 : List ℕ} {rest0 rest1 : Option (List ℕ)} {at : ℕ} (others : Params → Rows Reason DataUnit) (count : ℕ) (front : List ℕ) (fault : Fault TransformReason) (held2 : List ℕ) (rest2 : Option (List ℕ)) (room : ℕ) (stop : ReadStop) → Begun units z held0 rest0 rest1 at held1 (params_then others)
+refused_for : (place : ℕ) {r t : Reason} → r ≡ t → (let s : ReadStop = stops.Refused (record { place = place; reason = r }) in s) ≡ stops.Refused (record { place = place; reason = t })
+refused_for place e = ap (λ (r : Reason). let s : ReadStop = stops.Refused (record { place = place; reason = r }) in s) e
+
+pub params_short : {z : Past} {held0 held1 : List ℕ} {rest0 rest1 : Option (List ℕ)} {at : ℕ} (others : Params → Rows Reason DataUnit) (count : ℕ) (front : List ℕ) (fault : Fault TransformReason) (held2 : List ℕ) (rest2 : Option (List ℕ)) (room : ℕ) (reason : Reason) (stop : ReadStop) → Begun units z held0 rest0 rest1 at held1 (params_then others)
     → front ≡ take count held1 → count ≡ length held1 → params_read front ≡ Err fault → Got (count + 1) held1 held2 rest1 rest2 [] → length held2 < count + 1 → IsAtEnd (within room rest2) → at + length held2 + room ≡ limit
-    → stop ≡ stops.Refused (record { place = at + fault.place / 8; reason = transform_reason fault.reason }) → StopsOver z held0 rest0 rest2 room stop
-params_short {held1 = held1} {rest1 = rest1} {at = at} others count front fault held2 rest2 room stop b is all e got few at_end total s =
+    → reason ≡ transform_reason fault.reason → stop ≡ stops.Refused (record { place = at + fault.place / 8; reason = reason }) → StopsOver z held0 rest0 rest2 room stop
+params_short {held1 = held1} {rest1 = rest1} {at = at} others count front fault held2 rest2 room reason stop b is all e got few at_end total why s =
     let same = same_held count held1 held2 rest1 rest2 all got few in
     let here = group_refused params_group others at held1 fault (all_read count front held1 fault is (omega (arith, all)) e) in
-    stops_short room (8 * at + fault.place) (at + fault.place / 8) (transform_reason fault.reason) stop (params_more others count front fault held2 rest2 b is all e got) (ap (λ l. read reason_of (params_then others) (bytes_at at l)) same ∙ here) at_end total (omega arith) s
+    stops_short room (8 * at + fault.place) (at + fault.place / 8) (transform_reason fault.reason) stop (params_more others count front fault held2 rest2 b is all e got) (ap (λ l. read reason_of (params_then others) (bytes_at at l)) same ∙ here) at_end total (omega arith) (s ∙ refused_for (at + fault.place / 8) why)
 
 pub params_lost : {z : Past} {held0 held1 : List ℕ} {rest0 rest1 : Option (List ℕ)} {at : ℕ} (others : Params → Rows Reason DataUnit) (count : ℕ) (front : List ℕ) (fault : Fault TransformReason) (held2 : List ℕ) (rest2 : Option (List ℕ)) (room : ℕ) (halt : Halt) (stop : ReadStop) → Begun units z held0 rest0 rest1 at held1 (params_then others)
     → front ≡ take count held1 → count ≡ length held1 → params_read front ≡ Err fault → Got (count + 1) held1 held2 rest1 rest2 [] → length held2 < count + 1 → at + length held2 + room ≡ limit → stop ≡ stop_of halt → StopsOver z held0 rest0 rest2 room stop
@@ -166,14 +169,15 @@ params_lost {held1 = held1} {rest1 = rest1} {at = at} others count front fault h
 transform_other : (reason : TransformReason) → is_truncated (transform_reason reason) ≡ false → reason ≢ transforms.Truncated
 transform_other reason h e = let short : is_truncated (transform_reason reason) ≡ true = ap (λ r. is_truncated (transform_reason r)) e in absurd cc
 
-pub params_refused : {z : Past} {held0 held1 : List ℕ} {rest0 rest1 : Option (List ℕ)} {at : ℕ} (others : Params → Rows Reason DataUnit) (count : ℕ) (front : List ℕ) (fault : Fault TransformReason) (room : ℕ) (stop : ReadStop) → Begun units z held0 rest0 rest1 at held1 (params_then others)
-    → front ≡ take count held1 → params_read front ≡ Err fault → is_truncated (transform_reason fault.reason) ≡ false → at + length held1 + room ≡ limit → stop ≡ stops.Refused (record { place = at + fault.place / 8; reason = transform_reason fault.reason }) → StopsOver z held0 rest0 rest1 room stop
-params_refused {held1 = held1} {at = at} others count front fault room stop b is e other total s =
+pub params_refused : {z : Past} {held0 held1 : List ℕ} {rest0 rest1 : Option (List ℕ)} {at : ℕ} (others : Params → Rows Reason DataUnit) (count : ℕ) (front : List ℕ) (fault : Fault TransformReason) (room : ℕ) (reason : Reason) (stop : ReadStop) → Begun units z held0 rest0 rest1 at held1 (params_then others)
+    → front ≡ take count held1 → params_read front ≡ Err fault → is_truncated reason ≡ false → at + length held1 + room ≡ limit → reason ≡ transform_reason fault.reason → stop ≡ stops.Refused (record { place = at + fault.place / 8; reason = reason }) → StopsOver z held0 rest0 rest1 room stop
+params_refused {held1 = held1} {at = at} others count front fault room reason stop b is e other' total why s =
+    let other : is_truncated (transform_reason fault.reason) ≡ false = ap is_truncated (sym why) ∙ other' in
     let more : bits_of front ++ bits_of (drop count held1) ≡ bits_of held1 = sym (bits_of-append front (drop count held1)) ∙ ap (λ l. bits_of (l ++ drop count held1)) is ∙ ap bits_of (take-append-drop count held1) in
     let here : params_read held1 ≡ Err fault = ap (λ (l : List Bool). read params.reason_of params_rows (record { place = 0; rest = l })) (sym more)
     ∙ read-more_refused params.reason_of params_rows (cursor_at front 0) fault (bits_of (drop count held1)) params_steady.steady (record { whole = omega (arith, length-bits front) }) (transform_other fault.reason other) e in
     stops_refused room (8 * at + fault.place) (at + fault.place / 8) (transform_reason fault.reason) stop b (group_refused params_group others at held1 fault here)
-    (λ t. let short : is_truncated (transform_reason fault.reason) ≡ true = ap is_truncated t in absurd cc) total (omega arith) s
+    (λ t. let short : is_truncated (transform_reason fault.reason) ≡ true = ap is_truncated t in absurd cc) total (omega arith) (s ∙ refused_for (at + fault.place / 8) why)
 
 -- ---- the slices
 

@@ -1,5 +1,5 @@
 -- A decoder that is kept serves where it made pictures of the same shape and parameters.
-use Rattle.std.proofs.Common.{◌≡◌, ℕ, ◌-◌, ◌*◌, Bool, true, false, List, ◌++◌, replicate, refl, sym, ap, ◌∙◌}
+use Rattle.std.proofs.Common.{◌≡◌, ℕ, ◌-◌, ◌*◌, Bool, true, false, List, ◌++◌, replicate, None, refl, sym, ap, ◌∙◌}
 use Rattle.std.specs.Prelude.{◌&&◌}
 use Rattle.std.proofs.Math.Dec.{eqb}
 use Rattle.std.proofs.lemmas.Bool.{eqb-true}
@@ -9,7 +9,14 @@ use Rattle.slice_geometry.specs.declared.Size.{Size}
 use Rattle.slice_geometry.specs.declared.PictureShape.{PictureShape}
 use Rattle.slice_geometry.specs.Slicing.{Slicing}
 use Rattle.quant_factors.specs.Weights.{Weights}
+use Rattle.lifting.specs.contracts.Wavelet.{the_type}
+use denote.Enum.Bare.{sameb, same_true}
+use Rattle.transform_params.specs.declared.TransformParams.{TransformParams}
+use Rattle.transform_params.specs.Params.{Params}
+use Rattle.transform_params.specs.Views.{params_of}
 use Rattle.picture_codec.specs.Pictures.{Frame}
+use Rattle.picture_codec.specs.Decoding.{Decoding}
+use Rattle.stream_units.specs.Parts.{IsReady}
 use Rattle.picture_codec.specs.Samples.{frame_of}
 
 both : (a b : Bool) → (a && b) ≡ true → (a ≡ true) × (b ≡ true)
@@ -26,8 +33,8 @@ size_same a b e =
     ap (λ (n : ℕ). let s : Size = record { w = n; h = a.h } in s) (eqb-true a.w b.w f.0) ∙ ap (λ (n : ℕ). let s : Size = record { w = b.w; h = n } in s) (eqb-true a.h b.h f.1)
 
 pub frame_same : (a b : PictureShape) (t : Bool) → t ≡ true → t ≡ (is_size a.luma b.luma && (is_size a.colour b.colour && (eqb a.luma_depth b.luma_depth && eqb a.colour_depth b.colour_depth))) → frame_of a ≡ frame_of b
-frame_same a b t yes e =
-    let f = both (is_size a.luma b.luma) (is_size a.colour b.colour && (eqb a.luma_depth b.luma_depth && eqb a.colour_depth b.colour_depth)) (sym e ∙ yes) in
+frame_same a b t so e =
+    let f = both (is_size a.luma b.luma) (is_size a.colour b.colour && (eqb a.luma_depth b.luma_depth && eqb a.colour_depth b.colour_depth)) (sym e ∙ so) in
     let g = both (is_size a.colour b.colour) (eqb a.luma_depth b.luma_depth && eqb a.colour_depth b.colour_depth) f.1 in
     let h = both (eqb a.luma_depth b.luma_depth) (eqb a.colour_depth b.colour_depth) g.1 in
     ap (λ s. let f : Frame = record { luma = s; colour = a.colour; luma_depth = a.luma_depth; colour_depth = a.colour_depth } in f) (size_same a.luma b.luma f.0)
@@ -62,3 +69,21 @@ matrix_same a b e =
     let deep = eqb-true a.depth b.depth f.0 in
     let entries : a.entries ≡ b.entries = append_cancel_right a.entries b.entries (replicate (12 - 3 * b.depth) 0) (ap (λ n. a.entries ++ replicate (12 - 3 * n) 0) (sym deep) ∙ (bytes_decides (padded a) (padded b)).0 f.1) in
     ap (λ n. let m : Weights = record { depth = n; entries = a.entries } in m) deep ∙ ap (λ l. let m : Weights = record { depth = b.depth; entries = l } in m) entries
+
+pub params_same : (a b : TransformParams) (t : Bool) → t ≡ true → t ≡ (sameb the_type a.wavelet b.wavelet && (is_slicing a.layout b.layout && is_matrix a.matrix b.matrix)) → params_of a ≡ params_of b
+params_same a b t so e =
+    let f = both (sameb the_type a.wavelet b.wavelet) (is_slicing a.layout b.layout && is_matrix a.matrix b.matrix) (sym e ∙ so) in
+    let g = both (is_slicing a.layout b.layout) (is_matrix a.matrix b.matrix) f.1 in
+    ap (λ w. let p : Params = record { wavelet = w; slicing = a.layout; matrix = a.matrix } in p) (same_true the_type tt a.wavelet b.wavelet f.0)
+    ∙ ap (λ s. let p : Params = record { wavelet = b.wavelet; slicing = s; matrix = a.matrix } in p) (slicing_same a.layout b.layout g.0)
+    ∙ ap (λ m. let p : Params = record { wavelet = b.wavelet; slicing = b.layout; matrix = m } in p) (matrix_same a.matrix b.matrix g.1)
+
+-- the decoder that is kept, from its first slice on
+pub ready_again : (old new : Decoding) (own shape : PictureShape) (theirs ours : TransformParams) → new ≡ record old { next = 0; refused = false; picture = None } → own ≡ old.shape → params_of theirs ≡ old.params
+    → frame_of own ≡ frame_of shape → params_of theirs ≡ params_of ours → IsReady shape (params_of ours) new
+ready_again old new own shape theirs ours is s p frame params = record {
+  frame = ap (λ d. frame_of d.shape) is ∙ ap frame_of (sym s) ∙ frame;
+  params_are = ap (λ d. d.params) is ∙ sym p ∙ params;
+  first = ap (λ d. d.next) is;
+  none_refused = ap (λ d. d.refused) is;
+}
