@@ -12,3 +12,5 @@ pub mod Stopping
 pub mod HeadRows
 pub mod PartTurns
 pub mod HeaderTurns
+pub mod PictureTurns
+pub mod Ready

@@ -26,13 +26,6 @@ pub lost_stops : {z : Past} {held0 : List ℕ} {rest0 rest1 : Option (List ℕ)}
 lost_stops room top halts.ReadFault lost most = (top, most, lost)
 lost_stops room top halts.NoMemory lost most = (top, most, lost_due lost)
 
-pub halt_cause : {X Y : Type 0} (before now : ℕ) (halt : Halt) (stop : ReadStop) → stop ≡ stop_of halt → HaltCause {X = X} before now (Err halt) → StopCause {X = Y} before now (Err stop)
-halt_cause {Y = Y} before now halt stop e h = subst (λ s. StopCause {X = Y} before now (Err s)) (sym e) (by halt h)
-  where
-    by : (halt : Halt) → HaltCause before now (Err halt) → StopCause {X = Y} before now (Err (stop_of halt))
-    by halts.ReadFault h = h
-    by halts.NoMemory h = h
-
 -- ---- of a unit that was begun
 
 -- no more bytes came, while there were too few

@@ -1,6 +1,6 @@
 //! What reading a unit answers.
 
-ghost use Rattle.std.specs.Prelude.{◌≡◌, ◌==◌, ◌||◌};
+ghost use Rattle.std.specs.Prelude.{◌≡◌};
 ghost use Rattle.stream_units.specs.declared.stop.ReadStop.TheVariants as stops;
 ghost use Rattle.stream_units.specs.Streams.{is_truncated};
 ghost use Rattle.stream_units.specs.Turns.{stop_of};
@@ -56,11 +56,4 @@ pub(crate) fn is_truncated(reason: Reason) -> bool
     ensures { result ≡ is_truncated reason }
 {
     matches!(reason, Reason::Truncated)
-}
-
-/// The offset that a unit of this length gives of the next one: it, or 0.
-pub(crate) fn leads_behind(next: u32, length: u64) -> bool
-    ensures { result ≡ (next == 0 || next == length) }
-{
-    next == 0 || u64::from(next) == length
 }

@@ -1,0 +1,188 @@
+-- The parts of a picture's payload, by how each comes out.
+use Rattle.std.proofs.Common.{◌≡◌, ◌≢◌, ℕ, zero, suc, ◌+◌, ◌-◌, ◌*◌, ◌/◌, ◌%◌, ◌^◌, ◌<◌, ◌≤◌, Bool, true, false, not, cond, List, [], ◌∷◌, ◌++◌, length, take, drop, get_or, Option, Some, None, Result, Ok, Err, refl, sym, ap, subst, ◌∙◌, arith, append-nil}
+use Rattle.std.specs.Prelude.{◌&&◌, ◌||◌, ◌==◌, nat_lt, if◌then◌else◌}
+use Rattle.std.specs.List.{AllByRecursion}
+use Rattle.std.specs.Int.{from_be_bytes, w32}
+use Rattle.std.specs.Io.KnownBytes.{IsAtEnd}
+use Rattle.std.proofs.lemmas.List.{length-append, length-take, length-drop, take-append-drop, take-append-le, take_all, nil_from_length}
+use Rattle.vc2_run.specs.Ran.{within}
+use Rattle.bit_codes.specs.Bits.{Cursor, cursor_at, bits_of}
+use Rattle.bit_codes.specs.declared.CodeFault.TheVariants as codes
+use Rattle.bit_codes.proofs.BitLemmas.{length-bits}
+use Rattle.field_rows.specs.Rows.{some_bytes, Value, Bytes, bytes_in, Rule, ◌or_else◌, Rows, done, row, ◌>>=◌, Fault, read, word_under, bytes_under, renamed, first_broken}
+use Rattle.field_rows.proofs.Pieces.{read-more_refused}
+use Rattle.field_rows.proofs.Words.{bits_of-append}
+use Rattle.slice_geometry.specs.Slicing.{slice_count, bytes_before, slice_bytes, total_bytes}
+use Rattle.sequence_header.specs.declared.parts.HeaderParts.{HeaderParts}
+use Rattle.transform_params.specs.declared.faults.TransformReason.{TransformReason}
+use Rattle.transform_params.specs.declared.faults.TransformReason.TheVariants as transforms
+use Rattle.transform_params.specs.Params as params
+use Rattle.transform_params.specs.Params.{Params, params_rows}
+use Rattle.transform_params.proofs.Movable.{params_steady}
+use Rattle.picture_codec.specs.Decoding.{Decoding, HasTaken}
+use Rattle.unit_table.specs.Grammar.{bytes_at}
+use Rattle.unit_table.specs.Begun.{Begun, Needs, Lacks, Moves, Got}
+use Rattle.unit_table.proofs.Begins.{begun_held, begun_use, begun_lacking, begun_same}
+use Rattle.unit_table.proofs.Fields.{needs_row, needs_nothing, moves_row, short_row, broken_row, all_fit}
+use Rattle.stream_units.specs.declared.reason.Reason.{Reason}
+use Rattle.stream_units.specs.declared.reason.Reason.TheVariants as reasons
+use Rattle.stream_units.specs.declared.stop.ReadStop.{ReadStop}
+use Rattle.stream_units.specs.declared.stop.ReadStop.TheVariants as stops
+use Rattle.stream_units.specs.declared.window.Halt.{Halt}
+use Rattle.stream_units.specs.Units.{Past, DataUnit, units, reason_of, transform_reason, has_fields, number_rules, share, slice_rules, slice_rows}
+use Rattle.stream_units.specs.Streams.{limit, is_truncated}
+use Rattle.stream_units.specs.Turns.{stop_of, StopsOver}
+use Rattle.stream_units.proofs.Steady.{units_laws}
+use Rattle.stream_units.proofs.Stopping.{stops_lost, stops_lacking, stops_due, stops_short, stops_refused}
+use Rattle.stream_units.proofs.Groups.{group_moves, group_refused, group_lacks}
+use Rattle.stream_units.proofs.UnitGroups.{params_group}
+
+-- ---- a field of so many bytes
+
+-- it was asked for, and these bytes are held
+pub record Asked (z : Past) (held0 : List ℕ) (rest0 rest2 : Option (List ℕ)) (n at : ℕ) (held2 : List ℕ) (rules : Value → List (Rule Reason)) (next : Value → Rows Reason DataUnit) : Type 0 where
+  pub begun : Begun units z held0 rest0 rest2 at held2 (row (some_bytes n) None rules next)
+
+field_needs : (n : ℕ) (rules : Value → List (Rule Reason)) (next : Value → Rows Reason DataUnit) → Needs units (row (some_bytes n) None rules next) n
+field_needs n rules next = subst (Needs units (row (some_bytes n) None rules next)) (omega arith) (needs_row units n 0 None rules next (λ v. needs_nothing units (next v)))
+
+asked : {z : Past} {held0 held1 : List ℕ} {rest0 rest1 : Option (List ℕ)} {at : ℕ} {left : Rows Reason DataUnit} (n : ℕ) (held2 : List ℕ) (rest2 : Option (List ℕ)) (rules : Value → List (Rule Reason)) (next : Value → Rows Reason DataUnit) → Begun units z held0 rest0 rest1 at held1 left
+    → left ≡ row (some_bytes n) None rules next → Got n held1 held2 rest1 rest2 [] → Asked z held0 rest0 rest2 n at held2 rules next
+asked n held2 rest2 rules next b e got = record { begun = begun_held units_laws n rest2 held2 (begun_same (row (some_bytes n) None rules next) b e) (field_needs n rules next) got }
+
+pub field_short : {z : Past} {held0 held2 : List ℕ} {rest0 rest2 : Option (List ℕ)} {n at : ℕ} {rules : Value → List (Rule Reason)} {next : Value → Rows Reason DataUnit} (room place : ℕ) (stop : ReadStop) → Asked z held0 rest0 rest2 n at held2 rules next → length held2 < n → IsAtEnd (within room rest2) → at + length held2 + room ≡ limit → place ≡ at
+    → stop ≡ stops.Refused (record { place = place; reason = reasons.Truncated }) → StopsOver z held0 rest0 rest2 room stop
+field_short {held2 = held2} {n = n} {at = at} {rules = rules} {next = next} room place stop a few at_end total there e = stops_short room (8 * at) place reasons.Truncated stop a.begun (short_row units n rules next at held2 few) at_end total (omega (arith, there)) e
+
+pub field_lost : {z : Past} {held0 held2 : List ℕ} {rest0 rest2 : Option (List ℕ)} {n at : ℕ} {rules : Value → List (Rule Reason)} {next : Value → Rows Reason DataUnit} (room : ℕ) (halt : Halt) (stop : ReadStop) → Asked z held0 rest0 rest2 n at held2 rules next → length held2 < n → at + length held2 + room ≡ limit
+    → stop ≡ stop_of halt → StopsOver z held0 rest0 rest2 room stop
+field_lost {n = n} {rules = rules} {next = next} room halt stop a few total e = stops_lost n room halt stop a.begun (field_needs n rules next) few total e
+
+pub field_broken : {z : Past} {held0 held2 : List ℕ} {rest0 rest2 : Option (List ℕ)} {n at : ℕ} {rules : Value → List (Rule Reason)} {next : Value → Rows Reason DataUnit} (room place : ℕ) (reason : Reason) (stop : ReadStop) → Asked z held0 rest0 rest2 n at held2 rules next → n ≤ length held2
+    → ((i : ℕ) → get_or (take n held2) i 0 < 256) → first_broken (rules (Bytes (take n held2))) ≡ Some reason → reason ≢ reasons.Truncated → at + length held2 + room ≡ limit → place ≡ at → stop ≡ stops.Refused (record { place = place; reason = reason }) → StopsOver z held0 rest0 rest2 room stop
+field_broken {held2 = held2} {n = n} {at = at} {rules = rules} {next = next} room place reason stop a many fits broken other total there e =
+    stops_refused room (8 * at) place reason stop a.begun
+    (ap (λ l. read reason_of (row (some_bytes n) None rules next) (bytes_at at l)) (sym (take-append-drop n held2))
+    ∙ broken_row units n rules next at (take n held2) (drop n held2) reason (omega (arith, length-take n held2, many)) (all_fit (take n held2) fits) broken)
+    other total (omega (arith, there)) e
+
+pub field_taken : {z : Past} {held0 held2 : List ℕ} {rest0 rest2 : Option (List ℕ)} {n at : ℕ} {rules : Value → List (Rule Reason)} {next : Value → Rows Reason DataUnit} → Asked z held0 rest0 rest2 n at held2 rules next → n ≤ length held2
+    → ((i : ℕ) → get_or (take n held2) i 0 < 256) → first_broken (rules (Bytes (take n held2))) ≡ None → Begun units z held0 rest0 rest2 (at + n) (drop n held2) (next (Bytes (take n held2)))
+field_taken {z} {held0} {held2} {rest0} {rest2} {n} {at} {rules} {next} a many fits holds =
+    let long : length (take n held2) ≡ n = omega (arith, length-take n held2, many) in
+    subst (λ p. Begun units z held0 rest0 rest2 (at + p) (drop n held2) (next (Bytes (take n held2)))) long
+    (begun_use units_laws (take n held2) (drop n held2) (next (Bytes (take n held2))) a.begun (sym (take-append-drop n held2)) (moves_row units n rules next at (take n held2) long (all_fit (take n held2) fits) holds))
+
+-- ---- the number of a picture
+
+abbrev number_of : Value → ℕ
+number_of v = from_be_bytes w32 (bytes_in v)
+
+number_field : (rules : ℕ → List (Rule Reason)) (others : ℕ → Rows Reason DataUnit) → word_under rules >>= others ≡ row (some_bytes 4) None (λ v. rules (number_of v)) (λ v. others (number_of v))
+unfolding word_under ◌>>=◌
+number_field rules others = refl
+
+pub number_asked : {z : Past} {held0 held1 : List ℕ} {rest0 rest1 : Option (List ℕ)} {at : ℕ} (held2 : List ℕ) (rest2 : Option (List ℕ)) (others : ℕ → Rows Reason DataUnit) → Begun units z held0 rest0 rest1 at held1 (word_under (number_rules z) >>= others) → Got 4 held1 held2 rest1 rest2 []
+    → Asked z held0 rest0 rest2 4 at held2 (λ v. number_rules z (number_of v)) (λ v. others (number_of v))
+number_asked {z = z} held2 rest2 others b got = asked 4 held2 rest2 (λ v. number_rules z (number_of v)) (λ v. others (number_of v)) b (number_field (number_rules z) others) got
+
+-- no rule of a number is about its length
+pub number_other : (z : Past) (n : ℕ) (reason : Reason) → first_broken (number_rules z n) ≡ Some reason → reason ≢ reasons.Truncated
+number_other z n reason e = by (z.pictures == 0 || n == (z.last + 1) % 2 ^ 32) (has_fields z.first && z.pictures == 0 && n % 2 == 1) e
+  where
+    by : (a b : Bool) → cond a (cond (not b) None (Some reasons.FieldNumberOdd)) (Some reasons.PictureNumberWrong) ≡ Some reason → reason ≢ reasons.Truncated
+    by false b e t = let other : Some reasons.PictureNumberWrong ≡ Some reasons.Truncated = e ∙ ap Some t in absurd cc
+    by true true e t = let other : Some reasons.FieldNumberOdd ≡ Some reasons.Truncated = e ∙ ap Some t in absurd cc
+    by true false e t = absurd cc
+
+-- a number of four bytes, at the front of those that are held
+pub number_at : (bytes front held : List ℕ) (n : ℕ) → n ≡ from_be_bytes w32 bytes → bytes ≡ take 4 front → front ≡ take 4 held → n ≡ from_be_bytes w32 (take 4 held)
+number_at bytes front held n e same is = e ∙ ap (from_be_bytes w32) (same ∙ ap (take 4) is ∙ take_all 4 (take 4 held) (omega (arith, length-take 4 held)))
+
+abbrev NumberAsked : Past → List ℕ → Option (List ℕ) → Option (List ℕ) → ℕ → List ℕ → (ℕ → Rows Reason DataUnit) → Type 0
+NumberAsked z held0 rest0 rest2 at held2 others = Asked z held0 rest0 rest2 4 at held2 (λ v. number_rules z (number_of v)) (λ v. others (number_of v))
+
+pub number_broken : {z : Past} {held0 held2 : List ℕ} {rest0 rest2 : Option (List ℕ)} {at : ℕ} (others : ℕ → Rows Reason DataUnit) (n room place : ℕ) (reason : Reason) (stop : ReadStop) → NumberAsked z held0 rest0 rest2 at held2 others → 4 ≤ length held2
+    → ((i : ℕ) → get_or (take 4 held2) i 0 < 256) → n ≡ from_be_bytes w32 (take 4 held2) → first_broken (number_rules z n) ≡ Some reason → at + length held2 + room ≡ limit → place ≡ at → stop ≡ stops.Refused (record { place = place; reason = reason }) → StopsOver z held0 rest0 rest2 room stop
+number_broken {z = z} others n room place reason stop a many fits number broken total there e =
+    field_broken room place reason stop a many fits (ap (λ n. first_broken (number_rules z n)) (sym number) ∙ broken) (number_other z n reason broken) total there e
+
+pub number_taken : {z : Past} {held0 held2 : List ℕ} {rest0 rest2 : Option (List ℕ)} {at : ℕ} (others : ℕ → Rows Reason DataUnit) (n : ℕ) (held3 : List ℕ) → NumberAsked z held0 rest0 rest2 at held2 others → 4 ≤ length held2
+    → ((i : ℕ) → get_or (take 4 held2) i 0 < 256) → n ≡ from_be_bytes w32 (take 4 held2) → first_broken (number_rules z n) ≡ None → held3 ≡ drop 4 held2 → Begun units z held0 rest0 rest2 (at + 4) held3 (others n)
+number_taken {z} {held0} {held2} {rest0} {rest2} {at} others n held3 a many fits number holds is =
+    subst (λ l. Begun units z held0 rest0 rest2 (at + 4) l (others n)) (sym is)
+    (subst (λ m. Begun units z held0 rest0 rest2 (at + 4) (drop 4 held2) (others m)) (sym number)
+    (field_taken a many fits (ap (λ n. first_broken (number_rules z n)) (sym number) ∙ holds)))
+
+-- ---- the transform parameters
+
+abbrev pub params_then : (Params → Rows Reason DataUnit) → Rows Reason DataUnit
+params_then others = renamed transform_reason params_rows >>= others
+
+-- reading the parameters from bytes
+abbrev pub params_read : List ℕ → Result (Params × Cursor) (Fault TransformReason)
+params_read front = read params.reason_of params_rows (cursor_at front 0)
+
+pub params_taken : {z : Past} {held0 held1 : List ℕ} {rest0 rest1 : Option (List ℕ)} {at : ℕ} (others : Params → Rows Reason DataUnit) (count long : ℕ) (front : List ℕ) (p : Params) → Begun units z held0 rest0 rest1 at held1 (params_then others)
+    → front ≡ take count held1 → params_read front ≡ Ok (p, cursor_at front (8 * long)) → long ≤ length front → Begun units z held0 rest0 rest1 (at + long) (drop long held1) (others p)
+params_taken {z} {held0} {held1} {rest0} {rest1} {at} others count long front p b is e inside =
+    let piece : take long front ≡ take long held1 = ap (take long) is ∙ sym (take-append-le long (take count held1) (drop count held1) (omega (arith, inside, ap (λ (l : List ℕ). length l) is))) ∙ ap (take long) (take-append-drop count held1) in
+    let size : length (take long held1) ≡ long = omega (arith, length-take long held1, inside, ap (λ (l : List ℕ). length l) is, length-take count held1) in
+    subst (λ n. Begun units z held0 rest0 rest1 (at + n) (drop long held1) (others p)) size
+    (begun_use units_laws (take long held1) (drop long held1) (others p) b (sym (take-append-drop long held1))
+    (subst (λ l. Moves units (params_then others) at l (others p)) piece (group_moves params_group others at front p long e inside)))
+
+-- all that is held was read
+all_read : (count : ℕ) (front held1 : List ℕ) (fault : Fault TransformReason) → front ≡ take count held1 → length held1 ≤ count → params_read front ≡ Err fault → params_read held1 ≡ Err fault
+all_read count front held1 fault is all e = ap params_read (sym (is ∙ take_all count held1 all)) ∙ e
+
+-- one byte more than are held
+pub params_more : {z : Past} {held0 held1 : List ℕ} {rest0 rest1 : Option (List ℕ)} {at : ℕ} (others : Params → Rows Reason DataUnit) (count : ℕ) (front : List ℕ) (fault : Fault TransformReason) (held2 : List ℕ) (rest2 : Option (List ℕ)) → Begun units z held0 rest0 rest1 at held1 (params_then others)
+    → front ≡ take count held1 → count ≡ length held1 → params_read front ≡ Err fault → Got (count + 1) held1 held2 rest1 rest2 [] → Begun units z held0 rest0 rest2 at held2 (params_then others)
+params_more {held1 = held1} {rest1 = rest1} {at = at} others count front fault held2 rest2 b is all e got =
+    begun_lacking units_laws rest2 held2 b (group_lacks params_group others at held1 fault (all_read count front held1 fault is (omega (arith, all)) e)) (subst (λ n. Got (n + 1) held1 held2 rest1 rest2 []) all got)
+
+-- no byte more came
+same_held : (n : ℕ) (held1 held2 : List ℕ) (rest1 rest2 : Option (List ℕ)) → n ≡ length held1 → Got (n + 1) held1 held2 rest1 rest2 [] → length held2 < n + 1 → held2 ≡ held1
+same_held n held1 held2 rest1 rest2 all got few =
+    let none : got.read ≡ [] = nil_from_length got.read (omega (arith, all, few, ap (λ (l : List ℕ). length l) got.parts, length-append held1 got.read)) in
+    sym got.parts ∙ ap (λ l. held1 ++ l) none ∙ append-nil held1
+
+refused_for : (place : ℕ) {r t : Reason} → r ≡ t → (let s : ReadStop = stops.Refused (record { place = place; reason = r }) in s) ≡ stops.Refused (record { place = place; reason = t })
+refused_for place e = ap (λ (r : Reason). let s : ReadStop = stops.Refused (record { place = place; reason = r }) in s) e
+
+pub params_short : {z : Past} {held0 held1 : List ℕ} {rest0 rest1 : Option (List ℕ)} {at : ℕ} (others : Params → Rows Reason DataUnit) (count : ℕ) (front : List ℕ) (fault : Fault TransformReason) (held2 : List ℕ) (rest2 : Option (List ℕ)) (room : ℕ) (reason : Reason) (stop : ReadStop) → Begun units z held0 rest0 rest1 at held1 (params_then others)
+    → front ≡ take count held1 → count ≡ length held1 → params_read front ≡ Err fault → Got (count + 1) held1 held2 rest1 rest2 [] → length held2 < count + 1 → IsAtEnd (within room rest2) → at + length held2 + room ≡ limit
+    → reason ≡ transform_reason fault.reason → stop ≡ stops.Refused (record { place = at + fault.place / 8; reason = reason }) → StopsOver z held0 rest0 rest2 room stop
+params_short {held1 = held1} {rest1 = rest1} {at = at} others count front fault held2 rest2 room reason stop b is all e got few at_end total why s =
+    let same = same_held count held1 held2 rest1 rest2 all got few in
+    let here = group_refused params_group others at held1 fault (all_read count front held1 fault is (omega (arith, all)) e) in
+    stops_short room (8 * at + fault.place) (at + fault.place / 8) (transform_reason fault.reason) stop (params_more others count front fault held2 rest2 b is all e got) (ap (λ l. read reason_of (params_then others) (bytes_at at l)) same ∙ here) at_end total (omega arith) (s ∙ refused_for (at + fault.place / 8) why)
+
+pub params_lost : {z : Past} {held0 held1 : List ℕ} {rest0 rest1 : Option (List ℕ)} {at : ℕ} (others : Params → Rows Reason DataUnit) (count : ℕ) (front : List ℕ) (fault : Fault TransformReason) (held2 : List ℕ) (rest2 : Option (List ℕ)) (room : ℕ) (halt : Halt) (stop : ReadStop) → Begun units z held0 rest0 rest1 at held1 (params_then others)
+    → front ≡ take count held1 → count ≡ length held1 → params_read front ≡ Err fault → Got (count + 1) held1 held2 rest1 rest2 [] → length held2 < count + 1 → at + length held2 + room ≡ limit → stop ≡ stop_of halt → StopsOver z held0 rest0 rest2 room stop
+params_lost {held1 = held1} {rest1 = rest1} {at = at} others count front fault held2 rest2 room halt stop b is all e got few total s =
+    let same = same_held count held1 held2 rest1 rest2 all got few in
+    let lacks : Lacks units (params_then others) at held1 = group_lacks params_group others at held1 fault (all_read count front held1 fault is (omega (arith, all)) e) in
+    stops_lacking room halt stop (params_more others count front fault held2 rest2 b is all e got) (subst (Lacks units (params_then others) at) (sym same) lacks) total s
+
+transform_other : (reason : TransformReason) → is_truncated (transform_reason reason) ≡ false → reason ≢ transforms.Truncated
+transform_other reason h e = let short : is_truncated (transform_reason reason) ≡ true = ap (λ r. is_truncated (transform_reason r)) e in absurd cc
+
+pub params_refused : {z : Past} {held0 held1 : List ℕ} {rest0 rest1 : Option (List ℕ)} {at : ℕ} (others : Params → Rows Reason DataUnit) (count : ℕ) (front : List ℕ) (fault : Fault TransformReason) (room : ℕ) (reason : Reason) (stop : ReadStop) → Begun units z held0 rest0 rest1 at held1 (params_then others)
+    → front ≡ take count held1 → params_read front ≡ Err fault → is_truncated reason ≡ false → at + length held1 + room ≡ limit → reason ≡ transform_reason fault.reason → stop ≡ stops.Refused (record { place = at + fault.place / 8; reason = reason }) → StopsOver z held0 rest0 rest1 room stop
+params_refused {held1 = held1} {at = at} others count front fault room reason stop b is e other' total why s =
+    let other : is_truncated (transform_reason fault.reason) ≡ false = ap is_truncated (sym why) ∙ other' in
+    let more : bits_of front ++ bits_of (drop count held1) ≡ bits_of held1 = sym (bits_of-append front (drop count held1)) ∙ ap (λ l. bits_of (l ++ drop count held1)) is ∙ ap bits_of (take-append-drop count held1) in
+    let here : params_read held1 ≡ Err fault = ap (λ (l : List Bool). read params.reason_of params_rows (record { place = 0; rest = l })) (sym more)
+    ∙ read-more_refused params.reason_of params_rows (cursor_at front 0) fault (bits_of (drop count held1)) params_steady.steady (record { whole = omega (arith, length-bits front) }) (transform_other fault.reason other) e in
+    stops_refused room (8 * at + fault.place) (at + fault.place / 8) (transform_reason fault.reason) stop b (group_refused params_group others at held1 fault here)
+    (λ t. let short : is_truncated (transform_reason fault.reason) ≡ true = ap is_truncated t in absurd cc) total (omega arith) (s ∙ refused_for (at + fault.place / 8) why)
+
+-- ---- the slices
+
+-- The decoder took slices in order, and the rows of the others are left.
+pub record SlicesSoFar (parts : HeaderParts) (z : Past) (held0 : List ℕ) (rest0 rest1 : Option (List ℕ)) (at : ℕ) (held1 : List ℕ) (others : List (List ℕ) → Rows Reason DataUnit) (p : Params) (d : Decoding) : Type 0 where
+  pub so_far : List (List ℕ)
+  pub has : HasTaken so_far d
+  pub begun : Begun units z held0 rest0 rest1 at held1 (slice_rows parts p (slice_count p.slicing - length so_far) so_far >>= others)
