@@ -6,3 +6,5 @@ pub mod Answering
 pub mod WorkedStreams
 pub mod Gets
 pub mod HeadRows
+pub mod Before
+pub mod FirstUnits
