@@ -3,3 +3,5 @@ pub mod Streams
 pub mod Asking
 pub mod Heads
 pub mod Turns
+pub mod Reader
+pub mod ReaderInside

@@ -1,6 +1,11 @@
 //! What reading a unit answers.
 
-use crate::reason::Refusal;
+ghost use Rattle.std.specs.Prelude.{◌≡◌, ◌==◌, ◌||◌};
+ghost use Rattle.stream_units.specs.declared.stop.ReadStop.TheVariants as stops;
+ghost use Rattle.stream_units.specs.Turns.{stop_of};
+
+use crate::reason::{Reason, Refusal};
+use crate::window::Halt;
 
 /// A unit that stands.
 #[derive(Clone, Copy, Debug, PartialEq, Eq)]
@@ -26,4 +31,28 @@ pub enum ReadStop {
     ReadFault,
     /// No memory was found.
     NoMemory,
+}
+
+/// Why reading stops where no more bytes came.
+pub(crate) fn stop_of(halt: Halt) -> ReadStop
+    ensures { result ≡ stop_of halt }
+{
+    match halt {
+        Halt::ReadFault => ReadStop::ReadFault,
+        Halt::NoMemory => ReadStop::NoMemory,
+    }
+}
+
+/// The stream is refused at a place.
+pub(crate) fn refused(place: u64, reason: Reason) -> ReadStop
+    ensures { result ≡ stops.Refused (record { place = place; reason = reason }) }
+{
+    ReadStop::Refused(Refusal { place, reason })
+}
+
+/// The offset that a unit of this length gives of the next one: it, or 0.
+pub(crate) fn leads_behind(next: u32, length: u64) -> bool
+    ensures { result ≡ (next == 0 || next == length) }
+{
+    next == 0 || u64::from(next) == length
 }

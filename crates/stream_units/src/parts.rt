@@ -1,0 +1,92 @@
+//! The parts of units: what stands behind their heads.
+
+ghost use Rattle.std.specs.Prelude.{◌≡◌, ◌+◌, ◌^◌, ◌≤◌, List, ℕ, Option, Some, length};
+ghost use Rattle.field_rows.specs.Rows.{done};
+ghost use Rattle.unit_table.specs.Begun.{Begun};
+ghost use Rattle.stream_units.specs.Units.{Skipped, Repeated, End, units, skipped_payload, repeated_payload};
+ghost use Rattle.stream_units.specs.Turns.{PartOver, EndOver, StopCause};
+
+use crate::earlier::{Earlier, First};
+use crate::pictures::Shown;
+use crate::reason::Reason;
+use crate::stop::{ReadStop, leads_behind, refused, stop_of};
+use crate::window::Window;
+use vc2_io::Source;
+
+/// A unit that stands.
+#[derive(Drop)]
+pub(crate) enum Found {
+    Sequence(First),
+    Repeated,
+    Picture(Shown),
+    Skipped,
+    End,
+}
+
+// Behind an end of sequence, where nothing may be left.
+pub(crate) fn end<S: Source>(
+    window: &mut Window,
+    src: &mut S,
+    earlier: &Earlier,
+) -> Result<(), ReadStop>
+    requires place { earlier.now.place + 13 + length window.old.held + window.old.room ≡ 2 ^ 40 }
+    ensures unit { (held0 : List ℕ) (rest0 : Option (List ℕ)) → Begun units earlier.now held0 rest0 (S.rest src.old) (earlier.now.place + 13) window.old.held (done End)
+        → EndOver earlier.now held0 rest0 (S.rest src.new) window.new result }
+    ensures cause { StopCause (S.faults src.old) (S.faults src.new) result }
+{
+    match window.hold(src, 1) {
+        Ok(true) => Err(refused(earlier.place() + 13, Reason::TrailingBytes)),
+        Ok(false) => Ok(()),
+        Err(halt) => Err(stop_of(halt)),
+    }
+}
+
+// The payload of auxiliary data or padding, which is skipped in pieces.
+pub(crate) fn skipped<S: Source>(
+    window: &mut Window,
+    src: &mut S,
+    earlier: &Earlier,
+    next: u32,
+) -> Result<(), ReadStop>
+    requires next { 13 ≤ next }
+    requires place { earlier.now.place + 13 + length window.old.held + window.old.room ≡ 2 ^ 40 }
+    ensures unit { (held0 : List ℕ) (rest0 : Option (List ℕ)) → Begun units earlier.now held0 rest0 (S.rest src.old) (earlier.now.place + 13) window.old.held (skipped_payload next)
+        → PartOver earlier.now held0 rest0 (S.rest src.new) window.new (λ _ unit bytes. unit ≡ Skipped) result }
+    ensures cause { StopCause (S.faults src.old) (S.faults src.new) result }
+{
+    match window.skip(src, (next - 13) as u64) {
+        Ok(true) => Ok(()),
+        Ok(false) => Err(refused(earlier.place() + 13, Reason::Truncated)),
+        Err(halt) => Err(stop_of(halt)),
+    }
+}
+
+// The payload of a sequence header that isn't the first.
+pub(crate) fn repeated<S: Source>(
+    window: &mut Window,
+    src: &mut S,
+    earlier: &Earlier,
+    first: &First,
+    next: u32,
+) -> Result<(), ReadStop>
+    requires place { earlier.now.place + 13 + length window.old.held + window.old.room ≡ 2 ^ 40 }
+    ensures unit { (held0 : List ℕ) (rest0 : Option (List ℕ)) → Begun units earlier.now held0 rest0 (S.rest src.old) (earlier.now.place + 13) window.old.held (repeated_payload earlier.now next first.now)
+        → PartOver earlier.now held0 rest0 (S.rest src.new) window.new (λ _ unit bytes. unit ≡ Repeated) result }
+    ensures cause { StopCause (S.faults src.old) (S.faults src.new) result }
+{
+    let place = earlier.place();
+    let payload = first.payload();
+    match window.hold(src, payload.len()) {
+        Ok(true) => {}
+        Ok(false) => return Err(refused(place + 13, Reason::Truncated)),
+        Err(halt) => return Err(stop_of(halt)),
+    }
+    if !window.front(payload.len()).starts_with(payload) {
+        return Err(refused(place + 13, Reason::HeaderDiffers));
+    }
+    if !leads_behind(next, 13 + payload.len() as u64) {
+        return Err(refused(place + 5, Reason::OffsetWrong));
+    }
+    window.advance(payload.len());
+    Ok(())
+}
