@@ -36,7 +36,7 @@ first_stays_refused bytes more refusal other h = (
   h.0,
   h.1,
   ap (read reason_of (body_rows nothing_yet)) (bytes_at-append 0 bytes more)
-  ∙ read-more_refused reason_of (body_rows nothing_yet) (bytes_at 0 bytes) h.0 (bits_of more) (body_steady nothing_yet).steady (record { whole = omega (arith, length-bits bytes) }) (λ e. other (ap (λ r. r.reason) h.1 ∙ e)) h.2,
+      ∙ read-more_refused reason_of (body_rows nothing_yet) (bytes_at 0 bytes) h.0 (bits_of more) (body_steady nothing_yet).steady (record { whole = omega (arith, length-bits bytes) }) (λ e. other (ap (λ r. r.reason) h.1 ∙ e)) h.2,
 )
 
 -- Where the bytes without the last are no first unit, a first unit takes them all.
