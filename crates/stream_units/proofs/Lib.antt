@@ -10,6 +10,8 @@ pub mod Groups
 pub mod UnitGroups
 pub mod Stopping
 pub mod HeadRows
+pub mod Before
+pub mod FirstUnits
 pub mod PartTurns
 pub mod HeaderTurns
 pub mod PictureTurns
