@@ -16,3 +16,4 @@ pub mod PartTurns
 pub mod HeaderTurns
 pub mod PictureTurns
 pub mod Ready
+pub mod UnitTurns

@@ -84,14 +84,14 @@ skipped_needs : (next : ℕ) → Needs units (skipped_payload next) (next - 13)
 unfolding skipped_payload ◌>>=◌ bytes_under
 skipped_needs next = subst (Needs units (skipped_payload next)) (omega arith) (needs_row units (next - 13) 0 None _ _ (λ v. needs_nothing units _))
 
-pub skipped_whole : {z : Past} {held0 : List ℕ} {rest0 rest1 : Option (List ℕ)} {place : ℕ} {old new : WindowSeen} (next : ℕ) (rest2 : Option (List ℕ)) (d : Dropped (next - 13) old new rest1 rest2 (Ok true)) → Begun units z held0 rest0 rest1 place old.held (skipped_payload next) → place ≡ z.place + 13 → 13 ≤ next → next < 2 ^ 32
+pub skipped_whole : {z : Past} {held0 : List ℕ} {rest0 rest1 : Option (List ℕ)} {place : ℕ} {old new : WindowSeen} (next : ℕ) (rest2 : Option (List ℕ)) (d : Dropped (next - 13) old new rest1 rest2 (Ok true)) → Begun units z held0 rest0 rest1 place old.held (skipped_payload next) → place ≡ z.place + 13 → next < 2 ^ 32
     → place + length old.held + old.room ≡ limit → Takes z held0 rest0 rest2 new.room new.held (λ unit bytes. unit ≡ Skipped)
 unfolding skipped_payload ◌>>=◌ bytes_under
-skipped_whole {z} {held0} {rest0} {rest1} {place} {old} {new} next rest2 d b behind some few total =
+skipped_whole {z} {held0} {rest0} {rest1} {place} {old} {new} next rest2 d b behind few total =
     let long = d.enough refl in
     takes new.room (λ unit bytes. unit ≡ Skipped) Skipped
     (begun_more units_laws (next - 13) rest2 new.held d.gone (done Skipped) b (skipped_needs next) d.got (moves_blind units (next - 13) _ _ place d.gone (done Skipped) long (λ v. refl) (λ v. refl)))
-    refl (omega (arith, d.room, total)) (omega (arith, behind, long, some, few)) (λ bytes at. refl)
+    refl (omega (arith, d.room, total)) (omega (arith, behind, long, few)) (λ bytes at. refl)
 
 pub skipped_short : {z : Past} {held0 : List ℕ} {rest0 rest1 : Option (List ℕ)} {place : ℕ} {old new : WindowSeen} (next : ℕ) (rest2 : Option (List ℕ)) (stop : ReadStop) (d : Dropped (next - 13) old new rest1 rest2 (Ok false)) → Begun units z held0 rest0 rest1 place old.held (skipped_payload next)
     → place + length old.held + old.room ≡ limit → stop ≡ stops.Refused (record { place = place; reason = reasons.Truncated }) → StopsOver z held0 rest0 rest2 new.room stop

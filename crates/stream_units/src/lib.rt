@@ -9,6 +9,7 @@ mod pictures;
 mod reader;
 pub mod reason;
 mod stop;
+mod units;
 mod window;
 
 pub use heads::first_unit;

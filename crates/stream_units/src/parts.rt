@@ -52,13 +52,12 @@ pub(crate) fn skipped<S: Source>(
     earlier: &Earlier,
     next: u32,
 ) -> Result<(), ReadStop>
-    requires next { 13 ≤ next }
     requires place { earlier.now.place + 13 + length window.old.held + window.old.room ≡ 2 ^ 40 }
     ensures unit { (held0 : List ℕ) (rest0 : Option (List ℕ)) → Begun units earlier.now held0 rest0 (S.rest src.old) (earlier.now.place + 13) window.old.held (skipped_payload next)
         → PartOver earlier.now held0 rest0 (S.rest src.new) window.new (λ _ unit bytes. unit ≡ Skipped) result }
     ensures cause { StopCause (S.faults src.old) (S.faults src.new) result }
 {
-    match window.skip(src, (next - 13) as u64) {
+    match window.skip(src, next.saturating_sub(13) as u64) {
         Ok(true) => Ok(()),
         Ok(false) => Err(refused(earlier.place() + 13, Reason::Truncated)),
         Err(halt) => Err(stop_of(halt)),
