@@ -10,12 +10,15 @@ use Rattle.vc2_run.specs.Ran.{within}
 use Rattle.bit_codes.specs.Bits.{Cursor, cursor_at, bits_of}
 use Rattle.bit_codes.specs.declared.CodeFault.TheVariants as codes
 use Rattle.bit_codes.proofs.BitLemmas.{length-bits}
-use Rattle.field_rows.specs.Rows.{some_bytes, Value, Bytes, bytes_in, Rule, ◌or_else◌, Rows, done, row, ◌>>=◌, Fault, read, word_under, bytes_under, renamed, first_broken}
+use Rattle.field_rows.specs.Rows.{some_bytes, Value, Bytes, bytes_in, Rule, ◌or_else◌, Rows, done, row, ◌>>=◌, Fault, read, word_under, bytes_under, renamed, first_broken, check_at, and_then, judged}
 use Rattle.field_rows.proofs.Pieces.{read-more_refused}
-use Rattle.field_rows.proofs.Words.{bits_of-append}
+use Rattle.field_rows.proofs.Reading.{read-bind}
+use Rattle.field_rows.proofs.Words.{bits_of-append, read-check_at}
+use Rattle.slice_geometry.specs.declared.PictureShape.{PictureShape}
 use Rattle.slice_geometry.specs.Slicing.{IsAllowed, slice_count, bytes_before, slice_bytes, total_bytes}
 use Rattle.slice_geometry.proofs.Shares.{bytes_before-rises}
 use Rattle.sequence_header.specs.declared.parts.HeaderParts.{HeaderParts}
+use Rattle.sequence_header.specs.Coding.{IsShapeOf, luma_size, colour_size, luma_depth, colour_depth}
 use Rattle.transform_params.specs.declared.faults.TransformReason.{TransformReason}
 use Rattle.transform_params.specs.declared.faults.TransformReason.TheVariants as transforms
 use Rattle.transform_params.specs.Params as params
@@ -26,23 +29,25 @@ use Rattle.slice_decoder.specs.declared.SliceFault.TheVariants as faults
 use Rattle.slice_decoder.specs.Slice.{slice_at, luma_values, colour_values, are_small}
 use Rattle.slice_decoder.specs.Decoded.{IsRefused}
 use Rattle.picture_codec.specs.Pictures.{Frame}
-use Rattle.picture_codec.specs.Samples.{frame_of}
-use Rattle.picture_codec.specs.Decoding.{Decoding, HasTaken, IsTaken, IsSliceRefused, stack_of, wanted_of, column_of, row_of_slices, next_slice}
+use Rattle.picture_codec.specs.Samples.{frame_of, picture_of}
+use Rattle.picture_codec.specs.Decoding.{Decoding, HasTaken, IsTaken, IsSliceRefused, stack_of, wanted_of, column_of, row_of_slices, next_slice, synthesised_picture}
 use Rattle.picture_codec.proofs.Taking.{took_none, took_more}
 use Rattle.picture_codec.proofs.Steps.{column_in, number_is}
 use Rattle.unit_table.specs.Grammar.{bytes_at}
 use Rattle.unit_table.specs.Begun.{Begun, Needs, Lacks, Moves, Got}
-use Rattle.unit_table.proofs.Begins.{begun_held, begun_use, begun_lacking, begun_same}
+use Rattle.unit_table.proofs.Begins.{begun_held, begun_use, begun_lacking, begun_same, begun_taken}
 use Rattle.unit_table.proofs.Fields.{needs_row, needs_nothing, moves_row, short_row, broken_row, all_fit}
 use Rattle.stream_units.specs.declared.reason.Reason.{Reason}
 use Rattle.stream_units.specs.declared.reason.Reason.TheVariants as reasons
 use Rattle.stream_units.specs.declared.stop.ReadStop.{ReadStop}
 use Rattle.stream_units.specs.declared.stop.ReadStop.TheVariants as stops
 use Rattle.stream_units.specs.declared.window.Halt.{Halt}
-use Rattle.stream_units.specs.Units.{Past, DataUnit, units, reason_of, transform_reason, has_fields, number_rules, share, slice_rules, slice_rows}
+use Rattle.stream_units.specs.Units.{Past, DataUnit, units, reason_of, transform_reason, has_fields, number_rules, share, slice_rules, slice_rows, next_checked, picture_payload, Picture}
 use Rattle.stream_units.specs.Streams.{limit, is_truncated, frame_under}
-use Rattle.stream_units.specs.Turns.{stop_of, StopsOver}
-use Rattle.stream_units.specs.Parts.{TookSlices, slice_reason}
+use Rattle.stream_units.specs.Heads.{leads_behind}
+use Rattle.stream_units.specs.declared.pictures.Shown.{Shown}
+use Rattle.stream_units.specs.Turns.{stop_of, StopsOver, Takes, IsShown, Shows}
+use Rattle.stream_units.specs.Parts.{IsReady, TookSlices, slice_reason}
 use Rattle.stream_units.proofs.Steady.{units_laws}
 use Rattle.stream_units.proofs.Stopping.{stops_lost, stops_lacking, stops_due, stops_short, stops_refused}
 use Rattle.stream_units.proofs.Groups.{group_moves, group_refused, group_lacks}
@@ -351,4 +356,84 @@ slices_done {parts} {z} {held0} {held1} {rest0} {rest1} {at} {others} {p} {d} be
       has = f.has;
       begun = subst (λ k. Begun units z held0 rest0 rest1 k held1 (others f.so_far)) there
           (begun_same (others f.so_far) f.begun (ap (λ k. slice_rows parts p k f.so_far >>= others) all ∙ no_slices parts p f.so_far others));
+    }
+
+-- ---- the whole payload
+
+-- the rows behind a picture's number, behind its transform parameters, and behind its slices
+abbrev pub behind_slices : Past → ℕ → HeaderParts → ℕ → Params → List (List ℕ) → Rows Reason DataUnit
+behind_slices z next parts number p slices = next_checked z next >>= λ length. done (Picture parts number p slices)
+
+abbrev pub behind_params : Past → ℕ → HeaderParts → ℕ → Params → Rows Reason DataUnit
+behind_params z next parts number p = slice_rows parts p (slice_count p.slicing) [] >>= behind_slices z next parts number p
+
+abbrev pub behind_number : Past → ℕ → HeaderParts → ℕ → Rows Reason DataUnit
+behind_number z next parts number = params_then (behind_params z next parts number)
+
+payload_is : (z : Past) (next : ℕ) (parts : HeaderParts) → picture_payload z next parts ≡ word_under (number_rules z) >>= behind_number z next parts
+unfolding picture_payload
+payload_is z next parts = refl
+
+pub payload_begun : {z : Past} {held0 held1 : List ℕ} {rest0 rest1 : Option (List ℕ)} {at : ℕ} (next : ℕ) (parts : HeaderParts) → Begun units z held0 rest0 rest1 at held1 (picture_payload z next parts) → Begun units z held0 rest0 rest1 at held1 (word_under (number_rules z) >>= behind_number z next parts)
+payload_begun {z = z} next parts b = begun_same (word_under (number_rules z) >>= behind_number z next parts) b (payload_is z next parts)
+
+pub begun_at : {z : Past} {held0 held1 : List ℕ} {rest0 rest1 : Option (List ℕ)} {at : ℕ} {left : Rows Reason DataUnit} (at' : ℕ) → Begun units z held0 rest0 rest1 at held1 left → at' ≡ at → Begun units z held0 rest0 rest1 at' held1 left
+begun_at {z} {held0} {held1} {rest0} {rest1} {left = left} at' b same = subst (λ n. Begun units z held0 rest0 rest1 n held1 left) (sym same) b
+
+-- the slices by the decoder's own parameters
+pub slices_begun : {z : Past} {held0 held1 : List ℕ} {rest0 rest1 : Option (List ℕ)} {at : ℕ} (parts : HeaderParts) (p q : Params) (others : List (List ℕ) → Rows Reason DataUnit) → Begun units z held0 rest0 rest1 at held1 (slice_rows parts p (slice_count p.slicing) [] >>= others) → q ≡ p
+    → Begun units z held0 rest0 rest1 at held1 (slice_rows parts q (slice_count q.slicing) [] >>= others)
+slices_begun {z} {held0} {held1} {rest0} {rest1} {at} parts p q others b same = subst (λ q. Begun units z held0 rest0 rest1 at held1 (slice_rows parts q (slice_count q.slicing) [] >>= others)) (sym same) b
+
+-- the decoder makes pictures of the header's shape
+pub ready_frame : (parts header : HeaderParts) (shape : PictureShape) (p : Params) (d : Decoding) → IsReady shape p d → IsShapeOf shape header → header ≡ parts → frame_of d.shape ≡ frame_under parts
+ready_frame parts header shape p d ready is same =
+    let whole : frame_of shape ≡ frame_under header =
+    ap (λ n. let f : Frame = record { luma = n; colour = shape.colour; luma_depth = shape.luma_depth; colour_depth = shape.colour_depth } in f) is.luma
+    ∙ ap (λ n. let f : Frame = record { luma = luma_size header; colour = n; luma_depth = shape.luma_depth; colour_depth = shape.colour_depth } in f) is.colour
+    ∙ ap (λ n. let f : Frame = record { luma = luma_size header; colour = colour_size header; luma_depth = n; colour_depth = shape.colour_depth } in f) is.luma_depth
+    ∙ ap (λ n. let f : Frame = record { luma = luma_size header; colour = colour_size header; luma_depth = luma_depth header; colour_depth = n } in f) is.colour_depth in
+    ready.frame ∙ whole ∙ ap frame_under same
+
+pub finished_shows : (parts : HeaderParts) (p : Params) (slices : List (List ℕ)) (old new : Decoding) → frame_of old.shape ≡ frame_under parts → old.params ≡ p → new ≡ record old { picture = Some (synthesised_picture old) }
+    → synthesised_picture old ≡ picture_of (frame_of old.shape) old.params slices → Shows parts p slices new
+finished_shows parts p slices old new frame same is made = record {
+  frame = ap (λ d. frame_of d.shape) is ∙ frame;
+  picture = ap (λ d. d.picture) is ∙ ap Some (made ∙ ap (λ f. picture_of f old.params slices) frame ∙ ap (λ q. picture_of (frame_under parts) q slices) same);
+}
+
+-- the check of the next offset
+next_read : (z : Past) (next at span : ℕ) (others : ℕ → Rows Reason DataUnit) (bytes : List ℕ) → at ≡ z.place + span
+    → read reason_of (next_checked z next >>= others) (bytes_at at bytes) ≡ and_then {A = ℕ × Cursor} (judged (8 * (z.place + 5)) (first_broken ((leads_behind next span or_else reasons.OffsetWrong) ∷ [])) (Ok (8 * at, bytes_at at bytes))) (λ x. read reason_of (others x.0) x.1)
+unfolding next_checked
+next_read z next at span others bytes there =
+    let rules = λ (here : ℕ). ((next == 0 || next == here / 8 - z.place) or_else reasons.OffsetWrong) ∷ [] in
+    let size : 8 * at / 8 - z.place ≡ span = omega (arith, there) in
+    read-bind reason_of (check_at (8 * (z.place + 5)) rules) others (bytes_at at bytes)
+    ∙ ap (λ (r : Result (ℕ × Cursor) (Fault Reason)). and_then r (λ x. read reason_of (others x.0) x.1)) (read-check_at reason_of (8 * (z.place + 5)) rules (bytes_at at bytes)
+    ∙ ap (λ n. judged (8 * (z.place + 5)) (first_broken ((leads_behind next n or_else reasons.OffsetWrong) ∷ [])) (Ok (8 * at, bytes_at at bytes))) size)
+
+pub next_wrong : {z : Past} {held0 held1 : List ℕ} {rest0 rest1 : Option (List ℕ)} {at : ℕ} (others : ℕ → Rows Reason DataUnit) (next span room place : ℕ) (stop : ReadStop) → Begun units z held0 rest0 rest1 at held1 (next_checked z next >>= others)
+    → at ≡ z.place + span → leads_behind next span ≡ false → at + length held1 + room ≡ limit → place ≡ z.place + 5 → stop ≡ stops.Refused (record { place = place; reason = reasons.OffsetWrong }) → StopsOver z held0 rest0 rest1 room stop
+next_wrong {z} {held1 = held1} {at = at} others next span room place stop b there wrong total field e =
+    stops_refused room (8 * (z.place + 5)) place reasons.OffsetWrong stop b (next_read z next at span others held1 there ∙ rw wrong refl) (λ t. cc) total (omega (arith, field)) e
+
+pub next_right : {z : Past} {held0 held1 : List ℕ} {rest0 rest1 : Option (List ℕ)} {at : ℕ} (others : ℕ → Rows Reason DataUnit) (next span : ℕ) → Begun units z held0 rest0 rest1 at held1 (next_checked z next >>= others)
+    → at ≡ z.place + span → leads_behind next span ≡ true → Begun units z held0 rest0 rest1 at held1 (others (8 * at))
+next_right {z} {held0} {held1} {rest0} {rest1} {at} others next span b there right =
+    subst (λ n. Begun units z held0 rest0 rest1 n held1 (others (8 * at))) (omega arith)
+    (begun_use units_laws [] held1 (others (8 * at)) b refl (record { moves = λ more. next_read z next at span others more there ∙ rw right (ap (λ n. read reason_of (others (8 * at)) (bytes_at n more)) (omega arith)) }))
+
+-- the unit is taken
+pub picture_taken : {z : Past} {held0 held1 : List ℕ} {rest0 rest1 : Option (List ℕ)} {at : ℕ} (parts : HeaderParts) (shown : Shown) (p : Params) (slices : List (List ℕ)) (room : ℕ) → Begun units z held0 rest0 rest1 at held1 (done (Picture parts shown.number p slices))
+    → at ≡ z.place + (shown.head + total_bytes p.slicing) → shown.head + total_bytes p.slicing < 2 ^ 32 → at + length held1 + room ≡ limit → shown.layout ≡ p.slicing → Shows parts p slices shown.decoder → Takes z held0 rest0 rest1 room held1 (IsShown parts shown)
+picture_taken {z} parts shown p slices room b there few total layout shows =
+    let t = begun_taken units_laws (Picture parts shown.number p slices) b refl in
+    record {
+      unit = Picture parts shown.number p slices;
+      bytes = t.0;
+      such = record { params = p; slices = slices; is_picture = refl; layout = layout; head = omega (arith, there, t.1); shows = shows };
+      total = omega (arith, total, t.1);
+      short = omega (arith, few, there, t.1);
+      taken = t.2;
     }

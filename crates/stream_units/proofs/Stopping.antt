@@ -26,6 +26,15 @@ pub lost_stops : {z : Past} {held0 : List ℕ} {rest0 rest1 : Option (List ℕ)}
 lost_stops room top halts.ReadFault lost most = (top, most, lost)
 lost_stops room top halts.NoMemory lost most = (top, most, lost_due lost)
 
+-- the calls before this one found no failed read
+pub cause_behind : {X : Type 0} (Y : Type 0) (before mid now : ℕ) (stop : ReadStop) (result : Result X ReadStop) → result ≡ Err stop → mid ≡ before → StopCause {X = Y} mid now (Err stop) → StopCause before now result
+cause_behind {X} Y before mid now stop result e same h = subst (λ n. StopCause n now result) same (subst (StopCause mid now) (sym e) (by stop h))
+  where
+    by : (stop : ReadStop) → StopCause {X = Y} mid now (Err stop) → StopCause {X = X} mid now (Err stop)
+    by (stops.Refused refusal) h = h
+    by stops.ReadFault h = h
+    by stops.NoMemory h = h
+
 -- ---- of a unit that was begun
 
 -- no more bytes came, while there were too few
