@@ -1,14 +1,12 @@
 -- The parts of a picture's payload, by how each comes out.
-use Rattle.std.proofs.Common.{◌≡◌, ◌≢◌, ℕ, zero, suc, ◌+◌, ◌-◌, ◌*◌, ◌/◌, ◌%◌, ◌^◌, ◌<◌, ◌≤◌, Bool, true, false, not, cond, List, [], ◌∷◌, ◌++◌, length, take, drop, get_or, Option, Some, None, Result, Ok, Err, inl, inr, refl, sym, ap, subst, ◌∙◌, arith, append-nil}
-use Rattle.std.specs.Prelude.{◌&&◌, ◌||◌, ◌==◌, nat_lt, if◌then◌else◌}
-use Rattle.std.specs.List.{AllByRecursion}
+use Rattle.std.proofs.Common.{◌≡◌, ◌≢◌, ℕ, suc, ◌+◌, ◌-◌, ◌*◌, ◌/◌, ◌%◌, ◌^◌, ◌<◌, ◌≤◌, Bool, true, false, not, cond, List, [], ◌∷◌, ◌++◌, length, take, drop, get_or, Option, Some, None, Result, Ok, Err, inl, inr, refl, sym, ap, subst, ◌∙◌, arith, append-nil}
+use Rattle.std.specs.Prelude.{◌&&◌, ◌||◌, ◌==◌}
 use Rattle.std.specs.Int.{from_be_bytes, w32}
 use Rattle.std.specs.Io.KnownBytes.{IsAtEnd}
 use Rattle.std.proofs.lemmas.Bool.{cases_lt, le-ltb, lt-ltb}
-use Rattle.std.proofs.lemmas.List.{length-append, length-take, length-drop, take-append-drop, take-append-le, take_all, nil_from_length}
+use Rattle.std.proofs.lemmas.List.{length-append, length-take, take-append-drop, take-append-le, take_all, nil_from_length}
 use Rattle.vc2_run.specs.Ran.{within}
 use Rattle.bit_codes.specs.Bits.{Cursor, cursor_at, bits_of}
-use Rattle.bit_codes.specs.declared.CodeFault.TheVariants as codes
 use Rattle.bit_codes.proofs.BitLemmas.{length-bits}
 use Rattle.field_rows.specs.Rows.{some_bytes, Value, Bytes, bytes_in, Rule, ◌or_else◌, Rows, done, row, ◌>>=◌, Fault, read, word_under, bytes_under, renamed, first_broken, check_at, and_then, judged}
 use Rattle.field_rows.proofs.Pieces.{read-more_refused}
@@ -18,7 +16,7 @@ use Rattle.slice_geometry.specs.declared.PictureShape.{PictureShape}
 use Rattle.slice_geometry.specs.Slicing.{IsAllowed, slice_count, bytes_before, slice_bytes, total_bytes}
 use Rattle.slice_geometry.proofs.Shares.{bytes_before-rises}
 use Rattle.sequence_header.specs.declared.parts.HeaderParts.{HeaderParts}
-use Rattle.sequence_header.specs.Coding.{IsShapeOf, luma_size, colour_size, luma_depth, colour_depth}
+use Rattle.sequence_header.specs.Coding.{IsShapeOf, luma_size, colour_size, luma_depth}
 use Rattle.transform_params.specs.declared.faults.TransformReason.{TransformReason}
 use Rattle.transform_params.specs.declared.faults.TransformReason.TheVariants as transforms
 use Rattle.transform_params.specs.Params as params
@@ -49,7 +47,7 @@ use Rattle.stream_units.specs.declared.pictures.Shown.{Shown}
 use Rattle.stream_units.specs.Turns.{stop_of, StopsOver, Takes, IsShown, Shows}
 use Rattle.stream_units.specs.Parts.{IsReady, TookSlices, slice_reason}
 use Rattle.stream_units.proofs.Steady.{units_laws}
-use Rattle.stream_units.proofs.Stopping.{stops_lost, stops_lacking, stops_due, stops_short, stops_refused}
+use Rattle.stream_units.proofs.Stopping.{stops_lost, stops_lacking, stops_short, stops_refused}
 use Rattle.stream_units.proofs.Groups.{group_moves, group_refused, group_lacks}
 use Rattle.stream_units.proofs.UnitGroups.{params_group}
 

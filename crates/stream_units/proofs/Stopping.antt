@@ -1,11 +1,10 @@
 -- How the reading of a unit stops, by where it stands.
-use Rattle.std.proofs.Common.{◌≡◌, ◌≢◌, ℕ, ◌+◌, ◌*◌, ◌/◌, ◌≤◌, ◌<◌, List, length, Option, Result, Ok, Err, refl, sym, ap, subst, ◌∙◌, arith}
+use Rattle.std.proofs.Common.{◌≡◌, ◌≢◌, ℕ, ◌+◌, ◌/◌, ◌≤◌, ◌<◌, List, length, Option, Result, Err, sym, ap, subst, arith}
 use Rattle.std.specs.Io.KnownBytes.{IsAtEnd}
 use Rattle.vc2_run.specs.Ran.{within}
 use Rattle.field_rows.specs.Rows.{Rows, Fault, read}
 use Rattle.unit_table.specs.Grammar.{bytes_at}
-use Rattle.unit_table.specs.Fronts.{Refuses}
-use Rattle.unit_table.specs.Begun.{Begun, Needs, Lacks, Lost, Due, Over}
+use Rattle.unit_table.specs.Begun.{Begun, Needs, Lacks, Lost}
 use Rattle.unit_table.proofs.Begins.{begun_lost, begun_none, begun_short, begun_refused, begun_due, lost_due}
 use Rattle.stream_units.specs.declared.reason.Reason.{Reason}
 use Rattle.stream_units.specs.declared.reason.Reason.TheVariants as reasons
@@ -14,9 +13,8 @@ use Rattle.stream_units.specs.declared.stop.ReadStop.{ReadStop}
 use Rattle.stream_units.specs.declared.stop.ReadStop.TheVariants as stops
 use Rattle.stream_units.specs.declared.window.Halt.{Halt}
 use Rattle.stream_units.specs.declared.window.Halt.TheVariants as halts
-use Rattle.stream_units.specs.Asking.{HaltCause}
 use Rattle.stream_units.specs.Units.{Past, DataUnit, units, reason_of}
-use Rattle.stream_units.specs.Streams.{limit, refusal_of}
+use Rattle.stream_units.specs.Streams.{limit}
 use Rattle.stream_units.specs.Turns.{stop_of, StopsOver, StopCause}
 use Rattle.stream_units.proofs.Steady.{units_laws}
 

@@ -114,7 +114,7 @@ fn params<S: Source>(
         if !is_truncated(reason) {
             return Err(refused(at, reason));
         }
-        // No input comes here.
+        // No parameters are as long, so no input comes here.
         if count == LONGEST_PARAMS {
             return Err(ReadStop::NoMemory);
         }

@@ -1,12 +1,11 @@
-use Rattle.std.proofs.Common.{◌≡◌, ◌+◌, ◌-◌, ◌*◌, ◌/◌, ◌<◌, ◌≤◌, ◌^◌, ℕ, List, length, Some, Ok, Err, arith, sym, ap, subst, ◌∙◌, refl}
+use Rattle.std.proofs.Common.{◌≡◌, ◌+◌, ◌≤◌, ◌^◌, Err, arith, sym, ap, subst, ◌∙◌, refl}
 use Rattle.std.proofs.lemmas.Result.{err_from_is_err_and}
 use Rattle.slice_geometry.specs.Slicing.{total_bytes}
 use Rattle.transform_params.specs.Params.{Params}
 use Rattle.picture_codec.specs.Samples.{frame_of}
 use Rattle.field_rows.specs.Rows.{done}
 use Rattle.stream_units.specs.Units.{Picture}
-use Rattle.stream_units.specs.Turns.{PictureOver, StopCause}
-use Rattle.stream_units.specs.declared.stop.ReadStop.TheVariants as stops
+use Rattle.stream_units.specs.Turns.{PictureOver}
 use Rattle.stream_units.proofs.Stopping.{stops_due, cause_behind}
 use Rattle.stream_units.proofs.PictureTurns.{behind_slices, behind_params, behind_number, payload_begun, begun_at, slices_begun, ready_frame, finished_shows, next_wrong, next_right, picture_taken}
 use Rattle.stream_units.proofs.pictures.picture.Goals as goal

@@ -1,4 +1,4 @@
-use Rattle.std.proofs.Common.{◌≡◌, ◌+◌, ◌-◌, ◌*◌, ◌/◌, ◌<◌, ◌≤◌, ℕ, List, take, drop, length, get_or, Some, arith, sym, ap, subst, ◌∙◌, refl}
+use Rattle.std.proofs.Common.{◌+◌, ℕ, List, length, arith, sym, ap, subst, ◌∙◌, refl}
 use Rattle.std.proofs.lemmas.List.{length-drop}
 use Rattle.slice_geometry.specs.Slicing.{IsAllowed, bytes_before, total_bytes}
 use Rattle.slice_geometry.proofs.Shares.{bytes_before-zero}
