@@ -2,8 +2,6 @@
 use Rattle.std.proofs.Common.{◌≡◌, ℕ, ◌+◌, ◌-◌, ◌*◌, ◌/◌, ◌<◌, ◌≤◌, List, [], ◌∷◌, length, drop, Option, Some, None, Result, Ok, Err, Bool, true, false, IsTrue, arith, ap, ◌∙◌, sym, refl, subst, add-zero}
 use Rattle.std.specs.Prelude.{◌==◌, ◌||◌, ◌&&◌, ◌%◌, not, is_some, OnOk, IfErr}
 use Rattle.std.proofs.lemmas.List.{drop-drop, length-drop}
-use Rattle.bit_codes.specs.declared.CodeFault.{CodeFault}
-use Rattle.bit_codes.specs.declared.CodeFault.TheVariants as codes
 use Rattle.bit_codes.specs.Bits.{Cursor, cursor_at, bits_of}
 use Rattle.field_rows.specs.Rows.{◌or_else◌, done, ◌>>=◌, renamed, Fault, read, and_then, judged, first_broken}
 use Rattle.field_rows.specs.Moved.{moved_answer, renamed_answer}
@@ -28,6 +26,7 @@ use Rattle.stream_units.specs.declared.reason.Refusal.{Refusal}
 use Rattle.stream_units.specs.Streams.{refusal_of}
 use Rattle.stream_units.specs.Units.{First, Past, nothing_yet, DataUnit, Sequence, reason_of, header_reason, is_header, is_end_code, has_fields, code_rules, next_rules, unit_head, next_checked, first_payload, payload_rows, body_rows, units}
 use Rattle.stream_units.specs.Heads.{coding_of, looking_back, are_fields, passes, code_rules_behind, previous_rules_behind, judged_head, leads_behind, HeadAt, IsFirstUnit}
+use Rattle.stream_units.proofs.Whole.{header_names}
 
 -- ---- a head
 
@@ -155,13 +154,9 @@ read-checked_unit z next n unit bytes =
 
 -- ---- the payload of the first sequence header
 
-same_names : (e : CodeFault) → reason_of e ≡ header_reason (header.reason_of e)
-same_names codes.Short = refl
-same_names codes.TooLarge = refl
-
 header_behind : (place : ℕ) (bytes : List ℕ) → read reason_of (renamed header_reason header_rows) (bytes_at place bytes) ≡ renamed_answer header_reason (moved_answer place (read header.reason_of header_rows (cursor_at bytes 0)))
 header_behind place bytes =
-    read-renamed header_reason header.reason_of reason_of same_names header_rows (bytes_at place bytes)
+    read-renamed header_reason header.reason_of reason_of header_names header_rows (bytes_at place bytes)
     ∙ ap (λ n. renamed_answer header_reason (read header.reason_of header_rows (record { place = n; rest = bits_of bytes }))) (sym (add-zero (8 * place)))
     ∙ ap (renamed_answer header_reason) (read-moved header.reason_of header_rows place (cursor_at bytes 0) header_movable.movable)
 

@@ -10,5 +10,9 @@ pub mod Groups
 pub mod UnitGroups
 pub mod Stopping
 pub mod HeadRows
+pub mod Before
+pub mod FirstUnits
+pub mod PartTurns
+pub mod HeaderTurns
 pub mod PictureTurns
 pub mod Ready

@@ -1,10 +1,10 @@
 -- How the unit in front of a stream is read from a source: what each answer says of the bytes that were held at entry
 -- and then those that were read.
-use Rattle.std.specs.Prelude.{◌≡◌, ◌≤◌, ◌<◌, ℕ, ◌+◌, ◌-◌, ◌^◌, Bool, true, false, List, [], ◌∷◌, ◌++◌, length, drop, Option, Some, None, Result, Ok, Err, MatchResult}
+use Rattle.std.specs.Prelude.{◌≡◌, ◌≤◌, ◌<◌, ℕ, ◌+◌, ◌-◌, ◌^◌, Bool, true, false, List, [], ◌∷◌, ◌++◌, length, take, drop, Option, Some, None, Result, Ok, Err, MatchResult}
 use Rattle.std.specs.Io.KnownBytes.{IsAtEnd}
 use Rattle.vc2_io.specs.Outside.{Rose}
 use Rattle.vc2_run.specs.Ran.{within}
-use Rattle.field_rows.specs.Rows.{Fault}
+use Rattle.field_rows.specs.Rows.{Fault, done, ◌>>=◌}
 use Rattle.slice_geometry.specs.declared.unit_list.UnitShape.{UnitShape}
 use Rattle.slice_geometry.specs.Slicing.{slice_count, total_bytes}
 use Rattle.sequence_header.specs.declared.parts.HeaderParts.{HeaderParts}
@@ -24,8 +24,10 @@ use Rattle.stream_units.specs.declared.stop.Item.TheVariants as items
 use Rattle.stream_units.specs.declared.window.Halt.{Halt}
 use Rattle.stream_units.specs.declared.window.Halt.TheVariants as halts
 use Rattle.stream_units.specs.declared.pictures.Shown.{Shown}
+use Rattle.stream_units.specs.declared.parts.Found.{Found}
+use Rattle.stream_units.specs.declared.parts.Found.TheVariants as founds
 use Rattle.stream_units.specs.Asking.{WindowSeen}
-use Rattle.stream_units.specs.Units.{Past, First, DataUnit, Sequence, Repeated, Picture, Skipped, End, units, after}
+use Rattle.stream_units.specs.Units.{Past, First, DataUnit, Sequence, Repeated, Picture, Skipped, End, units, after, next_checked}
 use Rattle.stream_units.specs.Streams.{limit, past_limit, refusal_of, frame_under}
 
 abbrev pub stop_of : Halt → ReadStop
@@ -88,6 +90,16 @@ abbrev pub shape_of : Past → DataUnit → List ℕ → UnitShape
 shape_of z (Picture parts number params slices) bytes = record { start = z.place; head = length bytes - total_bytes params.slicing; slices = slice_count params.slicing; a = params.slicing.a; b = params.slicing.b }
 shape_of z other bytes = record { start = z.place; head = length bytes; slices = 0; a = 1; b = 1 }
 
+-- A sequence header was read, and stands in front of the bytes that are held; n bytes of its unit are gone.
+pub record ReadsHeader (z : Past) (next : ℕ) (held0 : List ℕ) (rest0 rest1 : Option (List ℕ)) (held1 : List ℕ) (parts : HeaderParts) (len : ℕ) : Type 0 where
+  pub inside : len ≤ length held1
+  pub begun : Begun units z held0 rest0 rest1 (z.place + 13 + len) (drop len held1) (next_checked z next >>= λ length. done (Sequence parts))
+  pub payload : drop 13 begun.gone ≡ take len held1
+
+abbrev pub HeaderOver : Past → ℕ → List ℕ → Option (List ℕ) → Option (List ℕ) → WindowSeen → Result (HeaderParts × ℕ) ReadStop → Type 0
+HeaderOver z next held0 rest0 rest1 window (Ok x) = ReadsHeader z next held0 rest0 rest1 window.held x.0 x.1
+HeaderOver z next held0 rest0 rest1 window (Err stop) = StopsOver z held0 rest0 rest1 window.room stop
+
 -- a picture that was read, of pictures under this header
 pub record IsShown (parts : HeaderParts) (shown : Shown) (unit : DataUnit) (bytes : List ℕ) : Type 0 where
   pub params : Params
@@ -100,3 +112,64 @@ pub record IsShown (parts : HeaderParts) (shown : Shown) (unit : DataUnit) (byte
 -- how the payload of a picture comes out
 abbrev pub PictureOver : Past → List ℕ → Option (List ℕ) → Option (List ℕ) → WindowSeen → HeaderParts → Result Shown ReadStop → Type 0
 PictureOver z held0 rest0 rest1 window parts result = MatchResult result (λ shown. Takes z held0 rest0 rest1 window.room window.held (IsShown parts shown)) (λ stop. StopsOver z held0 rest0 rest1 window.room stop)
+
+-- ---- a unit, whichever it is
+
+-- how a unit that doesn't end the stream comes out
+abbrev pub PartOver : {X : Type 0} → Past → List ℕ → Option (List ℕ) → Option (List ℕ) → WindowSeen → (X → DataUnit → List ℕ → Type 0) → Result X ReadStop → Type 0
+PartOver z held0 rest0 rest1 window IsSuch result = MatchResult result (λ x. Takes z held0 rest0 rest1 window.room window.held (IsSuch x)) (λ stop. StopsOver z held0 rest0 rest1 window.room stop)
+
+-- how the end comes out
+abbrev pub EndOver : {X : Type 0} → Past → List ℕ → Option (List ℕ) → Option (List ℕ) → WindowSeen → Result X ReadStop → Type 0
+EndOver z held0 rest0 rest1 window result = MatchResult result (λ x. Ends z held0 rest0 rest1 window.room window.held) (λ stop. StopsOver z held0 rest0 rest1 window.room stop)
+
+-- what was found is this unit of these bytes
+abbrev pub IsFound : Past → Found → DataUnit → List ℕ → Type 0
+IsFound z (founds.Sequence first) unit bytes = IsFirst first unit bytes
+IsFound z founds.Repeated unit bytes = unit ≡ Repeated
+IsFound z (founds.Picture shown) unit bytes = (first : First) × (z.first ≡ Some first) × IsShown first.parts shown unit bytes
+IsFound z founds.Skipped unit bytes = unit ≡ Skipped
+IsFound z founds.End unit bytes = ⊥
+
+-- by how the unit came out
+abbrev pub UnitOver : Past → List ℕ → Option (List ℕ) → Option (List ℕ) → WindowSeen → Result Found ReadStop → Type 0
+UnitOver z held0 rest0 rest1 window (Ok founds.End) = Ends z held0 rest0 rest1 window.room window.held
+UnitOver z held0 rest0 rest1 window (Ok found) = Takes z held0 rest0 rest1 window.room window.held (IsFound z found)
+UnitOver z held0 rest0 rest1 window (Err stop) = StopsOver z held0 rest0 rest1 window.room stop
+
+-- ---- the same, of an input that counts up to the limit
+
+-- a unit of which this is true was taken
+pub record LimitTakes (z : Past) (held0 : List ℕ) (rest0 rest1 : Option (List ℕ)) (room : ℕ) (held1 : List ℕ) (IsSuch : DataUnit → List ℕ → Type 0) : Type 0 where
+  pub unit : DataUnit
+  pub bytes : List ℕ
+  pub such : IsSuch unit bytes
+  pub total : z.place + length bytes + length held1 + room ≡ limit
+  pub short : length bytes < 2 ^ 32
+  pub few : length held1 ≤ 4096
+  pub takes : TakesUnit limit past_limit units z held0 rest0 rest1 unit bytes held1
+
+-- the stream ends with this unit, and nothing is behind it
+pub record LimitEnds (z : Past) (held0 : List ℕ) (rest0 rest1 : Option (List ℕ)) (room : ℕ) (held1 : List ℕ) : Type 0 where
+  pub bytes : List ℕ
+  pub none : held1 ≡ []
+  pub last : IsAtEnd rest1
+  pub total : z.place + length bytes + room ≡ limit
+  pub short : length bytes < 2 ^ 32
+  pub meets : MeetsFront limit past_limit units z held0 rest0 rest1 (Finishes (length bytes) End)
+
+-- the unit is refused
+pub record LimitRefused (z : Past) (held0 : List ℕ) (rest0 rest1 : Option (List ℕ)) (refusal : Refusal) : Type 0 where
+  pub fault : Fault Reason
+  pub there : refusal ≡ refusal_of fault
+  pub meets : MeetsFront limit past_limit units z held0 rest0 rest1 (Refuses fault)
+
+abbrev pub LimitStops : Past → List ℕ → Option (List ℕ) → Option (List ℕ) → ReadStop → Type 0
+LimitStops z held0 rest0 rest1 (stops.Refused refusal) = LimitRefused z held0 rest0 rest1 refusal
+LimitStops z held0 rest0 rest1 stops.ReadFault = (top : ℕ) × (top ≤ limit) × Lost units z held0 rest0 rest1 top
+LimitStops z held0 rest0 rest1 stops.NoMemory = (top : ℕ) × (top ≤ limit) × Due units z held0 rest0 rest1 top
+
+abbrev pub LimitOver : Past → List ℕ → Option (List ℕ) → Option (List ℕ) → WindowSeen → Result Found ReadStop → Type 0
+LimitOver z held0 rest0 rest1 window (Ok founds.End) = LimitEnds z held0 rest0 rest1 window.room window.held
+LimitOver z held0 rest0 rest1 window (Ok found) = LimitTakes z held0 rest0 rest1 window.room window.held (IsFound z found)
+LimitOver z held0 rest0 rest1 window (Err stop) = LimitStops z held0 rest0 rest1 stop

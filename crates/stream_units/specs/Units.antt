@@ -27,16 +27,17 @@ pub record First : Type 0 where
   pub parts : HeaderParts
   pub payload : List ℕ
 
--- What earlier units leave: the place in bytes, the length of the unit before, the first header, how many pictures there were, and the last one's number.
+-- What earlier units leave: the place in bytes, the length of the unit before, the first header, how many pictures and slices there were, and the last picture's number.
 pub record Past : Type 0 where
   pub place : ℕ
   pub previous : ℕ
   pub first : Option First
   pub pictures : ℕ
+  pub slices : ℕ
   pub last : ℕ
 
 abbrev pub nothing_yet : Past
-nothing_yet = record { place = 0; previous = 0; first = None; pictures = 0; last = 0 }
+nothing_yet = record { place = 0; previous = 0; first = None; pictures = 0; slices = 0; last = 0 }
 
 -- What the rows of a unit make.
 pub data DataUnit : Type 0 where
@@ -216,11 +217,11 @@ unit_rows z = do
 
 -- what a unit of these bytes leaves
 abbrev pub after : Past → DataUnit → List ℕ → Past
-after z (Sequence parts) bytes = record { place = z.place + length bytes; previous = length bytes; first = Some (record { parts = parts; payload = drop 13 bytes }); pictures = z.pictures; last = z.last }
-after z (Picture parts number params slices) bytes = record { place = z.place + length bytes; previous = length bytes; first = z.first; pictures = z.pictures + 1; last = number }
-after z Repeated bytes = record { place = z.place + length bytes; previous = length bytes; first = z.first; pictures = z.pictures; last = z.last }
-after z Skipped bytes = record { place = z.place + length bytes; previous = length bytes; first = z.first; pictures = z.pictures; last = z.last }
-after z End bytes = record { place = z.place + length bytes; previous = length bytes; first = z.first; pictures = z.pictures; last = z.last }
+after z (Sequence parts) bytes = record { place = z.place + length bytes; previous = length bytes; first = Some (record { parts = parts; payload = drop 13 bytes }); pictures = z.pictures; slices = z.slices; last = z.last }
+after z (Picture parts number params slices) bytes = record { place = z.place + length bytes; previous = length bytes; first = z.first; pictures = z.pictures + 1; slices = z.slices + slice_count params.slicing; last = number }
+after z Repeated bytes = record { place = z.place + length bytes; previous = length bytes; first = z.first; pictures = z.pictures; slices = z.slices; last = z.last }
+after z Skipped bytes = record { place = z.place + length bytes; previous = length bytes; first = z.first; pictures = z.pictures; slices = z.slices; last = z.last }
+after z End bytes = record { place = z.place + length bytes; previous = length bytes; first = z.first; pictures = z.pictures; slices = z.slices; last = z.last }
 
 -- The units of a stream.
 abbrev pub units : Grammar Past Reason DataUnit

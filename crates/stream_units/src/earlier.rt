@@ -12,18 +12,22 @@ pub(crate) struct First {
 }
 
 impl Model for First {
+    ghost use Rattle.std.specs.Prelude.{◌≤◌, length};
     ghost use Rattle.stream_units.specs.Units as units;
 
     ghost Value = { units.First };
 
     ghost view = { λ a. record { parts = a.header; payload = a.payload.items } };
+
+    ghost invariant = { λ a. length a.payload.items ≤ 8192 };
 }
 
 impl First {
-    ghost use Rattle.std.specs.Prelude.{◌≡◌};
+    ghost use Rattle.std.specs.Prelude.{◌≡◌, ◌≤◌, length};
 
-    /// A header of these bytes.
+    /// A header of these bytes, at most 8192: a header has some 140.
     pub fn new(header: SequenceHeader, payload: Vec<u8>) -> First
+        requires { length payload.items ≤ 8192 }
         ensures { result ≡ record { parts = header; payload = payload.items } }
     {
         First { header, payload }
@@ -38,19 +42,21 @@ impl First {
 
     /// The bytes of its payload.
     pub fn payload(&self) -> &[u8]
-        ensures { result.now ≡ self.now.payload }
+        ensures value { result.now ≡ self.now.payload }
+        ensures most { length result.now ≤ 8192 }
     {
         self.payload.as_slice()
     }
 }
 
 /// What earlier units leave: where the next one begins and the length of the one before, the first sequence header, how
-/// many pictures there were, and the number of the last.
+/// many pictures and slices there were, and the number of the last picture.
 #[derive(Drop)]
 pub(crate) struct Earlier {
     chain: Chain,
     first: Option<First>,
     pictures: u64,
+    slices: u64,
     last: u32,
 }
 
@@ -60,9 +66,9 @@ impl Model for Earlier {
 
     ghost Value = { Past };
 
-    ghost view = { λ a. record { place = a.chain.place; previous = a.chain.previous; first = a.first; pictures = a.pictures; last = a.last } };
+    ghost view = { λ a. record { place = a.chain.place; previous = a.chain.previous; first = a.first; pictures = a.pictures; slices = a.slices; last = a.last } };
 
-    ghost invariant = { λ a. a.pictures ≤ a.chain.place };
+    ghost invariant = { λ a. (a.pictures ≤ a.chain.place) × (a.slices ≤ a.chain.place) };
 }
 
 impl Earlier {
@@ -77,6 +83,7 @@ impl Earlier {
             chain: Chain::new(),
             first: None,
             pictures: 0,
+            slices: 0,
             last: 0,
         }
     }
@@ -111,6 +118,13 @@ impl Earlier {
         self.pictures
     }
 
+    /// How many slices they had.
+    pub fn slices(&self) -> u64
+        ensures { result ≡ self.now.slices }
+    {
+        self.slices
+    }
+
     /// The number of the last picture, and 0 before the first.
     pub fn last(&self) -> u32
         ensures { result ≡ self.now.last }
@@ -135,13 +149,15 @@ impl Earlier {
         self.chain.step(length);
     }
 
-    /// Goes on behind a picture's unit, which has a byte at least.
-    pub fn step_picture(&mut self, number: u32, length: u32)
+    /// Goes on behind the unit of a picture of so many slices, each of which has a byte at least.
+    pub fn step_picture(&mut self, number: u32, slices: u32, length: u32)
         requires some { 0 < length }
+        requires bytes { slices ≤ length }
         requires most { self.old.place + length ≤ 2 ^ 40 }
-        ensures { self.new ≡ record self.old { place = self.old.place + length; previous = length; pictures = self.old.pictures + 1; last = number } }
+        ensures { self.new ≡ record self.old { place = self.old.place + length; previous = length; pictures = self.old.pictures + 1; slices = self.old.slices + slices; last = number } }
     {
         self.pictures += 1;
+        self.slices += u64::from(slices);
         self.last = number;
         self.chain.step(length);
     }

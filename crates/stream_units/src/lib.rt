@@ -4,12 +4,15 @@
 mod earlier;
 mod heads;
 mod laws;
+mod parts;
 mod pictures;
+mod reader;
 pub mod reason;
 mod stop;
 mod window;
 
 pub use heads::first_unit;
 pub use laws::one_answer;
+pub use reader::StreamReader;
 pub use reason::{Reason, Refusal};
 pub use stop::{Item, ReadStop};

@@ -1,0 +1,80 @@
+-- The reader of a stream, over any source.
+use Rattle.std.specs.Prelude.{◌≡◌, ◌≤◌, ◌<◌, ℕ, ◌+◌, ◌*◌, ◌^◌, Bool, true, false, List, [], ◌∷◌, ◌++◌, length, Option, Some, None, Result, Ok, Err}
+use Rattle.std.specs.Io.KnownBytes.{Consumes, IsAtEnd}
+use Rattle.field_rows.specs.Rows.{Fault}
+use Rattle.slice_geometry.specs.declared.unit_list.UnitShape.{UnitShape}
+use Rattle.sequence_header.specs.declared.parts.HeaderParts.{HeaderParts}
+use Rattle.transform_params.specs.Params.{Params}
+use Rattle.picture_codec.specs.Samples.{PictureSeen, frame_of, picture_of}
+use Rattle.unit_table.specs.Fronts.{Finishes, Refuses}
+use Rattle.unit_table.specs.Begun.{Lost, Due}
+use Rattle.unit_table.specs.Turn.{TakesUnit, MeetsFront}
+use Rattle.stream_units.specs.declared.reason.Reason.{Reason}
+use Rattle.stream_units.specs.declared.reason.Refusal.{Refusal}
+use Rattle.stream_units.specs.declared.stop.ReadStop.{ReadStop}
+use Rattle.stream_units.specs.declared.stop.ReadStop.TheVariants as stops
+use Rattle.stream_units.specs.declared.stop.Item.{Item}
+use Rattle.stream_units.specs.declared.stop.Item.TheVariants as items
+use Rattle.stream_units.specs.Units.{Past, First, DataUnit, Sequence, Repeated, Picture, Skipped, End, units, after, nothing_yet}
+use Rattle.stream_units.specs.Streams.{limit, past_limit, refusal_of, frame_under}
+use Rattle.stream_units.specs.Turns.{shape_of, LimitRefused, LimitStops}
+
+-- What is seen of a reader: what the units so far leave, the bytes that it holds, the shapes of the units, the picture of the last one, the stop that it keeps, and whether the stream is over.
+pub record ReaderState : Type 0 where
+  pub past : Past
+  pub held : List ℕ
+  pub shapes : List UnitShape
+  pub picture : Option PictureSeen
+  pub stop : Option ReadStop
+  pub ended : Bool
+
+-- a new reader
+abbrev pub new_reader : ReaderState
+new_reader = record { past = nothing_yet; held = []; shapes = []; picture = None; stop = None; ended = false }
+
+-- the item of a unit
+abbrev pub item_of : DataUnit → Item
+item_of (Sequence parts) = items.Sequence
+item_of Repeated = items.Repeated
+item_of (Picture parts number params slices) = items.Picture number
+item_of Skipped = items.Skipped
+item_of End = items.End
+
+-- the picture of a unit, if it has one, is shown
+abbrev pub IsPictureOf : DataUnit → Option PictureSeen → Type 0
+IsPictureOf (Picture parts number params slices) shown = (seen : PictureSeen) × (shown ≡ Some seen) × (frame_of seen.shape ≡ frame_under parts) × (seen.samples ≡ picture_of (frame_under parts) params slices)
+IsPictureOf other shown = shown ≡ None
+
+-- The unit in front, of the bytes that were held and those that were read, was taken: the others are held, and the reader is behind it.
+pub record TakesItem (old new : ReaderState) (rest0 rest1 : Option (List ℕ)) (item : Item) : Type 0 where
+  pub unit : DataUnit
+  pub bytes : List ℕ
+  pub is_item : item ≡ item_of unit
+  pub takes : TakesUnit limit past_limit units old.past old.held rest0 rest1 unit bytes new.held
+  pub past : new.past ≡ after old.past unit bytes
+  pub shapes : new.shapes ≡ old.shapes ++ shape_of old.past unit bytes ∷ []
+  pub picture : IsPictureOf unit new.picture
+  pub going : (new.stop ≡ None) × (new.ended ≡ false)
+
+-- The end of sequence in front was taken, and nothing is behind it.
+pub record TakesEnd (old new : ReaderState) (rest0 rest1 : Option (List ℕ)) : Type 0 where
+  pub bytes : List ℕ
+  pub meets : MeetsFront limit past_limit units old.past old.held rest0 rest1 (Finishes (length bytes) End)
+  pub last : IsAtEnd rest1
+  pub past : new.past ≡ after old.past End bytes
+  pub shapes : new.shapes ≡ old.shapes ++ shape_of old.past End bytes ∷ []
+  pub over : (new.held ≡ []) × (new.picture ≡ None) × (new.stop ≡ None) × (new.ended ≡ true)
+
+-- A stop is kept; the units so far are as they were.
+pub record KeepsStop (old new : ReaderState) (stop : ReadStop) : Type 0 where
+  pub past : new.past ≡ old.past
+  pub shapes : new.shapes ≡ old.shapes
+  pub picture : new.picture ≡ None
+  pub kept : new.stop ≡ Some stop
+  pub ended : new.ended ≡ false
+
+-- By how the call came out, of a reader that keeps no stop and whose stream isn't over.
+abbrev pub NextOver : ReaderState → ReaderState → Option (List ℕ) → Option (List ℕ) → Result Item ReadStop → Type 0
+NextOver old new rest0 rest1 (Ok items.End) = TakesEnd old new rest0 rest1
+NextOver old new rest0 rest1 (Ok item) = TakesItem old new rest0 rest1 item
+NextOver old new rest0 rest1 (Err stop) = LimitStops old.past old.held rest0 rest1 stop × KeepsStop old new stop

@@ -1,0 +1,177 @@
+//! The parts of units: what stands behind their heads.
+
+ghost use Rattle.std.specs.Prelude.{◌≡◌, ◌+◌, ◌^◌, ◌≤◌, List, ℕ, Option, Some, length, IfOk, IfErr};
+ghost use Rattle.field_rows.specs.Rows.{done};
+ghost use Rattle.unit_table.specs.Begun.{Begun};
+ghost use Rattle.stream_units.specs.Units.{Skipped, Repeated, End, Past, units, first_payload, skipped_payload, repeated_payload};
+ghost use Rattle.stream_units.specs.Turns.{PartOver, EndOver, HeaderOver, IsFirst, StopCause};
+ghost use Rattle.stream_units.specs.declared.stop.ReadStop.TheVariants as stops;
+
+use crate::earlier::{Earlier, First};
+use crate::pictures::Shown;
+use crate::reason::Reason;
+use crate::heads::{header_reason, leads_behind};
+use crate::stop::{ReadStop, is_truncated, refused, stop_of};
+use crate::window::Window;
+use sequence_header::SequenceHeader;
+use std::alloc::Global;
+use vc2_io::Source;
+
+/// A unit that stands.
+#[derive(Drop)]
+pub(crate) enum Found {
+    Sequence(First),
+    Repeated,
+    Picture(Shown),
+    Skipped,
+    End,
+}
+
+// Behind an end of sequence, where nothing may be left.
+pub(crate) fn end<S: Source>(
+    window: &mut Window,
+    src: &mut S,
+    earlier: &Earlier,
+) -> Result<(), ReadStop>
+    requires place { earlier.now.place + 13 + length window.old.held + window.old.room ≡ 2 ^ 40 }
+    ensures unit { (held0 : List ℕ) (rest0 : Option (List ℕ)) → Begun units earlier.now held0 rest0 (S.rest src.old) (earlier.now.place + 13) window.old.held (done End)
+        → EndOver earlier.now held0 rest0 (S.rest src.new) window.new result }
+    ensures cause { StopCause (S.faults src.old) (S.faults src.new) result }
+{
+    match window.hold(src, 1) {
+        Ok(true) => Err(refused(earlier.place() + 13, Reason::TrailingBytes)),
+        Ok(false) => Ok(()),
+        Err(halt) => Err(stop_of(halt)),
+    }
+}
+
+// The payload of auxiliary data or padding, which is skipped in pieces.
+pub(crate) fn skipped<S: Source>(
+    window: &mut Window,
+    src: &mut S,
+    earlier: &Earlier,
+    next: u32,
+) -> Result<(), ReadStop>
+    requires next { 13 ≤ next }
+    requires place { earlier.now.place + 13 + length window.old.held + window.old.room ≡ 2 ^ 40 }
+    ensures unit { (held0 : List ℕ) (rest0 : Option (List ℕ)) → Begun units earlier.now held0 rest0 (S.rest src.old) (earlier.now.place + 13) window.old.held (skipped_payload next)
+        → PartOver earlier.now held0 rest0 (S.rest src.new) window.new (λ _ unit bytes. unit ≡ Skipped) result }
+    ensures cause { StopCause (S.faults src.old) (S.faults src.new) result }
+{
+    match window.skip(src, (next - 13) as u64) {
+        Ok(true) => Ok(()),
+        Ok(false) => Err(refused(earlier.place() + 13, Reason::Truncated)),
+        Err(halt) => Err(stop_of(halt)),
+    }
+}
+
+// The payload of a sequence header that isn't the first.
+pub(crate) fn repeated<S: Source>(
+    window: &mut Window,
+    src: &mut S,
+    earlier: &Earlier,
+    first: &First,
+    next: u32,
+) -> Result<(), ReadStop>
+    requires place { earlier.now.place + 13 + length window.old.held + window.old.room ≡ 2 ^ 40 }
+    ensures unit { (held0 : List ℕ) (rest0 : Option (List ℕ)) → Begun units earlier.now held0 rest0 (S.rest src.old) (earlier.now.place + 13) window.old.held (repeated_payload earlier.now next first.now)
+        → PartOver earlier.now held0 rest0 (S.rest src.new) window.new (λ _ unit bytes. unit ≡ Repeated) result }
+    ensures cause { StopCause (S.faults src.old) (S.faults src.new) result }
+{
+    let place = earlier.place();
+    let payload = first.payload();
+    match window.hold(src, payload.len()) {
+        Ok(true) => {}
+        Ok(false) => return Err(refused(place + 13, Reason::Truncated)),
+        Err(halt) => return Err(stop_of(halt)),
+    }
+    if !window.front(payload.len()).starts_with(payload) {
+        return Err(refused(place + 13, Reason::HeaderDiffers));
+    }
+    window.advance(payload.len());
+    if !leads_behind(next, 13 + payload.len() as u64) {
+        return Err(refused(place + 5, Reason::OffsetWrong));
+    }
+    Ok(())
+}
+
+// More bytes than any sequence header has: some 140 are the most.
+const MOST: usize = 512;
+
+// Reads until the sequence header stands in front of the bytes that are held, and gives it with its length.
+fn read_header<S: Source>(
+    window: &mut Window,
+    src: &mut S,
+    place: u64,
+) -> Result<(SequenceHeader, usize), ReadStop>
+    requires place { place + length window.old.held + window.old.room ≡ 2 ^ 40 }
+    requires few { length window.old.held ≤ 8192 }
+    ensures unit { (z : Past) (held0 : List ℕ) (rest0 : Option (List ℕ)) (next : ℕ) → place ≡ z.place + 13 → Begun units z held0 rest0 (S.rest src.old) place window.old.held (first_payload z next)
+        → HeaderOver z next held0 rest0 (S.rest src.new) window.new result }
+    ensures room { length window.new.held + window.new.room ≡ length window.old.held + window.old.room }
+    ensures inside { IfOk result (λ x. x.1 ≤ length window.new.held) }
+    ensures few { length window.new.held ≤ 8192 }
+    ensures cause { StopCause (S.faults src.old) (S.faults src.new) result }
+{
+    loop {
+        let held = window.len();
+        let fault = match SequenceHeader::read(window.front(held)) {
+            Ok(read) => return Ok(read),
+            Err(fault) => fault,
+        };
+        let reason = header_reason(fault.reason);
+        if !is_truncated(reason) {
+            return Err(refused(place + fault.bit / 8, reason));
+        }
+        if held >= MOST {
+            return Err(ReadStop::NoMemory);
+        }
+        match window.hold(src, held + 1) {
+            Ok(true) => {}
+            Ok(false) => return Err(refused(place + fault.bit / 8, reason)),
+            Err(halt) => return Err(stop_of(halt)),
+        }
+    }
+}
+
+// A copy of bytes.
+fn copied(alloc: Global, bytes: &[u8]) -> Result<Vec<u8>, ReadStop>
+    ensures ok { IfOk result (λ copy. copy.items ≡ bytes.now) }
+    ensures err { IfErr result (λ stop. stop ≡ stops.NoMemory) }
+{
+    let mut copy = Vec::new(alloc);
+    match copy.extend_from_slice(bytes) {
+        Ok(()) => Ok(copy),
+        Err(_) => Err(ReadStop::NoMemory),
+    }
+}
+
+// The payload of the first sequence header, which is kept: a later one has to be the same.
+pub(crate) fn first_header<S: Source>(
+    alloc: Global,
+    window: &mut Window,
+    src: &mut S,
+    earlier: &Earlier,
+    next: u32,
+) -> Result<First, ReadStop>
+    requires place { earlier.now.place + 13 + length window.old.held + window.old.room ≡ 2 ^ 40 }
+    requires few { length window.old.held ≤ 4096 }
+    ensures unit { (held0 : List ℕ) (rest0 : Option (List ℕ)) → Begun units earlier.now held0 rest0 (S.rest src.old) (earlier.now.place + 13) window.old.held (first_payload earlier.now next)
+        → PartOver earlier.now held0 rest0 (S.rest src.new) window.new IsFirst result }
+    ensures cause { StopCause (S.faults src.old) (S.faults src.new) result }
+{
+    let place = earlier.place();
+    let (header, len) = match read_header(window, src, place + 13) {
+        Ok(read) => read,
+        Err(stop) => return Err(stop),
+    };
+    let payload = match copied(alloc, window.front(len)) {
+        Ok(payload) => payload,
+        Err(stop) => return Err(stop),
+    };
+    window.advance(len);
+    if !leads_behind(next, 13 + len as u64) {
+        return Err(refused(place + 5, Reason::OffsetWrong));
+    }
+    Ok(First::new(header, payload))
+}

@@ -1,0 +1,119 @@
+//! The reader of a stream.
+
+ghost use Rattle.std.specs.Prelude.{◌≡◌, ◌≤◌, ◌^◌, Ok, Err, Some, None, true, false, length, IfOk, IfSome, IsNone, ◌↔◌, option_map};
+ghost use Rattle.stream_units.specs.Turns.{StopCause};
+ghost use Rattle.stream_units.specs.Reader.{NextOver, new_reader};
+ghost use Rattle.stream_units.specs.declared.stop.Item.TheVariants as items;
+
+use crate::earlier::Earlier;
+use crate::stop::{Item, ReadStop};
+use crate::window::Window;
+use picture_codec::{Picture, PictureDecoder};
+use planes::NoMemory;
+use sequence_header::SequenceHeader;
+use slice_geometry::UnitShapes;
+use std::alloc::Global;
+use std::marker::Model;
+use vc2_io::Source;
+use vc2_run::LIMIT;
+
+/// Reads the units of a stream from any source, one after another. Contracts see what the units so far leave, the bytes
+/// that it holds, the shapes of the units, the picture of the last one, and the stop that it keeps.
+#[derive(Drop)]
+pub struct StreamReader {
+    alloc: Global,
+    window: Window,
+    earlier: Earlier,
+    shapes: UnitShapes,
+    decoder: Option<PictureDecoder>,
+    shows: bool,
+    stop: Option<ReadStop>,
+    ended: bool,
+}
+
+impl Model for StreamReader {
+    ghost use Rattle.stream_units.specs.Reader.{ReaderState};
+    ghost use Rattle.stream_units.specs.ReaderInside.{picture_in, IsSound};
+
+    ghost Value = { ReaderState };
+
+    ghost view = { λ a. record { past = a.earlier; held = a.window.held; shapes = a.shapes.units; picture = picture_in a.shows a.decoder; stop = a.stop; ended = a.ended } };
+
+    ghost invariant = { λ a. IsSound a.earlier a.window a.shapes a.shows a.decoder a.stop a.ended };
+}
+
+impl StreamReader {
+    /// A reader that holds no byte, has taken none and keeps no stop.
+    pub fn new(alloc: Global) -> Result<StreamReader, NoMemory>
+        ensures { IfOk result (λ reader. reader ≡ new_reader) }
+    {
+        Ok(StreamReader {
+            alloc,
+            window: Window::new(alloc, LIMIT),
+            earlier: Earlier::new(),
+            shapes: UnitShapes::new(alloc),
+            decoder: None,
+            shows: false,
+            stop: None,
+            ended: false,
+        })
+    }
+
+    /// Takes the unit in front of the bytes that are held and then the source's. The source is asked only while that
+    /// unit doesn't stand whole in what was read, an end of sequence being whole only where a byte follows it; at most
+    /// 4096 bytes a read.
+    pub fn next<S: Source>(&mut self, src: &mut S) -> Result<Item, ReadStop>
+        // The unit is taken, or refused as the grammar of a stream refuses it, or something outside failed.
+        ensures next { self.old.stop ≡ None → self.old.ended ≡ false → NextOver self.old self.new (S.rest src.old) (S.rest src.new) result }
+        // A failed read is answered where the count rose, and nothing else is.
+        ensures cause { self.old.stop ≡ None → StopCause (S.faults src.old) (S.faults src.new) result }
+        // After a stop each call answers it again, and nothing is read.
+        ensures kept { IfSome self.old.stop (λ stop. (result ≡ Err stop) × (self.new ≡ self.old) × (S.rest src.new ≡ S.rest src.old) × (S.faults src.new ≡ S.faults src.old)) }
+        // After the end each call answers it again, and nothing is read.
+        ensures ended { self.old.stop ≡ None → self.old.ended ≡ true → (result ≡ Ok items.End) × (self.new ≡ self.old) × (S.rest src.new ≡ S.rest src.old) × (S.faults src.new ≡ S.faults src.old) }
+    {
+        Err(ReadStop::NoMemory)
+    }
+
+    /// The sequence header; none before the first `Sequence`.
+    pub fn header(&self) -> Option<&SequenceHeader>
+        ensures some { IfSome result (λ header. Some header.now ≡ option_map (λ first. first.parts) self.now.past.first) }
+        ensures none { IsNone result ↔ (self.now.past.first ≡ None) }
+    {
+        self.earlier.first().map(|first| first.header())
+    }
+
+    /// The picture of the unit that the last call of `next` answered; none where it didn't answer `Picture`.
+    pub fn picture(&self) -> Option<&Picture>
+        ensures some { IfSome result (λ picture. self.now.picture ≡ Some picture.now) }
+        ensures none { IsNone result ↔ (self.now.picture ≡ None) }
+    {
+        match &self.decoder {
+            Some(decoder) if self.shows => Some(decoder.picture()),
+            _ => None,
+        }
+    }
+
+    /// The units so far, by their lengths.
+    pub fn shapes(&self) -> &UnitShapes
+        ensures units { result.now.units ≡ self.now.shapes }
+        ensures total { result.now.total ≡ self.now.past.place }
+    {
+        &self.shapes
+    }
+
+    /// The bytes of the units so far, at most 2^40.
+    pub fn taken(&self) -> u64
+        ensures value { result ≡ self.now.past.place }
+        ensures most { result ≤ 2 ^ 40 }
+    {
+        self.earlier.place()
+    }
+
+    /// How many bytes are held.
+    pub fn held(&self) -> usize
+        ensures { result ≡ length self.now.held }
+    {
+        self.window.len()
+    }
+}
