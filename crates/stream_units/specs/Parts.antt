@@ -15,7 +15,6 @@ use Rattle.stream_units.specs.declared.reason.Reason.TheVariants as reasons
 use Rattle.stream_units.specs.declared.stop.ReadStop.{ReadStop}
 use Rattle.stream_units.specs.Asking.{WindowSeen}
 use Rattle.stream_units.specs.Units.{Past, DataUnit, units, slice_rows}
-use Rattle.stream_units.specs.Streams.{frame_under}
 use Rattle.stream_units.specs.Turns.{StopsOver}
 
 -- A part of a unit, from a place on: its rows make a value and the rows after them are left behind its bytes, or the unit stops in it.

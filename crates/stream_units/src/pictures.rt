@@ -2,7 +2,7 @@
 
 ghost use Rattle.std.specs.Prelude.{◌≡◌, ◌+◌, ◌^◌, ◌≤◌, List, ℕ, Option, None, Some, OnOk, IfOk, MatchResult, length, false};
 ghost use Rattle.field_rows.specs.Rows.{word_under, renamed, first_broken};
-ghost use Rattle.slice_geometry.specs.Slicing.{total_bytes};
+ghost use Rattle.slice_geometry.specs.Slicing.{IsAllowed, total_bytes};
 ghost use Rattle.sequence_header.specs.declared.parts.HeaderParts.{HeaderParts};
 ghost use Rattle.transform_params.specs.Params.{params_rows};
 ghost use Rattle.transform_params.specs.Views.{params_of};
@@ -114,7 +114,7 @@ fn params<S: Source>(
         if !is_truncated(reason) {
             return Err(refused(at, reason));
         }
-        // No input comes here.
+        // No parameters are as long, so no input comes here.
         if count == LONGEST_PARAMS {
             return Err(ReadStop::NoMemory);
         }
@@ -173,6 +173,7 @@ fn slices<S: Source>(
     ensures params { decoder.new.params ≡ decoder.old.params }
     ensures unrefused { OnOk result (decoder.new.refused ≡ false) }
     ensures whole { OnOk result (wanted_of decoder.new ≡ None) }
+    ensures allowed { OnOk result (IsAllowed decoder.old.params.slicing) }
     ensures cause { StopCause (S.faults src.old) (S.faults src.new) result }
 {
     // The rules of a layout.

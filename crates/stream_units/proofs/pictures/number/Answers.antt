@@ -1,6 +1,4 @@
-use Rattle.std.proofs.Common.{◌≡◌, ◌+◌, ◌<◌, take, length, arith, sym, ap, subst, ◌∙◌, Some, None, get_or, ℕ}
-use Rattle.stream_units.specs.Units.{number_rules}
-use Rattle.field_rows.specs.Rows.{first_broken}
+use Rattle.std.proofs.Common.{◌+◌, ◌<◌, arith, sym, subst, ◌∙◌, get_or, ℕ}
 use Rattle.stream_units.proofs.PictureTurns.{number_asked, number_at, number_broken, number_taken, field_short, field_lost}
 use Rattle.stream_units.proofs.pictures.number.Goals as goal
 

@@ -1,4 +1,4 @@
-use Rattle.std.proofs.Common.{◌≡◌, ◌+◌, ◌<◌, ◌≤◌, ◌^◌, take, drop, length, arith, sym, ap, subst, ◌∙◌, ℕ, List, refl}
+use Rattle.std.proofs.Common.{◌≡◌, ◌+◌, length, arith, sym, subst, ◌∙◌}
 use Rattle.transform_params.specs.Params as params
 use Rattle.stream_units.proofs.PictureTurns.{params_taken, params_more, params_short, params_lost, params_refused}
 use Rattle.stream_units.proofs.Stopping.{stops_due}

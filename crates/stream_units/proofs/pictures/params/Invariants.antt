@@ -1,4 +1,4 @@
-use Rattle.std.proofs.Common.{◌≡◌, ◌+◌, ◌-◌, ◌^◌, ◌≤◌, List, ℕ, Option, length}
+use Rattle.std.proofs.Common.{◌≡◌, ◌+◌, ◌-◌, ◌^◌, List, ℕ, Option, length}
 use Rattle.field_rows.specs.Rows.{Rows, renamed, ◌>>=◌}
 use Rattle.transform_params.specs.Params.{Params, params_rows}
 use Rattle.unit_table.specs.Begun.{Begun}

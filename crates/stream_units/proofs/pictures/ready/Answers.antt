@@ -1,10 +1,3 @@
-use Rattle.std.proofs.Common.{◌≡◌, refl, sym, ap, ◌∙◌}
-use denote.Enum.Bare.{same_true}
-use Rattle.lifting.specs.contracts.Wavelet as wavelet
-use Rattle.transform_params.specs.Params.{Params}
-use Rattle.transform_params.specs.Views.{params_of}
-use Rattle.stream_units.specs.Parts.{IsReady}
-use Rattle.picture_codec.specs.Samples.{frame_of}
 use Rattle.stream_units.proofs.Ready.{frame_same, params_same, ready_again}
 use Rattle.stream_units.proofs.pictures.ready.Goals as goal
 
