@@ -17,3 +17,4 @@ pub mod HeaderTurns
 pub mod PictureTurns
 pub mod Ready
 pub mod UnitTurns
+pub mod InLimit

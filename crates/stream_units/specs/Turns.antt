@@ -1,6 +1,6 @@
 -- How the unit in front of a stream is read from a source: what each answer says of the bytes that were held at entry
 -- and then those that were read.
-use Rattle.std.specs.Prelude.{◌≡◌, ◌≤◌, ◌<◌, ℕ, ◌+◌, ◌-◌, ◌^◌, Bool, true, false, List, [], ◌∷◌, ◌++◌, length, take, drop, Option, Some, None, Result, Ok, Err, MatchResult}
+use Rattle.std.specs.Prelude.{◌≡◌, ◌≤◌, ◌<◌, ℕ, ◌+◌, ◌-◌, ◌^◌, Bool, true, false, List, [], ◌∷◌, ◌++◌, length, take, drop, Option, Some, None, Result, Ok, Err, MatchResult, if◌then◌else◌}
 use Rattle.std.specs.Io.KnownBytes.{IsAtEnd}
 use Rattle.vc2_io.specs.Outside.{Rose}
 use Rattle.vc2_run.specs.Ran.{within}
@@ -28,7 +28,7 @@ use Rattle.stream_units.specs.declared.parts.Found.{Found}
 use Rattle.stream_units.specs.declared.parts.Found.TheVariants as founds
 use Rattle.stream_units.specs.Asking.{WindowSeen}
 use Rattle.stream_units.specs.Units.{Past, First, DataUnit, Sequence, Repeated, Picture, Skipped, End, units, after, next_checked}
-use Rattle.stream_units.specs.Streams.{limit, past_limit, refusal_of, frame_under}
+use Rattle.stream_units.specs.Streams.{limit, is_truncated, past_limit, refusal_of, frame_under}
 
 abbrev pub stop_of : Halt → ReadStop
 stop_of halts.ReadFault = stops.ReadFault
@@ -173,3 +173,10 @@ abbrev pub LimitOver : Past → List ℕ → Option (List ℕ) → Option (List 
 LimitOver z held0 rest0 rest1 window (Ok founds.End) = LimitEnds z held0 rest0 rest1 window.room window.held
 LimitOver z held0 rest0 rest1 window (Ok found) = LimitTakes z held0 rest0 rest1 window.room window.held (IsFound z found)
 LimitOver z held0 rest0 rest1 window (Err stop) = LimitStops z held0 rest0 rest1 stop
+
+-- the reason where a byte lies past the limit, of an end or a refusal that the limit may have made
+abbrev pub too_long : Result Found ReadStop → Option Reason
+too_long (Ok founds.End) = Some reasons.TrailingBytes
+too_long (Ok found) = None
+too_long (Err (stops.Refused refusal)) = if is_truncated refusal.reason then Some reasons.StreamTooLong else None
+too_long (Err stop) = None

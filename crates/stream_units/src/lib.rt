@@ -4,6 +4,7 @@
 mod earlier;
 mod heads;
 mod laws;
+mod limits;
 mod parts;
 mod pictures;
 mod reader;

@@ -9,9 +9,9 @@ ghost use Rattle.stream_units.specs.declared.stop.ReadStop.TheVariants as stops;
 
 use crate::earlier::{Earlier, First};
 use crate::pictures::Shown;
-use crate::reason::Reason;
+use crate::reason::{Reason, is_truncated};
 use crate::heads::{header_reason, leads_behind};
-use crate::stop::{ReadStop, is_truncated, refused, stop_of};
+use crate::stop::{ReadStop, refused, stop_of};
 use crate::window::Window;
 use sequence_header::SequenceHeader;
 use std::alloc::Global;

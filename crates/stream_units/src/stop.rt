@@ -2,7 +2,6 @@
 
 ghost use Rattle.std.specs.Prelude.{◌≡◌};
 ghost use Rattle.stream_units.specs.declared.stop.ReadStop.TheVariants as stops;
-ghost use Rattle.stream_units.specs.Streams.{is_truncated};
 ghost use Rattle.stream_units.specs.Turns.{stop_of};
 
 use crate::reason::{Reason, Refusal};
@@ -49,11 +48,4 @@ pub(crate) fn refused(place: u64, reason: Reason) -> ReadStop
     ensures { result ≡ stops.Refused (record { place = place; reason = reason }) }
 {
     ReadStop::Refused(Refusal { place, reason })
-}
-
-/// The stream is cut off.
-pub(crate) fn is_truncated(reason: Reason) -> bool
-    ensures { result ≡ is_truncated reason }
-{
-    matches!(reason, Reason::Truncated)
 }
