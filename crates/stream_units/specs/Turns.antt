@@ -129,7 +129,7 @@ IsFound z (founds.Sequence first) unit bytes = IsFirst first unit bytes
 IsFound z founds.Repeated unit bytes = unit ≡ Repeated
 IsFound z (founds.Picture shown) unit bytes = (first : First) × (z.first ≡ Some first) × IsShown first.parts shown unit bytes
 IsFound z founds.Skipped unit bytes = unit ≡ Skipped
-IsFound z founds.End unit bytes = ⊥
+IsFound z founds.End unit bytes = unit ≡ End
 
 -- by how the unit came out
 abbrev pub UnitOver : Past → List ℕ → Option (List ℕ) → Option (List ℕ) → WindowSeen → Result Found ReadStop → Type 0

@@ -9,6 +9,7 @@ mod parts;
 mod pictures;
 mod reader;
 pub mod reason;
+mod steps;
 mod stop;
 mod units;
 mod window;
