@@ -1,0 +1,153 @@
+//! The stream of one picture of one sample: whole, cut at each byte, and over a source that fails.
+
+use crate::reading::{
+    END, HEADER, ONE_EACH, PICTURE, WHOLE, expect, expect_twice, joined, refused,
+};
+use sequence_header::{AspectField, ColourField, HeaderParts, RateField, SignalField};
+use slice_geometry::{Component, UnitShape};
+use std::test::Fail;
+use stream_units::{Item, ReadStop, Reason, StreamReader, first_unit};
+use vc2_io::{MemSource, SteadySource};
+
+const ITEMS: [Item; 2] = [Item::Sequence, Item::Picture(0)];
+
+/// What its sequence header holds.
+const PARTS: HeaderParts = HeaderParts {
+    major: 1,
+    minor: 0,
+    level: 0,
+    width: 1,
+    height: 1,
+    sampling: 0,
+    scan: None,
+    rate: RateField::Index(3),
+    aspect: AspectField::Default,
+    clean: None,
+    signal: SignalField::Index(1),
+    colour: ColourField::Default,
+    coding: 0,
+};
+
+/// A unit without slices.
+fn plain(start: u64, head: u64) -> UnitShape {
+    UnitShape {
+        start,
+        head,
+        slices: 0,
+        a: 1,
+        b: 1,
+    }
+}
+
+/// What the reader shows behind each unit: the header, the picture, the shapes, the bytes taken and held.
+#[test]
+fn unit_by_unit(rt: HostRuntime) -> Result<(), Fail> {
+    let bytes = joined(rt.alloc(), &[HEADER, PICTURE, END])?;
+    let mut src = SteadySource::new(bytes.as_slice());
+    let mut reader = StreamReader::new(rt.alloc())?;
+    assert!(rt; reader.header().is_none() && reader.picture().is_none());
+    assert_eq!(rt; (reader.taken(), reader.held()), (0, 0));
+
+    assert_eq!(rt; reader.next(&mut src), Ok(Item::Sequence));
+    let header = reader.header().expect(&rt, "a header");
+    assert_eq!(rt; *header.parts(), PARTS);
+    assert!(rt; reader.picture().is_none());
+    assert_eq!(rt; (reader.taken(), reader.held()), (17, 34));
+
+    assert_eq!(rt; reader.next(&mut src), Ok(Item::Picture(0)));
+    let picture = reader.picture().expect(&rt, "a picture");
+    for component in [Component::Luma, Component::C1, Component::C2] {
+        assert_eq!(rt; picture.samples(component), [0x80].as_slice());
+    }
+    assert_eq!(rt; (reader.taken(), reader.held()), (38, 13));
+
+    assert_eq!(rt; reader.next(&mut src), Ok(Item::End));
+    assert!(rt; reader.header().is_some() && reader.picture().is_none());
+    assert_eq!(rt; (reader.taken(), reader.held()), (51, 0));
+
+    let shapes = reader.shapes();
+    assert_eq!(rt; (shapes.len(), shapes.total()), (3, 51));
+    let picture = UnitShape {
+        slices: 1,
+        ..plain(17, 20)
+    };
+    for (number, shape) in [plain(0, 17), picture, plain(38, 13)].iter().enumerate() {
+        assert!(rt; number < shapes.len());
+        assert_eq!(rt; shapes.get(number), *shape);
+    }
+    Ok(())
+}
+
+/// Behind a refusal the header, the shapes and the bytes taken are those of the units that stand; no picture is shown.
+#[test]
+fn behind_a_refusal(rt: HostRuntime) -> Result<(), Fail> {
+    let bytes = joined(rt.alloc(), &[HEADER, PICTURE, END, &[0]])?;
+    let mut src = SteadySource::new(bytes.as_slice());
+    let mut reader = StreamReader::new(rt.alloc())?;
+    for item in ITEMS {
+        assert_eq!(rt; reader.next(&mut src), Ok(item));
+    }
+    assert!(rt; reader.picture().is_some());
+    assert_eq!(rt; reader.next(&mut src), refused(51, Reason::TrailingBytes));
+    assert!(rt; reader.header().is_some() && reader.picture().is_none());
+    assert_eq!(rt; (reader.taken(), reader.shapes().len()), (38, 2));
+    Ok(())
+}
+
+/// The first unit alone.
+#[test]
+fn its_first_unit(rt: HostRuntime) -> Result<(), Fail> {
+    let (header, length) = first_unit(HEADER).ok().expect(&rt, "a header unit");
+    assert_eq!(rt; (*header.parts(), length), (PARTS, 17));
+    Ok(())
+}
+
+/// The first and the last length of the cut stream, how many items stand, and the place of the field that is short.
+const CUTS: [(usize, usize, usize, u64); 18] = [
+    (0, 3, 0, 0),
+    (4, 4, 0, 4),
+    (5, 8, 0, 5),
+    (9, 12, 0, 9),
+    (13, 13, 0, 13),
+    (14, 14, 0, 14),
+    (15, 15, 0, 15),
+    (16, 16, 0, 16),
+    (17, 20, 1, 17),
+    (21, 21, 1, 21),
+    (22, 25, 1, 22),
+    (26, 29, 1, 26),
+    (30, 33, 1, 30),
+    (34, 35, 1, 34),
+    (36, 36, 1, 35),
+    (37, 37, 1, 37),
+    (38, 41, 2, 38),
+    (42, 42, 2, 42),
+];
+
+#[test]
+fn cut_at_each_byte(rt: HostRuntime) -> Result<(), Fail> {
+    let bytes = joined(rt.alloc(), &[HEADER, PICTURE, END])?;
+    for (first, last, count, place) in CUTS {
+        for length in first..=last {
+            let short = refused(place, Reason::Truncated);
+            assert!(rt; length <= bytes.len() && count <= ITEMS.len());
+            expect_twice(&rt, rt.alloc(), &bytes[..length], &ITEMS[..count], short)?;
+        }
+    }
+    Ok(())
+}
+
+/// Each read fails in turn, where each byte comes alone: the units that stand whole before it come, and then the fault.
+#[test]
+fn each_read_fails(rt: HostRuntime) -> Result<(), Fail> {
+    let bytes = joined(rt.alloc(), &[HEADER, PICTURE, END])?;
+    for call in 0..52 {
+        let failing = [call];
+        let mut src = MemSource::new(bytes.as_slice(), ONE_EACH, &failing);
+        let count = usize::from(call >= 17) + usize::from(call >= 38);
+        let fault = Err(ReadStop::ReadFault);
+        expect(&rt, rt.alloc(), &mut src, &ITEMS[..count], fault)?;
+    }
+    let mut src = MemSource::new(bytes.as_slice(), WHOLE, &[52]);
+    expect(&rt, rt.alloc(), &mut src, &ITEMS, Ok(Item::End))
+}
