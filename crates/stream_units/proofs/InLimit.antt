@@ -104,6 +104,7 @@ ends_none rest2 lost f took few at_end = record {
   bytes = f.bytes;
   none = f.none;
   last = at_end;
+  some = f.some;
   total = f.total;
   short = f.short;
   meets = over_none limit past_limit rest2 lost f.over (omega (arith, f.total)) took few at_end;

@@ -69,6 +69,7 @@ end_over {z} {held0} {held1} {rest0} {rest1} {place} held2 rest2 room b got none
       bytes = e.0;
       none = empty;
       last = at_end;
+      some = omega (arith, e.1, behind);
       total = omega (arith, total, none, e.1);
       short = omega (arith, e.1, behind);
       over = subst (λ n. Over units z held0 rest0 rest2 (within room rest2) n (Finishes (length e.0) End)) e.1 e.2;

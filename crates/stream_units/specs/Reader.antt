@@ -51,6 +51,10 @@ abbrev pub IsDecoderOf : DataUnit → Option Decoding → Type 0
 IsDecoderOf (Picture parts number params slices) decoder = (d : Decoding) × (decoder ≡ Some d) × Shows parts params slices d
 IsDecoderOf other decoder = decoder ≡ None
 
+abbrev pub is_last : Item → Bool
+is_last items.End = true
+is_last other = false
+
 -- what is behind a unit of these bytes
 pub record Steps (old new : Past) (unit : DataUnit) (bytes : List ℕ) (item : Item) (made : Option Decoding) : Type 0 where
   pub past : new ≡ after old unit bytes

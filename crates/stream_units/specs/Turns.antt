@@ -50,6 +50,7 @@ pub record Ends (z : Past) (held0 : List ℕ) (rest0 rest1 : Option (List ℕ)) 
   pub bytes : List ℕ
   pub none : held1 ≡ []
   pub last : IsAtEnd (within room rest1)
+  pub some : 0 < length bytes
   pub total : z.place + length bytes + room ≡ limit
   pub short : length bytes < 2 ^ 32
   pub over : Over units z held0 rest0 rest1 (within room rest1) (z.place + length bytes) (Finishes (length bytes) End)
@@ -154,6 +155,7 @@ pub record LimitEnds (z : Past) (held0 : List ℕ) (rest0 rest1 : Option (List �
   pub bytes : List ℕ
   pub none : held1 ≡ []
   pub last : IsAtEnd rest1
+  pub some : 0 < length bytes
   pub total : z.place + length bytes + room ≡ limit
   pub short : length bytes < 2 ^ 32
   pub meets : MeetsFront limit past_limit units z held0 rest0 rest1 (Finishes (length bytes) End)

@@ -4,7 +4,8 @@ ghost use Rattle.std.specs.Prelude.{◌≡◌, ◌+◌, ◌^◌, ◌≤◌, ◌<
 ghost use Rattle.slice_geometry.specs.Units.{IsUnitAllowed, unit_length};
 ghost use Rattle.stream_units.specs.Units.{Past, DataUnit};
 ghost use Rattle.stream_units.specs.Turns.{IsFound, shape_of};
-ghost use Rattle.stream_units.specs.Reader.{Steps};
+ghost use Rattle.stream_units.specs.Reader.{Steps, is_last};
+ghost use Rattle.stream_units.specs.ReaderInside.{Keeps};
 
 use crate::earlier::Earlier;
 use crate::parts::Found;
@@ -70,4 +71,24 @@ pub(crate) fn step(
             (Item::End, None)
         }
     }
+}
+
+/// Keeps the decoder that made a picture, and says whether there is one.
+pub(crate) fn keep(decoder: &mut Option<PictureDecoder>, made: Option<PictureDecoder>) -> bool
+    ensures { Keeps made decoder.old decoder.new result }
+{
+    match made {
+        Some(made) => {
+            *decoder = Some(made);
+            true
+        }
+        None => false,
+    }
+}
+
+/// The stream is over with this item.
+pub(crate) fn is_last(item: Item) -> bool
+    ensures { result ≡ is_last item }
+{
+    matches!(item, Item::End)
 }
