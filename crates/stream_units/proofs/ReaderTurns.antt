@@ -102,6 +102,14 @@ shows_one Repeated made old new shows d k = subst (λ b. ShowsOne b new) (sym (s
 shows_one Skipped made old new shows d k = subst (λ b. ShowsOne b new) (sym (subst (λ m. Keeps m old new shows) d k).1) tt
 shows_one End made old new shows d k = subst (λ b. ShowsOne b new) (sym (subst (λ m. Keeps m old new shows) d k).1) tt
 
+-- nothing is shown at the end
+pub over_none : (unit : DataUnit) (item : Item) (made old new : Option Decoding) (shows : Bool) → item ≡ item_of unit → is_last item ≡ true → IsDecoderOf unit made → Keeps made old new shows → shows ≡ false
+over_none (Picture parts number params slices) item made old new shows i last d k = absurd (let clash : false ≡ true = sym (ap is_last i) ∙ last in cc)
+over_none (Sequence parts) item made old new shows i last d k = (subst (λ m. Keeps m old new shows) d k).1
+over_none Repeated item made old new shows i last d k = (subst (λ m. Keeps m old new shows) d k).1
+over_none Skipped item made old new shows i last d k = (subst (λ m. Keeps m old new shows) d k).1
+over_none End item made old new shows i last d k = (subst (λ m. Keeps m old new shows) d k).1
+
 shown_none : (made old new : Option Decoding) (shows : Bool) → made ≡ None → Keeps made old new shows → picture_in shows new ≡ None
 shown_none made old new shows d k = ap (λ b. picture_in b new) (subst (λ m. Keeps m old new shows) d k).1
 
@@ -127,8 +135,8 @@ pub record Leaves (old new : ReaderState) (window : WindowSeen) (found : Found) 
   pub ended : new.ended ≡ is_last item
 
 taken : {old new : ReaderState} {rest0 rest1 : Option (List ℕ)} {window : WindowSeen} {found : Found} {size : ℕ} {item : Item} (t : LimitTakes old.past old.held rest0 rest1 window.room window.held (IsFound old.past found)) → Leaves old new window found size item → size ≡ limit - window.room - length window.held - old.past.place → is_last item ≡ false → TakesItem old new rest0 rest1 item
-taken {old} {new} {rest0} {rest1} t l e going =
-    let long = omega (arith, t.total, e) in
+taken {old} {new} {rest0} {rest1} {size = size} t l e going =
+    let long : length t.bytes ≡ size = omega (arith, t.total, e) in
     let s = (l.steps t.unit t.bytes long t.such).1 in
     record {
       unit = t.unit;
@@ -174,3 +182,12 @@ next_over old new rest0 rest1 window founds.End size item t e l =
 -- no memory, before a byte was read
 pub nothing_due : (z : Past) (held : List ℕ) (rest : Option (List ℕ)) (room : ℕ) → length held ≤ 4096 → z.place + length held + room ≡ limit → LimitStops z held rest rest stops.NoMemory
 nothing_due z held rest room few total = (z.place + length held, omega (arith, total), begun_due (begun_start units z held rest few))
+
+-- ---- a reader that is seen
+
+pub along : (seen old new : ReaderState) (rest0 rest1 : Option (List ℕ)) (result : Result Item ReadStop) → old ≡ seen → (old.stop ≡ None → old.ended ≡ false → NextOver old new rest0 rest1 result) → seen.stop ≡ None → seen.ended ≡ false → NextOver seen new rest0 rest1 result
+along seen old new rest0 rest1 result e f = subst (λ (o : ReaderState). o.stop ≡ None → o.ended ≡ false → NextOver o new rest0 rest1 result) e f
+
+pub stopped : (seen old new : ReaderState) (rest0 rest1 : Option (List ℕ)) (stop : ReadStop) → old ≡ seen → (old.stop ≡ None → old.ended ≡ false → LimitStops old.past old.held rest0 rest1 stop) → (old.stop ≡ None → old.ended ≡ false → KeepsStop old new stop)
+    → seen.stop ≡ None → seen.ended ≡ false → LimitStops seen.past seen.held rest0 rest1 stop × KeepsStop seen new stop
+stopped seen old new rest0 rest1 stop e f k = subst (λ (o : ReaderState). o.stop ≡ None → o.ended ≡ false → LimitStops o.past o.held rest0 rest1 stop × KeepsStop o new stop) e (λ no_stop going. (f no_stop going, k no_stop going))
