@@ -1,14 +1,10 @@
 -- How a call of the reader comes out, from the unit that was found.
-use Rattle.std.proofs.Common.{◌≡◌, ℕ, ◌+◌, ◌-◌, ◌*◌, ◌/◌, ◌^◌, ◌<◌, ◌≤◌, Bool, true, false, List, [], ◌∷◌, ◌++◌, length, drop, Option, Some, None, Result, Ok, Err, refl, sym, ap, subst, ◌∙◌, arith}
+use Rattle.std.proofs.Common.{◌≡◌, ℕ, ◌+◌, ◌-◌, ◌*◌, ◌^◌, ◌<◌, ◌≤◌, Bool, true, false, List, [], ◌∷◌, ◌++◌, length, Option, Some, None, Result, Ok, refl, sym, ap, subst, ◌∙◌, arith}
 use Rattle.std.specs.Option.{option_map}
 use Rattle.std.proofs.lemmas.Nat.{le-div}
-use Rattle.std.specs.Io.KnownBytes.{Consumes, IsAtEnd}
-use Rattle.vc2_io.proofs.Known.{Consumes-none}
-use Rattle.slice_geometry.specs.declared.unit_list.UnitShape.{UnitShape}
 use Rattle.slice_geometry.specs.Slicing.{Slicing, IsAllowed, slice_count, total_bytes}
 use Rattle.picture_codec.specs.Samples.{PictureSeen}
 use Rattle.picture_codec.specs.Decoding.{Decoding}
-use Rattle.unit_table.specs.Begun.{Due}
 use Rattle.unit_table.specs.Turn.{TakesUnit}
 use Rattle.unit_table.proofs.Begins.{begun_start, begun_due}
 use Rattle.stream_units.specs.declared.stop.Item.{Item}
@@ -19,11 +15,11 @@ use Rattle.stream_units.specs.declared.pictures.Shown.{Shown}
 use Rattle.stream_units.specs.declared.parts.Found.{Found}
 use Rattle.stream_units.specs.declared.parts.Found.TheVariants as founds
 use Rattle.stream_units.specs.Asking.{WindowSeen}
-use Rattle.stream_units.specs.Units.{Past, First, DataUnit, Sequence, Repeated, Picture, Skipped, End, units, after}
+use Rattle.stream_units.specs.Units.{Past, DataUnit, Sequence, Repeated, Picture, Skipped, End, units, after}
 use Rattle.stream_units.specs.Streams.{limit, past_limit}
-use Rattle.stream_units.specs.Turns.{IsFound, LimitTakes, LimitEnds, LimitOver, LimitStops, shape_of}
-use Rattle.stream_units.specs.Reader.{ReaderState, item_of, is_last, IsPictureOf, IsDecoderOf, Steps, TakesItem, TakesEnd, KeepsStop, NextOver}
-use Rattle.stream_units.specs.ReaderInside.{seen_of, picture_in, ShowsOne, Keeps}
+use Rattle.stream_units.specs.Turns.{IsFound, LimitTakes, LimitOver, LimitStops, shape_of}
+use Rattle.stream_units.specs.Reader.{ReaderState, item_of, is_last, IsPictureOf, IsDecoderOf, Steps, TakesItem, KeepsStop, NextOver}
+use Rattle.stream_units.specs.ReaderInside.{picture_in, ShowsOne, Keeps}
 
 -- ---- the step behind a unit
 

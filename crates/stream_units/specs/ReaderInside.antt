@@ -1,5 +1,5 @@
 -- What is true of the fields of a reader.
-use Rattle.std.specs.Prelude.{◌≡◌, ◌≤◌, ℕ, ◌+◌, ◌^◌, Bool, true, false, List, length, Option, Some, None}
+use Rattle.std.specs.Prelude.{◌≡◌, ◌≤◌, ◌+◌, Bool, true, false, length, Option, Some, None}
 use Rattle.std.specs.Option.{option_map}
 use Rattle.slice_geometry.specs.Units.{UnitList}
 use Rattle.picture_codec.specs.Samples.{PictureSamples, PictureSeen}

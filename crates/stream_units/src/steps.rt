@@ -39,11 +39,7 @@ pub(crate) fn shape_of(found: &Found, start: u64, size: u32) -> UnitShape
 }
 
 /// Goes on behind a unit of so many bytes; gives its item, and the decoder that made its picture.
-pub(crate) fn step(
-    earlier: &mut Earlier,
-    found: Found,
-    size: u32,
-) -> (Item, Option<PictureDecoder>)
+pub(crate) fn step(earlier: &mut Earlier, found: Found, size: u32) -> (Item, Option<PictureDecoder>)
     requires some { 0 < size }
     requires most { earlier.old.place + size ≤ 2 ^ 40 }
     requires found { (unit : DataUnit) × (bytes : List ℕ) × (length bytes ≡ size) × IsFound earlier.old found unit bytes }

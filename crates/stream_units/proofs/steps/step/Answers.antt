@@ -1,5 +1,4 @@
-use Rattle.std.proofs.Common.{◌≡◌, ◌≤◌, sym, ap, ◌∙◌, subst}
-use Rattle.slice_geometry.specs.Slicing.{slice_count}
+use Rattle.std.proofs.Common.{◌≤◌, sym, subst}
 use Rattle.stream_units.proofs.ReaderTurns.{picture_slices, picture_steps}
 use Rattle.stream_units.proofs.steps.step.Goals as goal
 

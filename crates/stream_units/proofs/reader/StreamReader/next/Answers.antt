@@ -1,4 +1,4 @@
-use Rattle.std.proofs.Common.{◌≡◌, ◌+◌, ◌-◌, ◌≤◌, ◌^◌, ◌++◌, ◌∷◌, [], length, sym, ap, subst, ◌∙◌, List, ℕ, Option, Ok, Err, Some, None, refl, arith}
+use Rattle.std.proofs.Common.{◌≡◌, ◌+◌, ◌-◌, ◌^◌, ◌++◌, ◌∷◌, [], sym, ap, ◌∙◌, List, Ok, refl, arith}
 use Rattle.slice_geometry.specs.declared.unit_list.UnitShape.{UnitShape}
 use Rattle.stream_units.specs.declared.stop.ReadStop.TheVariants as stops
 use Rattle.stream_units.specs.ReaderInside.{picture_in}
@@ -46,12 +46,12 @@ pub returns-clause-next : goal.returns-clause-next
 returns-clause-next g c =
     along c.args.self.now (record { past = c.self.inside.earlier; held = c.self.inside.window.held; shapes = c.self.inside.shapes.units; picture = picture_in c.self.inside.shows c.self.inside.decoder; stop = c.self.inside.stop; ended = c.self.inside.ended }) _
     (g.S.Source.rest c.args.src.now) (g.S.Source.rest c.next_unit.new.src) (Ok c.step-item.result.0) c.self.view_is (λ no_stop going.
-        next_over _ _ (g.S.Source.rest c.args.src.now) (g.S.Source.rest c.next_unit.new.src) c.next_unit.new.window c.in-Ok.found (2 ^ 40 - c.room.result - c.len.result - c.place-start.result) c.step-item.result.0 c.in-Ok.ensures.limit (omega (arith, c.room.ensures, c.len.ensures, c.place-start.ensures.value))
-        (record {
-          steps = λ unit bytes long such. (c.step-item.result.1, c.step-item.ensures unit bytes long such);
-          shapes = λ unit bytes long such. c.push.ensures.units ∙ ap (λ (l : List UnitShape). l ++ c.shape_of.result ∷ []) c.reserve.ensures.units ∙ ap (λ (u : UnitShape). c.self.inside.shapes.units ++ u ∷ []) (c.shape_of.ensures.shape c.self.inside.earlier unit bytes (sym c.place-start.ensures.value) long such);
-          picture = λ unit bytes long such. is_picture unit c.step-item.result.1 c.next_unit.new.kept c.keep-self-inside.new.decoder c.keep-self-inside.result (c.step-item.ensures unit bytes long such).decoder c.keep-self-inside.ensures;
-          held = refl;
-          stop = no_stop;
-          ended = c.is_last-self-inside.ensures;
-        }))
+    next_over _ _ (g.S.Source.rest c.args.src.now) (g.S.Source.rest c.next_unit.new.src) c.next_unit.new.window c.in-Ok.found (2 ^ 40 - c.room.result - c.len.result - c.place-start.result) c.step-item.result.0 c.in-Ok.ensures.limit (omega (arith, c.room.ensures, c.len.ensures, c.place-start.ensures.value))
+    (record {
+      steps = λ unit bytes long such. (c.step-item.result.1, c.step-item.ensures unit bytes long such);
+      shapes = λ unit bytes long such. c.push.ensures.units ∙ ap (λ (l : List UnitShape). l ++ c.shape_of.result ∷ []) c.reserve.ensures.units ∙ ap (λ (u : UnitShape). c.self.inside.shapes.units ++ u ∷ []) (c.shape_of.ensures.shape c.self.inside.earlier unit bytes (sym c.place-start.ensures.value) long such);
+      picture = λ unit bytes long such. is_picture unit c.step-item.result.1 c.next_unit.new.kept c.keep-self-inside.new.decoder c.keep-self-inside.result (c.step-item.ensures unit bytes long such).decoder c.keep-self-inside.ensures;
+      held = refl;
+      stop = no_stop;
+      ended = c.is_last-self-inside.ensures;
+    }))
