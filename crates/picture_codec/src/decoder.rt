@@ -143,6 +143,20 @@ impl PictureDecoder {
         })
     }
 
+    /// The shape of its pictures.
+    pub fn shape(&self) -> &PictureShape
+        ensures { result.now ≡ self.now.shape }
+    {
+        self.picture.shape()
+    }
+
+    /// The transform parameters of its pictures.
+    pub fn params(&self) -> &TransformParams
+        ensures { params_of result.now ≡ self.now.params }
+    {
+        &self.params
+    }
+
     /// The bytes of the next slice, and none exactly after the last.
     pub fn wanted(&self) -> Option<u32>
         requires { self.now.refused ≡ false }

@@ -5,3 +5,11 @@ pub mod StreamLaws
 pub mod Answering
 pub mod WorkedStreams
 pub mod Gets
+pub mod Exact
+pub mod Groups
+pub mod UnitGroups
+pub mod Stopping
+pub mod HeadRows
+pub mod Before
+pub mod FirstUnits
+pub mod PartTurns

@@ -14,7 +14,7 @@ use Rattle.transform_params.specs.Params as params
 use Rattle.transform_params.specs.Params.{Params, params_rows}
 use Rattle.stream_units.specs.Units.{reason_of, header_reason, transform_reason, Past, End, First, unit_head, first_payload, repeated_payload, picture_payload, skipped_payload, payload_of, payload_rows, next_checked, share, slice_rules, slice_rows, body_rows}
 
-header_names : (e : CodeFault) → reason_of e ≡ header_reason (header.reason_of e)
+pub header_names : (e : CodeFault) → reason_of e ≡ header_reason (header.reason_of e)
 header_names codes.Short = refl
 header_names codes.TooLarge = refl
 
@@ -22,7 +22,7 @@ pub header_whole : EndsWhole reason_of (renamed header_reason header.header_rows
 unfolding header.header_rows
 header_whole = EndsWhole-renamed header_reason header.reason_of reason_of header_names (whole_bytes header.header_fields) (EndsWhole-whole_bytes header.reason_of header.header_fields)
 
-params_names : (e : CodeFault) → reason_of e ≡ transform_reason (params.reason_of e)
+pub params_names : (e : CodeFault) → reason_of e ≡ transform_reason (params.reason_of e)
 params_names codes.Short = refl
 params_names codes.TooLarge = refl
 

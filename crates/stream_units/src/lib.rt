@@ -2,6 +2,7 @@
 #![tactic(auto)]
 
 mod earlier;
+mod heads;
 mod laws;
 mod parts;
 mod pictures;
@@ -10,6 +11,7 @@ pub mod reason;
 mod stop;
 mod window;
 
+pub use heads::first_unit;
 pub use laws::one_answer;
 pub use reader::StreamReader;
 pub use reason::{Reason, Refusal};

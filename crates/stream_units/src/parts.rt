@@ -9,7 +9,8 @@ ghost use Rattle.stream_units.specs.Turns.{PartOver, EndOver, StopCause};
 use crate::earlier::{Earlier, First};
 use crate::pictures::Shown;
 use crate::reason::Reason;
-use crate::stop::{ReadStop, leads_behind, refused, stop_of};
+use crate::heads::leads_behind;
+use crate::stop::{ReadStop, refused, stop_of};
 use crate::window::Window;
 use vc2_io::Source;
 
@@ -54,7 +55,7 @@ pub(crate) fn skipped<S: Source>(
         → PartOver earlier.now held0 rest0 (S.rest src.new) window.new (λ _ unit bytes. unit ≡ Skipped) result }
     ensures cause { StopCause (S.faults src.old) (S.faults src.new) result }
 {
-    match window.skip(src, u64::from(next - 13)) {
+    match window.skip(src, (next - 13) as u64) {
         Ok(true) => Ok(()),
         Ok(false) => Err(refused(earlier.place() + 13, Reason::Truncated)),
         Err(halt) => Err(stop_of(halt)),
@@ -84,9 +85,86 @@ pub(crate) fn repeated<S: Source>(
     if !window.front(payload.len()).starts_with(payload) {
         return Err(refused(place + 13, Reason::HeaderDiffers));
     }
+    window.advance(payload.len());
     if !leads_behind(next, 13 + payload.len() as u64) {
         return Err(refused(place + 5, Reason::OffsetWrong));
     }
-    window.advance(payload.len());
     Ok(())
+}
+
+// More bytes than any sequence header has: some 140 are the most.
+const MOST: usize = 512;
+
+// Reads until the sequence header stands in front of the bytes that are held, and gives it with its length.
+fn read_header<S: Source>(
+    window: &mut Window,
+    src: &mut S,
+    place: u64,
+) -> Result<(SequenceHeader, usize), ReadStop>
+    requires place { place + length window.old.held + window.old.room ≡ 2 ^ 40 }
+    ensures unit { (z : Past) (held0 : List ℕ) (rest0 : Option (List ℕ)) (next : ℕ) → Begun units z held0 rest0 (S.rest src.old) place window.old.held (first_payload z next)
+        → HeaderOver z next held0 rest0 (S.rest src.new) place window.new result }
+    ensures room { length window.new.held + window.new.room ≡ length window.old.held + window.old.room }
+    ensures cause { StopCause (S.faults src.old) (S.faults src.new) result }
+{
+    loop {
+        let held = window.len();
+        let fault = match SequenceHeader::read(window.front(held)) {
+            Ok(read) => return Ok(read),
+            Err(fault) => fault,
+        };
+        if fault.reason != HeaderReason::Truncated {
+            return Err(refused(place + fault.bit / 8, header_reason(fault.reason)));
+        }
+        if held >= MOST {
+            return Err(ReadStop::NoMemory);
+        }
+        match window.hold(src, held + 1) {
+            Ok(true) => {}
+            Ok(false) => return Err(refused(place + fault.bit / 8, Reason::Truncated)),
+            Err(halt) => return Err(stop_of(halt)),
+        }
+    }
+}
+
+// A copy of bytes.
+fn copied(alloc: Global, bytes: &[u8]) -> Result<Vec<u8>, ReadStop>
+    ensures ok { IfOk result (λ copy. copy.items ≡ bytes.now) }
+    ensures err { IfErr result (λ stop. stop ≡ ReadStop::NoMemory) }
+{
+    let mut copy = Vec::new(alloc);
+    match copy.extend_from_slice(bytes) {
+        Ok(()) => Ok(copy),
+        Err(_) => Err(ReadStop::NoMemory),
+    }
+}
+
+// The payload of the first sequence header, which is kept: a later one has to be the same.
+pub(crate) fn first_header<S: Source>(
+    alloc: Global,
+    window: &mut Window,
+    src: &mut S,
+    earlier: &Earlier,
+    next: u32,
+) -> Result<First, ReadStop>
+    requires place { earlier.now.place + 13 + length window.old.held + window.old.room ≡ 2 ^ 40 }
+    requires few { length window.old.held ≤ 4096 }
+    ensures unit { (held0 : List ℕ) (rest0 : Option (List ℕ)) → Begun units earlier.now held0 rest0 (S.rest src.old) (earlier.now.place + 13) window.old.held (first_payload earlier.now next)
+        → PartOver earlier.now held0 rest0 (S.rest src.new) window.new IsFirst result }
+    ensures cause { StopCause (S.faults src.old) (S.faults src.new) result }
+{
+    let place = earlier.place();
+    let (header, len) = match read_header(window, src, place + 13) {
+        Ok(read) => read,
+        Err(stop) => return Err(stop),
+    };
+    let payload = match copied(alloc, window.front(len)) {
+        Ok(payload) => payload,
+        Err(stop) => return Err(stop),
+    };
+    window.advance(len);
+    if !leads_behind(next, 13 + len as u64) {
+        return Err(refused(place + 5, Reason::OffsetWrong));
+    }
+    Ok(First::new(header, payload))
 }

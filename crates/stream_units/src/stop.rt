@@ -33,7 +33,7 @@ pub enum ReadStop {
     NoMemory,
 }
 
-// A stop for want of bytes.
+/// Why reading stops where no more bytes came.
 pub(crate) fn stop_of(halt: Halt) -> ReadStop
     ensures { result ≡ stop_of halt }
 {
@@ -43,14 +43,14 @@ pub(crate) fn stop_of(halt: Halt) -> ReadStop
     }
 }
 
-// A refusal at this place.
+/// The stream is refused at a place.
 pub(crate) fn refused(place: u64, reason: Reason) -> ReadStop
     ensures { result ≡ stops.Refused (record { place = place; reason = reason }) }
 {
     ReadStop::Refused(Refusal { place, reason })
 }
 
-// A next offset is 0 or the unit's length.
+/// The offset that a unit of this length gives of the next one: it, or 0.
 pub(crate) fn leads_behind(next: u32, length: u64) -> bool
     ensures { result ≡ (next == 0 || next == length) }
 {

@@ -5,6 +5,4 @@ pub mod Past
 pub mod Settling
 pub mod Parts
 pub mod WorkedRows
-pub mod Fronts
-pub mod FirstUnit
 pub mod HeaderRuns

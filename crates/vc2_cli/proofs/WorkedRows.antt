@@ -6,7 +6,7 @@ use Rattle.field_rows.specs.Rows.{◌>>=◌, word_under, byte_under, bytes_under
 use Rattle.parse_info.specs.Head.{head_rows}
 use Rattle.vc2_run.specs.Walk.{answer_to}
 use Rattle.vc2_cli.specs.declared.status.Ending.TheVariants.{Done}
-use Rattle.vc2_cli.specs.declared.status.Reason.TheVariants.{Truncated, UnsupportedCode}
+use Rattle.stream_units.specs.declared.reason.Reason.TheVariants.{Truncated, UnsupportedCode}
 use Rattle.vc2_cli.specs.Texts.{chain_line, refusal_line}
 use Rattle.vc2_cli.specs.Chain.{chain_rows, chain_limited, refused}
 

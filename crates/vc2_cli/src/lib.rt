@@ -12,7 +12,8 @@ mod top;
 mod words;
 
 pub use laws::{one_answer, one_header_answer};
-pub use status::{Ending, Reason, Refusal, Status, WordFault, exit_code};
+pub use status::{Ending, Status, WordFault, exit_code};
+pub use stream_units::{Reason, Refusal};
 pub use top::run;
 pub use words::{Command, read_words};
 

@@ -1,0 +1,221 @@
+-- What the rows of a head and of the first unit read.
+use Rattle.std.proofs.Common.{◌≡◌, ℕ, ◌+◌, ◌-◌, ◌*◌, ◌/◌, ◌<◌, ◌≤◌, List, [], ◌∷◌, length, drop, Option, Some, None, Result, Ok, Err, Bool, true, false, IsTrue, arith, ap, ◌∙◌, sym, refl, subst, add-zero}
+use Rattle.std.specs.Prelude.{◌==◌, ◌||◌, ◌&&◌, ◌%◌, not, is_some, OnOk, IfErr}
+use Rattle.std.proofs.lemmas.List.{drop-drop, length-drop}
+use Rattle.bit_codes.specs.Bits.{Cursor, cursor_at, bits_of}
+use Rattle.field_rows.specs.Rows.{◌or_else◌, done, ◌>>=◌, renamed, Fault, read, and_then, judged, first_broken}
+use Rattle.field_rows.specs.Moved.{moved_answer, renamed_answer}
+use Rattle.field_rows.proofs.Reading.{read-bind, read-done, then_ok, then_err}
+use Rattle.field_rows.proofs.Words.{IsBytes, split-bits, read-check_at}
+use Rattle.field_rows.proofs.Moves.{read-renamed, read-moved}
+use Rattle.parse_info.specs.declared.Code.{Code}
+use Rattle.parse_info.specs.declared.ParseInfo.{ParseInfo}
+use Rattle.parse_info.specs.declared.InfoFault.{InfoFault}
+use Rattle.parse_info.specs.declared.InfoFault.TheVariants as faults
+use Rattle.parse_info.specs.Head.{info_at, is_short}
+use Rattle.parse_info.proofs.Told.{Reader, told, read-told}
+use Rattle.sequence_header.specs.declared.parts.HeaderParts.{HeaderParts}
+use Rattle.sequence_header.specs.declared.parts.HeaderReason.{HeaderReason}
+use Rattle.sequence_header.specs.Header.{header_rows}
+use Rattle.sequence_header.specs.Header as header
+use Rattle.sequence_header.proofs.Movable.{header_movable}
+use Rattle.unit_table.specs.Grammar.{bytes_at, unit_at}
+use Rattle.stream_units.specs.declared.reason.Reason.{Reason}
+use Rattle.stream_units.specs.declared.reason.Reason.TheVariants as reasons
+use Rattle.stream_units.specs.declared.reason.Refusal.{Refusal}
+use Rattle.stream_units.specs.Streams.{refusal_of}
+use Rattle.stream_units.specs.Units.{First, Past, nothing_yet, DataUnit, Sequence, reason_of, header_reason, is_header, is_end_code, has_fields, code_rules, next_rules, unit_head, next_checked, first_payload, payload_rows, body_rows, units}
+use Rattle.stream_units.specs.Heads.{coding_of, looking_back, are_fields, passes, code_rules_behind, previous_rules_behind, judged_head, HeadAt, IsFirstUnit}
+use Rattle.stream_units.proofs.Whole.{header_names}
+
+-- ---- a head
+
+abbrev pub head_reader : Past → Reader Reason
+head_reader z = record { reason_of = reason_of; bad_prefix = reasons.BadPrefix; unsupported = reasons.UnsupportedCode; code_rules = code_rules z; next_rules = next_rules; previous_rules = λ code next previous. (previous == z.previous or_else reasons.PreviousWrong) ∷ [] }
+
+thirteen : (bytes : List ℕ) → drop 4 (drop 4 (drop 1 (drop 4 bytes))) ≡ drop 13 bytes
+thirteen bytes = ap (λ l. drop 4 (drop 4 l)) (drop-drop 1 4 bytes) ∙ ap (drop 4) (drop-drop 4 5 bytes) ∙ drop-drop 4 9 bytes
+
+-- what its rows read, from what `ParseInfo::read` answers
+head_told : (z : Past) (bytes : List ℕ) → IsBytes bytes → read reason_of (unit_head z) (bytes_at z.place bytes) ≡ told (head_reader z) (8 * z.place) (bytes_at (z.place + 13) (drop 13 bytes)) (info_at bytes)
+unfolding unit_head
+head_told z bytes fits =
+    read-told (head_reader z) (8 * z.place) bytes fits
+    ∙ ap (λ n. told (head_reader z) (8 * z.place) (record { place = n; rest = bits_of (drop 4 (drop 4 (drop 1 (drop 4 bytes)))) }) (info_at bytes)) (omega arith)
+    ∙ ap (λ l. told (head_reader z) (8 * z.place) (bytes_at (z.place + 13) l) (info_at bytes)) (thirteen bytes)
+
+-- the rules on a code, by what the head looks back at
+same_header : (first : Option First) → is_some (coding_of first) ≡ is_some first
+same_header None = refl
+same_header (Some first) = refl
+
+same_fields : (first : Option First) → are_fields (coding_of first) ≡ has_fields first
+same_fields None = refl
+same_fields (Some first) = refl
+
+same_rules : (z : Past) (code : Code) → first_broken (code_rules z code) ≡ first_broken (code_rules_behind (looking_back z) code)
+same_rules z code = rw (same_header z.first, same_fields z.first) refl
+
+-- no rule's reason is that of a short field
+code_not_short : (header whole : Bool) → first_broken ((header or_else reasons.NoSequenceHeader) ∷ (whole or_else reasons.HalfFrame) ∷ []) ≡ Some reasons.Truncated → ⊥
+code_not_short true true e = cc
+code_not_short true false e = cc
+code_not_short false whole e = cc
+
+next_not_short : (long same : Bool) → first_broken ((long or_else reasons.OffsetShort) ∷ (same or_else reasons.OffsetWrong) ∷ []) ≡ Some reasons.Truncated → ⊥
+next_not_short true true e = cc
+next_not_short true false e = cc
+next_not_short false same e = cc
+
+previous_not_short : (same : Bool) → first_broken ((same or_else reasons.PreviousWrong) ∷ []) ≡ Some reasons.Truncated → ⊥
+previous_not_short true e = cc
+previous_not_short false e = cc
+
+-- what is answered of a reading
+abbrev Tells : List ℕ → Cursor → Result (ParseInfo × Cursor) (Fault Reason) → Result ParseInfo Refusal → Type 0
+Tells bytes behind (Ok x) (Ok info) = (13 ≤ length bytes) × (x ≡ (info, behind))
+Tells bytes behind (Err fault) (Err refusal) = (refusal ≡ refusal_of fault) × (fault.reason ≡ reasons.Truncated → length bytes < 13)
+Tells bytes behind (Ok x) (Err refusal) = ⊥
+Tells bytes behind (Err fault) (Ok info) = ⊥
+
+tells_judged : (bytes : List ℕ) (behind : Cursor) (bit place : ℕ) (broken : Option Reason) (r : Result (ParseInfo × Cursor) (Fault Reason)) (s : Result ParseInfo Refusal) → place ≡ bit / 8 → (broken ≡ Some reasons.Truncated → ⊥) → Tells bytes behind r s
+    → Tells bytes behind (judged bit broken r) (and_then (passes place broken) (λ checked. s))
+tells_judged bytes behind bit place None r s at other h = h
+tells_judged bytes behind bit place (Some reason) r s at other h = (ap (λ n. record { place = n; reason = reason }) at, λ e. absurd (other (ap Some e)))
+
+tells_fault : (bytes : List ℕ) (behind : Cursor) (bit place : ℕ) (reason : Reason) → place ≡ bit / 8 → (reason ≡ reasons.Truncated → length bytes < 13) → Tells bytes behind (Err (record { place = bit; reason = reason })) (Err (record { place = place; reason = reason }))
+tells_fault bytes behind bit place reason at short = (ap (λ n. record { place = n; reason = reason }) at, short)
+
+tells_code : (z : Past) (bytes : List ℕ) (behind : Cursor) (code : Code) (r : Result (ParseInfo × Cursor) (Fault Reason)) (s : Result ParseInfo Refusal) → Tells bytes behind r s
+    → Tells bytes behind (judged (8 * z.place + 32) (first_broken (code_rules z code)) r) (and_then (passes (z.place + 4) (first_broken (code_rules_behind (looking_back z) code))) (λ checked. s))
+tells_code z bytes behind code r s h =
+    subst (λ (broken : Option Reason). Tells bytes behind (judged (8 * z.place + 32) (first_broken (code_rules z code)) r) (and_then (passes (z.place + 4) broken) (λ checked. s))) (same_rules z code)
+    (tells_judged bytes behind (8 * z.place + 32) (z.place + 4) (first_broken (code_rules z code)) r s (omega arith) (code_not_short (is_some z.first || is_header code) (not (is_end_code code && has_fields z.first && z.pictures % 2 == 1))) h)
+
+tells_next : (z : Past) (bytes : List ℕ) (behind : Cursor) (code : Code) (next : ℕ) (r : Result (ParseInfo × Cursor) (Fault Reason)) (s : Result ParseInfo Refusal) → Tells bytes behind r s
+    → Tells bytes behind (judged (8 * z.place + 32 + 8) (first_broken (next_rules code next)) r) (and_then (passes (z.place + 5) (first_broken (next_rules code next))) (λ checked. s))
+tells_next z bytes behind code next r s h = tells_judged bytes behind (8 * z.place + 32 + 8) (z.place + 5) (first_broken (next_rules code next)) r s (omega arith) (next_not_short _ _) h
+
+tells_info : (z : Past) (bytes : List ℕ) (behind : Cursor) (info : ParseInfo) → 13 ≤ length bytes → Tells bytes behind (told (head_reader z) (8 * z.place) behind (Ok info)) (judged_head (looking_back z) (Ok info))
+tells_info z bytes behind info long =
+    tells_code z bytes behind info.code _ _
+    (tells_next z bytes behind info.code info.next _ _
+    (tells_judged bytes behind (8 * z.place + 32 + 8 + 32) (z.place + 9) (first_broken (previous_rules_behind (looking_back z) info.previous)) (Ok (info, behind)) (Ok info) (omega arith) (previous_not_short (info.previous == z.previous)) (long, refl)))
+
+tells_short : (z : Past) (bytes : List ℕ) (behind : Cursor) (fault : InfoFault) → (IsTrue (is_short fault) → length bytes < 13) → Tells bytes behind (told (head_reader z) (8 * z.place) behind (Err fault)) (judged_head (looking_back z) (Err fault))
+tells_short z bytes behind faults.PrefixShort short = tells_fault bytes behind (8 * z.place) z.place reasons.Truncated (omega arith) (λ e. short refl)
+tells_short z bytes behind faults.BadPrefix short = tells_fault bytes behind (8 * z.place) z.place reasons.BadPrefix (omega arith) (λ e. cc)
+tells_short z bytes behind faults.CodeShort short = tells_fault bytes behind (8 * z.place + 32) (z.place + 4) reasons.Truncated (omega arith) (λ e. short refl)
+tells_short z bytes behind (faults.UnsupportedCode code) short = tells_fault bytes behind (8 * z.place + 32) (z.place + 4) (reasons.UnsupportedCode code) (omega arith) (λ e. cc)
+tells_short z bytes behind (faults.NextShort code) short =
+    tells_code z bytes behind code _ _ (tells_fault bytes behind (8 * z.place + 32 + 8) (z.place + 5) reasons.Truncated (omega arith) (λ e. short refl))
+tells_short z bytes behind (faults.PreviousShort code next) short =
+    tells_code z bytes behind code _ _
+    (tells_next z bytes behind code next _ _ (tells_fault bytes behind (8 * z.place + 32 + 8 + 32) (z.place + 9) reasons.Truncated (omega arith) (λ e. short refl)))
+
+tells_head : (z : Past) (bytes : List ℕ) (r : Result (ParseInfo × Cursor) (Fault Reason)) (s : Result ParseInfo Refusal) → read reason_of (unit_head z) (bytes_at z.place bytes) ≡ r → Tells bytes (bytes_at (z.place + 13) (drop 13 bytes)) r s → HeadAt z bytes s
+tells_head z bytes (Ok x) (Ok info) e h = (h.0, e ∙ ap Ok h.1)
+tells_head z bytes (Err fault) (Err refusal) e h = (fault, h.0, e, h.1)
+tells_head z bytes (Ok x) (Err refusal) e h = absurd h
+tells_head z bytes (Err fault) (Ok info) e h = absurd h
+
+pub head_is : (z : Past) (bytes : List ℕ) (found : Result ParseInfo InfoFault) → IsBytes bytes → info_at bytes ≡ found → OnOk found (13 ≤ length bytes) → IfErr found (λ fault. IsTrue (is_short fault) → length bytes < 13)
+    → HeadAt z bytes (judged_head (looking_back z) found)
+head_is z bytes (Ok info) fits e long short =
+    let behind = bytes_at (z.place + 13) (drop 13 bytes) in
+    tells_head z bytes _ _ (head_told z bytes fits ∙ ap (told (head_reader z) (8 * z.place) behind) e) (tells_info z bytes behind info long)
+head_is z bytes (Err fault) fits e long short =
+    let behind = bytes_at (z.place + 13) (drop 13 bytes) in
+    tells_head z bytes _ _ (head_told z bytes fits ∙ ap (told (head_reader z) (8 * z.place) behind) e) (tells_short z bytes behind fault short)
+
+-- ---- the check of the next offset, behind so many bytes of a unit
+
+-- a next offset of 0, or of the unit's length
+abbrev pub leads_behind : ℕ → ℕ → Bool
+leads_behind next length = next == 0 || next == length
+
+pub read-next_checked : (z : Past) (next n : ℕ) (bytes : List ℕ)
+    → read reason_of (next_checked z next) (bytes_at (z.place + n) bytes) ≡ judged (8 * (z.place + 5)) (first_broken ((leads_behind next n or_else reasons.OffsetWrong) ∷ [])) (Ok (8 * (z.place + n), bytes_at (z.place + n) bytes))
+unfolding next_checked
+read-next_checked z next n bytes =
+    let size : 8 * (z.place + n) / 8 - z.place ≡ n = omega arith in
+    read-check_at reason_of (8 * (z.place + 5)) (λ here. ((next == 0 || next == here / 8 - z.place) or_else reasons.OffsetWrong) ∷ []) (bytes_at (z.place + n) bytes)
+    ∙ ap (λ m. judged (8 * (z.place + 5)) (first_broken (((next == 0 || next == m) or_else reasons.OffsetWrong) ∷ [])) (Ok (8 * (z.place + n), bytes_at (z.place + n) bytes))) size
+
+judged_then : {A B : Type 0} (place : ℕ) (broken : Option Reason) (a : A) (f : A → Result B (Fault Reason)) → and_then (judged place broken (Ok a)) f ≡ judged place broken (f a)
+judged_then place None a f = refl
+judged_then place (Some reason) a f = refl
+
+-- and the unit behind it
+pub read-checked_unit : (z : Past) (next n : ℕ) (unit : DataUnit) (bytes : List ℕ)
+    → read reason_of (next_checked z next >>= λ length. done unit) (bytes_at (z.place + n) bytes) ≡ judged (8 * (z.place + 5)) (first_broken ((leads_behind next n or_else reasons.OffsetWrong) ∷ [])) (Ok (unit, bytes_at (z.place + n) bytes))
+read-checked_unit z next n unit bytes =
+    let broken = first_broken ((leads_behind next n or_else reasons.OffsetWrong) ∷ []) in
+    read-bind reason_of (next_checked z next) (λ length. done unit) (bytes_at (z.place + n) bytes)
+    ∙ ap (λ r. and_then r (λ x. read reason_of (done unit) x.1)) (read-next_checked z next n bytes)
+    ∙ judged_then (8 * (z.place + 5)) broken (8 * (z.place + n), bytes_at (z.place + n) bytes) (λ x. read reason_of (done unit) x.1)
+    ∙ ap (judged (8 * (z.place + 5)) broken) (read-done reason_of unit (bytes_at (z.place + n) bytes))
+
+-- ---- the payload of the first sequence header
+
+header_behind : (place : ℕ) (bytes : List ℕ) → read reason_of (renamed header_reason header_rows) (bytes_at place bytes) ≡ renamed_answer header_reason (moved_answer place (read header.reason_of header_rows (cursor_at bytes 0)))
+header_behind place bytes =
+    read-renamed header_reason header.reason_of reason_of header_names header_rows (bytes_at place bytes)
+    ∙ ap (λ n. renamed_answer header_reason (read header.reason_of header_rows (record { place = n; rest = bits_of bytes }))) (sym (add-zero (8 * place)))
+    ∙ ap (renamed_answer header_reason) (read-moved header.reason_of header_rows place (cursor_at bytes 0) header_movable.movable)
+
+-- it is refused
+pub payload_refused : (z : Past) (next bit : ℕ) (reason : HeaderReason) (bytes : List ℕ) → read header.reason_of header_rows (cursor_at bytes 0) ≡ Err (record { place = bit; reason = reason })
+    → read reason_of (first_payload z next) (bytes_at (z.place + 13) bytes) ≡ Err (record { place = 8 * (z.place + 13) + bit; reason = header_reason reason })
+unfolding first_payload
+payload_refused z next bit reason bytes h =
+    then_err reason_of (renamed header_reason header_rows) (λ parts. next_checked z next >>= λ length. done (Sequence parts)) (bytes_at (z.place + 13) bytes) (record { place = 8 * (z.place + 13) + bit; reason = header_reason reason })
+    (header_behind (z.place + 13) bytes ∙ ap (λ r. renamed_answer header_reason (moved_answer (z.place + 13) r)) h)
+
+-- it stands in so many bytes
+pub payload_is : (z : Past) (next len : ℕ) (parts : HeaderParts) (bytes : List ℕ) → read header.reason_of header_rows (cursor_at bytes 0) ≡ Ok (parts, cursor_at bytes (8 * len)) → len ≤ length bytes
+    → read reason_of (first_payload z next) (bytes_at (z.place + 13) bytes) ≡ judged (8 * (z.place + 5)) (first_broken ((leads_behind next (13 + len) or_else reasons.OffsetWrong) ∷ [])) (Ok (Sequence parts, bytes_at (z.place + (13 + len)) (drop len bytes)))
+unfolding first_payload
+payload_is z next len parts bytes h le =
+    then_ok reason_of (renamed header_reason header_rows) (λ parts. next_checked z next >>= λ length. done (Sequence parts)) (bytes_at (z.place + 13) bytes) (bytes_at (z.place + (13 + len)) (drop len bytes)) parts _
+    (header_behind (z.place + 13) bytes ∙ ap (λ r. renamed_answer header_reason (moved_answer (z.place + 13) r)) h
+    ∙ ap (λ n. Ok (parts, record { place = n; rest = drop (8 * len) (bits_of bytes) })) (omega arith)
+    ∙ ap (λ l. Ok (parts, record { place = 8 * (z.place + (13 + len)); rest = l })) (split-bits len bytes le).1)
+    (read-checked_unit z next (13 + len) (Sequence parts) (drop len bytes))
+
+-- ---- the first unit
+
+pub first_head_refused : (bytes : List ℕ) (refusal : Refusal) → HeadAt nothing_yet bytes (Err refusal) → IsFirstUnit bytes (Err refusal)
+unfolding body_rows
+first_head_refused bytes refusal h = (h.0, h.1, then_err reason_of (unit_head nothing_yet) (payload_rows nothing_yet None) (bytes_at 0 bytes) h.0 h.2)
+
+first_then : (bytes : List ℕ) (info : ParseInfo) (total : Result (DataUnit × Cursor) (Fault Reason)) → HeadAt nothing_yet bytes (Ok info) → read reason_of (first_payload nothing_yet info.next) (bytes_at 13 (drop 13 bytes)) ≡ total → unit_at units nothing_yet bytes ≡ total
+unfolding body_rows payload_rows
+first_then bytes info total h e = then_ok reason_of (unit_head nothing_yet) (payload_rows nothing_yet None) (bytes_at 0 bytes) (bytes_at 13 (drop 13 bytes)) info total h.1 e
+
+pub first_payload_refused : (bytes : List ℕ) (info : ParseInfo) (bit : ℕ) (reason : HeaderReason) → HeadAt nothing_yet bytes (Ok info) → read header.reason_of header_rows (cursor_at (drop 13 bytes) 0) ≡ Err (record { place = bit; reason = reason })
+    → IsFirstUnit bytes (Err (record { place = 13 + bit / 8; reason = header_reason reason }))
+first_payload_refused bytes info bit reason h e = (
+  record { place = 104 + bit; reason = header_reason reason },
+  ap (λ n. record { place = n; reason = header_reason reason }) (omega arith),
+  first_then bytes info _ h (payload_refused nothing_yet info.next bit reason (drop 13 bytes) e),
+)
+
+pub first_offset_refused : (bytes : List ℕ) (info : ParseInfo) (parts : HeaderParts) (len : ℕ) → HeadAt nothing_yet bytes (Ok info) → read header.reason_of header_rows (cursor_at (drop 13 bytes) 0) ≡ Ok (parts, cursor_at (drop 13 bytes) (8 * len)) → len ≤ length (drop 13 bytes)
+    → leads_behind info.next (13 + len) ≡ false → IsFirstUnit bytes (Err (record { place = 5; reason = reasons.OffsetWrong }))
+first_offset_refused bytes info parts len h e le leads = (
+  record { place = 40; reason = reasons.OffsetWrong },
+  refl,
+  first_then bytes info _ h (payload_is nothing_yet info.next len parts (drop 13 bytes) e le
+      ∙ ap (λ b. judged 40 (first_broken ((b or_else reasons.OffsetWrong) ∷ [])) (Ok (Sequence parts, bytes_at (0 + (13 + len)) (drop len (drop 13 bytes))))) leads),
+)
+
+pub first_is : (bytes : List ℕ) (info : ParseInfo) (parts : HeaderParts) (len : ℕ) → HeadAt nothing_yet bytes (Ok info) → read header.reason_of header_rows (cursor_at (drop 13 bytes) 0) ≡ Ok (parts, cursor_at (drop 13 bytes) (8 * len)) → len ≤ length (drop 13 bytes)
+    → leads_behind info.next (13 + len) ≡ true → IsFirstUnit bytes (Ok (parts, 13 + len))
+first_is bytes info parts len h e le leads = (
+  omega (arith, le, length-drop 13 bytes, h.0),
+  first_then bytes info _ h (payload_is nothing_yet info.next len parts (drop 13 bytes) e le
+      ∙ ap (λ b. judged 40 (first_broken ((b or_else reasons.OffsetWrong) ∷ [])) (Ok (Sequence parts, bytes_at (0 + (13 + len)) (drop len (drop 13 bytes))))) leads
+      ∙ ap (λ n. Ok (Sequence parts, bytes_at n (drop len (drop 13 bytes)))) (omega arith)
+      ∙ ap (λ l. Ok (Sequence parts, bytes_at (13 + len) l)) (drop-drop len 13 bytes)),
+)

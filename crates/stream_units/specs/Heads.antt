@@ -1,0 +1,71 @@
+-- The head of a unit and the whole first unit, as the functions of the code answer them.
+use Rattle.std.specs.Prelude.{◌≡◌, ◌≤◌, ◌<◌, ℕ, ◌+◌, ◌%◌, List, [], ◌∷◌, length, drop, ◌==◌, ◌||◌, ◌&&◌, not, Bool, false, Option, Some, None, is_some, Result, Ok, Err}
+use Rattle.field_rows.specs.Rows.{Rule, ◌or_else◌, first_broken, and_then, Fault, read}
+use Rattle.parse_info.specs.declared.Code.{Code}
+use Rattle.parse_info.specs.declared.InfoFault.{InfoFault}
+use Rattle.parse_info.specs.declared.InfoFault.TheVariants as faults
+use Rattle.parse_info.specs.declared.ParseInfo.{ParseInfo}
+use Rattle.sequence_header.specs.declared.parts.HeaderParts.{HeaderParts}
+use Rattle.unit_table.specs.Grammar.{bytes_at, unit_at}
+use Rattle.stream_units.specs.declared.reason.Reason.{Reason}
+use Rattle.stream_units.specs.declared.reason.Reason.TheVariants as reasons
+use Rattle.stream_units.specs.declared.reason.Refusal.{Refusal}
+use Rattle.stream_units.specs.declared.heads.Before.{Before}
+use Rattle.stream_units.specs.Units.{First, Past, nothing_yet, Sequence, reason_of, is_header, is_end_code, next_rules, unit_head, units}
+use Rattle.stream_units.specs.Streams.{refusal_of}
+
+-- the picture coding mode of the first sequence header
+abbrev pub coding_of : Option First → Option ℕ
+coding_of None = None
+coding_of (Some first) = Some first.parts.coding
+
+-- what a head looks back at
+abbrev pub looking_back : Past → Before
+looking_back z = record { place = z.place; previous = z.previous; coding = coding_of z.first; pictures = z.pictures }
+
+-- The head of the unit in front of bytes: it was read whole, or has its first fault, which is a short field only where the bytes end inside the head.
+abbrev pub HeadAt : Past → List ℕ → Result ParseInfo Refusal → Type 0
+HeadAt z bytes (Ok info) = (13 ≤ length bytes) × (read reason_of (unit_head z) (bytes_at z.place bytes) ≡ Ok (info, bytes_at (z.place + 13) (drop 13 bytes)))
+HeadAt z bytes (Err refusal) = (fault : Fault Reason) × (refusal ≡ refusal_of fault) × (read reason_of (unit_head z) (bytes_at z.place bytes) ≡ Err fault) × (fault.reason ≡ reasons.Truncated → length bytes < 13)
+
+-- The first unit in front of bytes: its sequence header and its length, or its first fault.
+abbrev pub IsFirstUnit : List ℕ → Result (HeaderParts × ℕ) Refusal → Type 0
+IsFirstUnit bytes (Ok x) = (x.1 ≤ length bytes) × (unit_at units nothing_yet bytes ≡ Ok (Sequence x.0, bytes_at x.1 (drop x.1 bytes)))
+IsFirstUnit bytes (Err refusal) = (fault : Fault Reason) × (refusal ≡ refusal_of fault) × (unit_at units nothing_yet bytes ≡ Err fault)
+
+-- ---- for the code
+
+-- the pictures are fields
+abbrev pub are_fields : Option ℕ → Bool
+are_fields None = false
+are_fields (Some coding) = coding == 1
+
+-- the rules on a code and on a previous offset, by what the head looks back at
+abbrev pub code_rules_behind : Before → Code → List (Rule Reason)
+code_rules_behind before code =
+    ((is_some before.coding || is_header code) or_else reasons.NoSequenceHeader)
+    ∷ (not (is_end_code code && are_fields before.coding && before.pictures % 2 == 1) or_else reasons.HalfFrame) ∷ []
+
+abbrev pub previous_rules_behind : Before → ℕ → List (Rule Reason)
+previous_rules_behind before previous = (previous == before.previous or_else reasons.PreviousWrong) ∷ []
+
+-- a field at a place, after the rules on it
+abbrev pub passes : ℕ → Option Reason → Result Unit Refusal
+passes place None = Ok tt
+passes place (Some reason) = Err (record { place = place; reason = reason })
+
+-- what was read of a head, after the rules on its fields
+abbrev pub judged_head : Before → Result ParseInfo InfoFault → Result ParseInfo Refusal
+judged_head before (Ok info) =
+    and_then (passes (before.place + 4) (first_broken (code_rules_behind before info.code))) (λ code.
+    and_then (passes (before.place + 5) (first_broken (next_rules info.code info.next))) (λ next.
+    and_then (passes (before.place + 9) (first_broken (previous_rules_behind before info.previous))) (λ previous. Ok info)))
+judged_head before (Err faults.PrefixShort) = Err (record { place = before.place; reason = reasons.Truncated })
+judged_head before (Err faults.BadPrefix) = Err (record { place = before.place; reason = reasons.BadPrefix })
+judged_head before (Err faults.CodeShort) = Err (record { place = before.place + 4; reason = reasons.Truncated })
+judged_head before (Err (faults.UnsupportedCode code)) = Err (record { place = before.place + 4; reason = reasons.UnsupportedCode code })
+judged_head before (Err (faults.NextShort code)) =
+    and_then (passes (before.place + 4) (first_broken (code_rules_behind before code))) (λ code. Err (record { place = before.place + 5; reason = reasons.Truncated }))
+judged_head before (Err (faults.PreviousShort code next)) =
+    and_then (passes (before.place + 4) (first_broken (code_rules_behind before code))) (λ checked.
+    and_then (passes (before.place + 5) (first_broken (next_rules code next))) (λ checked. Err (record { place = before.place + 9; reason = reasons.Truncated })))
