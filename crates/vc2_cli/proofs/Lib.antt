@@ -6,3 +6,4 @@ pub mod Settling
 pub mod Parts
 pub mod WorkedRows
 pub mod HeaderRuns
+pub mod Decoding

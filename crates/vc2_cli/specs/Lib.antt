@@ -2,6 +2,7 @@ pub mod Texts
 pub mod Words
 pub mod Chain
 pub mod Turns
+pub mod Decode
 pub mod Reply
 pub mod Settled
 pub mod Exit

@@ -2,6 +2,8 @@
 #![tactic(auto)]
 
 mod chain;
+mod check;
+mod decode;
 mod header;
 mod header_texts;
 mod input;
