@@ -7,3 +7,4 @@ pub mod Parts
 pub mod WorkedRows
 pub mod HeaderRuns
 pub mod Decoding
+pub mod StreamReplies

@@ -4,6 +4,7 @@ pub mod Chain
 pub mod Turns
 pub mod Decode
 pub mod Reply
+pub mod Streams
 pub mod Settled
 pub mod Exit
 pub mod HeaderTexts
