@@ -1,8 +1,8 @@
 -- A group of rows that a function of bytes reads, in a unit: how many bytes it takes is not known before it is read.
-use Rattle.std.proofs.Common.{◌≡◌, ℕ, ◌+◌, ◌*◌, ◌≤◌, false, Bool, List, ◌++◌, length, take, drop, Ok, Err, Result, refl, sym, ap, ◌∙◌, arith}
-use Rattle.std.proofs.lemmas.List.{length-append, length-take, length-drop, take-append-drop, take_at, drop_at}
+use Rattle.std.proofs.Common.{◌≡◌, ℕ, ◌+◌, ◌*◌, ◌≤◌, Bool, List, ◌++◌, length, take, drop, Ok, Err, refl, sym, ap, ◌∙◌, arith}
+use Rattle.std.proofs.lemmas.List.{length-take, take-append-drop, take_at}
 use Rattle.bit_codes.specs.declared.CodeFault.{CodeFault}
-use Rattle.bit_codes.specs.Bits.{Cursor, cursor_at, bits_of}
+use Rattle.bit_codes.specs.Bits.{cursor_at, bits_of}
 use Rattle.bit_codes.proofs.BitLemmas.{length-bits}
 use Rattle.field_rows.specs.Rows.{Rows, ◌>>=◌, Fault, read, renamed}
 use Rattle.field_rows.specs.Moved.{moved_answer, renamed_answer, IsMovable}
@@ -10,7 +10,7 @@ use Rattle.field_rows.specs.Pieces.{IsSteady}
 use Rattle.field_rows.proofs.Moves.{read-moved, read-renamed}
 use Rattle.field_rows.proofs.Reading.{read-bind, then_err}
 use Rattle.field_rows.proofs.Words.{bits_of-append}
-use Rattle.unit_table.specs.Grammar.{Grammar, bytes_at, is_whole_by}
+use Rattle.unit_table.specs.Grammar.{Grammar, bytes_at}
 use Rattle.unit_table.specs.Begun.{Lacks, Moves}
 use Rattle.stream_units.proofs.Exact.{read-others}
 

@@ -25,7 +25,7 @@ use Rattle.stream_units.specs.declared.reason.Reason.TheVariants as reasons
 use Rattle.stream_units.specs.declared.reason.Refusal.{Refusal}
 use Rattle.stream_units.specs.Streams.{refusal_of}
 use Rattle.stream_units.specs.Units.{First, Past, nothing_yet, DataUnit, Sequence, reason_of, header_reason, is_header, is_end_code, has_fields, code_rules, next_rules, unit_head, next_checked, first_payload, payload_rows, body_rows, units}
-use Rattle.stream_units.specs.Heads.{coding_of, looking_back, are_fields, passes, code_rules_behind, previous_rules_behind, judged_head, HeadAt, IsFirstUnit}
+use Rattle.stream_units.specs.Heads.{coding_of, looking_back, are_fields, passes, code_rules_behind, previous_rules_behind, judged_head, leads_behind, HeadAt, IsFirstUnit}
 use Rattle.stream_units.proofs.Whole.{header_names}
 
 -- ---- a head
@@ -129,10 +129,6 @@ head_is z bytes (Err fault) fits e long short =
     tells_head z bytes _ _ (head_told z bytes fits ∙ ap (told (head_reader z) (8 * z.place) behind) e) (tells_short z bytes behind fault short)
 
 -- ---- the check of the next offset, behind so many bytes of a unit
-
--- a next offset of 0, or of the unit's length
-abbrev pub leads_behind : ℕ → ℕ → Bool
-leads_behind next length = next == 0 || next == length
 
 pub read-next_checked : (z : Past) (next n : ℕ) (bytes : List ℕ)
     → read reason_of (next_checked z next) (bytes_at (z.place + n) bytes) ≡ judged (8 * (z.place + 5)) (first_broken ((leads_behind next n or_else reasons.OffsetWrong) ∷ [])) (Ok (8 * (z.place + n), bytes_at (z.place + n) bytes))

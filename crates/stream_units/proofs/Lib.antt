@@ -13,3 +13,8 @@ pub mod HeadRows
 pub mod Before
 pub mod FirstUnits
 pub mod PartTurns
+pub mod HeaderTurns
+pub mod PictureTurns
+pub mod Ready
+pub mod UnitTurns
+pub mod InLimit

@@ -11,7 +11,7 @@ use Rattle.vc2_run.specs.Ran.{within}
 use Rattle.unit_table.specs.Grammar.{bytes_at}
 use Rattle.unit_table.specs.Fronts.{Finishes, Refuses}
 use Rattle.unit_table.specs.Begun.{Begun, Needs, Moves, Got, Over, Taken}
-use Rattle.unit_table.proofs.Begins.{begun_more, begun_held, begun_use, begun_taken, begun_end, begun_trailing, got_back}
+use Rattle.unit_table.proofs.Begins.{begun_more, begun_held, begun_use, begun_taken, begun_taken-bytes, begun_use-gone, begun_end, begun_trailing, got_back}
 use Rattle.unit_table.proofs.Fields.{needs_row, needs_nothing, needs_end, moves_row, moves_blind, short_row, broken_row, all_fit}
 use Rattle.stream_units.specs.declared.window.Halt.{Halt}
 use Rattle.stream_units.specs.declared.reason.Reason.{Reason}
@@ -35,6 +35,13 @@ pub takes : {z : Past} {held0 held1 : List ℕ} {rest0 rest1 : Option (List ℕ)
 takes {z} {held0} {held1} {rest0} {rest1} {at} room IsSuch unit b no_end total short such =
     let t = begun_taken units_laws unit b no_end in
     record { unit = unit; bytes = t.0; such = such t.0 t.1; total = omega (arith, total, t.1); short = omega (arith, short, t.1); taken = t.2 }
+
+-- the same, of the bytes that are gone
+pub takes_gone : {z : Past} {held0 held1 : List ℕ} {rest0 rest1 : Option (List ℕ)} {at : ℕ} (room : ℕ) (IsSuch : DataUnit → List ℕ → Type 0) (unit : DataUnit) (b : Begun units z held0 rest0 rest1 at held1 (done unit)) → units.is_end unit ≡ false → at + length held1 + room ≡ limit → at < z.place + 2 ^ 32
+    → IsSuch unit b.gone → Takes z held0 rest0 rest1 room held1 IsSuch
+takes_gone {z} {held0} {held1} {rest0} {rest1} {at} room IsSuch unit b no_end total short such =
+    let t = begun_taken units_laws unit b no_end in
+    record { unit = unit; bytes = t.0; such = subst (IsSuch unit) (sym (begun_taken-bytes units_laws unit b no_end)) such; total = omega (arith, total, t.1); short = omega (arith, short, t.1); taken = t.2 }
 
 -- ---- behind an end of sequence
 
@@ -77,14 +84,14 @@ skipped_needs : (next : ℕ) → Needs units (skipped_payload next) (next - 13)
 unfolding skipped_payload ◌>>=◌ bytes_under
 skipped_needs next = subst (Needs units (skipped_payload next)) (omega arith) (needs_row units (next - 13) 0 None _ _ (λ v. needs_nothing units _))
 
-pub skipped_whole : {z : Past} {held0 : List ℕ} {rest0 rest1 : Option (List ℕ)} {place : ℕ} {old new : WindowSeen} (next : ℕ) (rest2 : Option (List ℕ)) (d : Dropped (next - 13) old new rest1 rest2 (Ok true)) → Begun units z held0 rest0 rest1 place old.held (skipped_payload next) → place ≡ z.place + 13 → 13 ≤ next → next < 2 ^ 32
+pub skipped_whole : {z : Past} {held0 : List ℕ} {rest0 rest1 : Option (List ℕ)} {place : ℕ} {old new : WindowSeen} (next : ℕ) (rest2 : Option (List ℕ)) (d : Dropped (next - 13) old new rest1 rest2 (Ok true)) → Begun units z held0 rest0 rest1 place old.held (skipped_payload next) → place ≡ z.place + 13 → next < 2 ^ 32
     → place + length old.held + old.room ≡ limit → Takes z held0 rest0 rest2 new.room new.held (λ unit bytes. unit ≡ Skipped)
 unfolding skipped_payload ◌>>=◌ bytes_under
-skipped_whole {z} {held0} {rest0} {rest1} {place} {old} {new} next rest2 d b behind some few total =
+skipped_whole {z} {held0} {rest0} {rest1} {place} {old} {new} next rest2 d b behind few total =
     let long = d.enough refl in
     takes new.room (λ unit bytes. unit ≡ Skipped) Skipped
     (begun_more units_laws (next - 13) rest2 new.held d.gone (done Skipped) b (skipped_needs next) d.got (moves_blind units (next - 13) _ _ place d.gone (done Skipped) long (λ v. refl) (λ v. refl)))
-    refl (omega (arith, d.room, total)) (omega (arith, behind, long, some, few)) (λ bytes at. refl)
+    refl (omega (arith, d.room, total)) (omega (arith, behind, long, few)) (λ bytes at. refl)
 
 pub skipped_short : {z : Past} {held0 : List ℕ} {rest0 rest1 : Option (List ℕ)} {place : ℕ} {old new : WindowSeen} (next : ℕ) (rest2 : Option (List ℕ)) (stop : ReadStop) (d : Dropped (next - 13) old new rest1 rest2 (Ok false)) → Begun units z held0 rest0 rest1 place old.held (skipped_payload next)
     → place + length old.held + old.room ≡ limit → stop ≡ stops.Refused (record { place = place; reason = reasons.Truncated }) → StopsOver z held0 rest0 rest2 new.room stop
@@ -119,6 +126,14 @@ checked_takes {z} {held0} {held1} {rest0} {rest1} room next n IsSuch unit b lead
     takes room IsSuch unit
     (begun_use units_laws [] held1 (done unit) b refl (checked_moves z next n unit leads))
     no_end (omega (arith, total)) (omega (arith, short)) (λ bytes at. such bytes (omega (arith, at)))
+
+-- the same, of the bytes that are gone
+pub checked_takes_gone : {z : Past} {held0 held1 : List ℕ} {rest0 rest1 : Option (List ℕ)} (room next n : ℕ) (IsSuch : DataUnit → List ℕ → Type 0) (unit : DataUnit) (b : Begun units z held0 rest0 rest1 (z.place + n) held1 (next_checked z next >>= λ length. done unit)) → leads_behind next n ≡ true → units.is_end unit ≡ false
+    → z.place + n + length held1 + room ≡ limit → n < 2 ^ 32 → IsSuch unit b.gone → Takes z held0 rest0 rest1 room held1 IsSuch
+checked_takes_gone {z} {held0} {held1} {rest0} {rest1} room next n IsSuch unit b leads no_end total short such =
+    takes_gone room IsSuch unit
+    (begun_use units_laws [] held1 (done unit) b refl (checked_moves z next n unit leads))
+    no_end (omega (arith, total)) (omega (arith, short)) (subst (IsSuch unit) (sym (begun_use-gone units_laws [] held1 (done unit) b refl (checked_moves z next n unit leads) ∙ append-nil b.gone)) such)
 
 pub checked_refused : {z : Past} {held0 held1 : List ℕ} {rest0 rest1 : Option (List ℕ)} (room next n : ℕ) (unit : DataUnit) (stop : ReadStop) → Begun units z held0 rest0 rest1 (z.place + n) held1 (next_checked z next >>= λ length. done unit) → leads_behind next n ≡ false
     → z.place + n + length held1 + room ≡ limit → stop ≡ stops.Refused (record { place = z.place + 5; reason = reasons.OffsetWrong }) → StopsOver z held0 rest0 rest1 room stop

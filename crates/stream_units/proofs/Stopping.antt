@@ -1,11 +1,10 @@
 -- How the reading of a unit stops, by where it stands.
-use Rattle.std.proofs.Common.{◌≡◌, ◌≢◌, ℕ, ◌+◌, ◌*◌, ◌/◌, ◌≤◌, ◌<◌, List, length, Option, Result, Ok, Err, refl, sym, ap, subst, ◌∙◌, arith}
+use Rattle.std.proofs.Common.{◌≡◌, ◌≢◌, ℕ, ◌+◌, ◌/◌, ◌≤◌, ◌<◌, List, length, Option, Result, Err, sym, ap, subst, arith}
 use Rattle.std.specs.Io.KnownBytes.{IsAtEnd}
 use Rattle.vc2_run.specs.Ran.{within}
 use Rattle.field_rows.specs.Rows.{Rows, Fault, read}
 use Rattle.unit_table.specs.Grammar.{bytes_at}
-use Rattle.unit_table.specs.Fronts.{Refuses}
-use Rattle.unit_table.specs.Begun.{Begun, Needs, Lacks, Lost, Due, Over}
+use Rattle.unit_table.specs.Begun.{Begun, Needs, Lacks, Lost}
 use Rattle.unit_table.proofs.Begins.{begun_lost, begun_none, begun_short, begun_refused, begun_due, lost_due}
 use Rattle.stream_units.specs.declared.reason.Reason.{Reason}
 use Rattle.stream_units.specs.declared.reason.Reason.TheVariants as reasons
@@ -14,9 +13,8 @@ use Rattle.stream_units.specs.declared.stop.ReadStop.{ReadStop}
 use Rattle.stream_units.specs.declared.stop.ReadStop.TheVariants as stops
 use Rattle.stream_units.specs.declared.window.Halt.{Halt}
 use Rattle.stream_units.specs.declared.window.Halt.TheVariants as halts
-use Rattle.stream_units.specs.Asking.{HaltCause}
 use Rattle.stream_units.specs.Units.{Past, DataUnit, units, reason_of}
-use Rattle.stream_units.specs.Streams.{limit, refusal_of}
+use Rattle.stream_units.specs.Streams.{limit}
 use Rattle.stream_units.specs.Turns.{stop_of, StopsOver, StopCause}
 use Rattle.stream_units.proofs.Steady.{units_laws}
 
@@ -26,12 +24,14 @@ pub lost_stops : {z : Past} {held0 : List ℕ} {rest0 rest1 : Option (List ℕ)}
 lost_stops room top halts.ReadFault lost most = (top, most, lost)
 lost_stops room top halts.NoMemory lost most = (top, most, lost_due lost)
 
-pub halt_cause : {X Y : Type 0} (before now : ℕ) (halt : Halt) (stop : ReadStop) → stop ≡ stop_of halt → HaltCause {X = X} before now (Err halt) → StopCause {X = Y} before now (Err stop)
-halt_cause {Y = Y} before now halt stop e h = subst (λ s. StopCause {X = Y} before now (Err s)) (sym e) (by halt h)
+-- the calls before this one found no failed read
+pub cause_behind : {X : Type 0} (Y : Type 0) (before mid now : ℕ) (stop : ReadStop) (result : Result X ReadStop) → result ≡ Err stop → mid ≡ before → StopCause {X = Y} mid now (Err stop) → StopCause before now result
+cause_behind {X} Y before mid now stop result e same h = subst (λ n. StopCause n now result) same (subst (StopCause mid now) (sym e) (by stop h))
   where
-    by : (halt : Halt) → HaltCause before now (Err halt) → StopCause {X = Y} before now (Err (stop_of halt))
-    by halts.ReadFault h = h
-    by halts.NoMemory h = h
+    by : (stop : ReadStop) → StopCause {X = Y} mid now (Err stop) → StopCause {X = X} mid now (Err stop)
+    by (stops.Refused refusal) h = h
+    by stops.ReadFault h = h
+    by stops.NoMemory h = h
 
 -- ---- of a unit that was begun
 

@@ -69,3 +69,7 @@ judged_head before (Err (faults.NextShort code)) =
 judged_head before (Err (faults.PreviousShort code next)) =
     and_then (passes (before.place + 4) (first_broken (code_rules_behind before code))) (λ checked.
     and_then (passes (before.place + 5) (first_broken (next_rules code next))) (λ checked. Err (record { place = before.place + 9; reason = reasons.Truncated })))
+
+-- a next offset of 0, or of the unit's length
+abbrev pub leads_behind : ℕ → ℕ → Bool
+leads_behind next length = next == 0 || next == length

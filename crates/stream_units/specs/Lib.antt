@@ -5,3 +5,4 @@ pub mod Heads
 pub mod Turns
 pub mod Reader
 pub mod ReaderInside
+pub mod Parts

@@ -17,7 +17,8 @@ use Rattle.stream_units.specs.declared.stop.Item.{Item}
 use Rattle.stream_units.specs.declared.stop.Item.TheVariants as items
 use Rattle.stream_units.specs.Units.{Past, First, DataUnit, Sequence, Repeated, Picture, Skipped, End, units, after, nothing_yet}
 use Rattle.stream_units.specs.Streams.{limit, past_limit, refusal_of, frame_under}
-use Rattle.stream_units.specs.Turns.{shape_of, LimitRefused, LimitStops}
+use Rattle.picture_codec.specs.Decoding.{Decoding}
+use Rattle.stream_units.specs.Turns.{Shows, shape_of, LimitStops}
 
 -- What is seen of a reader: what the units so far leave, the bytes that it holds, the shapes of the units, the picture of the last one, the stop that it keeps, and whether the stream is over.
 pub record ReaderState : Type 0 where
@@ -44,6 +45,17 @@ item_of End = items.End
 abbrev pub IsPictureOf : DataUnit → Option PictureSeen → Type 0
 IsPictureOf (Picture parts number params slices) shown = (seen : PictureSeen) × (shown ≡ Some seen) × (frame_of seen.shape ≡ frame_under parts) × (seen.samples ≡ picture_of (frame_under parts) params slices)
 IsPictureOf other shown = shown ≡ None
+
+-- the decoder that made the picture of a unit, if it has one
+abbrev pub IsDecoderOf : DataUnit → Option Decoding → Type 0
+IsDecoderOf (Picture parts number params slices) decoder = (d : Decoding) × (decoder ≡ Some d) × Shows parts params slices d
+IsDecoderOf other decoder = decoder ≡ None
+
+-- what is behind a unit of these bytes
+pub record Steps (old new : Past) (unit : DataUnit) (bytes : List ℕ) (item : Item) (made : Option Decoding) : Type 0 where
+  pub past : new ≡ after old unit bytes
+  pub is_item : item ≡ item_of unit
+  pub decoder : IsDecoderOf unit made
 
 -- The unit in front, of the bytes that were held and those that were read, was taken: the others are held, and the reader is behind it.
 pub record TakesItem (old new : ReaderState) (rest0 rest1 : Option (List ℕ)) (item : Item) : Type 0 where

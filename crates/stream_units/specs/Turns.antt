@@ -1,10 +1,10 @@
 -- How the unit in front of a stream is read from a source: what each answer says of the bytes that were held at entry
 -- and then those that were read.
-use Rattle.std.specs.Prelude.{◌≡◌, ◌≤◌, ◌<◌, ℕ, ◌+◌, ◌-◌, ◌^◌, Bool, true, false, List, [], ◌∷◌, ◌++◌, length, drop, Option, Some, None, Result, Ok, Err, MatchResult}
+use Rattle.std.specs.Prelude.{◌≡◌, ◌≤◌, ◌<◌, ℕ, ◌+◌, ◌-◌, ◌^◌, Bool, true, false, List, [], ◌∷◌, ◌++◌, length, take, drop, Option, Some, None, Result, Ok, Err, MatchResult, if◌then◌else◌}
 use Rattle.std.specs.Io.KnownBytes.{IsAtEnd}
 use Rattle.vc2_io.specs.Outside.{Rose}
 use Rattle.vc2_run.specs.Ran.{within}
-use Rattle.field_rows.specs.Rows.{Fault}
+use Rattle.field_rows.specs.Rows.{Fault, done, ◌>>=◌}
 use Rattle.slice_geometry.specs.declared.unit_list.UnitShape.{UnitShape}
 use Rattle.slice_geometry.specs.Slicing.{slice_count, total_bytes}
 use Rattle.sequence_header.specs.declared.parts.HeaderParts.{HeaderParts}
@@ -27,8 +27,8 @@ use Rattle.stream_units.specs.declared.pictures.Shown.{Shown}
 use Rattle.stream_units.specs.declared.parts.Found.{Found}
 use Rattle.stream_units.specs.declared.parts.Found.TheVariants as founds
 use Rattle.stream_units.specs.Asking.{WindowSeen}
-use Rattle.stream_units.specs.Units.{Past, First, DataUnit, Sequence, Repeated, Picture, Skipped, End, units, after}
-use Rattle.stream_units.specs.Streams.{limit, past_limit, refusal_of, frame_under}
+use Rattle.stream_units.specs.Units.{Past, First, DataUnit, Sequence, Repeated, Picture, Skipped, End, units, after, next_checked}
+use Rattle.stream_units.specs.Streams.{limit, is_truncated, past_limit, refusal_of, frame_under}
 
 abbrev pub stop_of : Halt → ReadStop
 stop_of halts.ReadFault = stops.ReadFault
@@ -90,6 +90,16 @@ abbrev pub shape_of : Past → DataUnit → List ℕ → UnitShape
 shape_of z (Picture parts number params slices) bytes = record { start = z.place; head = length bytes - total_bytes params.slicing; slices = slice_count params.slicing; a = params.slicing.a; b = params.slicing.b }
 shape_of z other bytes = record { start = z.place; head = length bytes; slices = 0; a = 1; b = 1 }
 
+-- A sequence header was read, and stands in front of the bytes that are held; n bytes of its unit are gone.
+pub record ReadsHeader (z : Past) (next : ℕ) (held0 : List ℕ) (rest0 rest1 : Option (List ℕ)) (held1 : List ℕ) (parts : HeaderParts) (len : ℕ) : Type 0 where
+  pub inside : len ≤ length held1
+  pub begun : Begun units z held0 rest0 rest1 (z.place + 13 + len) (drop len held1) (next_checked z next >>= λ length. done (Sequence parts))
+  pub payload : drop 13 begun.gone ≡ take len held1
+
+abbrev pub HeaderOver : Past → ℕ → List ℕ → Option (List ℕ) → Option (List ℕ) → WindowSeen → Result (HeaderParts × ℕ) ReadStop → Type 0
+HeaderOver z next held0 rest0 rest1 window (Ok x) = ReadsHeader z next held0 rest0 rest1 window.held x.0 x.1
+HeaderOver z next held0 rest0 rest1 window (Err stop) = StopsOver z held0 rest0 rest1 window.room stop
+
 -- a picture that was read, of pictures under this header
 pub record IsShown (parts : HeaderParts) (shown : Shown) (unit : DataUnit) (bytes : List ℕ) : Type 0 where
   pub params : Params
@@ -119,7 +129,7 @@ IsFound z (founds.Sequence first) unit bytes = IsFirst first unit bytes
 IsFound z founds.Repeated unit bytes = unit ≡ Repeated
 IsFound z (founds.Picture shown) unit bytes = (first : First) × (z.first ≡ Some first) × IsShown first.parts shown unit bytes
 IsFound z founds.Skipped unit bytes = unit ≡ Skipped
-IsFound z founds.End unit bytes = ⊥
+IsFound z founds.End unit bytes = unit ≡ End
 
 -- by how the unit came out
 abbrev pub UnitOver : Past → List ℕ → Option (List ℕ) → Option (List ℕ) → WindowSeen → Result Found ReadStop → Type 0
@@ -163,3 +173,10 @@ abbrev pub LimitOver : Past → List ℕ → Option (List ℕ) → Option (List 
 LimitOver z held0 rest0 rest1 window (Ok founds.End) = LimitEnds z held0 rest0 rest1 window.room window.held
 LimitOver z held0 rest0 rest1 window (Ok found) = LimitTakes z held0 rest0 rest1 window.room window.held (IsFound z found)
 LimitOver z held0 rest0 rest1 window (Err stop) = LimitStops z held0 rest0 rest1 stop
+
+-- the reason where a byte lies past the limit, of an end or a refusal that the limit may have made
+abbrev pub too_long : Result Found ReadStop → Option Reason
+too_long (Ok founds.End) = Some reasons.TrailingBytes
+too_long (Ok found) = None
+too_long (Err (stops.Refused refusal)) = if is_truncated refusal.reason then Some reasons.StreamTooLong else None
+too_long (Err stop) = None

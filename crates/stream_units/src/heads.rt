@@ -3,11 +3,10 @@
 ghost use Rattle.std.specs.Prelude.{◌≡◌, ◌+◌, ◌^◌, ◌≤◌, length, Err};
 ghost use Rattle.field_rows.specs.Rows.{first_broken};
 ghost use Rattle.stream_units.specs.Units.{is_header, is_end_code, is_skipped, header_reason, transform_reason, next_rules};
-ghost use Rattle.stream_units.specs.Heads.{looking_back, are_fields, passes, code_rules_behind, previous_rules_behind, judged_head, HeadAt, IsFirstUnit};
+ghost use Rattle.stream_units.specs.Heads.{looking_back, are_fields, passes, code_rules_behind, previous_rules_behind, judged_head, HeadAt, leads_behind, IsFirstUnit};
 
 use crate::earlier::Earlier;
 use crate::reason::{Reason, Refusal};
-use crate::stop::leads_behind;
 use parse_info::{Code, InfoFault, ParseInfo};
 use sequence_header::{HeaderReason, SequenceHeader};
 use transform_params::TransformReason;
@@ -195,6 +194,13 @@ pub(crate) fn read_head(earlier: &Earlier, bytes: &[u8]) -> Result<ParseInfo, Re
     ensures { HeadAt earlier.now bytes.now result }
 {
     judge(look_back(earlier), ParseInfo::read(bytes))
+}
+
+/// A next offset of 0, or of the unit's length.
+pub(crate) fn leads_behind(next: u32, length: u64) -> bool
+    ensures { result ≡ leads_behind next length }
+{
+    next == 0 || next as u64 == length
 }
 
 /// The sequence header of the first unit, which stands in front of the bytes, and the length of the whole unit; or the

@@ -4,11 +4,14 @@
 mod earlier;
 mod heads;
 mod laws;
+mod limits;
 mod parts;
 mod pictures;
 mod reader;
 pub mod reason;
+mod steps;
 mod stop;
+mod units;
 mod window;
 
 pub use heads::first_unit;

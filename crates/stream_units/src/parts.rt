@@ -1,17 +1,20 @@
 //! The parts of units: what stands behind their heads.
 
-ghost use Rattle.std.specs.Prelude.{◌≡◌, ◌+◌, ◌^◌, ◌≤◌, List, ℕ, Option, Some, length};
+ghost use Rattle.std.specs.Prelude.{◌≡◌, ◌+◌, ◌^◌, ◌≤◌, List, ℕ, Option, Some, length, IfOk, IfErr};
 ghost use Rattle.field_rows.specs.Rows.{done};
 ghost use Rattle.unit_table.specs.Begun.{Begun};
-ghost use Rattle.stream_units.specs.Units.{Skipped, Repeated, End, units, skipped_payload, repeated_payload};
-ghost use Rattle.stream_units.specs.Turns.{PartOver, EndOver, StopCause};
+ghost use Rattle.stream_units.specs.Units.{Skipped, Repeated, End, Past, units, first_payload, skipped_payload, repeated_payload};
+ghost use Rattle.stream_units.specs.Turns.{PartOver, EndOver, HeaderOver, IsFirst, StopCause};
+ghost use Rattle.stream_units.specs.declared.stop.ReadStop.TheVariants as stops;
 
 use crate::earlier::{Earlier, First};
 use crate::pictures::Shown;
-use crate::reason::Reason;
-use crate::heads::leads_behind;
+use crate::reason::{Reason, is_truncated};
+use crate::heads::{header_reason, leads_behind};
 use crate::stop::{ReadStop, refused, stop_of};
 use crate::window::Window;
+use sequence_header::SequenceHeader;
+use std::alloc::Global;
 use vc2_io::Source;
 
 /// A unit that stands.
@@ -49,13 +52,12 @@ pub(crate) fn skipped<S: Source>(
     earlier: &Earlier,
     next: u32,
 ) -> Result<(), ReadStop>
-    requires next { 13 ≤ next }
     requires place { earlier.now.place + 13 + length window.old.held + window.old.room ≡ 2 ^ 40 }
     ensures unit { (held0 : List ℕ) (rest0 : Option (List ℕ)) → Begun units earlier.now held0 rest0 (S.rest src.old) (earlier.now.place + 13) window.old.held (skipped_payload next)
         → PartOver earlier.now held0 rest0 (S.rest src.new) window.new (λ _ unit bytes. unit ≡ Skipped) result }
     ensures cause { StopCause (S.faults src.old) (S.faults src.new) result }
 {
-    match window.skip(src, (next - 13) as u64) {
+    match window.skip(src, next.saturating_sub(13) as u64) {
         Ok(true) => Ok(()),
         Ok(false) => Err(refused(earlier.place() + 13, Reason::Truncated)),
         Err(halt) => Err(stop_of(halt)),
@@ -102,9 +104,12 @@ fn read_header<S: Source>(
     place: u64,
 ) -> Result<(SequenceHeader, usize), ReadStop>
     requires place { place + length window.old.held + window.old.room ≡ 2 ^ 40 }
-    ensures unit { (z : Past) (held0 : List ℕ) (rest0 : Option (List ℕ)) (next : ℕ) → Begun units z held0 rest0 (S.rest src.old) place window.old.held (first_payload z next)
-        → HeaderOver z next held0 rest0 (S.rest src.new) place window.new result }
+    requires few { length window.old.held ≤ 8192 }
+    ensures unit { (z : Past) (held0 : List ℕ) (rest0 : Option (List ℕ)) (next : ℕ) → place ≡ z.place + 13 → Begun units z held0 rest0 (S.rest src.old) place window.old.held (first_payload z next)
+        → HeaderOver z next held0 rest0 (S.rest src.new) window.new result }
     ensures room { length window.new.held + window.new.room ≡ length window.old.held + window.old.room }
+    ensures inside { IfOk result (λ x. x.1 ≤ length window.new.held) }
+    ensures few { length window.new.held ≤ 8192 }
     ensures cause { StopCause (S.faults src.old) (S.faults src.new) result }
 {
     loop {
@@ -113,15 +118,16 @@ fn read_header<S: Source>(
             Ok(read) => return Ok(read),
             Err(fault) => fault,
         };
-        if fault.reason != HeaderReason::Truncated {
-            return Err(refused(place + fault.bit / 8, header_reason(fault.reason)));
+        let reason = header_reason(fault.reason);
+        if !is_truncated(reason) {
+            return Err(refused(place + fault.bit / 8, reason));
         }
         if held >= MOST {
             return Err(ReadStop::NoMemory);
         }
         match window.hold(src, held + 1) {
             Ok(true) => {}
-            Ok(false) => return Err(refused(place + fault.bit / 8, Reason::Truncated)),
+            Ok(false) => return Err(refused(place + fault.bit / 8, reason)),
             Err(halt) => return Err(stop_of(halt)),
         }
     }
@@ -130,7 +136,7 @@ fn read_header<S: Source>(
 // A copy of bytes.
 fn copied(alloc: Global, bytes: &[u8]) -> Result<Vec<u8>, ReadStop>
     ensures ok { IfOk result (λ copy. copy.items ≡ bytes.now) }
-    ensures err { IfErr result (λ stop. stop ≡ ReadStop::NoMemory) }
+    ensures err { IfErr result (λ stop. stop ≡ stops.NoMemory) }
 {
     let mut copy = Vec::new(alloc);
     match copy.extend_from_slice(bytes) {

@@ -6,6 +6,8 @@ ghost use Rattle.stream_units.specs.Reader.{NextOver, new_reader};
 ghost use Rattle.stream_units.specs.declared.stop.Item.TheVariants as items;
 
 use crate::earlier::Earlier;
+use crate::limits::next_unit;
+use crate::steps::{shape_of, step};
 use crate::stop::{Item, ReadStop};
 use crate::window::Window;
 use picture_codec::{Picture, PictureDecoder};
@@ -72,7 +74,40 @@ impl StreamReader {
         // After the end each call answers it again, and nothing is read.
         ensures ended { self.old.stop ≡ None → self.old.ended ≡ true → (result ≡ Ok items.End) × (self.new ≡ self.old) × (S.rest src.new ≡ S.rest src.old) × (S.faults src.new ≡ S.faults src.old) }
     {
-        Err(ReadStop::NoMemory)
+        if let Some(stop) = self.stop {
+            return Err(stop);
+        }
+        if self.ended {
+            return Ok(Item::End);
+        }
+        self.shows = false;
+        if self.shapes.reserve(1).is_err() {
+            self.stop = Some(ReadStop::NoMemory);
+            return Err(ReadStop::NoMemory);
+        }
+        let found = match next_unit(
+            self.alloc,
+            &mut self.window,
+            src,
+            &self.earlier,
+            &mut self.decoder,
+        ) {
+            Ok(found) => found,
+            Err(stop) => {
+                self.stop = Some(stop);
+                return Err(stop);
+            }
+        };
+        let start = self.earlier.place();
+        let size = (LIMIT - self.window.room() - self.window.len() as u64 - start) as u32;
+        self.shapes.push(shape_of(&found, start, size));
+        let (item, decoder) = step(&mut self.earlier, found, size);
+        if decoder.is_some() {
+            self.decoder = decoder;
+            self.shows = true;
+        }
+        self.ended = item == Item::End;
+        Ok(item)
     }
 
     /// The sequence header; none before the first `Sequence`.

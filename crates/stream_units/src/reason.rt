@@ -1,5 +1,8 @@
 //! Why a stream is refused, and where.
 
+ghost use Rattle.std.specs.Prelude.{◌≡◌};
+ghost use Rattle.stream_units.specs.Streams.{is_truncated};
+
 use sequence_header::FieldName;
 
 /// Why an input is refused.
@@ -76,4 +79,14 @@ pub enum Reason {
 pub struct Refusal {
     pub place: u64,
     pub reason: Reason,
+}
+
+/// The input ends inside a field.
+pub(crate) fn is_truncated(reason: Reason) -> bool
+    ensures { result ≡ is_truncated reason }
+{
+    match reason {
+        Reason::Truncated => true,
+        _ => false,
+    }
 }

@@ -1,6 +1,6 @@
 //! What reading a unit answers.
 
-ghost use Rattle.std.specs.Prelude.{◌≡◌, ◌==◌, ◌||◌};
+ghost use Rattle.std.specs.Prelude.{◌≡◌};
 ghost use Rattle.stream_units.specs.declared.stop.ReadStop.TheVariants as stops;
 ghost use Rattle.stream_units.specs.Turns.{stop_of};
 
@@ -48,11 +48,4 @@ pub(crate) fn refused(place: u64, reason: Reason) -> ReadStop
     ensures { result ≡ stops.Refused (record { place = place; reason = reason }) }
 {
     ReadStop::Refused(Refusal { place, reason })
-}
-
-/// The offset that a unit of this length gives of the next one: it, or 0.
-pub(crate) fn leads_behind(next: u32, length: u64) -> bool
-    ensures { result ≡ (next == 0 || next == length) }
-{
-    next == 0 || u64::from(next) == length
 }

@@ -126,6 +126,11 @@ begun_taken {g = g} {z = z} {held1 = held1} {at = at} laws unit b no_end =
       },
     )
 
+-- its bytes are those that are gone
+pub begun_taken-bytes : {Z R U : Type 0} {g : Grammar Z R U} {z : Z} {held0 held1 : List ℕ} {rest0 rest1 : Option (List ℕ)} {at : ℕ} (laws : IsGrammar g) (unit : U) (b : Begun g z held0 rest0 rest1 at held1 (done unit)) (no_end : g.is_end unit ≡ false) → (begun_taken laws unit b no_end).0 ≡ b.gone
+unfolding begun_taken
+begun_taken-bytes laws unit b no_end = refl
+
 front_refused : {Z R U : Type 0} (g : Grammar Z R U) (z : Z) (bytes : List ℕ) (fault : Fault R) → unit_at g z bytes ≡ Err fault → front_of g z bytes ≡ Refuses fault
 front_refused g z bytes fault e = rw e refl
 
@@ -220,6 +225,12 @@ pub begun_use : {Z R U : Type 0} {g : Grammar Z R U} {z : Z} {held0 held1 : List
 begun_use {g = g} {held1 = held1} {rest1 = rest1} {left = left} laws piece held2 others b split moves =
     begun_more laws 0 rest1 held2 piece others b (record { needs = λ place bytes short. absurd (omega arith) })
     (record { read = []; took = Consumes-none rest1; parts = append-nil held1 ∙ split; asked = λ h. absurd (omega arith); few = λ h. absurd (omega arith) }) moves
+
+-- and what is gone then
+pub begun_use-gone : {Z R U : Type 0} {g : Grammar Z R U} {z : Z} {held0 held1 : List ℕ} {rest0 rest1 : Option (List ℕ)} {at : ℕ} {left : Rows R U} (laws : IsGrammar g) (piece held2 : List ℕ) (others : Rows R U) (b : Begun g z held0 rest0 rest1 at held1 left) (split : held1 ≡ piece ++ held2) (moves : Moves g left at piece others)
+    → (begun_use laws piece held2 others b split moves).gone ≡ b.gone ++ piece
+unfolding begun_use begun_more
+begun_use-gone laws piece held2 others b split moves = refl
 
 -- ---- where it isn't known how many bytes the rows need: one byte more than these, which lack
 

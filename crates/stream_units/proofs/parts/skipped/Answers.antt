@@ -5,12 +5,12 @@ use Rattle.stream_units.proofs.parts.skipped.Goals as goal
 
 pub returns-in-Ok-true-clause-unit : goal.returns-in-Ok-true-clause-unit
 returns-in-Ok-true-clause-unit g c = λ held0 rest0 b.
-    skipped_whole c.args.next (g.S.Source.rest c.skip.new.src) (subst (λ r. Dropped (c.args.next - 13) c.args.window.now c.skip.new.self (g.S.Source.rest c.args.src.now) (g.S.Source.rest c.skip.new.src) r) (c.in-Ok-true.is ∙ cc) c.skip.ensures.dropped) b refl c.requires.next (omega arith) c.requires.place
+    skipped_whole c.args.next (g.S.Source.rest c.skip.new.src) (subst (λ n. Dropped n c.args.window.now c.skip.new.self (g.S.Source.rest c.args.src.now) (g.S.Source.rest c.skip.new.src) (Ok true)) c.saturating_sub.ensures (subst (λ r. Dropped c.saturating_sub.result c.args.window.now c.skip.new.self (g.S.Source.rest c.args.src.now) (g.S.Source.rest c.skip.new.src) r) (c.in-Ok-true.is ∙ cc) c.skip.ensures.dropped)) b refl (omega arith) c.requires.place
 
 pub returns-in-Ok-false-clause-unit : goal.returns-in-Ok-false-clause-unit
 returns-in-Ok-false-clause-unit g c = λ held0 rest0 b.
-    skipped_short c.args.next (g.S.Source.rest c.skip.new.src) c.refused.result (subst (λ r. Dropped (c.args.next - 13) c.args.window.now c.skip.new.self (g.S.Source.rest c.args.src.now) (g.S.Source.rest c.skip.new.src) r) (c.in-Ok-false.is ∙ cc) c.skip.ensures.dropped) b c.requires.place (c.refused.ensures ∙ cc)
+    skipped_short c.args.next (g.S.Source.rest c.skip.new.src) c.refused.result (subst (λ n. Dropped n c.args.window.now c.skip.new.self (g.S.Source.rest c.args.src.now) (g.S.Source.rest c.skip.new.src) (Ok false)) c.saturating_sub.ensures (subst (λ r. Dropped c.saturating_sub.result c.args.window.now c.skip.new.self (g.S.Source.rest c.args.src.now) (g.S.Source.rest c.skip.new.src) r) (c.in-Ok-false.is ∙ cc) c.skip.ensures.dropped)) b c.requires.place (c.refused.ensures ∙ cc)
 
 pub returns-in-Err-clause-unit : goal.returns-in-Err-clause-unit
 returns-in-Err-clause-unit g c = λ held0 rest0 b.
-    skipped_lost c.args.next (g.S.Source.rest c.skip.new.src) c.in-Err.halt c.stop_of.result (subst (λ r. Dropped (c.args.next - 13) c.args.window.now c.skip.new.self (g.S.Source.rest c.args.src.now) (g.S.Source.rest c.skip.new.src) r) (c.in-Err.is ∙ cc) c.skip.ensures.dropped) b c.requires.place c.stop_of.ensures
+    skipped_lost c.args.next (g.S.Source.rest c.skip.new.src) c.in-Err.halt c.stop_of.result (subst (λ n. Dropped n c.args.window.now c.skip.new.self (g.S.Source.rest c.args.src.now) (g.S.Source.rest c.skip.new.src) (Err c.in-Err.halt)) c.saturating_sub.ensures (subst (λ r. Dropped c.saturating_sub.result c.args.window.now c.skip.new.self (g.S.Source.rest c.args.src.now) (g.S.Source.rest c.skip.new.src) r) (c.in-Err.is ∙ cc) c.skip.ensures.dropped)) b c.requires.place c.stop_of.ensures

@@ -1,0 +1,34 @@
+use Rattle.std.proofs.Common.{◌≡◌, ◌+◌, ◌∙◌, sym, ap, subst, take, drop, length, List, ℕ, Option, arith, refl, Ok}
+use Rattle.unit_table.specs.Begun.{Begun}
+use Rattle.stream_units.specs.Units.{First, units, first_payload}
+use Rattle.stream_units.specs.Heads.{leads_behind}
+use Rattle.stream_units.specs.Turns.{Takes, IsFirst}
+use Rattle.stream_units.proofs.HeaderTurns.{behind_due, behind_refused, behind_takes}
+use Rattle.stream_units.proofs.parts.first_header.Goals as goal
+
+pub returns-in-Err-clause-unit : goal.returns-in-Err-clause-unit
+returns-in-Err-clause-unit g c = λ held0 rest0 b.
+    c.in-Err.ensures.unit c.args.earlier.now held0 rest0 c.args.next (omega (arith, c.place-place.ensures.value))
+    (subst (λ p. Begun units c.args.earlier.now held0 rest0 (g.S.Source.rest c.args.src.now) (p + 13) c.args.window.now.held (first_payload c.args.earlier.now c.args.next)) (sym c.place-place.ensures.value) b)
+
+pub returns-in-Err-copied-clause-unit : goal.returns-in-Err-copied-clause-unit
+returns-in-Err-copied-clause-unit g c = λ held0 rest0 b.
+    behind_due c.args.next c.in-Ok.read.0 c.in-Ok.read.1 c.read_header.new.window.room c.in-Err-copied.stop
+    (c.in-Ok.ensures.unit c.args.earlier.now held0 rest0 c.args.next (omega (arith, c.place-place.ensures.value))
+    (subst (λ p. Begun units c.args.earlier.now held0 rest0 (g.S.Source.rest c.args.src.now) (p + 13) c.args.window.now.held (first_payload c.args.earlier.now c.args.next)) (sym c.place-place.ensures.value) b))
+    (omega (arith, c.in-Ok.ensures.room, c.requires.place)) c.in-Err-copied.ensures.err
+
+pub returns-then-not-leads_behind-clause-unit : goal.returns-then-not-leads_behind-clause-unit
+returns-then-not-leads_behind-clause-unit g c = λ held0 rest0 b.
+    behind_refused c.args.next c.in-Ok.read.0 c.in-Ok.read.1 c.advance.new.self.held c.advance.new.self.room c.refused.result
+    (c.in-Ok.ensures.unit c.args.earlier.now held0 rest0 c.args.next (omega (arith, c.place-place.ensures.value))
+    (subst (λ p. Begun units c.args.earlier.now held0 rest0 (g.S.Source.rest c.args.src.now) (p + 13) c.args.window.now.held (first_payload c.args.earlier.now c.args.next)) (sym c.place-place.ensures.value) b))
+    c.advance.ensures.held (sym c.leads_behind.ensures ∙ cc) (omega (arith, c.in-Ok.ensures.room, c.requires.place, c.advance.ensures.room)) (c.refused.ensures ∙ cc)
+
+pub returns-clause-unit : goal.returns-clause-unit
+returns-clause-unit g c = λ held0 rest0 b.
+    subst (λ (f : First). Takes c.args.earlier.now held0 rest0 (g.S.Source.rest c.read_header.new.src) c.advance.new.self.room c.advance.new.self.held (IsFirst f)) (sym c.new.ensures)
+    (behind_takes c.args.next c.in-Ok.read.1 c.advance.new.self.held c.advance.new.self.room _
+    (c.in-Ok.ensures.unit c.args.earlier.now held0 rest0 c.args.next (omega (arith, c.place-place.ensures.value))
+    (subst (λ p. Begun units c.args.earlier.now held0 rest0 (g.S.Source.rest c.args.src.now) (p + 13) c.args.window.now.held (first_payload c.args.earlier.now c.args.next)) (sym c.place-place.ensures.value) b))
+    c.advance.ensures.held (sym c.leads_behind.ensures ∙ cc) (omega (arith, c.in-Ok.ensures.room, c.requires.place, c.advance.ensures.room)) (omega (arith, c.in-Ok.ensures.inside, c.in-Ok.ensures.few)) (c.in-Ok-copied.ensures.ok ∙ c.front.ensures.value))

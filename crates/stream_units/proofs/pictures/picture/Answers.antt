@@ -1,0 +1,105 @@
+use Rattle.std.proofs.Common.{◌≡◌, ◌+◌, ◌≤◌, ◌^◌, Err, arith, sym, ap, subst, ◌∙◌, refl}
+use Rattle.std.proofs.lemmas.Result.{err_from_is_err_and}
+use Rattle.slice_geometry.specs.Slicing.{total_bytes}
+use Rattle.transform_params.specs.Params.{Params}
+use Rattle.picture_codec.specs.Samples.{frame_of}
+use Rattle.field_rows.specs.Rows.{done}
+use Rattle.stream_units.specs.Units.{Picture}
+use Rattle.stream_units.specs.Turns.{PictureOver}
+use Rattle.stream_units.proofs.Stopping.{stops_due, cause_behind}
+use Rattle.stream_units.proofs.PictureTurns.{behind_slices, behind_params, behind_number, payload_begun, begun_at, slices_begun, ready_frame, finished_shows, next_wrong, next_right, picture_taken}
+use Rattle.stream_units.proofs.pictures.picture.Goals as goal
+
+pub returns-in_err-number-clause-unit : goal.returns-in_err-number-clause-unit
+returns-in_err-number-clause-unit g c = λ held0 rest0 b.
+    let z = c.args.earlier.now in
+    let next = c.args.next in
+    let parts = c.args.first.now.parts in
+    let e = err_from_is_err_and c.from_residual.result c.from_residual.ensures.1 in
+    subst (PictureOver z held0 rest0 (g.S.Source.rest c.number.new.src) c.number.new.window parts) (sym (e.1 ∙ ap Err e.2))
+    (c.in_err-number.ensures.part (behind_number z next parts) held0 rest0 (payload_begun next parts b))
+
+pub returns-in_err-params-clause-unit : goal.returns-in_err-params-clause-unit
+returns-in_err-params-clause-unit g c = λ held0 rest0 b.
+    let z = c.args.earlier.now in
+    let next = c.args.next in
+    let parts = c.args.first.now.parts in
+    let number = c.in_ok-number.number in
+    let b1 = begun_at (c.place-place.result + 17) (c.in_ok-number.ensures.part (behind_number z next parts) held0 rest0 (payload_begun next parts b)) (omega (arith, c.place-place.ensures.value)) in
+    let e = err_from_is_err_and c.from_residual-in_err-params.result c.from_residual-in_err-params.ensures.1 in
+    subst (PictureOver z held0 rest0 (g.S.Source.rest c.params.new.src) c.params.new.window parts) (sym (e.1 ∙ ap Err e.2))
+    (c.in_err-params.ensures.part z (behind_params z next parts number) held0 rest0 b1)
+
+pub returns-in_err-decoder-clause-unit : goal.returns-in_err-decoder-clause-unit
+returns-in_err-decoder-clause-unit g c = λ held0 rest0 b.
+    let z = c.args.earlier.now in
+    let next = c.args.next in
+    let parts = c.args.first.now.parts in
+    let number = c.in_ok-number.number in
+    let b1 = begun_at (c.place-place.result + 17) (c.in_ok-number.ensures.part (behind_number z next parts) held0 rest0 (payload_begun next parts b)) (omega (arith, c.place-place.ensures.value)) in
+    let p : Params = record { wavelet = c.in_ok-params.params.wavelet; slicing = c.in_ok-params.params.layout; matrix = c.in_ok-params.params.matrix } in
+    let b2 = c.in_ok-params.ensures.part z (behind_params z next parts number) held0 rest0 b1 in
+    let e = err_from_is_err_and c.from_residual-in_err-decoder.result c.from_residual-in_err-decoder.ensures.1 in
+    subst (PictureOver z held0 rest0 (g.S.Source.rest c.params.new.src) c.params.new.window parts) (sym (e.1 ∙ ap Err (e.2 ∙ c.in_err-decoder.ensures)))
+    (stops_due c.params.new.window.room b2 c.in_ok-params.ensures.place)
+
+pub returns-in_err-slices-clause-unit : goal.returns-in_err-slices-clause-unit
+returns-in_err-slices-clause-unit g c = λ held0 rest0 b.
+    let z = c.args.earlier.now in
+    let next = c.args.next in
+    let parts = c.args.first.now.parts in
+    let number = c.in_ok-number.number in
+    let b1 = begun_at (c.place-place.result + 17) (c.in_ok-number.ensures.part (behind_number z next parts) held0 rest0 (payload_begun next parts b)) (omega (arith, c.place-place.ensures.value)) in
+    let p : Params = record { wavelet = c.in_ok-params.params.wavelet; slicing = c.in_ok-params.params.layout; matrix = c.in_ok-params.params.matrix } in
+    let b2 = c.in_ok-params.ensures.part z (behind_params z next parts number) held0 rest0 b1 in
+    let ready = c.in_ok-decoder.ensures in
+    let frame = ready_frame parts c.header.result.now c.picture_shape.result p c.in_ok-decoder.decoder ready c.picture_shape.ensures c.header.ensures in
+    let b3 = slices_begun parts p c.in_ok-decoder.decoder.params (behind_slices z next parts number p) (begun_at (c.place-place.result + (17 + c.in_ok-params.size)) b2 (omega arith)) ready.params_are in
+    let e = err_from_is_err_and c.from_residual-in_err-slices.result c.from_residual-in_err-slices.ensures.1 in
+    subst (PictureOver z held0 rest0 (g.S.Source.rest c.slices.new.src) c.slices.new.window parts) (sym (e.1 ∙ ap Err e.2))
+    (c.in_err-slices.ensures.part parts z frame (behind_slices z next parts number p) held0 rest0 b3)
+
+pub returns-in_err-slices-clause-cause : goal.returns-in_err-slices-clause-cause
+returns-in_err-slices-clause-cause g c =
+    let e = err_from_is_err_and c.from_residual-in_err-slices.result c.from_residual-in_err-slices.ensures.1 in
+    cause_behind (Unit {0}) (g.S.Source.faults c.args.src.now) (g.S.Source.faults c.params.new.src) (g.S.Source.faults c.slices.new.src) c.in_err-slices.field-0.0 c.from_residual-in_err-slices.result (e.1 ∙ ap Err e.2) (c.in_ok-params.ensures.cause ∙ c.in_ok-number.ensures.cause) c.in_err-slices.ensures.cause
+
+pub returns-then-not-leads_behind-clause-unit : goal.returns-then-not-leads_behind-clause-unit
+returns-then-not-leads_behind-clause-unit g c = λ held0 rest0 b.
+    let z = c.args.earlier.now in
+    let next = c.args.next in
+    let parts = c.args.first.now.parts in
+    let number = c.in_ok-number.number in
+    let b1 = begun_at (c.place-place.result + 17) (c.in_ok-number.ensures.part (behind_number z next parts) held0 rest0 (payload_begun next parts b)) (omega (arith, c.place-place.ensures.value)) in
+    let p : Params = record { wavelet = c.in_ok-params.params.wavelet; slicing = c.in_ok-params.params.layout; matrix = c.in_ok-params.params.matrix } in
+    let b2 = c.in_ok-params.ensures.part z (behind_params z next parts number) held0 rest0 b1 in
+    let ready = c.in_ok-decoder.ensures in
+    let frame = ready_frame parts c.header.result.now c.picture_shape.result p c.in_ok-decoder.decoder ready c.picture_shape.ensures c.header.ensures in
+    let b3 = slices_begun parts p c.in_ok-decoder.decoder.params (behind_slices z next parts number p) (begun_at (c.place-place.result + (17 + c.in_ok-params.size)) b2 (omega arith)) ready.params_are in
+    let t = c.in_ok-slices.ensures.part parts z frame (behind_slices z next parts number p) held0 rest0 b3 in
+    let size : total_bytes c.in_ok-decoder.decoder.params.slicing ≡ total_bytes p.slicing = ap (λ q. total_bytes q.slicing) ready.params_are in
+    let span = 17 + c.in_ok-params.size + c.from.result in
+    let there : c.place-place.result + (17 + c.in_ok-params.size) + total_bytes c.in_ok-decoder.decoder.params.slicing ≡ z.place + span = omega (arith, c.place-place.ensures.value, c.from.ensures, c.total_bytes.ensures, size) in
+    next_wrong (λ length. done (Picture parts number p t.slices)) next span c.slices.new.window.room (c.place-place.result + 5) c.refused.result t.begun there (sym c.leads_behind.ensures ∙ c.if-not-leads_behind.true) c.in_ok-slices.ensures.place (omega (arith, c.place-place.ensures.value)) c.refused.ensures
+
+pub returns-clause-unit : goal.returns-clause-unit
+returns-clause-unit g c = λ held0 rest0 b.
+    let z = c.args.earlier.now in
+    let next = c.args.next in
+    let parts = c.args.first.now.parts in
+    let number = c.in_ok-number.number in
+    let b1 = begun_at (c.place-place.result + 17) (c.in_ok-number.ensures.part (behind_number z next parts) held0 rest0 (payload_begun next parts b)) (omega (arith, c.place-place.ensures.value)) in
+    let p : Params = record { wavelet = c.in_ok-params.params.wavelet; slicing = c.in_ok-params.params.layout; matrix = c.in_ok-params.params.matrix } in
+    let b2 = c.in_ok-params.ensures.part z (behind_params z next parts number) held0 rest0 b1 in
+    let ready = c.in_ok-decoder.ensures in
+    let frame = ready_frame parts c.header.result.now c.picture_shape.result p c.in_ok-decoder.decoder ready c.picture_shape.ensures c.header.ensures in
+    let b3 = slices_begun parts p c.in_ok-decoder.decoder.params (behind_slices z next parts number p) (begun_at (c.place-place.result + (17 + c.in_ok-params.size)) b2 (omega arith)) ready.params_are in
+    let t = c.in_ok-slices.ensures.part parts z frame (behind_slices z next parts number p) held0 rest0 b3 in
+    let size : total_bytes c.in_ok-decoder.decoder.params.slicing ≡ total_bytes p.slicing = ap (λ q. total_bytes q.slicing) ready.params_are in
+    let span = 17 + c.in_ok-params.size + c.from.result in
+    let there : c.place-place.result + (17 + c.in_ok-params.size) + total_bytes c.in_ok-decoder.decoder.params.slicing ≡ z.place + span = omega (arith, c.place-place.ensures.value, c.from.ensures, c.total_bytes.ensures, size) in
+    let right = next_right (λ length. done (Picture parts number p t.slices)) next span t.begun there (sym c.leads_behind.ensures ∙ c.if-not-leads_behind.false) in
+    let few : total_bytes p.slicing ≤ 2 ^ 28 = subst (λ q. total_bytes q.slicing ≤ 2 ^ 28) ready.params_are c.in_ok-slices.ensures.allowed.share.total in
+    let shows = finished_shows parts p t.slices c.slices.new.decoder c.finish.new.self (ap frame_of c.in_ok-slices.ensures.shape ∙ frame) (c.in_ok-slices.ensures.params ∙ ready.params_are) c.finish.ensures.state (c.finish.ensures.unit t.slices t.has) in
+    picture_taken parts (record { number = number; layout = c.in_ok-params.params.layout; head = 17 + c.in_ok-params.size; decoder = c.finish.new.self }) p t.slices c.slices.new.window.room right
+    (omega (arith, c.place-place.ensures.value, size)) (omega (arith, few, c.in_ok-params.ensures.most)) c.in_ok-slices.ensures.place refl shows

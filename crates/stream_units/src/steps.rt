@@ -1,0 +1,73 @@
+//! What a unit that was found leaves.
+
+ghost use Rattle.std.specs.Prelude.{◌≡◌, ◌+◌, ◌^◌, ◌≤◌, ◌<◌, List, ℕ, length};
+ghost use Rattle.slice_geometry.specs.Units.{IsUnitAllowed, unit_length};
+ghost use Rattle.stream_units.specs.Units.{Past, DataUnit};
+ghost use Rattle.stream_units.specs.Turns.{IsFound, shape_of};
+ghost use Rattle.stream_units.specs.Reader.{Steps};
+
+use crate::earlier::Earlier;
+use crate::parts::Found;
+use crate::stop::Item;
+use picture_codec::PictureDecoder;
+use slice_geometry::UnitShape;
+
+/// The shape of a unit of so many bytes.
+pub(crate) fn shape_of(found: &Found, start: u64, size: u32) -> UnitShape
+    ensures shape { (z : Past) (unit : DataUnit) (bytes : List ℕ) → z.place ≡ start → length bytes ≡ size → IsFound z found.now unit bytes → result ≡ shape_of z unit bytes }
+    ensures size { (z : Past) (unit : DataUnit) (bytes : List ℕ) → length bytes ≡ size → IsFound z found.now unit bytes → unit_length result ≡ size }
+    ensures start { result.start ≡ start }
+    ensures allowed { IsUnitAllowed result }
+{
+    match found {
+        Found::Picture(shown) => UnitShape {
+            start,
+            head: shown.head,
+            slices: shown.layout.count(),
+            a: shown.layout.a(),
+            b: shown.layout.b(),
+        },
+        _ => UnitShape {
+            start,
+            head: u64::from(size),
+            slices: 0,
+            a: 1,
+            b: 1,
+        },
+    }
+}
+
+/// Goes on behind a unit of so many bytes; gives its item, and the decoder that made its picture.
+pub(crate) fn step(
+    earlier: &mut Earlier,
+    found: Found,
+    size: u32,
+) -> (Item, Option<PictureDecoder>)
+    requires some { 0 < size }
+    requires most { earlier.old.place + size ≤ 2 ^ 40 }
+    requires found { (unit : DataUnit) × (bytes : List ℕ) × (length bytes ≡ size) × IsFound earlier.old found unit bytes }
+    ensures { (unit : DataUnit) (bytes : List ℕ) → length bytes ≡ size → IsFound earlier.old found unit bytes → Steps earlier.old earlier.new unit bytes result.0 result.1 }
+{
+    match found {
+        Found::Sequence(first) => {
+            earlier.step_first(first, size);
+            (Item::Sequence, None)
+        }
+        Found::Repeated => {
+            earlier.step(size);
+            (Item::Repeated, None)
+        }
+        Found::Picture(shown) => {
+            earlier.step_picture(shown.number, shown.layout.count(), size);
+            (Item::Picture(shown.number), Some(shown.decoder))
+        }
+        Found::Skipped => {
+            earlier.step(size);
+            (Item::Skipped, None)
+        }
+        Found::End => {
+            earlier.step(size);
+            (Item::End, None)
+        }
+    }
+}
