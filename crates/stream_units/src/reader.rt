@@ -142,6 +142,20 @@ impl StreamReader {
         self.earlier.place()
     }
 
+    /// How many pictures the units so far have.
+    pub fn pictures(&self) -> u64
+        ensures { result ≡ self.now.past.pictures }
+    {
+        self.earlier.pictures()
+    }
+
+    /// How many slices these pictures have.
+    pub fn slices(&self) -> u64
+        ensures { result ≡ self.now.past.slices }
+    {
+        self.earlier.slices()
+    }
+
     /// How many bytes are held.
     pub fn held(&self) -> usize
         ensures { result ≡ length self.now.held }
