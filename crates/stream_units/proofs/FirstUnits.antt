@@ -1,7 +1,7 @@
 -- The first unit in front of bytes, and what follows them.
 use Rattle.std.proofs.Common.{◌≡◌, ◌≢◌, ℕ, ◌<◌, ◌≤◌, List, [], ◌∷◌, ◌++◌, length, drop, Result, Ok, Err, refl, sym, ap, ◌∙◌, arith, ⊎_elim}
 use Rattle.std.proofs.lemmas.Bool.{cases_lt}
-use Rattle.std.proofs.lemmas.List.{length-append, length-drop}
+use Rattle.std.proofs.lemmas.List.{length-drop}
 use Rattle.bit_codes.specs.Bits.{bits_of}
 use Rattle.bit_codes.proofs.BitLemmas.{length-bits}
 use Rattle.field_rows.specs.Rows.{Fault, read}

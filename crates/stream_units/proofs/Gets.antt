@@ -1,5 +1,5 @@
 -- Bytes that are got by reads in turn.
-use Rattle.std.proofs.Common.{◌≡◌, ℕ, ◌+◌, ◌<◌, ◌≤◌, List, [], ◌++◌, length, Option, refl, sym, ap, ◌∙◌, arith, append_assoc, append-nil, subst}
+use Rattle.std.proofs.Common.{◌≡◌, ℕ, ◌+◌, ◌<◌, List, [], ◌++◌, length, Option, sym, ap, ◌∙◌, arith, append_assoc, append-nil, subst}
 use Rattle.std.proofs.lemmas.List.{length-append}
 use Rattle.vc2_io.proofs.Known.{Consumes-then, Consumes-none}
 use Rattle.unit_table.specs.Begun.{Got}

@@ -1,13 +1,13 @@
 -- How the payload of the first sequence header comes out.
-use Rattle.std.proofs.Common.{◌≡◌, ◌≢◌, ℕ, ◌+◌, ◌-◌, ◌*◌, ◌/◌, ◌^◌, ◌<◌, ◌≤◌, Bool, true, false, List, [], ◌∷◌, ◌++◌, length, take, drop, Option, Some, None, Result, Ok, Err, refl, sym, ap, subst, ◌∙◌, arith, append-nil}
-use Rattle.std.proofs.lemmas.List.{length-append, length-take, length-drop, nil_from_length, take-append-drop, drop_at, take_all}
+use Rattle.std.proofs.Common.{◌≡◌, ◌≢◌, ℕ, ◌+◌, ◌*◌, ◌/◌, ◌<◌, ◌≤◌, true, false, List, [], ◌∷◌, ◌++◌, length, take, drop, Option, Ok, Err, refl, sym, ap, subst, ◌∙◌, arith, append-nil}
+use Rattle.std.proofs.lemmas.List.{length-append, length-take, length-drop, nil_from_length, take-append-drop, drop_at}
 use Rattle.std.specs.Io.KnownBytes.{IsAtEnd}
 use Rattle.bit_codes.specs.Bits.{cursor_at}
-use Rattle.field_rows.specs.Rows.{Rows, done, read, ◌>>=◌, renamed, Fault}
+use Rattle.field_rows.specs.Rows.{Rows, done, read, ◌>>=◌, Fault}
 use Rattle.vc2_run.specs.Ran.{within}
 use Rattle.unit_table.specs.Grammar.{bytes_at}
-use Rattle.unit_table.specs.Begun.{Begun, Lacks, Moves, Got}
-use Rattle.unit_table.proofs.Begins.{begun_use, begun_use-gone, begun_lacking, begun_none}
+use Rattle.unit_table.specs.Begun.{Begun, Lacks, Got}
+use Rattle.unit_table.proofs.Begins.{begun_use, begun_use-gone, begun_lacking}
 use Rattle.sequence_header.specs.declared.parts.HeaderParts.{HeaderParts}
 use Rattle.sequence_header.specs.declared.parts.HeaderReason.{HeaderReason}
 use Rattle.sequence_header.specs.Header.{header_rows}
@@ -15,7 +15,6 @@ use Rattle.sequence_header.specs.Header as header
 use Rattle.stream_units.specs.declared.window.Halt.{Halt}
 use Rattle.stream_units.specs.declared.reason.Reason.{Reason}
 use Rattle.stream_units.specs.declared.reason.Reason.TheVariants as reasons
-use Rattle.stream_units.specs.declared.reason.Refusal.{Refusal}
 use Rattle.stream_units.specs.declared.stop.ReadStop.{ReadStop}
 use Rattle.stream_units.specs.declared.stop.ReadStop.TheVariants as stops
 use Rattle.stream_units.specs.Units.{Past, First, DataUnit, Sequence, reason_of, header_reason, next_checked, first_payload, units}

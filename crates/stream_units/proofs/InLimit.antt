@@ -1,12 +1,11 @@
 -- A unit of an input that counts up to the limit.
-use Rattle.std.proofs.Common.{◌≡◌, ◌≢◌, ℕ, ◌+◌, ◌-◌, ◌*◌, ◌^◌, ◌<◌, ◌≤◌, Bool, true, false, cond, List, [], ◌∷◌, length, take, Option, Some, None, Result, Ok, Err, refl, sym, ap, subst, ◌∙◌, arith}
+use Rattle.std.proofs.Common.{◌≡◌, ◌≢◌, ℕ, ◌+◌, ◌*◌, ◌<◌, Bool, true, false, cond, List, [], length, Option, Some, None, Result, Ok, Err, refl, sym, ap, subst, ◌∙◌, arith}
 use Rattle.std.proofs.lemmas.List.{nil_from_length, length-take}
 use Rattle.std.specs.Io.KnownBytes.{Consumes, IsAtEnd}
 use Rattle.vc2_io.proofs.Known.{Consumes-none}
 use Rattle.vc2_run.specs.Ran.{within}
 use Rattle.field_rows.specs.Rows.{Fault}
-use Rattle.unit_table.specs.Fronts.{Front, Finishes, Refuses}
-use Rattle.unit_table.specs.Begun.{Taken, Over}
+use Rattle.unit_table.specs.Fronts.{Front, Refuses}
 use Rattle.unit_table.proofs.Limited.{taken_within, over_stays, over_fault, over_past, over_none, none_finished, none_refused}
 use Rattle.stream_units.specs.declared.reason.Reason.{Reason}
 use Rattle.stream_units.specs.declared.reason.Reason.TheVariants as reasons
@@ -18,7 +17,7 @@ use Rattle.stream_units.specs.declared.parts.Found.TheVariants as founds
 use Rattle.stream_units.specs.Asking.{WindowSeen}
 use Rattle.stream_units.specs.Units.{Past, DataUnit, End, units}
 use Rattle.stream_units.specs.Streams.{limit, is_truncated, past_limit, refusal_of}
-use Rattle.stream_units.specs.Turns.{Takes, Ends, Refused, IsFound, UnitOver, LimitTakes, LimitEnds, LimitRefused, LimitStops, LimitOver, too_long}
+use Rattle.stream_units.specs.Turns.{Takes, Ends, Refused, UnitOver, LimitTakes, LimitEnds, LimitRefused, LimitStops, LimitOver, too_long}
 use Rattle.stream_units.proofs.Steady.{units_laws}
 
 stay_taken : {z : Past} {held0 held1 : List ℕ} {rest0 rest1 : Option (List ℕ)} {room : ℕ} {IsSuch : DataUnit → List ℕ → Type 0} → Takes z held0 rest0 rest1 room held1 IsSuch → LimitTakes z held0 rest0 rest1 room held1 IsSuch
@@ -104,6 +103,7 @@ ends_none rest2 lost f took few at_end = record {
   bytes = f.bytes;
   none = f.none;
   last = at_end;
+  some = f.some;
   total = f.total;
   short = f.short;
   meets = over_none limit past_limit rest2 lost f.over (omega (arith, f.total)) took few at_end;

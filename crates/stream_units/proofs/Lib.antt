@@ -18,3 +18,4 @@ pub mod PictureTurns
 pub mod Ready
 pub mod UnitTurns
 pub mod InLimit
+pub mod ReaderTurns

@@ -1,20 +1,18 @@
 -- How the parts of units come out: the end, a payload that is skipped, and a repeated sequence header.
-use Rattle.std.proofs.Common.{◌≡◌, ◌≢◌, ℕ, ◌+◌, ◌-◌, ◌*◌, ◌/◌, ◌^◌, ◌<◌, ◌≤◌, Bool, true, false, List, [], ◌∷◌, ◌++◌, length, take, drop, get_or, Option, Some, None, Result, Ok, Err, refl, sym, ap, subst, ◌∙◌, arith, append-nil}
-use Rattle.std.specs.Prelude.{nat_eq, ◌==◌, ◌||◌, MatchResult}
+use Rattle.std.proofs.Common.{◌≡◌, ℕ, ◌+◌, ◌-◌, ◌*◌, ◌^◌, ◌<◌, ◌≤◌, true, false, List, [], ◌∷◌, ◌++◌, length, take, drop, get_or, Option, None, Ok, Err, refl, sym, ap, subst, ◌∙◌, arith, append-nil}
+use Rattle.std.specs.Prelude.{nat_eq}
 use Rattle.std.specs.List.{starts_with}
-use Rattle.std.proofs.lemmas.List.{length-append, length-take, length-drop, nil_from_length, take-append-drop}
+use Rattle.std.proofs.lemmas.List.{length-append, length-take, nil_from_length, take-append-drop}
 use Rattle.std.specs.Io.KnownBytes.{IsAtEnd}
-use Rattle.field_rows.specs.Rows.{Rows, done, read, ◌>>=◌, bytes_under, check_at, first_broken, judged, ◌or_else◌}
-use Rattle.field_rows.proofs.Reading.{read-done, then_ok, then_err}
-use Rattle.field_rows.proofs.Words.{read-check_at}
+use Rattle.field_rows.specs.Rows.{done, read, ◌>>=◌, bytes_under, first_broken, judged, ◌or_else◌}
+use Rattle.field_rows.proofs.Reading.{read-done}
 use Rattle.vc2_run.specs.Ran.{within}
 use Rattle.unit_table.specs.Grammar.{bytes_at}
-use Rattle.unit_table.specs.Fronts.{Finishes, Refuses}
-use Rattle.unit_table.specs.Begun.{Begun, Needs, Moves, Got, Over, Taken}
+use Rattle.unit_table.specs.Fronts.{Finishes}
+use Rattle.unit_table.specs.Begun.{Begun, Needs, Moves, Got, Over}
 use Rattle.unit_table.proofs.Begins.{begun_more, begun_held, begun_use, begun_taken, begun_taken-bytes, begun_use-gone, begun_end, begun_trailing, got_back}
 use Rattle.unit_table.proofs.Fields.{needs_row, needs_nothing, needs_end, moves_row, moves_blind, short_row, broken_row, all_fit}
 use Rattle.stream_units.specs.declared.window.Halt.{Halt}
-use Rattle.stream_units.specs.declared.reason.Reason.{Reason}
 use Rattle.stream_units.specs.declared.reason.Reason.TheVariants as reasons
 use Rattle.stream_units.specs.declared.reason.Refusal.{Refusal}
 use Rattle.stream_units.specs.declared.stop.ReadStop.{ReadStop}
@@ -26,7 +24,7 @@ use Rattle.stream_units.specs.Turns.{stop_of, StopsOver, Ends, Takes}
 use Rattle.stream_units.specs.Heads.{leads_behind}
 use Rattle.stream_units.proofs.Steady.{units_laws}
 use Rattle.stream_units.proofs.HeadRows.{read-checked_unit}
-use Rattle.stream_units.proofs.Stopping.{lost_stops, stops_lost, stops_short, stops_refused}
+use Rattle.stream_units.proofs.Stopping.{stops_lost, stops_short, stops_refused}
 
 -- ---- a unit that was taken
 
@@ -69,6 +67,7 @@ end_over {z} {held0} {held1} {rest0} {rest1} {place} held2 rest2 room b got none
       bytes = e.0;
       none = empty;
       last = at_end;
+      some = omega (arith, e.1, behind);
       total = omega (arith, total, none, e.1);
       short = omega (arith, e.1, behind);
       over = subst (λ n. Over units z held0 rest0 rest2 (within room rest2) n (Finishes (length e.0) End)) e.1 e.2;

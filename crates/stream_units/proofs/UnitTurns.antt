@@ -1,13 +1,12 @@
 -- How a unit comes out, by its head and its payload.
-use Rattle.std.proofs.Common.{◌≡◌, ◌≢◌, ℕ, ◌+◌, ◌-◌, ◌*◌, ◌/◌, ◌^◌, ◌<◌, ◌≤◌, ◌⊎◌, ◌∷◌, Bool, true, false, List, [], ◌++◌, length, take, drop, Option, Some, None, Result, Ok, Err, inl, inr, refl, sym, ap, subst, ◌∙◌, arith}
+use Rattle.std.proofs.Common.{◌≡◌, ◌≢◌, ℕ, ◌+◌, ◌/◌, ◌<◌, ◌≤◌, ◌⊎◌, ◌∷◌, List, [], ◌++◌, length, take, drop, Option, Some, None, Ok, Err, inl, inr, refl, sym, ap, subst, ◌∙◌, arith}
 use Rattle.std.proofs.lemmas.List.{length-append, length-take, length-drop, take-append-drop, take_all, nil_from_length}
 use Rattle.std.specs.Io.KnownBytes.{IsAtEnd}
 use Rattle.field_rows.specs.Rows.{Rows, done, read, ◌>>=◌, word_under, byte_under, Fault}
-use Rattle.field_rows.specs.Pieces.{IsSteady}
 use Rattle.field_rows.proofs.Reading.{then_err}
 use Rattle.vc2_run.specs.Ran.{within}
 use Rattle.unit_table.specs.Grammar.{bytes_at}
-use Rattle.unit_table.specs.Begun.{Begun, Needs, Moves, Got}
+use Rattle.unit_table.specs.Begun.{Begun, Needs, Got}
 use Rattle.unit_table.proofs.Begins.{begun_start, begun_held, begun_use}
 use Rattle.unit_table.proofs.GrammarLaws.{bytes_at-append}
 use Rattle.field_rows.proofs.Pieces.{read-more_refused}

@@ -1,22 +1,15 @@
 -- The reader of a stream, over any source.
-use Rattle.std.specs.Prelude.{◌≡◌, ◌≤◌, ◌<◌, ℕ, ◌+◌, ◌*◌, ◌^◌, Bool, true, false, List, [], ◌∷◌, ◌++◌, length, Option, Some, None, Result, Ok, Err}
-use Rattle.std.specs.Io.KnownBytes.{Consumes, IsAtEnd}
-use Rattle.field_rows.specs.Rows.{Fault}
+use Rattle.std.specs.Prelude.{◌≡◌, ℕ, Bool, true, false, List, [], ◌∷◌, ◌++◌, length, Option, Some, None, Result, Ok, Err}
+use Rattle.std.specs.Io.KnownBytes.{IsAtEnd}
 use Rattle.slice_geometry.specs.declared.unit_list.UnitShape.{UnitShape}
-use Rattle.sequence_header.specs.declared.parts.HeaderParts.{HeaderParts}
-use Rattle.transform_params.specs.Params.{Params}
 use Rattle.picture_codec.specs.Samples.{PictureSeen, frame_of, picture_of}
-use Rattle.unit_table.specs.Fronts.{Finishes, Refuses}
-use Rattle.unit_table.specs.Begun.{Lost, Due}
+use Rattle.unit_table.specs.Fronts.{Finishes}
 use Rattle.unit_table.specs.Turn.{TakesUnit, MeetsFront}
-use Rattle.stream_units.specs.declared.reason.Reason.{Reason}
-use Rattle.stream_units.specs.declared.reason.Refusal.{Refusal}
 use Rattle.stream_units.specs.declared.stop.ReadStop.{ReadStop}
-use Rattle.stream_units.specs.declared.stop.ReadStop.TheVariants as stops
 use Rattle.stream_units.specs.declared.stop.Item.{Item}
 use Rattle.stream_units.specs.declared.stop.Item.TheVariants as items
-use Rattle.stream_units.specs.Units.{Past, First, DataUnit, Sequence, Repeated, Picture, Skipped, End, units, after, nothing_yet}
-use Rattle.stream_units.specs.Streams.{limit, past_limit, refusal_of, frame_under}
+use Rattle.stream_units.specs.Units.{Past, DataUnit, Sequence, Repeated, Picture, Skipped, End, units, after, nothing_yet}
+use Rattle.stream_units.specs.Streams.{limit, past_limit, frame_under}
 use Rattle.picture_codec.specs.Decoding.{Decoding}
 use Rattle.stream_units.specs.Turns.{Shows, shape_of, LimitStops}
 
@@ -50,6 +43,10 @@ IsPictureOf other shown = shown ≡ None
 abbrev pub IsDecoderOf : DataUnit → Option Decoding → Type 0
 IsDecoderOf (Picture parts number params slices) decoder = (d : Decoding) × (decoder ≡ Some d) × Shows parts params slices d
 IsDecoderOf other decoder = decoder ≡ None
+
+abbrev pub is_last : Item → Bool
+is_last items.End = true
+is_last other = false
 
 -- what is behind a unit of these bytes
 pub record Steps (old new : Past) (unit : DataUnit) (bytes : List ℕ) (item : Item) (made : Option Decoding) : Type 0 where

@@ -1,5 +1,5 @@
 -- What is true of the fields of a reader.
-use Rattle.std.specs.Prelude.{◌≡◌, ◌≤◌, ℕ, ◌+◌, ◌^◌, Bool, true, false, List, length, Option, Some, None}
+use Rattle.std.specs.Prelude.{◌≡◌, ◌≤◌, ◌+◌, Bool, true, false, length, Option, Some, None}
 use Rattle.std.specs.Option.{option_map}
 use Rattle.slice_geometry.specs.Units.{UnitList}
 use Rattle.picture_codec.specs.Samples.{PictureSamples, PictureSeen}
@@ -35,3 +35,8 @@ pub record IsSound (past : Past) (window : WindowSeen) (shapes : UnitList) (show
   -- while the reader goes on, the bytes so far and those that may still come are the limit, and few are held
   pub room : stop ≡ None → ended ≡ false → past.place + length window.held + window.room ≡ limit
   pub few : stop ≡ None → ended ≡ false → length window.held ≤ 4096
+
+-- a decoder that made a picture is kept, and shows it
+abbrev pub Keeps : Option Decoding → Option Decoding → Option Decoding → Bool → Type 0
+Keeps None old new shows = (new ≡ old) × (shows ≡ false)
+Keeps (Some d) old new shows = (new ≡ Some d) × (shows ≡ true)

@@ -1,6 +1,6 @@
 -- How the unit in front of a stream is read from a source: what each answer says of the bytes that were held at entry
 -- and then those that were read.
-use Rattle.std.specs.Prelude.{◌≡◌, ◌≤◌, ◌<◌, ℕ, ◌+◌, ◌-◌, ◌^◌, Bool, true, false, List, [], ◌∷◌, ◌++◌, length, take, drop, Option, Some, None, Result, Ok, Err, MatchResult, if◌then◌else◌}
+use Rattle.std.specs.Prelude.{◌≡◌, ◌≤◌, ◌<◌, ℕ, ◌+◌, ◌-◌, ◌^◌, List, [], length, take, drop, Option, Some, None, Result, Ok, Err, MatchResult, if◌then◌else◌}
 use Rattle.std.specs.Io.KnownBytes.{IsAtEnd}
 use Rattle.vc2_io.specs.Outside.{Rose}
 use Rattle.vc2_run.specs.Ran.{within}
@@ -9,7 +9,7 @@ use Rattle.slice_geometry.specs.declared.unit_list.UnitShape.{UnitShape}
 use Rattle.slice_geometry.specs.Slicing.{slice_count, total_bytes}
 use Rattle.sequence_header.specs.declared.parts.HeaderParts.{HeaderParts}
 use Rattle.transform_params.specs.Params.{Params}
-use Rattle.picture_codec.specs.Samples.{PictureSamples, PictureSeen, frame_of, picture_of}
+use Rattle.picture_codec.specs.Samples.{frame_of, picture_of}
 use Rattle.picture_codec.specs.Decoding.{Decoding}
 use Rattle.unit_table.specs.Fronts.{Finishes, Refuses}
 use Rattle.unit_table.specs.Begun.{Begun, Lost, Due, Taken, Over}
@@ -19,15 +19,13 @@ use Rattle.stream_units.specs.declared.reason.Reason.TheVariants as reasons
 use Rattle.stream_units.specs.declared.reason.Refusal.{Refusal}
 use Rattle.stream_units.specs.declared.stop.ReadStop.{ReadStop}
 use Rattle.stream_units.specs.declared.stop.ReadStop.TheVariants as stops
-use Rattle.stream_units.specs.declared.stop.Item.{Item}
-use Rattle.stream_units.specs.declared.stop.Item.TheVariants as items
 use Rattle.stream_units.specs.declared.window.Halt.{Halt}
 use Rattle.stream_units.specs.declared.window.Halt.TheVariants as halts
 use Rattle.stream_units.specs.declared.pictures.Shown.{Shown}
 use Rattle.stream_units.specs.declared.parts.Found.{Found}
 use Rattle.stream_units.specs.declared.parts.Found.TheVariants as founds
 use Rattle.stream_units.specs.Asking.{WindowSeen}
-use Rattle.stream_units.specs.Units.{Past, First, DataUnit, Sequence, Repeated, Picture, Skipped, End, units, after, next_checked}
+use Rattle.stream_units.specs.Units.{Past, First, DataUnit, Sequence, Repeated, Picture, Skipped, End, units, next_checked}
 use Rattle.stream_units.specs.Streams.{limit, is_truncated, past_limit, refusal_of, frame_under}
 
 abbrev pub stop_of : Halt → ReadStop
@@ -50,6 +48,7 @@ pub record Ends (z : Past) (held0 : List ℕ) (rest0 rest1 : Option (List ℕ)) 
   pub bytes : List ℕ
   pub none : held1 ≡ []
   pub last : IsAtEnd (within room rest1)
+  pub some : 0 < length bytes
   pub total : z.place + length bytes + room ≡ limit
   pub short : length bytes < 2 ^ 32
   pub over : Over units z held0 rest0 rest1 (within room rest1) (z.place + length bytes) (Finishes (length bytes) End)
@@ -154,6 +153,7 @@ pub record LimitEnds (z : Past) (held0 : List ℕ) (rest0 rest1 : Option (List �
   pub bytes : List ℕ
   pub none : held1 ≡ []
   pub last : IsAtEnd rest1
+  pub some : 0 < length bytes
   pub total : z.place + length bytes + room ≡ limit
   pub short : length bytes < 2 ^ 32
   pub meets : MeetsFront limit past_limit units z held0 rest0 rest1 (Finishes (length bytes) End)

@@ -8,9 +8,9 @@ ghost use Rattle.stream_units.specs.Turns.{PartOver, EndOver, HeaderOver, IsFirs
 ghost use Rattle.stream_units.specs.declared.stop.ReadStop.TheVariants as stops;
 
 use crate::earlier::{Earlier, First};
+use crate::heads::{header_reason, leads_behind};
 use crate::pictures::Shown;
 use crate::reason::{Reason, is_truncated};
-use crate::heads::{header_reason, leads_behind};
 use crate::stop::{ReadStop, refused, stop_of};
 use crate::window::Window;
 use sequence_header::SequenceHeader;

@@ -7,7 +7,7 @@ ghost use Rattle.stream_units.specs.declared.stop.Item.TheVariants as items;
 
 use crate::earlier::Earlier;
 use crate::limits::next_unit;
-use crate::steps::{shape_of, step};
+use crate::steps::{is_last, keep, shape_of, step};
 use crate::stop::{Item, ReadStop};
 use crate::window::Window;
 use picture_codec::{Picture, PictureDecoder};
@@ -101,12 +101,9 @@ impl StreamReader {
         let start = self.earlier.place();
         let size = (LIMIT - self.window.room() - self.window.len() as u64 - start) as u32;
         self.shapes.push(shape_of(&found, start, size));
-        let (item, decoder) = step(&mut self.earlier, found, size);
-        if decoder.is_some() {
-            self.decoder = decoder;
-            self.shows = true;
-        }
-        self.ended = item == Item::End;
+        let (item, made) = step(&mut self.earlier, found, size);
+        self.shows = keep(&mut self.decoder, made);
+        self.ended = is_last(item);
         Ok(item)
     }
 
@@ -143,6 +140,20 @@ impl StreamReader {
         ensures most { result ≤ 2 ^ 40 }
     {
         self.earlier.place()
+    }
+
+    /// How many pictures the units so far have.
+    pub fn pictures(&self) -> u64
+        ensures { result ≡ self.now.past.pictures }
+    {
+        self.earlier.pictures()
+    }
+
+    /// How many slices these pictures have.
+    pub fn slices(&self) -> u64
+        ensures { result ≡ self.now.past.slices }
+    {
+        self.earlier.slices()
     }
 
     /// How many bytes are held.

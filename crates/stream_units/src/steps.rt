@@ -4,7 +4,8 @@ ghost use Rattle.std.specs.Prelude.{◌≡◌, ◌+◌, ◌^◌, ◌≤◌, ◌<
 ghost use Rattle.slice_geometry.specs.Units.{IsUnitAllowed, unit_length};
 ghost use Rattle.stream_units.specs.Units.{Past, DataUnit};
 ghost use Rattle.stream_units.specs.Turns.{IsFound, shape_of};
-ghost use Rattle.stream_units.specs.Reader.{Steps};
+ghost use Rattle.stream_units.specs.Reader.{Steps, is_last};
+ghost use Rattle.stream_units.specs.ReaderInside.{Keeps};
 
 use crate::earlier::Earlier;
 use crate::parts::Found;
@@ -38,11 +39,7 @@ pub(crate) fn shape_of(found: &Found, start: u64, size: u32) -> UnitShape
 }
 
 /// Goes on behind a unit of so many bytes; gives its item, and the decoder that made its picture.
-pub(crate) fn step(
-    earlier: &mut Earlier,
-    found: Found,
-    size: u32,
-) -> (Item, Option<PictureDecoder>)
+pub(crate) fn step(earlier: &mut Earlier, found: Found, size: u32) -> (Item, Option<PictureDecoder>)
     requires some { 0 < size }
     requires most { earlier.old.place + size ≤ 2 ^ 40 }
     requires found { (unit : DataUnit) × (bytes : List ℕ) × (length bytes ≡ size) × IsFound earlier.old found unit bytes }
@@ -70,4 +67,24 @@ pub(crate) fn step(
             (Item::End, None)
         }
     }
+}
+
+/// Keeps the decoder that made a picture, and says whether there is one.
+pub(crate) fn keep(decoder: &mut Option<PictureDecoder>, made: Option<PictureDecoder>) -> bool
+    ensures { Keeps made decoder.old decoder.new result }
+{
+    match made {
+        Some(made) => {
+            *decoder = Some(made);
+            true
+        }
+        None => false,
+    }
+}
+
+/// The stream is over with this item.
+pub(crate) fn is_last(item: Item) -> bool
+    ensures { result ≡ is_last item }
+{
+    matches!(item, Item::End)
 }

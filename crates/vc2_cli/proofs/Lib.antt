@@ -6,3 +6,5 @@ pub mod Settling
 pub mod Parts
 pub mod WorkedRows
 pub mod HeaderRuns
+pub mod Decoding
+pub mod StreamReplies

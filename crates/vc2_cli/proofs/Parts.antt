@@ -5,10 +5,10 @@ use Rattle.vc2_io.specs.Outside.{GrewShort}
 use Rattle.vc2_cli.specs.declared.status.Status.{Status}
 use Rattle.vc2_cli.specs.declared.status.Status.TheVariants as st
 use Rattle.vc2_cli.specs.declared.status.Ending.{Ending}
-use Rattle.vc2_cli.specs.declared.status.Ending.TheVariants.{Done, Refused}
+use Rattle.vc2_cli.specs.declared.status.Ending.TheVariants.{Done, Decoded, Accepted, Refused}
 use Rattle.vc2_cli.specs.declared.status.WordFault.{WordFault}
 use Rattle.vc2_cli.specs.declared.words.Command.{Command}
-use Rattle.vc2_cli.specs.declared.words.Command.TheVariants.{Chain, Header}
+use Rattle.vc2_cli.specs.declared.words.Command.TheVariants.{Chain, Header, Decode, Check}
 use Rattle.vc2_cli.specs.Reply.{Reply, Breaks, Stops, StopsShort, IsStatusOf, command_reply, command_due, status_of}
 use Rattle.vc2_cli.specs.Settled.{Settles}
 
@@ -26,12 +26,16 @@ IsOwn other = Unit {0}
 
 own_ending : (ending : Ending) → IsOwn (status_of ending)
 own_ending Done = tt
+own_ending (Decoded pictures bytes) = tt
+own_ending (Accepted pictures slices bytes) = tt
 own_ending (Refused refusal) = tt
 
 own : (command : Result Command WordFault) (input : List ℕ) → IsOwn (command_reply command input).status
 own (Err fault) input = tt
 own (Ok Chain) input = own_ending _
 own (Ok Header) input = own_ending _
+own (Ok Decode) input = own_ending _
+own (Ok Check) input = own_ending _
 
 -- what stands, for every input that the source may tell
 abbrev pub AllSettled : Result Command WordFault → Option (List ℕ) → Option (List ℕ) → Option (List ℕ) → Option (List ℕ) → Option (List ℕ) → Option (List ℕ) → Status → Type 0

@@ -2,7 +2,9 @@ pub mod Texts
 pub mod Words
 pub mod Chain
 pub mod Turns
+pub mod Decode
 pub mod Reply
+pub mod Streams
 pub mod Settled
 pub mod Exit
 pub mod HeaderTexts

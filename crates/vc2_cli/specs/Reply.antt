@@ -4,16 +4,18 @@ use Rattle.std.specs.Io.KnownBytes.{Appends, Consumes, Keeps}
 use Rattle.vc2_io.specs.Outside.{Rose, GrewShort}
 use Rattle.vc2_run.specs.Walk.{Answer, answer_to, out_of, due, IsFront, IsShort}
 use Rattle.vc2_cli.specs.declared.words.Command.{Command}
-use Rattle.vc2_cli.specs.declared.words.Command.TheVariants.{Chain, Header}
+use Rattle.vc2_cli.specs.declared.words.Command.TheVariants.{Chain, Header, Decode, Check}
 use Rattle.vc2_cli.specs.declared.status.WordFault.{WordFault}
 use Rattle.vc2_cli.specs.declared.status.Status.{Status}
 use Rattle.vc2_cli.specs.declared.status.Status.TheVariants as status
 use Rattle.vc2_cli.specs.declared.status.Ending.{Ending}
 use Rattle.vc2_cli.specs.declared.status.Ending.TheVariants as ending
-use Rattle.vc2_cli.specs.Texts.{refusal_line, usage_line}
+use Rattle.vc2_cli.specs.Texts.{refusal_line, usage_line, decoded_line}
 use Rattle.vc2_cli.specs.Words.{command_of}
 use Rattle.vc2_cli.specs.Chain.{chain_limited}
 use Rattle.vc2_cli.specs.First.{header_machine, behind_first}
+use Rattle.vc2_cli.specs.Decode.{decode_machine, check_machine}
+use Rattle.stream_units.specs.Units.{nothing_yet}
 
 -- a status with its texts for `out` and `note`, and what is left of the input where the status is `Done`
 pub record Reply : Type 0 where
@@ -24,10 +26,14 @@ pub record Reply : Type 0 where
 
 abbrev pub status_of : Ending → Status
 status_of ending.Done = status.Done
+status_of (ending.Decoded pictures bytes) = status.Done
+status_of (ending.Accepted pictures slices bytes) = status.Done
 status_of (ending.Refused refusal) = status.Refused refusal
 
 abbrev pub note_of : Ending → List ℕ
 note_of ending.Done = []
+note_of (ending.Decoded pictures bytes) = decoded_line pictures bytes
+note_of (ending.Accepted pictures slices bytes) = []
 note_of (ending.Refused refusal) = refusal_line refusal
 
 -- the reply by a run's answer, of a command that leaves so much of its input
@@ -39,12 +45,16 @@ abbrev pub command_reply : Result Command WordFault → List ℕ → Reply
 command_reply (Err fault) input = record { status = status.Usage fault; rest = input; out = []; note = usage_line fault }
 command_reply (Ok Chain) input = reply_of [] (answer_to chain_limited 0 input)
 command_reply (Ok Header) input = reply_of (behind_first input) (answer_to header_machine 0 input)
+command_reply (Ok Decode) input = reply_of [] (answer_to decode_machine nothing_yet input)
+command_reply (Ok Check) input = reply_of [] (answer_to check_machine nothing_yet input)
 
 -- the text for `out` that is due once these bytes were taken
 abbrev pub command_due : Result Command WordFault → List ℕ → List ℕ
 command_due (Err fault) taken = []
 command_due (Ok Chain) taken = due chain_limited 0 taken
 command_due (Ok Header) taken = due header_machine 0 taken
+command_due (Ok Decode) taken = due decode_machine nothing_yet taken
+command_due (Ok Check) taken = due check_machine nothing_yet taken
 
 -- the same by the words
 abbrev pub reply_to : List (List ℕ) → List ℕ → Reply

@@ -2,6 +2,8 @@
 #![tactic(auto)]
 
 mod chain;
+mod check;
+mod decode;
 mod header;
 mod header_texts;
 mod input;
@@ -11,7 +13,9 @@ mod texts;
 mod top;
 mod words;
 
-pub use laws::{one_answer, one_header_answer};
+pub use laws::{
+    one_answer, one_check_answer, one_decode_answer, one_header_answer, streams_have_replies,
+};
 pub use status::{Ending, Status, WordFault, exit_code};
 pub use stream_units::{Reason, Refusal};
 pub use top::run;

@@ -7,7 +7,20 @@ use stream_units::Refusal;
 /// How a command ends where nothing outside fails.
 #[derive(Clone, Copy, Debug, PartialEq, Eq)]
 pub enum Ending {
+    /// All is done, and there is no more to tell.
     Done,
+    /// The pictures of a stream were written.
+    Decoded {
+        pictures: u64,
+        bytes: u64,
+    },
+    /// A stream was accepted.
+    Accepted {
+        pictures: u64,
+        slices: u64,
+        bytes: u64,
+    },
+    /// The input is refused.
     Refused(Refusal),
 }
 

@@ -8,9 +8,11 @@ ghost use Rattle.vc2_cli.specs.Reply.{reply_to, due_to, command_reply, command_d
 ghost use Rattle.vc2_cli.specs.Settled.{Settles, Concludes, HasNoteCause, status_of_halt};
 
 use crate::chain::chain;
+use crate::check::check;
+use crate::decode::decode;
 use crate::header::header;
 use crate::status::{Ending, Status, WordFault};
-use crate::texts::{refusal_text, usage_text};
+use crate::texts::{decoded_text, refusal_text, usage_text};
 use crate::words::{Command, read_words};
 use std::alloc::{AllocError, Global};
 use vc2_io::{Sink, Source, write_whole};
@@ -30,7 +32,7 @@ fn status_of(ending: Ending) -> Status
     ensures { result ≡ status_of ending }
 {
     match ending {
-        Ending::Done => Status::Done,
+        Ending::Done | Ending::Decoded { .. } | Ending::Accepted { .. } => Status::Done,
         Ending::Refused(refusal) => Status::Refused(refusal),
     }
 }
@@ -39,7 +41,8 @@ fn note_text(alloc: Global, ending: &Ending) -> Result<String, AllocError>
     ensures { IfOk result (λ text. string_bytes text ≡ note_of ending.now) }
 {
     match ending {
-        Ending::Done => Ok(String::new(alloc)),
+        Ending::Done | Ending::Accepted { .. } => Ok(String::new(alloc)),
+        Ending::Decoded { pictures, bytes } => decoded_text(alloc, *pictures, *bytes),
         Ending::Refused(refusal) => refusal_text(alloc, refusal),
     }
 }
@@ -99,6 +102,8 @@ fn answer<S: Source, K: Sink, N: Sink>(
         Ok(command) => match command {
             Command::Chain => conclude(alloc, chain(alloc, src, out), note),
             Command::Header => conclude(alloc, header(alloc, src, out), note),
+            Command::Decode => conclude(alloc, decode(alloc, src, out), note),
+            Command::Check => conclude(alloc, check(alloc, src, out), note),
         },
         Err(fault) => refuse(alloc, fault, note),
     }

@@ -11,6 +11,10 @@ pub enum Command {
     Chain,
     /// The nine lines of the first unit, a sequence header.
     Header,
+    /// The pictures of a stream, as raw video.
+    Decode,
+    /// Whether the input is a stream, and how much of it there is.
+    Check,
 }
 
 fn command_named(word: &str) -> Option<Command>
@@ -19,6 +23,8 @@ fn command_named(word: &str) -> Option<Command>
     match word {
         "chain" => Some(Command::Chain),
         "header" => Some(Command::Header),
+        "decode" => Some(Command::Decode),
+        "check" => Some(Command::Check),
         _ => None,
     }
 }

@@ -1,4 +1,4 @@
-use Rattle.std.proofs.Common.{◌≡◌, ◌∙◌, sym, take, length, arith}
+use Rattle.std.proofs.Common.{◌∙◌, sym, take, arith}
 use Rattle.std.proofs.lemmas.List.{length-take}
 use Rattle.stream_units.proofs.InLimit.{limit_stays, limit_near, limit_end, limit_past, limit_fault}
 use Rattle.stream_units.proofs.limits.next_unit.Goals as goal

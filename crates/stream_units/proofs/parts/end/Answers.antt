@@ -1,4 +1,4 @@
-use Rattle.std.proofs.Common.{◌≡◌, ◌+◌, ◌∙◌, arith, refl}
+use Rattle.std.proofs.Common.{◌∙◌, arith, refl}
 use Rattle.stream_units.proofs.PartTurns.{end_trailing, end_over, end_lost}
 use Rattle.stream_units.proofs.parts.end.Goals as goal
 

@@ -1,7 +1,6 @@
-use Rattle.std.proofs.Common.{◌≡◌, ◌+◌, ◌∙◌, sym, ap, subst, take, drop, length, List, ℕ, Option, arith, refl, Ok}
+use Rattle.std.proofs.Common.{◌+◌, ◌∙◌, sym, subst, arith}
 use Rattle.unit_table.specs.Begun.{Begun}
 use Rattle.stream_units.specs.Units.{First, units, first_payload}
-use Rattle.stream_units.specs.Heads.{leads_behind}
 use Rattle.stream_units.specs.Turns.{Takes, IsFirst}
 use Rattle.stream_units.proofs.HeaderTurns.{behind_due, behind_refused, behind_takes}
 use Rattle.stream_units.proofs.parts.first_header.Goals as goal

@@ -1,4 +1,4 @@
-use Rattle.std.proofs.Common.{◌≡◌, ◌+◌, ◌∙◌, sym, ap, subst, take, length, [], List, ℕ, arith}
+use Rattle.std.proofs.Common.{◌∙◌, sym, subst, [], arith}
 use Rattle.std.proofs.lemmas.List.{take_all}
 use Rattle.unit_table.specs.Begun.{Got}
 use Rattle.stream_units.proofs.Stopping.{stops_due}

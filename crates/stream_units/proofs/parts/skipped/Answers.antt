@@ -1,4 +1,4 @@
-use Rattle.std.proofs.Common.{◌≡◌, ◌+◌, ◌-◌, ◌∙◌, arith, subst, Ok, Err, true, false, refl}
+use Rattle.std.proofs.Common.{◌∙◌, arith, subst, Ok, Err, true, false, refl}
 use Rattle.stream_units.specs.Asking.{Dropped}
 use Rattle.stream_units.proofs.PartTurns.{skipped_whole, skipped_short, skipped_lost}
 use Rattle.stream_units.proofs.parts.skipped.Goals as goal

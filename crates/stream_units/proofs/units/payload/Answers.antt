@@ -1,4 +1,4 @@
-use Rattle.std.proofs.Common.{◌≡◌, ◌+◌, ◌∙◌, List, ℕ, Some, refl}
+use Rattle.std.proofs.Common.{refl}
 use Rattle.stream_units.specs.Turns.{IsFound, IsShown}
 use Rattle.stream_units.specs.declared.parts.Found.TheVariants as founds
 use Rattle.stream_units.proofs.UnitTurns.{along, takes_such, rows_first, rows_repeated, rows_picture, rows_skipped, rows_end}

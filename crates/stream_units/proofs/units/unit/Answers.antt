@@ -1,9 +1,8 @@
-use Rattle.std.proofs.Common.{◌≡◌, ◌≤◌, ◌+◌, ◌^◌, ◌∙◌, sym, ap, subst, take, drop, length, List, ℕ, Option, arith, refl, Ok}
-use Rattle.std.proofs.lemmas.List.{length-append, length-take, length-drop}
+use Rattle.std.proofs.Common.{◌≡◌, ◌≤◌, ◌+◌, ◌^◌, ◌∙◌, ap, length, List, ℕ, arith}
+use Rattle.std.proofs.lemmas.List.{length-take, length-drop}
 use Rattle.stream_units.proofs.UnitTurns.{head_held, head_lost, head_refused, head_whole, head_few}
 use Rattle.stream_units.proofs.units.unit.Goals as goal
 use Rattle.stream_units.proofs.units.unit.Goals.{then-whole, else-whole}
-
 
 pub returns-in-Err-clause-unit : goal.returns-in-Err-clause-unit
 returns-in-Err-clause-unit g c =

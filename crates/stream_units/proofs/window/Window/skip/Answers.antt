@@ -1,8 +1,7 @@
-use Rattle.std.proofs.Common.{◌≡◌, ◌+◌, ◌-◌, ◌<◌, ◌≤◌, ℕ, List, [], ◌++◌, length, take, drop, refl, sym, ap, ◌∙◌, arith, append-nil, subst, Ok, Err}
+use Rattle.std.proofs.Common.{◌≡◌, ◌<◌, ◌≤◌, ℕ, List, ◌++◌, length, take, drop, sym, ap, ◌∙◌, arith, subst}
 use Rattle.std.proofs.lemmas.List.{length-append, length-take, length-drop, take-append-drop}
 use Rattle.unit_table.specs.Begun.{Got}
-use Rattle.stream_units.specs.Asking.{Refilled, Dropped, HaltCause}
-use Rattle.stream_units.proofs.Gets.{got_none, got_refill, got_drops, skip_step}
+use Rattle.stream_units.proofs.Gets.{got_drops, skip_step}
 use Rattle.stream_units.proofs.window.Window.skip.Goals as goal
 
 pub loop-left-preserved : goal.loop-left-preserved

@@ -1,4 +1,4 @@
-use Rattle.std.proofs.Common.{◌≡◌, ◌+◌, ◌-◌, [], List, ℕ, length}
+use Rattle.std.proofs.Common.{◌≡◌, ◌+◌, ◌-◌, List, ℕ, length}
 use Rattle.unit_table.specs.Begun.{Got}
 use Rattle.stream_units.proofs.window.Window.skip.Given as goal
 

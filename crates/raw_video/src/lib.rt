@@ -1,0 +1,10 @@
+//! Raw video: pictures as plain samples, one picture after another.
+#![tactic(auto)]
+
+mod spelling;
+mod writing;
+
+pub use writing::write_picture;
+
+#[cfg(test)]
+mod tests;

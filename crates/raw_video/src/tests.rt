@@ -1,0 +1,176 @@
+//! Pictures and their bytes, worked out by hand.
+
+ghost use Rattle.std.specs.Prelude.{◌≡◌, ◌^◌};
+ghost use Rattle.slice_geometry.specs.Shape.{IsSize, IsDepth};
+ghost use Rattle.picture_codec.specs.Pictures.{size_of, depth_of};
+ghost use Rattle.picture_codec.specs.Samples.{frame_of};
+
+use crate::write_picture;
+use picture_codec::Picture;
+use slice_geometry::{Component, PictureShape, Size};
+use std::alloc::Global;
+use std::process::Abort;
+use std::test::Fail;
+use vc2_io::{Failed, MemSink};
+
+const NO_CALL: [u64; 4] = [u64::MAX, u64::MAX, u64::MAX, u64::MAX];
+
+// The size of a component.
+fn size_of(shape: &PictureShape, c: Component) -> Size
+    ensures { result ≡ size_of (frame_of shape.now) c }
+{
+    match c {
+        Component::Luma => shape.luma,
+        Component::C1 | Component::C2 => shape.colour,
+    }
+}
+
+// The depth of a component.
+fn depth_of(shape: &PictureShape, c: Component) -> u32
+    ensures { result ≡ depth_of (frame_of shape.now) c }
+{
+    match c {
+        Component::Luma => shape.luma_depth,
+        Component::C1 | Component::C2 => shape.colour_depth,
+    }
+}
+
+// Puts all samples of a component, row by row.
+fn put(rt: &impl Abort, picture: &mut Picture, c: Component, samples: &[u32]) {
+    for place in 0..samples.len() {
+        let size = size_of(picture.shape(), c);
+        let depth = depth_of(picture.shape(), c);
+        assert!(rt; samples.len() < 100 && size.w != 0 && depth <= 16);
+        let (y, x) = (place as u32 / size.w, place as u32 % size.w);
+        assert!(rt; y < size.h && samples[place] < 1 << depth);
+        picture.set(c, y, x, samples[place]);
+    }
+}
+
+// A picture of these samples.
+fn picture_of(
+    rt: &impl Abort,
+    alloc: Global,
+    shape: &PictureShape,
+    samples: [&[u32]; 3],
+) -> Result<Picture, Fail> {
+    let mut picture = Picture::new(alloc, shape)?;
+    let [luma, c1, c2] = samples;
+    put(rt, &mut picture, Component::Luma, luma);
+    put(rt, &mut picture, Component::C1, c1);
+    put(rt, &mut picture, Component::C2, c2);
+    Ok(picture)
+}
+
+// The shape of two by two samples, with these depths.
+fn square(colour: Size, luma_depth: u32, colour_depth: u32) -> PictureShape
+    requires size { IsSize colour.w colour.h }
+    requires luma { IsDepth luma_depth }
+    requires colour { IsDepth colour_depth }
+{
+    PictureShape {
+        luma: Size { w: 2, h: 2 },
+        colour,
+        luma_depth,
+        colour_depth,
+    }
+}
+
+// Writes the picture of these samples, and compares its bytes.
+fn expect_bytes(
+    rt: &impl Abort,
+    alloc: Global,
+    shape: &PictureShape,
+    samples: [&[u32]; 3],
+    want: &[u8],
+) -> Result<(), Fail> {
+    let picture = picture_of(rt, alloc, shape, samples)?;
+    let mut sink = MemSink::new(alloc, 100, 0, &NO_CALL)?;
+    assert_eq!(rt; write_picture(&mut sink, &picture), Ok(()));
+    assert_eq!(rt; sink.bytes(), want);
+    Ok(())
+}
+
+/// One byte a sample where both depths are at most 8, else two.
+#[test]
+fn bytes_of_pictures(rt: HostRuntime) -> Result<(), Fail> {
+    let alloc = rt.alloc();
+    let dot = Size { w: 1, h: 1 };
+    expect_bytes(
+        &rt,
+        alloc,
+        &square(Size { w: 2, h: 2 }, 8, 8),
+        [&[0x8B, 0x8C, 0x88, 0x8A], &[0, 1, 2, 0xFF], &[3, 4, 5, 6]],
+        b"\x8B\x8C\x88\x8A\x00\x01\x02\xFF\x03\x04\x05\x06",
+    )?;
+    expect_bytes(
+        &rt,
+        alloc,
+        &square(dot, 10, 10),
+        [&[0x200, 0x3FF, 0, 1], &[0x101], &[0x2FE]],
+        b"\x00\x02\xFF\x03\x00\x00\x01\x00\x01\x01\xFE\x02",
+    )?;
+    expect_bytes(
+        &rt,
+        alloc,
+        &square(dot, 8, 9),
+        [&[0xFF, 0, 1, 2], &[0x1FF], &[0x80]],
+        b"\xFF\x00\x00\x00\x01\x00\x02\x00\xFF\x01\x80\x00",
+    )?;
+    expect_bytes(
+        &rt,
+        alloc,
+        &square(dot, 9, 8),
+        [&[0x100, 0, 1, 2], &[0xFF], &[0x80]],
+        b"\x00\x01\x00\x00\x01\x00\x02\x00\xFF\x00\x80\x00",
+    )?;
+    Ok(())
+}
+
+/// What went out before a failed write: by calls of three bytes, of which one fails, and into room for five.
+#[test]
+fn failed_writes(rt: HostRuntime) -> Result<(), Fail> {
+    let alloc = rt.alloc();
+    let shape = square(Size { w: 1, h: 1 }, 8, 8);
+    let picture = picture_of(&rt, alloc, &shape, [&[1, 2, 3, 4], &[5], &[6]])?;
+    for (failing, want) in [
+        (0, b"".as_slice()),
+        (1, b"\x01\x02\x03".as_slice()),
+        (2, b"\x01\x02\x03\x04".as_slice()),
+        (3, b"\x01\x02\x03\x04\x05".as_slice()),
+    ] {
+        let mut sink = MemSink::new(alloc, 100, 3, &[failing, u64::MAX, u64::MAX, u64::MAX])?;
+        assert_eq!(rt; write_picture(&mut sink, &picture), Err(Failed));
+        assert_eq!(rt; sink.bytes(), want);
+    }
+    let mut sink = MemSink::new(alloc, 5, 0, &NO_CALL)?;
+    assert_eq!(rt; write_picture(&mut sink, &picture), Err(Failed));
+    assert_eq!(rt; sink.bytes(), b"\x01\x02\x03\x04\x05".as_slice());
+    Ok(())
+}
+
+/// More samples than go out in one piece.
+#[test]
+fn a_long_component(rt: HostRuntime) -> Result<(), Fail> {
+    let alloc = rt.alloc();
+    let long = Size { w: 5000, h: 1 };
+    let shape = PictureShape {
+        luma: long,
+        colour: Size { w: 1, h: 1 },
+        luma_depth: 10,
+        colour_depth: 8,
+    };
+    let mut picture = Picture::new(alloc, &shape)?;
+    picture.set(Component::Luma, 0, 4095, 0x123);
+    picture.set(Component::Luma, 0, 4999, 0x3FE);
+    let mut sink = MemSink::new(alloc, 10100, 0, &NO_CALL)?;
+    assert_eq!(rt; write_picture(&mut sink, &picture), Ok(()));
+    let bytes = sink.bytes();
+    assert!(rt; bytes.len() == 10004);
+    assert_eq!(rt; &bytes[8190..8192], b"\x23\x01".as_slice());
+    assert_eq!(rt;
+        &bytes[9996..10004],
+        b"\x00\x00\xFE\x03\x00\x00\x00\x00".as_slice()
+    );
+    Ok(())
+}

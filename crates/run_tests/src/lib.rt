@@ -1,0 +1,15 @@
+//! Tests of whole runs: worked inputs, streams of an independent writer, and ends that fail.
+#![tactic(auto)]
+
+#[cfg(test)]
+mod failing;
+#[cfg(test)]
+mod long;
+#[cfg(test)]
+mod row;
+#[cfg(test)]
+mod rows;
+#[cfg(test)]
+mod stream_bytes;
+#[cfg(test)]
+mod streams;

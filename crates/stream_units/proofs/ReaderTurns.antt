@@ -1,0 +1,189 @@
+-- How a call of the reader comes out, from the unit that was found.
+use Rattle.std.proofs.Common.{◌≡◌, ℕ, ◌+◌, ◌-◌, ◌*◌, ◌^◌, ◌<◌, ◌≤◌, Bool, true, false, List, [], ◌∷◌, ◌++◌, length, Option, Some, None, Result, Ok, refl, sym, ap, subst, ◌∙◌, arith}
+use Rattle.std.specs.Option.{option_map}
+use Rattle.std.proofs.lemmas.Nat.{le-div}
+use Rattle.slice_geometry.specs.Slicing.{Slicing, IsAllowed, slice_count, total_bytes}
+use Rattle.picture_codec.specs.Samples.{PictureSeen}
+use Rattle.picture_codec.specs.Decoding.{Decoding}
+use Rattle.unit_table.specs.Turn.{TakesUnit}
+use Rattle.unit_table.proofs.Begins.{begun_start, begun_due}
+use Rattle.stream_units.specs.declared.stop.Item.{Item}
+use Rattle.stream_units.specs.declared.stop.Item.TheVariants as items
+use Rattle.stream_units.specs.declared.stop.ReadStop.{ReadStop}
+use Rattle.stream_units.specs.declared.stop.ReadStop.TheVariants as stops
+use Rattle.stream_units.specs.declared.pictures.Shown.{Shown}
+use Rattle.stream_units.specs.declared.parts.Found.{Found}
+use Rattle.stream_units.specs.declared.parts.Found.TheVariants as founds
+use Rattle.stream_units.specs.Asking.{WindowSeen}
+use Rattle.stream_units.specs.Units.{Past, DataUnit, Sequence, Repeated, Picture, Skipped, End, units, after}
+use Rattle.stream_units.specs.Streams.{limit, past_limit}
+use Rattle.stream_units.specs.Turns.{IsFound, LimitTakes, LimitOver, LimitStops, shape_of}
+use Rattle.stream_units.specs.Reader.{ReaderState, item_of, is_last, IsPictureOf, IsDecoderOf, Steps, TakesItem, KeepsStop, NextOver}
+use Rattle.stream_units.specs.ReaderInside.{picture_in, ShowsOne, Keeps}
+
+-- ---- the step behind a unit
+
+-- each slice has a byte
+count_most : (s : Slicing) → IsAllowed s → slice_count s ≤ total_bytes s
+count_most s allowed = le-div (slice_count s) (slice_count s * s.a) s.b (omega (arith, allowed.share.some)) (grind (arith, allowed.share.byte))
+
+pub picture_slices : (z : Past) (shown : Shown) (found : Found) (size : ℕ) → found ≡ founds.Picture shown → IsAllowed shown.layout → (unit : DataUnit) × (bytes : List ℕ) × (length bytes ≡ size) × IsFound z found unit bytes → slice_count shown.layout ≤ size
+picture_slices z shown found size e allowed h =
+    let is = subst (λ f. IsFound z f h.0 h.1) e h.3 in
+    let few = count_most shown.layout allowed in
+    omega (arith, few, is.2.head, h.2, ap total_bytes is.2.layout)
+
+pub picture_steps : (z new : Past) (shown : Shown) (found : Found) (size slices : ℕ) → found ≡ founds.Picture shown → slices ≡ slice_count shown.layout → new ≡ record z { place = z.place + size; previous = size; pictures = z.pictures + 1; slices = z.slices + slices; last = shown.number }
+    → (unit : DataUnit) (bytes : List ℕ) → length bytes ≡ size → IsFound z found unit bytes → Steps z new unit bytes (items.Picture shown.number) (Some shown.decoder)
+picture_steps z new shown found size slices e count is unit bytes long h =
+    let p = subst (λ f. IsFound z f unit bytes) e h in
+    let s = p.2 in
+    let made = Picture p.0.parts shown.number s.params s.slices in
+    subst (λ u. Steps z new u bytes (items.Picture shown.number) (Some shown.decoder)) (sym s.is_picture) (record {
+      past = is ∙ ap (λ n. record z { place = z.place + n; previous = n; pictures = z.pictures + 1; slices = z.slices + slices; last = shown.number }) (sym long)
+          ∙ ap (λ n. record z { place = z.place + length bytes; previous = length bytes; pictures = z.pictures + 1; slices = z.slices + n; last = shown.number }) (count ∙ ap slice_count s.layout);
+      is_item = refl;
+      decoder = (shown.decoder, refl, s.shows);
+    })
+
+-- ---- what was found, whichever it is
+
+pub record IsBehind (z : Past) (window : WindowSeen) (found : Found) (size : ℕ) : Type 0 where
+  pub unit : DataUnit
+  pub bytes : List ℕ
+  pub such : IsFound z found unit bytes
+  pub long : length bytes ≡ size
+  pub some : 0 < size
+  pub short : size < 2 ^ 32
+  pub total : z.place + size + length window.held + window.room ≡ limit
+
+size_of : (z : Past) (window : WindowSeen) → ℕ
+size_of z window = limit - window.room - length window.held - z.place
+
+by_takes : {z : Past} {held0 : List ℕ} {rest0 rest1 : Option (List ℕ)} {window : WindowSeen} {found : Found} (size : ℕ) → LimitTakes z held0 rest0 rest1 window.room window.held (IsFound z found) → size ≡ limit - window.room - length window.held - z.place → IsBehind z window found size
+by_takes size t e = record { unit = t.unit; bytes = t.bytes; such = t.such; long = omega (arith, t.total, e); some = omega (arith, t.total, e, t.takes.some); short = omega (arith, t.total, e, t.short); total = omega (arith, t.total, e) }
+
+pub behind : (z : Past) (held0 : List ℕ) (rest0 rest1 : Option (List ℕ)) (window : WindowSeen) (found : Found) (size : ℕ) → LimitOver z held0 rest0 rest1 window (Ok found) → size ≡ limit - window.room - length window.held - z.place → IsBehind z window found size
+behind z held0 rest0 rest1 window (founds.Sequence first) size t e = by_takes size t e
+behind z held0 rest0 rest1 window founds.Repeated size t e = by_takes size t e
+behind z held0 rest0 rest1 window (founds.Picture shown) size t e = by_takes size t e
+behind z held0 rest0 rest1 window founds.Skipped size t e = by_takes size t e
+behind z held0 rest0 rest1 window founds.End size t e =
+    let none = ap (λ (l : List ℕ). length l) t.none in
+    record { unit = End; bytes = t.bytes; such = refl; long = omega (arith, t.total, e, none); some = omega (arith, t.total, e, t.some, none); short = omega (arith, t.total, e, t.short, none); total = omega (arith, t.total, e, none) }
+
+pub after-place : (z : Past) (unit : DataUnit) (bytes : List ℕ) → (after z unit bytes).place ≡ z.place + length bytes
+after-place z (Sequence parts) bytes = refl
+after-place z Repeated bytes = refl
+after-place z (Picture parts number params slices) bytes = refl
+after-place z Skipped bytes = refl
+after-place z End bytes = refl
+
+-- few bytes are held while the stream goes on
+pub held_few : (z : Past) (held0 : List ℕ) (rest0 rest1 : Option (List ℕ)) (window : WindowSeen) (found : Found) → LimitOver z held0 rest0 rest1 window (Ok found) → length window.held ≤ 4096
+held_few z held0 rest0 rest1 window (founds.Sequence first) t = t.few
+held_few z held0 rest0 rest1 window founds.Repeated t = t.few
+held_few z held0 rest0 rest1 window (founds.Picture shown) t = t.few
+held_few z held0 rest0 rest1 window founds.Skipped t = t.few
+held_few z held0 rest0 rest1 window founds.End t = omega (arith, ap (λ (l : List ℕ). length l) t.none)
+
+-- ---- the picture that is shown
+
+pub shows_one : (unit : DataUnit) (made old new : Option Decoding) (shows : Bool) → IsDecoderOf unit made → Keeps made old new shows → ShowsOne shows new
+shows_one (Picture parts number params slices) made old new shows d k =
+    let kept = subst (λ m. Keeps m old new shows) d.1 k in
+    subst (λ b. ShowsOne b new) (sym kept.1) (subst (ShowsOne true) (sym kept.0) (λ none. let clash = sym d.2.picture ∙ none in absurd cc))
+shows_one (Sequence parts) made old new shows d k = subst (λ b. ShowsOne b new) (sym (subst (λ m. Keeps m old new shows) d k).1) tt
+shows_one Repeated made old new shows d k = subst (λ b. ShowsOne b new) (sym (subst (λ m. Keeps m old new shows) d k).1) tt
+shows_one Skipped made old new shows d k = subst (λ b. ShowsOne b new) (sym (subst (λ m. Keeps m old new shows) d k).1) tt
+shows_one End made old new shows d k = subst (λ b. ShowsOne b new) (sym (subst (λ m. Keeps m old new shows) d k).1) tt
+
+-- nothing is shown at the end
+pub over_none : (unit : DataUnit) (item : Item) (made old new : Option Decoding) (shows : Bool) → item ≡ item_of unit → is_last item ≡ true → IsDecoderOf unit made → Keeps made old new shows → shows ≡ false
+over_none (Picture parts number params slices) item made old new shows i last d k = absurd (let clash : false ≡ true = sym (ap is_last i) ∙ last in cc)
+over_none (Sequence parts) item made old new shows i last d k = (subst (λ m. Keeps m old new shows) d k).1
+over_none Repeated item made old new shows i last d k = (subst (λ m. Keeps m old new shows) d k).1
+over_none Skipped item made old new shows i last d k = (subst (λ m. Keeps m old new shows) d k).1
+over_none End item made old new shows i last d k = (subst (λ m. Keeps m old new shows) d k).1
+
+shown_none : (made old new : Option Decoding) (shows : Bool) → made ≡ None → Keeps made old new shows → picture_in shows new ≡ None
+shown_none made old new shows d k = ap (λ b. picture_in b new) (subst (λ m. Keeps m old new shows) d k).1
+
+pub is_picture : (unit : DataUnit) (made old new : Option Decoding) (shows : Bool) → IsDecoderOf unit made → Keeps made old new shows → IsPictureOf unit (picture_in shows new)
+is_picture (Picture parts number params slices) made old new shows d k =
+    let kept = subst (λ m. Keeps m old new shows) d.1 k in
+    let seen : PictureSeen = record { shape = d.0.shape; samples = _ } in
+    (seen, ap (λ b. picture_in b new) kept.1 ∙ ap (picture_in true) kept.0 ∙ ap (option_map (λ samples. record { shape = d.0.shape; samples = samples })) d.2.picture, d.2.frame, refl)
+is_picture (Sequence parts) made old new shows d k = shown_none made old new shows d k
+is_picture Repeated made old new shows d k = shown_none made old new shows d k
+is_picture Skipped made old new shows d k = shown_none made old new shows d k
+is_picture End made old new shows d k = shown_none made old new shows d k
+
+-- ---- a call
+
+-- what a call leaves behind the unit that was found
+pub record Leaves (old new : ReaderState) (window : WindowSeen) (found : Found) (size : ℕ) (item : Item) : Type 0 where
+  pub steps : (unit : DataUnit) (bytes : List ℕ) → length bytes ≡ size → IsFound old.past found unit bytes → (made : Option Decoding) × Steps old.past new.past unit bytes item made
+  pub shapes : (unit : DataUnit) (bytes : List ℕ) → length bytes ≡ size → IsFound old.past found unit bytes → new.shapes ≡ old.shapes ++ shape_of old.past unit bytes ∷ []
+  pub picture : (unit : DataUnit) (bytes : List ℕ) → length bytes ≡ size → IsFound old.past found unit bytes → IsPictureOf unit new.picture
+  pub held : new.held ≡ window.held
+  pub stop : new.stop ≡ None
+  pub ended : new.ended ≡ is_last item
+
+taken : {old new : ReaderState} {rest0 rest1 : Option (List ℕ)} {window : WindowSeen} {found : Found} {size : ℕ} {item : Item} (t : LimitTakes old.past old.held rest0 rest1 window.room window.held (IsFound old.past found)) → Leaves old new window found size item → size ≡ limit - window.room - length window.held - old.past.place → is_last item ≡ false → TakesItem old new rest0 rest1 item
+taken {old} {new} {rest0} {rest1} {size = size} t l e going =
+    let long : length t.bytes ≡ size = omega (arith, t.total, e) in
+    let s = (l.steps t.unit t.bytes long t.such).1 in
+    record {
+      unit = t.unit;
+      bytes = t.bytes;
+      is_item = s.is_item;
+      takes = subst (λ h. TakesUnit limit past_limit units old.past old.held rest0 rest1 t.unit t.bytes h) (sym l.held) t.takes;
+      past = s.past;
+      shapes = l.shapes t.unit t.bytes long t.such;
+      picture = l.picture t.unit t.bytes long t.such;
+      going = (l.stop, l.ended ∙ going);
+    }
+
+-- the item of a unit that was taken
+item_is : {old new : ReaderState} {rest0 rest1 : Option (List ℕ)} {window : WindowSeen} {found : Found} {size : ℕ} {item : Item} (t : LimitTakes old.past old.held rest0 rest1 window.room window.held (IsFound old.past found)) → Leaves old new window found size item → size ≡ limit - window.room - length window.held - old.past.place → item ≡ item_of t.unit
+item_is t l e = (l.steps t.unit t.bytes (omega (arith, t.total, e)) t.such).1.is_item
+
+pub next_over : (old new : ReaderState) (rest0 rest1 : Option (List ℕ)) (window : WindowSeen) (found : Found) (size : ℕ) (item : Item) → LimitOver old.past old.held rest0 rest1 window (Ok found) → size ≡ limit - window.room - length window.held - old.past.place → Leaves old new window found size item → NextOver old new rest0 rest1 (Ok item)
+next_over old new rest0 rest1 window (founds.Sequence first) size item t e l =
+    let i : item ≡ items.Sequence = item_is t l e ∙ ap item_of t.such.0 in
+    subst (λ (x : Item). NextOver old new rest0 rest1 (Ok x)) (sym i) (subst (TakesItem old new rest0 rest1) i (taken t l e (ap is_last i)))
+next_over old new rest0 rest1 window founds.Repeated size item t e l =
+    let i : item ≡ items.Repeated = item_is t l e ∙ ap item_of t.such in
+    subst (λ (x : Item). NextOver old new rest0 rest1 (Ok x)) (sym i) (subst (TakesItem old new rest0 rest1) i (taken t l e (ap is_last i)))
+next_over old new rest0 rest1 window (founds.Picture shown) size item t e l =
+    let i : item ≡ items.Picture shown.number = item_is t l e ∙ ap item_of t.such.2.is_picture in
+    subst (λ (x : Item). NextOver old new rest0 rest1 (Ok x)) (sym i) (subst (TakesItem old new rest0 rest1) i (taken t l e (ap is_last i)))
+next_over old new rest0 rest1 window founds.Skipped size item t e l =
+    let i : item ≡ items.Skipped = item_is t l e ∙ ap item_of t.such in
+    subst (λ (x : Item). NextOver old new rest0 rest1 (Ok x)) (sym i) (subst (TakesItem old new rest0 rest1) i (taken t l e (ap is_last i)))
+next_over old new rest0 rest1 window founds.End size item t e l =
+    let long : length t.bytes ≡ size = omega (arith, t.total, e, ap (λ (h : List ℕ). length h) t.none) in
+    let s = (l.steps End t.bytes long refl).1 in
+    let i : item ≡ items.End = s.is_item in
+    subst (λ (x : Item). NextOver old new rest0 rest1 (Ok x)) (sym i) (record {
+      bytes = t.bytes;
+      meets = t.meets;
+      last = t.last;
+      past = s.past;
+      shapes = l.shapes End t.bytes long refl;
+      over = (l.held ∙ t.none, l.picture End t.bytes long refl, l.stop, l.ended ∙ ap is_last i);
+    })
+
+-- no memory, before a byte was read
+pub nothing_due : (z : Past) (held : List ℕ) (rest : Option (List ℕ)) (room : ℕ) → length held ≤ 4096 → z.place + length held + room ≡ limit → LimitStops z held rest rest stops.NoMemory
+nothing_due z held rest room few total = (z.place + length held, omega (arith, total), begun_due (begun_start units z held rest few))
+
+-- ---- a reader that is seen
+
+pub along : (seen old new : ReaderState) (rest0 rest1 : Option (List ℕ)) (result : Result Item ReadStop) → old ≡ seen → (old.stop ≡ None → old.ended ≡ false → NextOver old new rest0 rest1 result) → seen.stop ≡ None → seen.ended ≡ false → NextOver seen new rest0 rest1 result
+along seen old new rest0 rest1 result e f = subst (λ (o : ReaderState). o.stop ≡ None → o.ended ≡ false → NextOver o new rest0 rest1 result) e f
+
+pub stopped : (seen old new : ReaderState) (rest0 rest1 : Option (List ℕ)) (stop : ReadStop) → old ≡ seen → (old.stop ≡ None → old.ended ≡ false → LimitStops old.past old.held rest0 rest1 stop) → (old.stop ≡ None → old.ended ≡ false → KeepsStop old new stop)
+    → seen.stop ≡ None → seen.ended ≡ false → LimitStops seen.past seen.held rest0 rest1 stop × KeepsStop seen new stop
+stopped seen old new rest0 rest1 stop e f k = subst (λ (o : ReaderState). o.stop ≡ None → o.ended ≡ false → LimitStops o.past o.held rest0 rest1 stop × KeepsStop o new stop) e (λ no_stop going. (f no_stop going, k no_stop going))

@@ -1,0 +1,57 @@
+use Rattle.std.proofs.Common.{◌≡◌, ◌+◌, ◌-◌, ◌^◌, ◌++◌, ◌∷◌, [], sym, ap, ◌∙◌, List, Ok, refl, arith}
+use Rattle.slice_geometry.specs.declared.unit_list.UnitShape.{UnitShape}
+use Rattle.stream_units.specs.declared.stop.ReadStop.TheVariants as stops
+use Rattle.stream_units.specs.ReaderInside.{picture_in}
+use Rattle.stream_units.proofs.ReaderTurns.{behind, after-place, held_few, shows_one, over_none, is_picture, next_over, nothing_due, along, stopped}
+use Rattle.stream_units.proofs.reader.StreamReader.next.Goals as goal
+
+pub returns-then-is_err-clause-next : goal.returns-then-is_err-clause-next
+returns-then-is_err-clause-next g c =
+    stopped c.args.self.now (record { past = c.self.inside.earlier; held = c.self.inside.window.held; shapes = c.self.inside.shapes.units; picture = picture_in c.self.inside.shows c.self.inside.decoder; stop = c.self.inside.stop; ended = c.self.inside.ended }) _
+    (g.S.Source.rest c.args.src.now) (g.S.Source.rest c.args.src.now) stops.NoMemory c.self.view_is
+    (λ no_stop going. nothing_due c.self.inside.earlier c.self.inside.window.held (g.S.Source.rest c.args.src.now) c.self.inside.window.room (c.self.invariant.few no_stop going) (c.self.invariant.room no_stop going))
+    (λ no_stop going. record { past = refl; shapes = c.reserve.ensures.units; picture = refl; kept = refl; ended = going })
+
+pub push-requires-clause-most : goal.push-requires-clause-most
+push-requires-clause-most g c =
+    let b = behind c.self.inside.earlier c.self.inside.window.held (g.S.Source.rest c.args.src.now) (g.S.Source.rest c.next_unit.new.src) c.next_unit.new.window c.in-Ok.found (2 ^ 40 - c.room.result - c.len.result - c.place-start.result) c.in-Ok.ensures.limit (omega (arith, c.room.ensures, c.len.ensures, c.place-start.ensures.value)) in
+    omega (arith, c.self.invariant.total, c.reserve.ensures.total, c.shape_of.ensures.size c.self.inside.earlier b.unit b.bytes b.long b.such, b.total)
+
+pub step-item-requires-clause-some : goal.step-item-requires-clause-some
+step-item-requires-clause-some g c =
+    let b = behind c.self.inside.earlier c.self.inside.window.held (g.S.Source.rest c.args.src.now) (g.S.Source.rest c.next_unit.new.src) c.next_unit.new.window c.in-Ok.found (2 ^ 40 - c.room.result - c.len.result - c.place-start.result) c.in-Ok.ensures.limit (omega (arith, c.room.ensures, c.len.ensures, c.place-start.ensures.value)) in
+    omega (arith, b.some)
+
+pub step-item-requires-clause-found : goal.step-item-requires-clause-found
+step-item-requires-clause-found g c =
+    let b = behind c.self.inside.earlier c.self.inside.window.held (g.S.Source.rest c.args.src.now) (g.S.Source.rest c.next_unit.new.src) c.next_unit.new.window c.in-Ok.found (2 ^ 40 - c.room.result - c.len.result - c.place-start.result) c.in-Ok.ensures.limit (omega (arith, c.room.ensures, c.len.ensures, c.place-start.ensures.value)) in
+    (b.unit, b.bytes, b.long, b.such)
+
+pub invariant_of-self-2 : goal.invariant_of-self-2
+invariant_of-self-2 g c =
+    let b = behind c.self.inside.earlier c.self.inside.window.held (g.S.Source.rest c.args.src.now) (g.S.Source.rest c.next_unit.new.src) c.next_unit.new.window c.in-Ok.found (2 ^ 40 - c.room.result - c.len.result - c.place-start.result) c.in-Ok.ensures.limit (omega (arith, c.room.ensures, c.len.ensures, c.place-start.ensures.value)) in
+    let s = c.step-item.ensures b.unit b.bytes b.long b.such in
+    let place : c.step-item.new.earlier.place ≡ c.self.inside.earlier.place + (2 ^ 40 - c.room.result - c.len.result - c.place-start.result)
+    = ap (λ z. z.place) s.past ∙ after-place c.self.inside.earlier b.unit b.bytes ∙ ap (λ n. c.self.inside.earlier.place + n) b.long in
+    record {
+      total = omega (arith, c.push.ensures.total, c.self.invariant.total, c.reserve.ensures.total, c.shape_of.ensures.size c.self.inside.earlier b.unit b.bytes b.long b.such, place);
+      shown = shows_one b.unit c.step-item.result.1 c.next_unit.new.kept c.keep-self-inside.new.decoder c.keep-self-inside.result s.decoder c.keep-self-inside.ensures;
+      stopped = λ reason e. absurd (let clash = sym c.in_default.is ∙ e in cc);
+      over = λ e. over_none b.unit c.step-item.result.0 c.step-item.result.1 c.next_unit.new.kept c.keep-self-inside.new.decoder c.keep-self-inside.result s.is_item (sym c.is_last-self-inside.ensures ∙ e) s.decoder c.keep-self-inside.ensures;
+      room = λ no_stop going. omega (arith, b.total, place);
+      few = λ no_stop going. held_few c.self.inside.earlier c.self.inside.window.held (g.S.Source.rest c.args.src.now) (g.S.Source.rest c.next_unit.new.src) c.next_unit.new.window c.in-Ok.found c.in-Ok.ensures.limit;
+    }
+
+pub returns-clause-next : goal.returns-clause-next
+returns-clause-next g c =
+    along c.args.self.now (record { past = c.self.inside.earlier; held = c.self.inside.window.held; shapes = c.self.inside.shapes.units; picture = picture_in c.self.inside.shows c.self.inside.decoder; stop = c.self.inside.stop; ended = c.self.inside.ended }) _
+    (g.S.Source.rest c.args.src.now) (g.S.Source.rest c.next_unit.new.src) (Ok c.step-item.result.0) c.self.view_is (λ no_stop going.
+    next_over _ _ (g.S.Source.rest c.args.src.now) (g.S.Source.rest c.next_unit.new.src) c.next_unit.new.window c.in-Ok.found (2 ^ 40 - c.room.result - c.len.result - c.place-start.result) c.step-item.result.0 c.in-Ok.ensures.limit (omega (arith, c.room.ensures, c.len.ensures, c.place-start.ensures.value))
+    (record {
+      steps = λ unit bytes long such. (c.step-item.result.1, c.step-item.ensures unit bytes long such);
+      shapes = λ unit bytes long such. c.push.ensures.units ∙ ap (λ (l : List UnitShape). l ++ c.shape_of.result ∷ []) c.reserve.ensures.units ∙ ap (λ (u : UnitShape). c.self.inside.shapes.units ++ u ∷ []) (c.shape_of.ensures.shape c.self.inside.earlier unit bytes (sym c.place-start.ensures.value) long such);
+      picture = λ unit bytes long such. is_picture unit c.step-item.result.1 c.next_unit.new.kept c.keep-self-inside.new.decoder c.keep-self-inside.result (c.step-item.ensures unit bytes long such).decoder c.keep-self-inside.ensures;
+      held = refl;
+      stop = no_stop;
+      ended = c.is_last-self-inside.ensures;
+    }))

@@ -1,0 +1,84 @@
+-- The commands over the units of a stream: `decode` writes their pictures, and `check` counts them.
+use Rattle.std.specs.Prelude.{◌≡◌, ℕ, ◌+◌, Bool, true, false, List, [], Option, Some, None, Result, Ok, Err}
+use Rattle.picture_codec.specs.Samples.{PictureSeen, frame_of, picture_of}
+use Rattle.std.specs.Io.KnownBytes.{Appends}
+use Rattle.vc2_io.specs.Outside.{GrewShort}
+use Rattle.raw_video.specs.RawText.{raw_text}
+use Rattle.vc2_run.specs.Walk.{Machine}
+use Rattle.vc2_run.specs.declared.Halt.{Halt}
+use Rattle.vc2_run.specs.declared.Halt.TheVariants as halts
+use Rattle.unit_table.specs.Fronts.{Command, machine_of}
+use Rattle.stream_units.specs.declared.reason.Reason.{Reason}
+use Rattle.stream_units.specs.declared.stop.Item.{Item}
+use Rattle.stream_units.specs.declared.stop.Item.TheVariants as items
+use Rattle.stream_units.specs.declared.stop.ReadStop.{ReadStop}
+use Rattle.stream_units.specs.declared.stop.ReadStop.TheVariants as stops
+use Rattle.stream_units.specs.Units.{Past, DataUnit, Sequence, Repeated, Picture, Skipped, End, units}
+use Rattle.stream_units.specs.Streams.{limit, past_limit, refusal_of, frame_under}
+use Rattle.vc2_cli.specs.Texts.{accepted_line}
+use Rattle.vc2_cli.specs.declared.status.Ending.{Ending}
+use Rattle.vc2_cli.specs.declared.status.Ending.TheVariants.{Done, Decoded, Accepted, Refused}
+
+-- the raw text of a unit's picture, if it has one
+abbrev pub unit_text : DataUnit → List ℕ
+unit_text (Sequence parts) = []
+unit_text Repeated = []
+unit_text (Picture parts number params slices) = raw_text (frame_under parts) (picture_of (frame_under parts) params slices)
+unit_text Skipped = []
+unit_text End = []
+
+-- `decode`: each picture's raw text, and at the end the number of pictures and of bytes
+abbrev pub decoding : Command Past Reason DataUnit Ending
+decoding = record {
+  text = λ z unit. unit_text unit;
+  finished = λ z size unit. Decoded z.pictures (z.place + size);
+  refused = λ fault. Refused (refusal_of fault);
+  last = λ ending. [];
+  endless = Done;
+}
+
+-- the line of a stream that was accepted
+abbrev pub last_line : Ending → List ℕ
+last_line (Accepted pictures slices bytes) = accepted_line pictures slices bytes
+last_line other = []
+
+-- `check`: nothing before the end, and there the number of pictures, slices and bytes
+abbrev pub checking : Command Past Reason DataUnit Ending
+checking = record {
+  text = λ z unit. [];
+  finished = λ z size unit. Accepted z.pictures z.slices (z.place + size);
+  refused = λ fault. Refused (refusal_of fault);
+  last = last_line;
+  endless = Done;
+}
+
+abbrev pub decode_machine : Machine Past Ending
+decode_machine = machine_of limit past_limit units decoding
+
+abbrev pub check_machine : Machine Past Ending
+check_machine = machine_of limit past_limit units checking
+
+-- ---- for the code
+
+-- the reader is behind the last unit
+abbrev pub is_end_item : Item → Bool
+is_end_item items.End = true
+is_end_item other = false
+
+-- how a command comes out where the reader stops
+abbrev pub stopped : ReadStop → Result Ending Halt
+stopped (stops.Refused refusal) = Ok (Refused refusal)
+stopped stops.ReadFault = Err halts.ReadFault
+stopped stops.NoMemory = Err halts.NoMemory
+
+-- the raw text of the picture that is shown, if one is
+abbrev pub shown_text : Option PictureSeen → List ℕ
+shown_text None = []
+shown_text (Some seen) = raw_text (frame_of seen.shape) seen.samples
+
+-- how the last text of an ending is written
+abbrev pub WritesLast : Ending → Option (List ℕ) → Option (List ℕ) → Result Ending Halt → Type 0
+WritesLast ending out0 out1 (Ok told) = (told ≡ ending) × Appends out0 out1 (last_line ending)
+WritesLast ending out0 out1 (Err halts.ReadFault) = ⊥
+WritesLast ending out0 out1 (Err halts.OutFault) = GrewShort out0 out1 (last_line ending)
+WritesLast ending out0 out1 (Err halts.NoMemory) = out1 ≡ out0

@@ -1,0 +1,61 @@
+-- What `decode` and `check` reply to a stream, and to an input that is refused.
+use Rattle.std.specs.Prelude.{◌≡◌, ◌<◌, ℕ, ◌+◌, List, [], ◌∷◌, length, Ok}
+use Rattle.std.specs.List.{AllByRecursion, flat_map}
+use Rattle.slice_geometry.specs.Slicing.{slice_count}
+use Rattle.stream_units.specs.declared.reason.Refusal.{Refusal}
+use Rattle.stream_units.specs.Units.{DataUnit, Sequence, Repeated, Picture, Skipped, End}
+use Rattle.stream_units.specs.Streams.{Entry, IsStream, IsRefusal}
+use Rattle.vc2_cli.specs.declared.words.Command.TheVariants.{Decode, Check}
+use Rattle.vc2_cli.specs.declared.status.Status.TheVariants as status
+use Rattle.vc2_cli.specs.Texts.{refusal_line, decoded_line, accepted_line}
+use Rattle.vc2_cli.specs.Decode.{unit_text}
+use Rattle.vc2_cli.specs.Reply.{Reply, command_reply}
+
+-- numbers below 256
+abbrev pub AreBytes : List ℕ → Type 0
+AreBytes bytes = AllByRecursion (λ byte. byte < 256) bytes
+
+-- the raw text of the units' pictures, one after another
+abbrev pub pictures_text : List Entry → List ℕ
+pictures_text units = flat_map (λ entry. unit_text entry.unit) units
+
+abbrev pub pictures_in : DataUnit → ℕ
+pictures_in (Picture parts number params slices) = 1
+pictures_in (Sequence parts) = 0
+pictures_in Repeated = 0
+pictures_in Skipped = 0
+pictures_in End = 0
+
+abbrev pub slices_in : DataUnit → ℕ
+slices_in (Picture parts number params slices) = slice_count params.slicing
+slices_in (Sequence parts) = 0
+slices_in Repeated = 0
+slices_in Skipped = 0
+slices_in End = 0
+
+-- how many there are of something in the units
+abbrev pub total : (DataUnit → ℕ) → List Entry → ℕ
+total count [] = 0
+total count (entry ∷ units) = count entry.unit + total count units
+
+-- a stream of these units and the last one: all their pictures, and how many pictures and bytes there were
+abbrev pub decoded_reply : List ℕ → List Entry → Reply
+decoded_reply bytes units = record { status = status.Done; rest = []; out = pictures_text units; note = decoded_line (total pictures_in units) (length bytes) }
+
+-- or how many pictures, slices and bytes
+abbrev pub accepted_reply : List ℕ → List Entry → Reply
+accepted_reply bytes units = record { status = status.Done; rest = []; out = accepted_line (total pictures_in units) (total slices_in units) (length bytes); note = [] }
+
+-- a refusal, behind this text
+abbrev pub refused_reply : List ℕ → Refusal → Reply
+refused_reply text refusal = record { status = status.Refused refusal; rest = []; out = text; note = refusal_line refusal }
+
+-- A stream is decoded whole; an input that is refused, up to its fault.
+pub record IsDecoded (bytes : List ℕ) : Type 0 where
+  pub stream : (units : List Entry) (last : Entry) → IsStream bytes units last → command_reply (Ok Decode) bytes ≡ decoded_reply bytes units
+  pub refusal : (refusal : Refusal) (is : IsRefusal bytes refusal) → command_reply (Ok Decode) bytes ≡ refused_reply (pictures_text is.units) refusal
+
+-- A stream is accepted; an input that is refused has no text.
+pub record IsChecked (bytes : List ℕ) : Type 0 where
+  pub stream : (units : List Entry) (last : Entry) → IsStream bytes units last → command_reply (Ok Check) bytes ≡ accepted_reply bytes units
+  pub refusal : (refusal : Refusal) → IsRefusal bytes refusal → command_reply (Ok Check) bytes ≡ refused_reply [] refusal
