@@ -4,7 +4,8 @@ use crate::reading::{
     END, HEADER, ONE_EACH, PICTURE, WHOLE, expect, expect_twice, joined, refused,
 };
 use sequence_header::{AspectField, ColourField, HeaderParts, RateField, SignalField};
-use slice_geometry::{Component, UnitShape};
+use slice_geometry::{UnitShape, UnitShapes};
+use std::process::Abort;
 use std::test::Fail;
 use stream_units::{Item, ReadStop, Reason, StreamReader, first_unit};
 use vc2_io::{MemSource, SteadySource};
@@ -39,43 +40,50 @@ fn plain(start: u64, head: u64) -> UnitShape {
     }
 }
 
-/// What the reader shows behind each unit: the header, the picture, the shapes, the bytes taken and held.
+/// Whether a header and a picture are shown, and the bytes taken and held.
+fn shown(reader: &StreamReader) -> (bool, bool, u64, usize) {
+    let has_header = reader.header().is_some();
+    let has_picture = reader.picture().is_some();
+    (has_header, has_picture, reader.taken(), reader.held())
+}
+
+/// What the reader shows before the first unit and behind each.
 #[test]
 fn unit_by_unit(rt: HostRuntime) -> Result<(), Fail> {
     let bytes = joined(rt.alloc(), &[HEADER, PICTURE, END])?;
     let mut src = SteadySource::new(bytes.as_slice());
     let mut reader = StreamReader::new(rt.alloc())?;
-    assert!(rt; reader.header().is_none() && reader.picture().is_none());
-    assert_eq!(rt; (reader.taken(), reader.held()), (0, 0));
-
-    assert_eq!(rt; reader.next(&mut src), Ok(Item::Sequence));
-    let header = reader.header().expect(&rt, "a header");
-    assert_eq!(rt; *header.parts(), PARTS);
-    assert!(rt; reader.picture().is_none());
-    assert_eq!(rt; (reader.taken(), reader.held()), (17, 34));
-
-    assert_eq!(rt; reader.next(&mut src), Ok(Item::Picture(0)));
-    let picture = reader.picture().expect(&rt, "a picture");
-    for component in [Component::Luma, Component::C1, Component::C2] {
-        assert_eq!(rt; picture.samples(component), [0x80].as_slice());
+    assert_eq!(rt; shown(&reader), (false, false, 0, 0));
+    let steps = [
+        (Item::Sequence, (true, false, 17, 34)),
+        (Item::Picture(0), (true, true, 38, 13)),
+        (Item::End, (true, false, 51, 0)),
+    ];
+    for (item, want) in steps {
+        assert_eq!(rt; reader.next(&mut src), Ok(item));
+        assert_eq!(rt; shown(&reader), want);
     }
-    assert_eq!(rt; (reader.taken(), reader.held()), (38, 13));
+    expect_parts(&rt, &reader);
+    expect_shapes(&rt, reader.shapes());
+    Ok(())
+}
 
-    assert_eq!(rt; reader.next(&mut src), Ok(Item::End));
-    assert!(rt; reader.header().is_some() && reader.picture().is_none());
-    assert_eq!(rt; (reader.taken(), reader.held()), (51, 0));
+fn expect_parts(rt: &impl Abort, reader: &StreamReader) {
+    let header = reader.header().expect(rt, "a header");
+    assert_eq!(rt; *header.parts(), PARTS);
+}
 
-    let shapes = reader.shapes();
-    assert_eq!(rt; (shapes.len(), shapes.total()), (3, 51));
+/// A header, a picture of one slice, which begins 20 bytes behind its unit's first, and the end.
+fn expect_shapes(rt: &impl Abort, shapes: &UnitShapes) {
     let picture = UnitShape {
         slices: 1,
         ..plain(17, 20)
     };
+    assert_eq!(rt; (shapes.len(), shapes.total()), (3, 51));
     for (number, shape) in [plain(0, 17), picture, plain(38, 13)].iter().enumerate() {
         assert!(rt; number < shapes.len());
         assert_eq!(rt; shapes.get(number), *shape);
     }
-    Ok(())
 }
 
 /// Behind a refusal the header, the shapes and the bytes taken are those of the units that stand; no picture is shown.
@@ -87,10 +95,12 @@ fn behind_a_refusal(rt: HostRuntime) -> Result<(), Fail> {
     for item in ITEMS {
         assert_eq!(rt; reader.next(&mut src), Ok(item));
     }
-    assert!(rt; reader.picture().is_some());
-    assert_eq!(rt; reader.next(&mut src), refused(51, Reason::TrailingBytes));
-    assert!(rt; reader.header().is_some() && reader.picture().is_none());
-    assert_eq!(rt; (reader.taken(), reader.shapes().len()), (38, 2));
+    assert_eq!(rt; shown(&reader), (true, true, 38, 14));
+    let last = reader.next(&mut src);
+    assert_eq!(rt; last, refused(51, Reason::TrailingBytes));
+    let (has_header, has_picture, taken, _) = shown(&reader);
+    assert_eq!(rt; (has_header, has_picture, taken), (true, false, 38));
+    assert_eq!(rt; reader.shapes().len(), 2);
     Ok(())
 }
 
