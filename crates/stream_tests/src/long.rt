@@ -1,6 +1,6 @@
 //! Units longer than one read.
 
-use crate::reading::HEADER;
+use crate::reading::{HEADER, expect_next};
 use slice_geometry::Component;
 use std::alloc::Global;
 use std::test::Fail;
@@ -50,14 +50,14 @@ fn a_large_picture(rt: HostRuntime) -> Result<(), Fail> {
         let pieces = vec![in rt.alloc(); piece; 110000]?;
         let mut src = MemSource::new(bytes.as_slice(), pieces.as_slice(), &[]);
         let mut reader = StreamReader::new(rt.alloc())?;
-        assert_eq!(rt; reader.next(&mut src), Ok(Item::Sequence));
-        assert_eq!(rt; reader.next(&mut src), Ok(Item::Picture(0)));
+        expect_next(&rt, &mut reader, &mut src, Ok(Item::Sequence));
+        expect_next(&rt, &mut reader, &mut src, Ok(Item::Picture(0)));
         assert!(rt; reader.held() < piece);
         let picture = reader.picture().expect(&rt, "a picture");
         assert_eq!(rt; picture.samples(Component::Luma), grey.as_slice());
         assert_eq!(rt; picture.samples(Component::C1), grey.as_slice());
         assert_eq!(rt; picture.samples(Component::C2), last.as_slice());
-        assert_eq!(rt; reader.next(&mut src), Ok(Item::End));
+        expect_next(&rt, &mut reader, &mut src, Ok(Item::End));
         assert_eq!(rt; reader.taken(), 102457);
     }
     Ok(())
@@ -101,7 +101,7 @@ fn skipped_units(rt: HostRuntime) -> Result<(), Fail> {
         let mut src = MemSource::new(bytes.as_slice(), pieces.as_slice(), &[]);
         let mut reader = StreamReader::new(rt.alloc())?;
         for (item, taken) in SKIPPED {
-            assert_eq!(rt; reader.next(&mut src), Ok(item));
+            expect_next(&rt, &mut reader, &mut src, Ok(item));
             assert_eq!(rt; reader.taken(), taken);
             assert!(rt; reader.held() < piece);
         }

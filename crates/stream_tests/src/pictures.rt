@@ -1,7 +1,7 @@
 //! Streams that stand, with the samples of their pictures.
 
 use crate::reading::{
-    END, FIELDS, HEADER, LINE, ONE_EACH, PICTURE, SQUARE, WHOLE, expect_twice, joined,
+    END, FIELDS, HEADER, LINE, ONE_EACH, PICTURE, SQUARE, WHOLE, expect_next, expect_twice, joined,
 };
 use slice_geometry::Component;
 use std::alloc::Global;
@@ -23,16 +23,16 @@ fn expect_pictures(
 ) -> Result<(), Fail> {
     let mut src = MemSource::new(bytes, pieces, &[]);
     let mut reader = StreamReader::new(alloc)?;
-    assert_eq!(rt; reader.next(&mut src), Ok(Item::Sequence));
+    expect_next(rt, &mut reader, &mut src, Ok(Item::Sequence));
     for (number, [luma, c1, c2]) in wants.iter().enumerate() {
         assert!(rt; number < 100);
-        assert_eq!(rt; reader.next(&mut src), Ok(Item::Picture(number as u32)));
+        expect_next(rt, &mut reader, &mut src, Ok(Item::Picture(number as u32)));
         let picture = reader.picture().expect(rt, "a picture");
         assert_eq!(rt; picture.samples(Component::Luma), *luma);
         assert_eq!(rt; picture.samples(Component::C1), *c1);
         assert_eq!(rt; picture.samples(Component::C2), *c2);
     }
-    assert_eq!(rt; reader.next(&mut src), Ok(Item::End));
+    expect_next(rt, &mut reader, &mut src, Ok(Item::End));
     Ok(())
 }
 

@@ -45,8 +45,19 @@ pub(crate) fn joined(alloc: Global, units: &[&[u8]]) -> Result<Vec<u8>, Fail> {
     Ok(bytes)
 }
 
+/// The next call answers this, and leaves at most 4096 bytes held.
+pub(crate) fn expect_next<S: Source>(
+    rt: &impl Abort,
+    reader: &mut StreamReader,
+    src: &mut S,
+    answer: Result<Item, ReadStop>,
+) {
+    assert_eq!(rt; reader.next(src), answer);
+    assert!(rt; reader.held() <= 4096);
+}
+
 /// The items come in order, and then the last answer. It stays, and nothing more is read, from a source that fails or
-/// from one that has bytes. At most 4096 bytes are ever held.
+/// from one that has bytes.
 pub(crate) fn expect<S: Source>(
     rt: &impl Abort,
     alloc: Global,
@@ -56,15 +67,13 @@ pub(crate) fn expect<S: Source>(
 ) -> Result<(), Fail> {
     let mut reader = StreamReader::new(alloc)?;
     for item in items {
-        assert_eq!(rt; reader.next(src), Ok(*item));
-        assert!(rt; reader.held() <= 4096);
+        expect_next(rt, &mut reader, src, Ok(*item));
     }
-    assert_eq!(rt; reader.next(src), last);
-    assert!(rt; reader.held() <= 4096);
+    expect_next(rt, &mut reader, src, last);
     let mut failing = MemSource::new(&[], &[], &[0]);
-    assert_eq!(rt; reader.next(&mut failing), last);
+    expect_next(rt, &mut reader, &mut failing, last);
     let mut more = MemSource::new(HEADER, &[], &[]);
-    assert_eq!(rt; reader.next(&mut more), last);
+    expect_next(rt, &mut reader, &mut more, last);
     Ok(())
 }
 

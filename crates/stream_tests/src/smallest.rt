@@ -1,7 +1,7 @@
 //! The stream of one picture of one sample: whole, cut at each byte, and over a source that fails.
 
 use crate::reading::{
-    END, HEADER, ONE_EACH, PICTURE, WHOLE, expect, expect_twice, joined, refused,
+    END, HEADER, ONE_EACH, PICTURE, WHOLE, expect, expect_next, expect_twice, joined, refused,
 };
 use sequence_header::{AspectField, ColourField, HeaderParts, RateField, SignalField};
 use slice_geometry::{UnitShape, UnitShapes};
@@ -60,7 +60,7 @@ fn unit_by_unit(rt: HostRuntime) -> Result<(), Fail> {
         (Item::End, (true, false, 51, 0)),
     ];
     for (item, want) in steps {
-        assert_eq!(rt; reader.next(&mut src), Ok(item));
+        expect_next(&rt, &mut reader, &mut src, Ok(item));
         assert_eq!(rt; shown(&reader), want);
     }
     expect_parts(&rt, &reader);
@@ -93,11 +93,15 @@ fn behind_a_refusal(rt: HostRuntime) -> Result<(), Fail> {
     let mut src = SteadySource::new(bytes.as_slice());
     let mut reader = StreamReader::new(rt.alloc())?;
     for item in ITEMS {
-        assert_eq!(rt; reader.next(&mut src), Ok(item));
+        expect_next(&rt, &mut reader, &mut src, Ok(item));
     }
     assert_eq!(rt; shown(&reader), (true, true, 38, 14));
-    let last = reader.next(&mut src);
-    assert_eq!(rt; last, refused(51, Reason::TrailingBytes));
+    expect_next(
+        &rt,
+        &mut reader,
+        &mut src,
+        refused(51, Reason::TrailingBytes),
+    );
     let (has_header, has_picture, taken, _) = shown(&reader);
     assert_eq!(rt; (has_header, has_picture, taken), (true, false, 38));
     assert_eq!(rt; reader.shapes().len(), 2);
