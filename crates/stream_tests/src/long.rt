@@ -3,9 +3,10 @@
 use crate::reading::{HEADER, expect_next};
 use slice_geometry::Component;
 use std::alloc::Global;
+use std::process::Abort;
 use std::test::Fail;
 use stream_units::{Item, StreamReader};
-use vc2_io::MemSource;
+use vc2_io::{MemSource, Source};
 
 /// 256 by 256 samples, 4:4:4, 8 bits.
 const LARGE_HEADER: &[u8] =
@@ -92,6 +93,19 @@ fn skipping_stream(alloc: Global) -> Result<Vec<u8>, Fail> {
     Ok(bytes)
 }
 
+fn expect_skipped<S: Source>(
+    rt: &impl Abort,
+    reader: &mut StreamReader,
+    src: &mut S,
+    piece: usize,
+) {
+    for (item, taken) in SKIPPED {
+        expect_next(rt, reader, src, Ok(item));
+        assert_eq!(rt; reader.taken(), taken);
+        assert!(rt; reader.held() < piece);
+    }
+}
+
 /// Skipped units count as taken, and fewer bytes than one read gives are held behind each unit.
 #[test]
 fn skipped_units(rt: HostRuntime) -> Result<(), Fail> {
@@ -100,11 +114,7 @@ fn skipped_units(rt: HostRuntime) -> Result<(), Fail> {
         let pieces = vec![in rt.alloc(); piece; 11000]?;
         let mut src = MemSource::new(bytes.as_slice(), pieces.as_slice(), &[]);
         let mut reader = StreamReader::new(rt.alloc())?;
-        for (item, taken) in SKIPPED {
-            expect_next(&rt, &mut reader, &mut src, Ok(item));
-            assert_eq!(rt; reader.taken(), taken);
-            assert!(rt; reader.held() < piece);
-        }
+        expect_skipped(&rt, &mut reader, &mut src, piece);
     }
     Ok(())
 }

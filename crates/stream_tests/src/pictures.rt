@@ -8,13 +8,31 @@ use std::alloc::Global;
 use std::process::Abort;
 use std::test::Fail;
 use stream_units::{Item, StreamReader};
-use vc2_io::MemSource;
+use vc2_io::{MemSource, Source};
 
 /// The samples of the three components.
 type Samples<'a> = [&'a [u16]; 3];
 
-/// After the first header pictures come, with these samples, and then the end.
-fn expect_pictures(
+/// Pictures come in turn, with these samples.
+fn expect_pictures<S: Source>(
+    rt: &impl Abort,
+    reader: &mut StreamReader,
+    src: &mut S,
+    wants: &[Samples],
+) {
+    for (number, want) in wants.iter().enumerate() {
+        assert!(rt; number < 100);
+        expect_next(rt, reader, src, Ok(Item::Picture(number as u32)));
+        let picture = reader.picture().expect(rt, "a picture");
+        let [luma, c1, c2] = want;
+        assert_eq!(rt; picture.samples(Component::Luma), *luma);
+        assert_eq!(rt; picture.samples(Component::C1), *c1);
+        assert_eq!(rt; picture.samples(Component::C2), *c2);
+    }
+}
+
+/// A stream of a header, pictures with these samples, and the end.
+fn expect_stream(
     rt: &impl Abort,
     alloc: Global,
     bytes: &[u8],
@@ -24,14 +42,7 @@ fn expect_pictures(
     let mut src = MemSource::new(bytes, pieces, &[]);
     let mut reader = StreamReader::new(alloc)?;
     expect_next(rt, &mut reader, &mut src, Ok(Item::Sequence));
-    for (number, [luma, c1, c2]) in wants.iter().enumerate() {
-        assert!(rt; number < 100);
-        expect_next(rt, &mut reader, &mut src, Ok(Item::Picture(number as u32)));
-        let picture = reader.picture().expect(rt, "a picture");
-        assert_eq!(rt; picture.samples(Component::Luma), *luma);
-        assert_eq!(rt; picture.samples(Component::C1), *c1);
-        assert_eq!(rt; picture.samples(Component::C2), *c2);
-    }
+    expect_pictures(rt, &mut reader, &mut src, wants);
     expect_next(rt, &mut reader, &mut src, Ok(Item::End));
     Ok(())
 }
@@ -43,7 +54,7 @@ fn expect_rows(rt: &impl Abort, alloc: Global, rows: &[Row]) -> Result<(), Fail>
     for (units, wants) in rows {
         let bytes = joined(alloc, units)?;
         for pieces in [WHOLE, ONE_EACH] {
-            expect_pictures(rt, alloc, bytes.as_slice(), pieces, wants)?;
+            expect_stream(rt, alloc, bytes.as_slice(), pieces, wants)?;
         }
     }
     Ok(())

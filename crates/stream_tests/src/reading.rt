@@ -56,6 +56,18 @@ pub(crate) fn expect_next<S: Source>(
     assert!(rt; reader.held() <= 4096);
 }
 
+/// The next calls answer these items in order.
+pub(crate) fn expect_items<S: Source>(
+    rt: &impl Abort,
+    reader: &mut StreamReader,
+    src: &mut S,
+    items: &[Item],
+) {
+    for item in items {
+        expect_next(rt, reader, src, Ok(*item));
+    }
+}
+
 /// The items come in order, and then the last answer. It stays, and nothing more is read, from a source that fails or
 /// from one that has bytes.
 pub(crate) fn expect<S: Source>(
@@ -66,9 +78,7 @@ pub(crate) fn expect<S: Source>(
     last: Result<Item, ReadStop>,
 ) -> Result<(), Fail> {
     let mut reader = StreamReader::new(alloc)?;
-    for item in items {
-        expect_next(rt, &mut reader, src, Ok(*item));
-    }
+    expect_items(rt, &mut reader, src, items);
     expect_next(rt, &mut reader, src, last);
     let mut failing = MemSource::new(&[], &[], &[0]);
     expect_next(rt, &mut reader, &mut failing, last);

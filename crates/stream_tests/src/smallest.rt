@@ -1,14 +1,15 @@
 //! The stream of one picture of one sample: whole, cut at each byte, and over a source that fails.
 
 use crate::reading::{
-    END, HEADER, ONE_EACH, PICTURE, WHOLE, expect, expect_next, expect_twice, joined, refused,
+    END, HEADER, ONE_EACH, PICTURE, WHOLE, expect, expect_items, expect_next, expect_twice, joined,
+    refused,
 };
 use sequence_header::{AspectField, ColourField, HeaderParts, RateField, SignalField};
 use slice_geometry::{UnitShape, UnitShapes};
 use std::process::Abort;
 use std::test::Fail;
 use stream_units::{Item, ReadStop, Reason, StreamReader, first_unit};
-use vc2_io::{MemSource, SteadySource};
+use vc2_io::{MemSource, Source, SteadySource};
 
 const ITEMS: [Item; 2] = [Item::Sequence, Item::Picture(0)];
 
@@ -54,18 +55,22 @@ fn unit_by_unit(rt: HostRuntime) -> Result<(), Fail> {
     let mut src = SteadySource::new(bytes.as_slice());
     let mut reader = StreamReader::new(rt.alloc())?;
     assert_eq!(rt; shown(&reader), (false, false, 0, 0));
+    expect_shown(&rt, &mut reader, &mut src);
+    expect_parts(&rt, &reader);
+    expect_shapes(&rt, reader.shapes());
+    Ok(())
+}
+
+fn expect_shown<S: Source>(rt: &impl Abort, reader: &mut StreamReader, src: &mut S) {
     let steps = [
         (Item::Sequence, (true, false, 17, 34)),
         (Item::Picture(0), (true, true, 38, 13)),
         (Item::End, (true, false, 51, 0)),
     ];
     for (item, want) in steps {
-        expect_next(&rt, &mut reader, &mut src, Ok(item));
-        assert_eq!(rt; shown(&reader), want);
+        expect_next(rt, reader, src, Ok(item));
+        assert_eq!(rt; shown(reader), want);
     }
-    expect_parts(&rt, &reader);
-    expect_shapes(&rt, reader.shapes());
-    Ok(())
 }
 
 fn expect_parts(rt: &impl Abort, reader: &StreamReader) {
@@ -92,9 +97,7 @@ fn behind_a_refusal(rt: HostRuntime) -> Result<(), Fail> {
     let bytes = joined(rt.alloc(), &[HEADER, PICTURE, END, &[0]])?;
     let mut src = SteadySource::new(bytes.as_slice());
     let mut reader = StreamReader::new(rt.alloc())?;
-    for item in ITEMS {
-        expect_next(&rt, &mut reader, &mut src, Ok(item));
-    }
+    expect_items(&rt, &mut reader, &mut src, &ITEMS);
     assert_eq!(rt; shown(&reader), (true, true, 38, 14));
     expect_next(
         &rt,
