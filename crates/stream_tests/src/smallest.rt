@@ -1,7 +1,7 @@
 //! The stream of one picture of one sample: whole, cut at each byte, and over a source that fails.
 
 use crate::reading::{
-    END, HEADER, ONE_EACH, PICTURE, WHOLE, expect, expect_items, expect_next, expect_twice, joined,
+    END, HEADER, ONE_EACH, PICTURE, expect, expect_items, expect_next, expect_twice, joined,
     refused,
 };
 use sequence_header::{AspectField, ColourField, HeaderParts, RateField, SignalField};
@@ -165,6 +165,7 @@ fn each_read_fails(rt: HostRuntime) -> Result<(), Fail> {
         let fault = Err(ReadStop::ReadFault);
         expect(&rt, rt.alloc(), &mut src, &ITEMS[..count], fault)?;
     }
-    let mut src = MemSource::new(bytes.as_slice(), WHOLE, &[52]);
+    // There are no more reads.
+    let mut src = MemSource::new(bytes.as_slice(), ONE_EACH, &[52]);
     expect(&rt, rt.alloc(), &mut src, &ITEMS, Ok(Item::End))
 }
