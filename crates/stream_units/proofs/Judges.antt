@@ -1,5 +1,5 @@
 -- How a judge comes to its verdict.
-use Rattle.std.proofs.Common.{◌≡◌, ℕ, ◌+◌, ◌^◌, ◌<◌, ◌≤◌, Bool, true, false, List, [], ◌++◌, length, Option, None, Some, Result, Ok, Err, inl, inr, refl, sym, ap, subst, ◌∙◌, arith}
+use Rattle.std.proofs.Common.{◌≡◌, ℕ, ◌+◌, ◌^◌, ◌<◌, ◌≤◌, Bool, true, false, List, [], ◌++◌, length, Option, None, Some, Result, Ok, Err, IfOk, inl, inr, refl, sym, ap, subst, ◌∙◌, arith}
 use Rattle.std.specs.List.{AllByRecursion}
 use Rattle.std.proofs.lemmas.List.{length-append}
 use Rattle.std.specs.Io.KnownBytes.{Consumes}
@@ -15,13 +15,14 @@ use Rattle.stream_units.specs.declared.reason.Refusal.{Refusal}
 use Rattle.stream_units.specs.declared.stop.Item.{Item}
 use Rattle.stream_units.specs.declared.stop.Item.TheVariants as items
 use Rattle.stream_units.specs.declared.stop.ReadStop.{ReadStop}
+use Rattle.stream_units.specs.declared.stop.ReadStop.TheVariants as stops
 use Rattle.stream_units.specs.declared.judging.Verdict.{Verdict}
 use Rattle.stream_units.specs.declared.judging.Verdict.TheVariants as verdicts
 use Rattle.stream_units.specs.Units.{Past, DataUnit, nothing_yet, units}
 use Rattle.stream_units.specs.Streams.{limit, past_limit, refusal_of, HasOneAnswer, IsRefusal}
-use Rattle.stream_units.specs.Turns.{LimitRefused}
+use Rattle.stream_units.specs.Turns.{LimitStops}
 use Rattle.stream_units.specs.Reader.{ReaderState, new_reader, is_last, TakesItem, TakesEnd, NextOver}
-use Rattle.stream_units.specs.Judging.{IsVerdict, judging}
+use Rattle.stream_units.specs.Judging.{IsVerdict, IsStopped, judging}
 use Rattle.stream_units.proofs.Steady.{units_laws}
 use Rattle.stream_units.proofs.OneAnswer.{one_answer}
 use Rattle.stream_units.proofs.Answering.{answer_stream, answer_refusal}
@@ -87,8 +88,15 @@ pub judged_stream : (bytes left : List ℕ) (rest1 : Option (List ℕ)) (old new
 judged_stream bytes left rest1 old new fits b n =
     is_verdict bytes verdicts.Stream fits (verdict_of bytes left verdicts.Stream (turned_ended judging units_laws nothing_yet (Some bytes) None None None verdicts.Stream [] b.holds n.meets (λ bytes. refl) (Appends-none None None refl)))
 
-pub judged_refused : (bytes left : List ℕ) (rest1 : Option (List ℕ)) (old : ReaderState) (refusal : Refusal) → AllByRecursion (λ b. b < 256) bytes → Between (Some bytes) rest1 old → LimitRefused old.past old.held rest1 (Some left) refusal → IsVerdict bytes (verdicts.Refused refusal)
-judged_refused bytes left rest1 old refusal fits b n =
-    let told : verdicts.Refused (refusal_of n.fault) ≡ verdicts.Refused refusal = ap (λ x. verdicts.Refused x) (sym n.there) in
+pub judged_stop : (bytes left : List ℕ) (rest1 : Option (List ℕ)) (old : ReaderState) (stop : ReadStop) (verdict : Verdict) → AllByRecursion (λ b. b < 256) bytes → Between (Some bytes) rest1 old → LimitStops old.past old.held rest1 (Some left) stop → IsStopped stop verdict → IsVerdict bytes verdict
+judged_stop bytes left rest1 old (stops.Refused refusal) verdict fits b n e =
+    let told : verdicts.Refused (refusal_of n.fault) ≡ verdict = ap (λ x. verdicts.Refused x) (sym n.there) ∙ sym e in
     subst (IsVerdict bytes) told
     (is_verdict bytes (verdicts.Refused (refusal_of n.fault)) fits (verdict_of bytes left (verdicts.Refused (refusal_of n.fault)) (turned_ended judging units_laws nothing_yet (Some bytes) None None None (verdicts.Refused (refusal_of n.fault)) [] b.holds n.meets (λ bytes. refl) (Appends-none None None refl))))
+judged_stop bytes left rest1 old stops.ReadFault verdict fits b n e = absurd e
+judged_stop bytes left rest1 old stops.NoMemory verdict fits b n e = absurd e
+
+-- a verdict by another word
+pub told : {X E : Type 0} {P Q : X → Type 0} (result : Result X E) → ((x : X) → P x → Q x) → IfOk result P → IfOk result Q
+told (Ok x) f h = f x h
+told (Err e) f h = h

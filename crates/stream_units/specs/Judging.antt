@@ -1,9 +1,11 @@
 -- Bytes that are judged by the definitions.
-use Rattle.std.specs.Prelude.{ℕ, List, []}
+use Rattle.std.specs.Prelude.{◌≡◌, ℕ, List, []}
 use Rattle.unit_table.specs.Fronts.{Command}
 use Rattle.stream_units.specs.declared.reason.Reason.{Reason}
 use Rattle.stream_units.specs.declared.judging.Verdict.{Verdict}
 use Rattle.stream_units.specs.declared.judging.Verdict.TheVariants as verdicts
+use Rattle.stream_units.specs.declared.stop.ReadStop.{ReadStop}
+use Rattle.stream_units.specs.declared.stop.ReadStop.TheVariants as stops
 use Rattle.stream_units.specs.Units.{Past, DataUnit}
 use Rattle.stream_units.specs.Streams.{Entry, IsStream, IsRefusal, refusal_of}
 
@@ -21,3 +23,8 @@ judging = record {
   last = λ verdict. [];
   endless = verdicts.Stream;
 }
+
+-- the verdict where a reader stops
+abbrev pub IsStopped : ReadStop → Verdict → Type 0
+IsStopped (stops.Refused refusal) verdict = verdict ≡ verdicts.Refused refusal
+IsStopped stop verdict = ⊥
