@@ -1,0 +1,191 @@
+//! Streams that stand, with the samples of their pictures.
+
+use crate::reading::{
+    END, FIELDS, HEADER, LINE, ONE_EACH, PICTURE, SQUARE, WHOLE, expect_twice, joined,
+};
+use slice_geometry::Component;
+use std::alloc::Global;
+use std::process::Abort;
+use std::test::Fail;
+use stream_units::{Item, StreamReader};
+use vc2_io::MemSource;
+
+/// The samples of the three components.
+type Samples<'a> = [&'a [u16]; 3];
+
+/// After the first header pictures come, with these samples, and then the end.
+fn expect_pictures(
+    rt: &impl Abort,
+    alloc: Global,
+    bytes: &[u8],
+    pieces: &[usize],
+    wants: &[Samples],
+) -> Result<(), Fail> {
+    let mut src = MemSource::new(bytes, pieces, &[]);
+    let mut reader = StreamReader::new(alloc)?;
+    assert_eq!(rt; reader.next(&mut src), Ok(Item::Sequence));
+    for (number, [luma, c1, c2]) in wants.iter().enumerate() {
+        assert!(rt; number < 100);
+        assert_eq!(rt; reader.next(&mut src), Ok(Item::Picture(number as u32)));
+        let picture = reader.picture().expect(rt, "a picture");
+        assert_eq!(rt; picture.samples(Component::Luma), *luma);
+        assert_eq!(rt; picture.samples(Component::C1), *c1);
+        assert_eq!(rt; picture.samples(Component::C2), *c2);
+    }
+    assert_eq!(rt; reader.next(&mut src), Ok(Item::End));
+    Ok(())
+}
+
+/// The units of a stream of pictures, and their samples.
+type Row<'a> = (&'a [&'a [u8]], &'a [Samples<'a>]);
+
+fn expect_rows(rt: &impl Abort, alloc: Global, rows: &[Row]) -> Result<(), Fail> {
+    for (units, wants) in rows {
+        let bytes = joined(alloc, units)?;
+        for pieces in [WHOLE, ONE_EACH] {
+            expect_pictures(rt, alloc, bytes.as_slice(), pieces, wants)?;
+        }
+    }
+    Ok(())
+}
+
+const GREY: &[u16] = &[0x80];
+
+const GREYS: &[u16] = &[0x80, 0x80, 0x80, 0x80];
+
+/// The end behind a unit of 26 bytes.
+const END_26: &[u8] = b"BBCD\x10\x00\x00\x00\x00\x00\x00\x00\x1A";
+
+/// One picture: without a wavelet, with prediction from slice to slice, with one level, and with colour of half the size
+/// in 10 bits.
+#[test]
+fn one_picture(rt: HostRuntime) -> Result<(), Fail> {
+    let rows: [Row; 7] = [
+        (&[HEADER, PICTURE, END], &[[GREY, GREY, GREY]]),
+        (
+            &[
+                HEADER,
+                b"BBCD\xC8\x00\x00\x00\x15\x00\x00\x00\x11\x00\x00\x00\x00\x0C\x92\x70\x00",
+                END,
+            ],
+            &[[GREY, &[0x7E], GREY]],
+        ),
+        (
+            &[
+                HEADER,
+                b"BBCD\xC8\x00\x00\x00\x15\x00\x00\x00\x11\x00\x00\x00\x00\x0C\x92\x70\xFE",
+                END,
+            ],
+            &[[GREY, &[0x00], GREY]],
+        ),
+        (
+            &[
+                LINE,
+                b"BBCD\xC8\x00\x00\x00\x16\x00\x00\x00\x11\x00\x00\x00\x00\x0D\x92\x70\x0A\x03",
+                b"BBCD\x10\x00\x00\x00\x00\x00\x00\x00\x16",
+            ],
+            &[[&[0x80, 0x80], &[0x7A, 0x7A], &[0x80, 0x80]]],
+        ),
+        (
+            &[
+                SQUARE,
+                b"BBCD\xC8\x00\x00\x00\x1A\x00\x00\x00\x11\x00\x00\x00\x00\x24\x94\x9F\x80\x00\xD0\xA4\x12\x6D",
+                END_26,
+            ],
+            &[[&[0x8B, 0x8C, 0x88, 0x8A], GREYS, GREYS]],
+        ),
+        (
+            &[
+                SQUARE,
+                b"BBCD\xC8\x00\x00\x00\x19\x00\x00\x00\x11\x00\x00\x00\x00\x24\x91\x9F\x80\x07\x44\x62\x72",
+                b"BBCD\x10\x00\x00\x00\x00\x00\x00\x00\x19",
+            ],
+            &[[&[0x8C, 0x8C, 0x89, 0x8B], GREYS, GREYS]],
+        ),
+        (
+            &[
+                b"BBCD\x00\x00\x00\x00\x12\x00\x00\x00\x00\x3F\x6E\xD0\x90\xA0",
+                b"BBCD\xC8\x00\x00\x00\x1A\x00\x00\x00\x12\x00\x00\x00\x00\x24\x94\x9F\x80\x00\xD0\xA4\x12\x6D",
+                END_26,
+            ],
+            &[[&[523, 524, 520, 522], &[512], &[512]]],
+        ),
+    ];
+    expect_rows(&rt, rt.alloc(), &rows)
+}
+
+/// Pictures in turn: twice the same parameters, then another wavelet, the first one again, another index, and a matrix
+/// that takes it back. Nothing is left of the picture before.
+#[test]
+fn pictures_in_turn(rt: HostRuntime) -> Result<(), Fail> {
+    let units: [&[u8]; 8] = [
+        SQUARE,
+        b"BBCD\xC8\x00\x00\x00\x1A\x00\x00\x00\x11\x00\x00\x00\x00\x24\x94\x9F\x80\x00\xD0\xA4\x12\x6D",
+        b"BBCD\xC8\x00\x00\x00\x1A\x00\x00\x00\x1A\x00\x00\x00\x01\x24\x94\x9F\x80\x00\x01\xFF\xFF\xFF",
+        b"BBCD\xC8\x00\x00\x00\x1A\x00\x00\x00\x1A\x00\x00\x00\x02\x09\x25\x27\xE0\x00\xD0\xA4\x12\x6D",
+        b"BBCD\xC8\x00\x00\x00\x1A\x00\x00\x00\x1A\x00\x00\x00\x03\x24\x94\x9F\x80\x00\xD0\xA4\x12\x6D",
+        b"BBCD\xC8\x00\x00\x00\x1A\x00\x00\x00\x1A\x00\x00\x00\x04\x24\x94\x9F\x80\x08\xD0\xA4\x12\x6D",
+        b"BBCD\xC8\x00\x00\x00\x1C\x00\x00\x00\x1A\x00\x00\x00\x05\x24\x94\x98\xC6\x31\x80\x08\xD0\xA4\x12\x6D",
+        b"BBCD\x10\x00\x00\x00\x00\x00\x00\x00\x1C",
+    ];
+    let wants: [Samples; 6] = [
+        [&[139, 140, 136, 138], GREYS, GREYS],
+        [GREYS, GREYS, GREYS],
+        [&[150, 152, 144, 148], GREYS, GREYS],
+        [&[139, 140, 136, 138], GREYS, GREYS],
+        [&[151, 153, 144, 149], GREYS, GREYS],
+        [&[139, 140, 136, 138], GREYS, GREYS],
+    ];
+    expect_rows(&rt, rt.alloc(), &[(&units, &wants)])
+}
+
+/// Units that stand: no picture, next offsets of 0, numbers of frames and of fields past 2^32 - 1.
+#[test]
+fn units_that_stand(rt: HostRuntime) -> Result<(), Fail> {
+    let rows: [(&[&[u8]], &[Item]); 4] = [
+        (
+            &[HEADER, b"BBCD\x10\x00\x00\x00\x00\x00\x00\x00\x11"],
+            &[Item::Sequence],
+        ),
+        (
+            &[
+                b"BBCD\x00\x00\x00\x00\x00\x00\x00\x00\x00\x3F\x27\x42\x4A",
+                b"BBCD\xC8\x00\x00\x00\x00\x00\x00\x00\x11\x00\x00\x00\x00\x0C\x92\x70\x01",
+                b"BBCD\x00\x00\x00\x00\x00\x00\x00\x00\x15\x3F\x27\x42\x4A",
+                b"BBCD\x10\x00\x00\x00\x0D\x00\x00\x00\x11",
+            ],
+            &[Item::Sequence, Item::Picture(0), Item::Repeated],
+        ),
+        (
+            &[
+                HEADER,
+                b"BBCD\xC8\x00\x00\x00\x15\x00\x00\x00\x11\xFF\xFF\xFF\xFF\x0C\x92\x70\x01",
+                b"BBCD\xC8\x00\x00\x00\x15\x00\x00\x00\x15\x00\x00\x00\x00\x0C\x92\x70\x01",
+                END,
+            ],
+            &[Item::Sequence, Item::Picture(u32::MAX), Item::Picture(0)],
+        ),
+        (
+            &[
+                FIELDS,
+                b"BBCD\xC8\x00\x00\x00\x15\x00\x00\x00\x12\xFF\xFF\xFF\xFE\x0C\x92\x70\x01",
+                b"BBCD\xC8\x00\x00\x00\x15\x00\x00\x00\x15\xFF\xFF\xFF\xFF\x0C\x92\x70\x01",
+                b"BBCD\xC8\x00\x00\x00\x15\x00\x00\x00\x15\x00\x00\x00\x00\x0C\x92\x70\x01",
+                b"BBCD\xC8\x00\x00\x00\x15\x00\x00\x00\x15\x00\x00\x00\x01\x0C\x92\x70\x01",
+                END,
+            ],
+            &[
+                Item::Sequence,
+                Item::Picture(u32::MAX - 1),
+                Item::Picture(u32::MAX),
+                Item::Picture(0),
+                Item::Picture(1),
+            ],
+        ),
+    ];
+    for (units, items) in rows {
+        let bytes = joined(rt.alloc(), units)?;
+        expect_twice(&rt, rt.alloc(), bytes.as_slice(), items, Ok(Item::End))?;
+    }
+    Ok(())
+}

@@ -1,0 +1,84 @@
+//! Reads a stream, and compares what its units and its end come to.
+
+use std::alloc::Global;
+use std::process::Abort;
+use std::test::Fail;
+use stream_units::{Item, ReadStop, Reason, Refusal, StreamReader};
+use vc2_io::{MemSource, Source};
+
+/// The first unit of most streams here: one sample, 4:4:4, 8 bits, frames.
+pub(crate) const HEADER: &[u8] = b"BBCD\x00\x00\x00\x00\x11\x00\x00\x00\x00\x3F\x27\x42\x4A";
+
+/// A picture unit behind it: number 0, one slice of one byte.
+pub(crate) const PICTURE: &[u8] =
+    b"BBCD\xC8\x00\x00\x00\x15\x00\x00\x00\x11\x00\x00\x00\x00\x0C\x92\x70\x01";
+
+/// The end behind a unit of 21 bytes.
+pub(crate) const END: &[u8] = b"BBCD\x10\x00\x00\x00\x00\x00\x00\x00\x15";
+
+/// A first unit for fields of one sample.
+pub(crate) const FIELDS: &[u8] = b"BBCD\x00\x00\x00\x00\x12\x00\x00\x00\x00\x3F\x2F\x42\x48\x80";
+
+/// A first unit for frames of two samples side by side.
+pub(crate) const LINE: &[u8] = b"BBCD\x00\x00\x00\x00\x11\x00\x00\x00\x00\x3F\x67\x42\x4A";
+
+/// A first unit for frames of two by two samples.
+pub(crate) const SQUARE: &[u8] = b"BBCD\x00\x00\x00\x00\x11\x00\x00\x00\x00\x3F\x6F\x42\x4A";
+
+/// Reads of one byte.
+pub(crate) const ONE_EACH: &[usize] = &[1; 400];
+
+/// Reads of all that there is.
+pub(crate) const WHOLE: &[usize] = &[];
+
+/// The answer where the stream is refused.
+pub(crate) fn refused(place: u64, reason: Reason) -> Result<Item, ReadStop> {
+    Err(ReadStop::Refused(Refusal { place, reason }))
+}
+
+/// Units behind one another.
+pub(crate) fn joined(alloc: Global, units: &[&[u8]]) -> Result<Vec<u8>, Fail> {
+    let mut bytes = Vec::new(alloc);
+    for unit in units {
+        bytes.extend_from_slice(unit)?;
+    }
+    Ok(bytes)
+}
+
+/// The items come in order, and then the last answer. It stays, and nothing more is read, from a source that fails or
+/// from one that has bytes. At most 4096 bytes are ever held.
+pub(crate) fn expect<S: Source>(
+    rt: &impl Abort,
+    alloc: Global,
+    src: &mut S,
+    items: &[Item],
+    last: Result<Item, ReadStop>,
+) -> Result<(), Fail> {
+    let mut reader = StreamReader::new(alloc)?;
+    for item in items {
+        assert_eq!(rt; reader.next(src), Ok(*item));
+        assert!(rt; reader.held() <= 4096);
+    }
+    assert_eq!(rt; reader.next(src), last);
+    assert!(rt; reader.held() <= 4096);
+    let mut failing = MemSource::new(&[], &[], &[0]);
+    assert_eq!(rt; reader.next(&mut failing), last);
+    let mut more = MemSource::new(HEADER, &[], &[]);
+    assert_eq!(rt; reader.next(&mut more), last);
+    Ok(())
+}
+
+/// The same where all comes at once, and where each byte comes alone.
+pub(crate) fn expect_twice(
+    rt: &impl Abort,
+    alloc: Global,
+    bytes: &[u8],
+    items: &[Item],
+    last: Result<Item, ReadStop>,
+) -> Result<(), Fail> {
+    for pieces in [WHOLE, ONE_EACH] {
+        let mut src = MemSource::new(bytes, pieces, &[]);
+        expect(rt, alloc, &mut src, items, last)?;
+    }
+    Ok(())
+}

@@ -1,0 +1,163 @@
+//! The stream of one picture of one sample: whole, cut at each byte, and over a source that fails.
+
+use crate::reading::{
+    END, HEADER, ONE_EACH, PICTURE, WHOLE, expect, expect_twice, joined, refused,
+};
+use sequence_header::{AspectField, ColourField, HeaderParts, RateField, SignalField};
+use slice_geometry::{UnitShape, UnitShapes};
+use std::process::Abort;
+use std::test::Fail;
+use stream_units::{Item, ReadStop, Reason, StreamReader, first_unit};
+use vc2_io::{MemSource, SteadySource};
+
+const ITEMS: [Item; 2] = [Item::Sequence, Item::Picture(0)];
+
+/// What its sequence header holds.
+const PARTS: HeaderParts = HeaderParts {
+    major: 1,
+    minor: 0,
+    level: 0,
+    width: 1,
+    height: 1,
+    sampling: 0,
+    scan: None,
+    rate: RateField::Index(3),
+    aspect: AspectField::Default,
+    clean: None,
+    signal: SignalField::Index(1),
+    colour: ColourField::Default,
+    coding: 0,
+};
+
+/// A unit without slices.
+fn plain(start: u64, head: u64) -> UnitShape {
+    UnitShape {
+        start,
+        head,
+        slices: 0,
+        a: 1,
+        b: 1,
+    }
+}
+
+/// Whether a header and a picture are shown, and the bytes taken and held.
+fn shown(reader: &StreamReader) -> (bool, bool, u64, usize) {
+    let has_header = reader.header().is_some();
+    let has_picture = reader.picture().is_some();
+    (has_header, has_picture, reader.taken(), reader.held())
+}
+
+/// What the reader shows before the first unit and behind each.
+#[test]
+fn unit_by_unit(rt: HostRuntime) -> Result<(), Fail> {
+    let bytes = joined(rt.alloc(), &[HEADER, PICTURE, END])?;
+    let mut src = SteadySource::new(bytes.as_slice());
+    let mut reader = StreamReader::new(rt.alloc())?;
+    assert_eq!(rt; shown(&reader), (false, false, 0, 0));
+    let steps = [
+        (Item::Sequence, (true, false, 17, 34)),
+        (Item::Picture(0), (true, true, 38, 13)),
+        (Item::End, (true, false, 51, 0)),
+    ];
+    for (item, want) in steps {
+        assert_eq!(rt; reader.next(&mut src), Ok(item));
+        assert_eq!(rt; shown(&reader), want);
+    }
+    expect_parts(&rt, &reader);
+    expect_shapes(&rt, reader.shapes());
+    Ok(())
+}
+
+fn expect_parts(rt: &impl Abort, reader: &StreamReader) {
+    let header = reader.header().expect(rt, "a header");
+    assert_eq!(rt; *header.parts(), PARTS);
+}
+
+/// A header, a picture of one slice, which begins 20 bytes behind its unit's first, and the end.
+fn expect_shapes(rt: &impl Abort, shapes: &UnitShapes) {
+    let picture = UnitShape {
+        slices: 1,
+        ..plain(17, 20)
+    };
+    assert_eq!(rt; (shapes.len(), shapes.total()), (3, 51));
+    for (number, shape) in [plain(0, 17), picture, plain(38, 13)].iter().enumerate() {
+        assert!(rt; number < shapes.len());
+        assert_eq!(rt; shapes.get(number), *shape);
+    }
+}
+
+/// Behind a refusal the header, the shapes and the bytes taken are those of the units that stand; no picture is shown.
+#[test]
+fn behind_a_refusal(rt: HostRuntime) -> Result<(), Fail> {
+    let bytes = joined(rt.alloc(), &[HEADER, PICTURE, END, &[0]])?;
+    let mut src = SteadySource::new(bytes.as_slice());
+    let mut reader = StreamReader::new(rt.alloc())?;
+    for item in ITEMS {
+        assert_eq!(rt; reader.next(&mut src), Ok(item));
+    }
+    assert_eq!(rt; shown(&reader), (true, true, 38, 14));
+    let last = reader.next(&mut src);
+    assert_eq!(rt; last, refused(51, Reason::TrailingBytes));
+    let (has_header, has_picture, taken, _) = shown(&reader);
+    assert_eq!(rt; (has_header, has_picture, taken), (true, false, 38));
+    assert_eq!(rt; reader.shapes().len(), 2);
+    Ok(())
+}
+
+/// The first unit alone.
+#[test]
+fn its_first_unit(rt: HostRuntime) -> Result<(), Fail> {
+    let (header, length) = first_unit(HEADER).ok().expect(&rt, "a header unit");
+    assert_eq!(rt; (*header.parts(), length), (PARTS, 17));
+    Ok(())
+}
+
+/// The first and the last length of the cut stream, how many items stand, and the place of the field that is short.
+const CUTS: [(usize, usize, usize, u64); 18] = [
+    (0, 3, 0, 0),
+    (4, 4, 0, 4),
+    (5, 8, 0, 5),
+    (9, 12, 0, 9),
+    (13, 13, 0, 13),
+    (14, 14, 0, 14),
+    (15, 15, 0, 15),
+    (16, 16, 0, 16),
+    (17, 20, 1, 17),
+    (21, 21, 1, 21),
+    (22, 25, 1, 22),
+    (26, 29, 1, 26),
+    (30, 33, 1, 30),
+    (34, 35, 1, 34),
+    (36, 36, 1, 35),
+    (37, 37, 1, 37),
+    (38, 41, 2, 38),
+    (42, 42, 2, 42),
+];
+
+#[test]
+fn cut_at_each_byte(rt: HostRuntime) -> Result<(), Fail> {
+    let bytes = joined(rt.alloc(), &[HEADER, PICTURE, END])?;
+    for (first, last, count, place) in CUTS {
+        for length in first..=last {
+            let short = refused(place, Reason::Truncated);
+            assert!(rt; length <= bytes.len() && count <= ITEMS.len());
+            expect_twice(&rt, rt.alloc(), &bytes[..length], &ITEMS[..count], short)?;
+        }
+    }
+    Ok(())
+}
+
+/// Each read fails in turn, where each byte comes alone: the units that stand whole before it come, and then the fault.
+#[test]
+fn each_read_fails(rt: HostRuntime) -> Result<(), Fail> {
+    let bytes = joined(rt.alloc(), &[HEADER, PICTURE, END])?;
+    for call in 0..52 {
+        let failing = [call];
+        let mut src = MemSource::new(bytes.as_slice(), ONE_EACH, &failing);
+        let count = usize::from(call >= 17) + usize::from(call >= 38);
+        let fault = Err(ReadStop::ReadFault);
+        expect(&rt, rt.alloc(), &mut src, &ITEMS[..count], fault)?;
+    }
+    let mut src = MemSource::new(bytes.as_slice(), WHOLE, &[52]);
+    expect(&rt, rt.alloc(), &mut src, &ITEMS, Ok(Item::End))
+}
