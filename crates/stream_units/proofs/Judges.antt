@@ -1,8 +1,7 @@
 -- How a judge comes to its verdict.
-use Rattle.std.proofs.Common.{◌≡◌, ℕ, ◌+◌, ◌^◌, ◌<◌, ◌≤◌, Bool, true, false, List, [], ◌++◌, length, Option, None, Some, Result, Ok, Err, IfOk, inl, inr, refl, sym, ap, subst, ◌∙◌, arith}
+use Rattle.std.proofs.Common.{◌≡◌, ℕ, ◌^◌, ◌<◌, ◌≤◌, true, false, List, [], length, Option, None, Some, Result, Ok, Err, IfOk, inl, inr, refl, sym, ap, subst, ◌∙◌, arith}
 use Rattle.std.specs.List.{AllByRecursion}
 use Rattle.std.proofs.lemmas.List.{length-append}
-use Rattle.std.specs.Io.KnownBytes.{Consumes}
 use Rattle.vc2_io.proofs.Known.{Appends-none}
 use Rattle.vc2_run.specs.Walk.{Machine, answer_to}
 use Rattle.vc2_run.specs.Ran.{Ran}
@@ -10,16 +9,14 @@ use Rattle.vc2_run.specs.Window.{Holds}
 use Rattle.vc2_run.proofs.Windows.{holds_none}
 use Rattle.unit_table.specs.Fronts.{machine_of}
 use Rattle.unit_table.proofs.Turning.{turned_more, turned_ended}
-use Rattle.stream_units.specs.declared.reason.Reason.{Reason}
-use Rattle.stream_units.specs.declared.reason.Refusal.{Refusal}
 use Rattle.stream_units.specs.declared.stop.Item.{Item}
 use Rattle.stream_units.specs.declared.stop.Item.TheVariants as items
 use Rattle.stream_units.specs.declared.stop.ReadStop.{ReadStop}
 use Rattle.stream_units.specs.declared.stop.ReadStop.TheVariants as stops
 use Rattle.stream_units.specs.declared.judging.Verdict.{Verdict}
 use Rattle.stream_units.specs.declared.judging.Verdict.TheVariants as verdicts
-use Rattle.stream_units.specs.Units.{Past, DataUnit, nothing_yet, units}
-use Rattle.stream_units.specs.Streams.{limit, past_limit, refusal_of, HasOneAnswer, IsRefusal}
+use Rattle.stream_units.specs.Units.{Past, nothing_yet, units}
+use Rattle.stream_units.specs.Streams.{limit, past_limit, refusal_of, HasOneAnswer}
 use Rattle.stream_units.specs.Turns.{LimitStops}
 use Rattle.stream_units.specs.Reader.{ReaderState, new_reader, is_last, TakesItem, TakesEnd, NextOver}
 use Rattle.stream_units.specs.Judging.{IsVerdict, IsStopped, judging}

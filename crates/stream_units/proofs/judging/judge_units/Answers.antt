@@ -1,4 +1,4 @@
-use Rattle.std.proofs.Common.{◌≡◌, sym, ap, subst, ◌∙◌, Some, Ok, Err}
+use Rattle.std.proofs.Common.{sym, ◌∙◌, Some}
 use Rattle.unit_table.proofs.Fields.{all_fit}
 use Rattle.stream_units.proofs.Judges.{takes_by, ends_by, between_more, judged_stream, judged_stop, told}
 use Rattle.stream_units.proofs.judging.judge_units.Goals as goal

@@ -1,4 +1,4 @@
-use Rattle.std.proofs.Common.{◌≡◌, ◌-◌, ◌^◌, Some}
+use Rattle.std.proofs.Common.{◌-◌, ◌^◌, Some}
 use Rattle.stream_units.proofs.Judges.{Between}
 use Rattle.stream_units.proofs.judging.judge_units.Given as goal
 
