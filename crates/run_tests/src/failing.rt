@@ -22,22 +22,32 @@ fn due(count: usize) -> &'static [u8] {
     if count < 38 { b"" } else { PICTURE }
 }
 
+// A run of `decode` over a part of the smallest stream, which is refused at a place.
+fn check_cut(
+    rt: &impl Abort,
+    alloc: Global,
+    input: &[u8],
+    pieces: &[usize],
+    place: u64,
+) -> Result<(), Fail> {
+    let words = [String::from_str(alloc, "decode")?];
+    let line = format!(in alloc; "refused at {place}: Truncated\n")?;
+    let mut src = MemSource::new(input, pieces, &[]);
+    let mut out = MemSink::new(alloc, 100, 0, &NONE)?;
+    let mut note = MemSink::new(alloc, 100, 0, &NONE)?;
+    let status = run(alloc, &words, &mut src, &mut out, &mut note);
+    assert_eq!(rt; status, refused(place, Reason::Truncated));
+    assert_eq!(rt; out.bytes(), due(input.len()));
+    assert_eq!(rt; note.bytes(), line.as_bytes());
+    Ok(())
+}
+
 #[test]
 fn cut_streams_are_truncated(rt: HostRuntime) -> Result<(), Fail> {
     let alloc = rt.alloc();
-    let words = [String::from_str(alloc, "decode")?];
     for count in 0..51 {
-        let place = CUTS[count];
-        let line = format!(in alloc; "refused at {place}: Truncated\n")?;
-        for pieces in [[].as_slice(), &ONE_EACH] {
-            let mut src = MemSource::new(&SMALLEST[..count], pieces, &[]);
-            let mut out = MemSink::new(alloc, 100, 0, &NONE)?;
-            let mut note = MemSink::new(alloc, 100, 0, &NONE)?;
-            let status = run(alloc, &words, &mut src, &mut out, &mut note);
-            assert_eq!(rt; status, refused(place, Reason::Truncated), "at {count}");
-            assert_eq!(rt; out.bytes(), due(count), "at {count}");
-            assert_eq!(rt; note.bytes(), line.as_bytes(), "at {count}");
-        }
+        check_cut(&rt, alloc, &SMALLEST[..count], &[], CUTS[count])?;
+        check_cut(&rt, alloc, &SMALLEST[..count], &ONE_EACH, CUTS[count])?;
     }
     Ok(())
 }

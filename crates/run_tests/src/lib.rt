@@ -4,6 +4,8 @@
 #[cfg(test)]
 mod failing;
 #[cfg(test)]
+mod hexadecimal;
+#[cfg(test)]
 mod long;
 #[cfg(test)]
 mod row;

@@ -1,4 +1,5 @@
 // Streams with a long unit that is skipped.
+use crate::hexadecimal::bytes_of;
 use crate::row::{NONE, only};
 use std::alloc::Global;
 use std::process::Abort;
@@ -8,11 +9,11 @@ use vc2_io::{MemSink, MemSource, fill};
 
 // A million zeros between two parts in hexadecimal.
 fn long_stream(alloc: Global, head: &str, tail: &str) -> Result<Vec<u8>, Fail> {
-    let mut bytes = hex::decode(alloc, head)?;
+    let mut bytes = bytes_of(alloc, head)?;
     for _ in 0..1000 {
         bytes.extend_from_slice(&[0; 1000])?;
     }
-    let tail = hex::decode(alloc, tail)?;
+    let tail = bytes_of(alloc, tail)?;
     bytes.extend_from_slice(tail.as_slice())?;
     Ok(bytes)
 }

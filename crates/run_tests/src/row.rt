@@ -1,4 +1,5 @@
 // A worked input, and what a run over it comes to.
+use crate::hexadecimal::bytes_of;
 use std::alloc::Global;
 use std::process::Abort;
 use std::test::Fail;
@@ -40,7 +41,7 @@ impl<'a> Row<'a> {
     fn check(&self, rt: &impl Abort, alloc: Global, pieces: &[usize]) -> Result<(), Fail> {
         let name = self.name;
         let words = [String::from_str(alloc, self.word)?];
-        let input = hex::decode(alloc, self.input)?;
+        let input = bytes_of(alloc, self.input)?;
         let mut src = MemSource::new(input.as_slice(), pieces, &[]);
         let mut out = MemSink::new(alloc, 1000, 0, &NONE)?;
         let mut note = MemSink::new(alloc, 1000, 0, &NONE)?;

@@ -3,7 +3,7 @@
 use std::alloc::Global;
 use std::process::Abort;
 use std::test::Fail;
-use stream_units::{Item, ReadStop, Reason, Refusal, StreamReader};
+use stream_units::{Item, ReadStop, Reason, Refusal, StreamReader, Verdict, judge};
 use vc2_io::{MemSource, Source};
 
 /// The first unit of most streams here: one sample, 4:4:4, 8 bits, frames.
@@ -87,7 +87,7 @@ pub(crate) fn expect<S: Source>(
     Ok(())
 }
 
-/// The same where all comes at once, and where each byte comes alone.
+/// The same where all comes at once, and where each byte comes alone; and by the judge of bytes in memory.
 pub(crate) fn expect_twice(
     rt: &impl Abort,
     alloc: Global,
@@ -99,5 +99,11 @@ pub(crate) fn expect_twice(
         let mut src = MemSource::new(bytes, pieces, &[]);
         expect(rt, alloc, &mut src, items, last)?;
     }
+    let verdict = match last {
+        Ok(_) => Verdict::Stream,
+        Err(ReadStop::Refused(refusal)) => Verdict::Refused(refusal),
+        Err(_) => return Ok(()),
+    };
+    assert_eq!(rt; judge(alloc, bytes)?, verdict);
     Ok(())
 }

@@ -19,3 +19,4 @@ pub mod Ready
 pub mod UnitTurns
 pub mod InLimit
 pub mod ReaderTurns
+pub mod Judges

@@ -6,3 +6,4 @@ pub mod Turns
 pub mod Reader
 pub mod ReaderInside
 pub mod Parts
+pub mod Judging

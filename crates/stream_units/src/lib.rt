@@ -3,6 +3,7 @@
 
 mod earlier;
 mod heads;
+mod judging;
 mod laws;
 mod limits;
 mod parts;
@@ -15,6 +16,7 @@ mod units;
 mod window;
 
 pub use heads::first_unit;
+pub use judging::{Verdict, judge};
 pub use laws::one_answer;
 pub use reader::StreamReader;
 pub use reason::{Reason, Refusal};

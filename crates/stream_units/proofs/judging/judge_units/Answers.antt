@@ -1,0 +1,23 @@
+use Rattle.std.proofs.Common.{sym, ◌∙◌, Some}
+use Rattle.unit_table.proofs.Fields.{all_fit}
+use Rattle.stream_units.proofs.Judges.{takes_by, ends_by, between_more, judged_stream, judged_stop, told}
+use Rattle.stream_units.proofs.judging.judge_units.Goals as goal
+
+pub loop-item-preserved : goal.loop-item-preserved
+loop-item-preserved c =
+    let b = c.loop-item.invariant.between in
+    record {
+      between = between_more (Some c.args.bytes.now) (Some c.loop-item.src) (Some c.next.new.src) c.loop-item.reader c.next.new.self c.in-Ok.item b
+          (takes_by c.loop-item.reader c.next.new.self (Some c.loop-item.src) (Some c.next.new.src) c.in-Ok.item (c.in-Ok.ensures.next b.no_stop b.no_end) (sym c.is_last.ensures ∙ cc));
+    }
+
+pub returns-in-Err : goal.returns-in-Err
+returns-in-Err c =
+    let b = c.loop-item.invariant.between in
+    told c.stopped.result (λ verdict e. judged_stop c.args.bytes.now c.next.new.src (Some c.loop-item.src) c.loop-item.reader c.in-Err.stop verdict (all_fit c.args.bytes.now c.requires.bytes) b (c.in-Err.ensures.next b.no_stop b.no_end).0 e) c.stopped.ensures
+
+pub returns-then-is_last : goal.returns-then-is_last
+returns-then-is_last c =
+    let b = c.loop-item.invariant.between in
+    judged_stream c.args.bytes.now c.next.new.src (Some c.loop-item.src) c.loop-item.reader c.next.new.self (all_fit c.args.bytes.now c.requires.bytes) b
+    (ends_by c.loop-item.reader c.next.new.self (Some c.loop-item.src) (Some c.next.new.src) c.in-Ok.item (c.in-Ok.ensures.next b.no_stop b.no_end) (sym c.is_last.ensures ∙ cc))
