@@ -59,7 +59,7 @@ fn a_large_picture(rt: HostRuntime) -> Result<(), Fail> {
         assert_eq!(rt; picture.samples(Component::C1), grey.as_slice());
         assert_eq!(rt; picture.samples(Component::C2), last.as_slice());
         expect_next(&rt, &mut reader, &mut src, Ok(Item::End));
-        assert_eq!(rt; reader.taken(), 102457);
+        assert_eq!(rt; (reader.taken(), reader.slices()), (102457, 4096));
     }
     Ok(())
 }

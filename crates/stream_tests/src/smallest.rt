@@ -57,6 +57,7 @@ fn unit_by_unit(rt: HostRuntime) -> Result<(), Fail> {
     assert_eq!(rt; shown(&reader), (false, false, 0, 0));
     expect_shown(&rt, &mut reader, &mut src);
     expect_parts(&rt, &reader);
+    assert_eq!(rt; (reader.pictures(), reader.slices()), (1, 1));
     expect_shapes(&rt, reader.shapes());
     Ok(())
 }
