@@ -51,17 +51,27 @@ fn a_large_picture(rt: HostRuntime) -> Result<(), Fail> {
         let pieces = vec![in rt.alloc(); piece; 110000]?;
         let mut src = MemSource::new(bytes.as_slice(), pieces.as_slice(), &[]);
         let mut reader = StreamReader::new(rt.alloc())?;
-        expect_next(&rt, &mut reader, &mut src, Ok(Item::Sequence));
-        expect_next(&rt, &mut reader, &mut src, Ok(Item::Picture(0)));
-        assert!(rt; reader.held() < piece);
-        let picture = reader.picture().expect(&rt, "a picture");
-        assert_eq!(rt; picture.samples(Component::Luma), grey.as_slice());
-        assert_eq!(rt; picture.samples(Component::C1), grey.as_slice());
-        assert_eq!(rt; picture.samples(Component::C2), last.as_slice());
-        expect_next(&rt, &mut reader, &mut src, Ok(Item::End));
-        assert_eq!(rt; (reader.taken(), reader.slices()), (102457, 4096));
+        let wants = [grey.as_slice(), grey.as_slice(), last.as_slice()];
+        expect_large(&rt, &mut reader, &mut src, wants);
     }
     Ok(())
+}
+
+fn expect_large<S: Source>(
+    rt: &impl Abort,
+    reader: &mut StreamReader,
+    src: &mut S,
+    wants: [&[u16]; 3],
+) {
+    expect_next(rt, reader, src, Ok(Item::Sequence));
+    expect_next(rt, reader, src, Ok(Item::Picture(0)));
+    let picture = reader.picture().expect(rt, "a picture");
+    let [luma, c1, c2] = wants;
+    assert_eq!(rt; picture.samples(Component::Luma), luma);
+    assert_eq!(rt; picture.samples(Component::C1), c1);
+    assert_eq!(rt; picture.samples(Component::C2), c2);
+    expect_next(rt, reader, src, Ok(Item::End));
+    assert_eq!(rt; (reader.taken(), reader.slices()), (102457, 4096));
 }
 
 /// Each item with the bytes taken behind it.

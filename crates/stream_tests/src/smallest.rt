@@ -48,21 +48,18 @@ fn shown(reader: &StreamReader) -> (bool, bool, u64, usize) {
     (has_header, has_picture, reader.taken(), reader.held())
 }
 
-/// What the reader shows before the first unit and behind each.
+/// What the reader shows before the first unit, behind each, and in the end.
 #[test]
 fn unit_by_unit(rt: HostRuntime) -> Result<(), Fail> {
     let bytes = joined(rt.alloc(), &[HEADER, PICTURE, END])?;
     let mut src = SteadySource::new(bytes.as_slice());
     let mut reader = StreamReader::new(rt.alloc())?;
-    assert_eq!(rt; shown(&reader), (false, false, 0, 0));
     expect_shown(&rt, &mut reader, &mut src);
-    expect_parts(&rt, &reader);
-    assert_eq!(rt; (reader.pictures(), reader.slices()), (1, 1));
-    expect_shapes(&rt, reader.shapes());
     Ok(())
 }
 
 fn expect_shown<S: Source>(rt: &impl Abort, reader: &mut StreamReader, src: &mut S) {
+    assert_eq!(rt; shown(reader), (false, false, 0, 0));
     let steps = [
         (Item::Sequence, (true, false, 17, 34)),
         (Item::Picture(0), (true, true, 38, 13)),
@@ -72,6 +69,9 @@ fn expect_shown<S: Source>(rt: &impl Abort, reader: &mut StreamReader, src: &mut
         expect_next(rt, reader, src, Ok(item));
         assert_eq!(rt; shown(reader), want);
     }
+    expect_parts(rt, reader);
+    assert_eq!(rt; (reader.pictures(), reader.slices()), (1, 1));
+    expect_shapes(rt, reader.shapes());
 }
 
 fn expect_parts(rt: &impl Abort, reader: &StreamReader) {
@@ -98,18 +98,18 @@ fn behind_a_refusal(rt: HostRuntime) -> Result<(), Fail> {
     let bytes = joined(rt.alloc(), &[HEADER, PICTURE, END, &[0]])?;
     let mut src = SteadySource::new(bytes.as_slice());
     let mut reader = StreamReader::new(rt.alloc())?;
-    expect_items(&rt, &mut reader, &mut src, &ITEMS);
-    assert_eq!(rt; shown(&reader), (true, true, 38, 14));
-    expect_next(
-        &rt,
-        &mut reader,
-        &mut src,
-        refused(51, Reason::TrailingBytes),
-    );
-    let (has_header, has_picture, taken, _) = shown(&reader);
+    expect_stopped(&rt, &mut reader, &mut src);
+    Ok(())
+}
+
+fn expect_stopped<S: Source>(rt: &impl Abort, reader: &mut StreamReader, src: &mut S) {
+    expect_items(rt, reader, src, &ITEMS);
+    assert_eq!(rt; shown(reader), (true, true, 38, 14));
+    let trailing = refused(51, Reason::TrailingBytes);
+    expect_next(rt, reader, src, trailing);
+    let (has_header, has_picture, taken, _) = shown(reader);
     assert_eq!(rt; (has_header, has_picture, taken), (true, false, 38));
     assert_eq!(rt; reader.shapes().len(), 2);
-    Ok(())
 }
 
 /// The first unit alone.
