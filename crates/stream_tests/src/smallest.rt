@@ -121,7 +121,7 @@ fn its_first_unit(rt: HostRuntime) -> Result<(), Fail> {
 }
 
 /// The first and the last length of the cut stream, how many items stand, and the place of the field that is short.
-const CUTS: [(usize, usize, usize, u64); 18] = [
+const CUTS: [(usize, usize, usize, u64); 20] = [
     (0, 3, 0, 0),
     (4, 4, 0, 4),
     (5, 8, 0, 5),
@@ -140,6 +140,8 @@ const CUTS: [(usize, usize, usize, u64); 18] = [
     (37, 37, 1, 37),
     (38, 41, 2, 38),
     (42, 42, 2, 42),
+    (43, 46, 2, 43),
+    (47, 50, 2, 47),
 ];
 
 #[test]
