@@ -11,7 +11,7 @@ use Rattle.field_rows.proofs.Moves.{read-moved, read-renamed}
 use Rattle.field_rows.proofs.Reading.{read-bind, then_err}
 use Rattle.field_rows.proofs.Words.{bits_of-append}
 use Rattle.unit_table.specs.Grammar.{Grammar, bytes_at}
-use Rattle.unit_table.specs.Begun.{Lacks, Moves}
+use Rattle.unit_table.specs.Begun.{Moves}
 use Rattle.stream_units.proofs.Exact.{read-others}
 
 -- The rows ask neither for their place nor for what follows, and their reasons have these names in a unit.
@@ -49,11 +49,3 @@ pub group_refused : {Z R U S A : Type 0} {g : Grammar Z R U} {name : S → R} {r
     → read reason_of rows (cursor_at bytes 0) ≡ Err fault → read g.reason_of (renamed name rows >>= next) (bytes_at at bytes) ≡ Err (record { place = 8 * at + fault.place; reason = name fault.reason })
 group_refused {g = g} {name = name} {reason_of = reason_of} {rows = rows} group next at bytes fault e =
     then_err g.reason_of (renamed name rows) next (bytes_at at bytes) (record { place = 8 * at + fault.place; reason = name fault.reason }) (group_read group at bytes ∙ rw e refl)
-
-pub refused_lacks : {Z R U : Type 0} (g : Grammar Z R U) (left : Rows R U) (at : ℕ) (bytes : List ℕ) (fault : Fault R) → read g.reason_of left (bytes_at at bytes) ≡ Err fault → Lacks g left at bytes
-refused_lacks g left at bytes fault e = record { lacks = rw e refl }
-
--- no whole unit, where it is not read
-pub group_lacks : {Z R U S A : Type 0} {g : Grammar Z R U} {name : S → R} {reason_of : CodeFault → S} {rows : Rows S A} → IsGroup g name reason_of rows → (next : A → Rows R U) (at : ℕ) (bytes : List ℕ) (fault : Fault S)
-    → read reason_of rows (cursor_at bytes 0) ≡ Err fault → Lacks g (renamed name rows >>= next) at bytes
-group_lacks {g = g} {name = name} {rows = rows} group next at bytes fault e = refused_lacks g (renamed name rows >>= next) at bytes (record { place = 8 * at + fault.place; reason = name fault.reason }) (group_refused group next at bytes fault e)

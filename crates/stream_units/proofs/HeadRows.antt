@@ -3,7 +3,7 @@ use Rattle.std.proofs.Common.{◌≡◌, ℕ, ◌+◌, ◌-◌, ◌*◌, ◌/◌
 use Rattle.std.specs.Prelude.{◌==◌, ◌||◌, ◌&&◌, ◌%◌, not, is_some, OnOk, IfErr}
 use Rattle.std.proofs.lemmas.List.{drop-drop, length-drop}
 use Rattle.bit_codes.specs.Bits.{Cursor, cursor_at, bits_of}
-use Rattle.field_rows.specs.Rows.{◌or_else◌, done, ◌>>=◌, renamed, Fault, read, and_then, judged, first_broken}
+use Rattle.field_rows.specs.Rows.{Rows, ◌or_else◌, done, ◌>>=◌, renamed, Fault, read, and_then, judged, first_broken}
 use Rattle.field_rows.specs.Moved.{moved_answer, renamed_answer}
 use Rattle.field_rows.proofs.Reading.{read-bind, read-done, then_ok, then_err}
 use Rattle.field_rows.proofs.Words.{IsBytes, split-bits, read-check_at}
@@ -33,7 +33,7 @@ use Rattle.stream_units.proofs.Whole.{header_names}
 abbrev pub head_reader : Past → Reader Reason
 head_reader z = record { reason_of = reason_of; bad_prefix = reasons.BadPrefix; unsupported = reasons.UnsupportedCode; code_rules = code_rules z; next_rules = next_rules; previous_rules = λ code next previous. (previous == z.previous or_else reasons.PreviousWrong) ∷ [] }
 
-thirteen : (bytes : List ℕ) → drop 4 (drop 4 (drop 1 (drop 4 bytes))) ≡ drop 13 bytes
+pub thirteen : (bytes : List ℕ) → drop 4 (drop 4 (drop 1 (drop 4 bytes))) ≡ drop 13 bytes
 thirteen bytes = ap (λ l. drop 4 (drop 4 l)) (drop-drop 1 4 bytes) ∙ ap (drop 4) (drop-drop 4 5 bytes) ∙ drop-drop 4 9 bytes
 
 -- what its rows read, from what `ParseInfo::read` answers
@@ -72,18 +72,18 @@ previous_not_short true e = cc
 previous_not_short false e = cc
 
 -- what is answered of a reading
-abbrev Tells : List ℕ → Cursor → Result (ParseInfo × Cursor) (Fault Reason) → Result ParseInfo Refusal → Type 0
+abbrev pub Tells : List ℕ → Cursor → Result (ParseInfo × Cursor) (Fault Reason) → Result ParseInfo Refusal → Type 0
 Tells bytes behind (Ok x) (Ok info) = (13 ≤ length bytes) × (x ≡ (info, behind))
 Tells bytes behind (Err fault) (Err refusal) = (refusal ≡ refusal_of fault) × (fault.reason ≡ reasons.Truncated → length bytes < 13)
 Tells bytes behind (Ok x) (Err refusal) = ⊥
 Tells bytes behind (Err fault) (Ok info) = ⊥
 
-tells_judged : (bytes : List ℕ) (behind : Cursor) (bit place : ℕ) (broken : Option Reason) (r : Result (ParseInfo × Cursor) (Fault Reason)) (s : Result ParseInfo Refusal) → place ≡ bit / 8 → (broken ≡ Some reasons.Truncated → ⊥) → Tells bytes behind r s
+pub tells_judged : (bytes : List ℕ) (behind : Cursor) (bit place : ℕ) (broken : Option Reason) (r : Result (ParseInfo × Cursor) (Fault Reason)) (s : Result ParseInfo Refusal) → place ≡ bit / 8 → (broken ≡ Some reasons.Truncated → ⊥) → Tells bytes behind r s
     → Tells bytes behind (judged bit broken r) (and_then (passes place broken) (λ checked. s))
 tells_judged bytes behind bit place None r s at other h = h
 tells_judged bytes behind bit place (Some reason) r s at other h = (ap (λ n. record { place = n; reason = reason }) at, λ e. absurd (other (ap Some e)))
 
-tells_fault : (bytes : List ℕ) (behind : Cursor) (bit place : ℕ) (reason : Reason) → place ≡ bit / 8 → (reason ≡ reasons.Truncated → length bytes < 13) → Tells bytes behind (Err (record { place = bit; reason = reason })) (Err (record { place = place; reason = reason }))
+pub tells_fault : (bytes : List ℕ) (behind : Cursor) (bit place : ℕ) (reason : Reason) → place ≡ bit / 8 → (reason ≡ reasons.Truncated → length bytes < 13) → Tells bytes behind (Err (record { place = bit; reason = reason })) (Err (record { place = place; reason = reason }))
 tells_fault bytes behind bit place reason at short = (ap (λ n. record { place = n; reason = reason }) at, short)
 
 tells_code : (z : Past) (bytes : List ℕ) (behind : Cursor) (code : Code) (r : Result (ParseInfo × Cursor) (Fault Reason)) (s : Result ParseInfo Refusal) → Tells bytes behind r s
@@ -113,20 +113,20 @@ tells_short z bytes behind (faults.PreviousShort code next) short =
     tells_code z bytes behind code _ _
     (tells_next z bytes behind code next _ _ (tells_fault bytes behind (8 * z.place + 32 + 8 + 32) (z.place + 9) reasons.Truncated (omega arith) (λ e. short refl)))
 
-tells_head : (z : Past) (bytes : List ℕ) (r : Result (ParseInfo × Cursor) (Fault Reason)) (s : Result ParseInfo Refusal) → read reason_of (unit_head z) (bytes_at z.place bytes) ≡ r → Tells bytes (bytes_at (z.place + 13) (drop 13 bytes)) r s → HeadAt z bytes s
-tells_head z bytes (Ok x) (Ok info) e h = (h.0, e ∙ ap Ok h.1)
-tells_head z bytes (Err fault) (Err refusal) e h = (fault, h.0, e, h.1)
-tells_head z bytes (Ok x) (Err refusal) e h = absurd h
-tells_head z bytes (Err fault) (Ok info) e h = absurd h
+pub tells_head : (rows : Rows Reason ParseInfo) (place : ℕ) (bytes : List ℕ) (r : Result (ParseInfo × Cursor) (Fault Reason)) (s : Result ParseInfo Refusal) → read reason_of rows (bytes_at place bytes) ≡ r → Tells bytes (bytes_at (place + 13) (drop 13 bytes)) r s → HeadAt rows place bytes s
+tells_head rows place bytes (Ok x) (Ok info) e h = (h.0, e ∙ ap Ok h.1)
+tells_head rows place bytes (Err fault) (Err refusal) e h = (fault, h.0, e, h.1)
+tells_head rows place bytes (Ok x) (Err refusal) e h = absurd h
+tells_head rows place bytes (Err fault) (Ok info) e h = absurd h
 
 pub head_is : (z : Past) (bytes : List ℕ) (found : Result ParseInfo InfoFault) → IsBytes bytes → info_at bytes ≡ found → OnOk found (13 ≤ length bytes) → IfErr found (λ fault. IsTrue (is_short fault) → length bytes < 13)
-    → HeadAt z bytes (judged_head (looking_back z) found)
+    → HeadAt (unit_head z) z.place bytes (judged_head (looking_back z) found)
 head_is z bytes (Ok info) fits e long short =
     let behind = bytes_at (z.place + 13) (drop 13 bytes) in
-    tells_head z bytes _ _ (head_told z bytes fits ∙ ap (told (head_reader z) (8 * z.place) behind) e) (tells_info z bytes behind info long)
+    tells_head (unit_head z) z.place bytes _ _ (head_told z bytes fits ∙ ap (told (head_reader z) (8 * z.place) behind) e) (tells_info z bytes behind info long)
 head_is z bytes (Err fault) fits e long short =
     let behind = bytes_at (z.place + 13) (drop 13 bytes) in
-    tells_head z bytes _ _ (head_told z bytes fits ∙ ap (told (head_reader z) (8 * z.place) behind) e) (tells_short z bytes behind fault short)
+    tells_head (unit_head z) z.place bytes _ _ (head_told z bytes fits ∙ ap (told (head_reader z) (8 * z.place) behind) e) (tells_short z bytes behind fault short)
 
 -- ---- the check of the next offset, behind so many bytes of a unit
 
@@ -181,15 +181,15 @@ payload_is z next len parts bytes h le =
 
 -- ---- the first unit
 
-pub first_head_refused : (bytes : List ℕ) (refusal : Refusal) → HeadAt nothing_yet bytes (Err refusal) → IsFirstUnit bytes (Err refusal)
+pub first_head_refused : (bytes : List ℕ) (refusal : Refusal) → HeadAt (unit_head nothing_yet) nothing_yet.place bytes (Err refusal) → IsFirstUnit bytes (Err refusal)
 unfolding body_rows
 first_head_refused bytes refusal h = (h.0, h.1, then_err reason_of (unit_head nothing_yet) (payload_rows nothing_yet None) (bytes_at 0 bytes) h.0 h.2)
 
-first_then : (bytes : List ℕ) (info : ParseInfo) (total : Result (DataUnit × Cursor) (Fault Reason)) → HeadAt nothing_yet bytes (Ok info) → read reason_of (first_payload nothing_yet info.next) (bytes_at 13 (drop 13 bytes)) ≡ total → unit_at units nothing_yet bytes ≡ total
+first_then : (bytes : List ℕ) (info : ParseInfo) (total : Result (DataUnit × Cursor) (Fault Reason)) → HeadAt (unit_head nothing_yet) nothing_yet.place bytes (Ok info) → read reason_of (first_payload nothing_yet info.next) (bytes_at 13 (drop 13 bytes)) ≡ total → unit_at units nothing_yet bytes ≡ total
 unfolding body_rows payload_rows
 first_then bytes info total h e = then_ok reason_of (unit_head nothing_yet) (payload_rows nothing_yet None) (bytes_at 0 bytes) (bytes_at 13 (drop 13 bytes)) info total h.1 e
 
-pub first_payload_refused : (bytes : List ℕ) (info : ParseInfo) (bit : ℕ) (reason : HeaderReason) → HeadAt nothing_yet bytes (Ok info) → read header.reason_of header_rows (cursor_at (drop 13 bytes) 0) ≡ Err (record { place = bit; reason = reason })
+pub first_payload_refused : (bytes : List ℕ) (info : ParseInfo) (bit : ℕ) (reason : HeaderReason) → HeadAt (unit_head nothing_yet) nothing_yet.place bytes (Ok info) → read header.reason_of header_rows (cursor_at (drop 13 bytes) 0) ≡ Err (record { place = bit; reason = reason })
     → IsFirstUnit bytes (Err (record { place = 13 + bit / 8; reason = header_reason reason }))
 first_payload_refused bytes info bit reason h e = (
   record { place = 104 + bit; reason = header_reason reason },
@@ -197,7 +197,7 @@ first_payload_refused bytes info bit reason h e = (
   first_then bytes info _ h (payload_refused nothing_yet info.next bit reason (drop 13 bytes) e),
 )
 
-pub first_offset_refused : (bytes : List ℕ) (info : ParseInfo) (parts : HeaderParts) (len : ℕ) → HeadAt nothing_yet bytes (Ok info) → read header.reason_of header_rows (cursor_at (drop 13 bytes) 0) ≡ Ok (parts, cursor_at (drop 13 bytes) (8 * len)) → len ≤ length (drop 13 bytes)
+pub first_offset_refused : (bytes : List ℕ) (info : ParseInfo) (parts : HeaderParts) (len : ℕ) → HeadAt (unit_head nothing_yet) nothing_yet.place bytes (Ok info) → read header.reason_of header_rows (cursor_at (drop 13 bytes) 0) ≡ Ok (parts, cursor_at (drop 13 bytes) (8 * len)) → len ≤ length (drop 13 bytes)
     → leads_behind info.next (13 + len) ≡ false → IsFirstUnit bytes (Err (record { place = 5; reason = reasons.OffsetWrong }))
 first_offset_refused bytes info parts len h e le leads = (
   record { place = 40; reason = reasons.OffsetWrong },
@@ -206,7 +206,7 @@ first_offset_refused bytes info parts len h e le leads = (
       ∙ ap (λ b. judged 40 (first_broken ((b or_else reasons.OffsetWrong) ∷ [])) (Ok (Sequence parts, bytes_at (0 + (13 + len)) (drop len (drop 13 bytes))))) leads),
 )
 
-pub first_is : (bytes : List ℕ) (info : ParseInfo) (parts : HeaderParts) (len : ℕ) → HeadAt nothing_yet bytes (Ok info) → read header.reason_of header_rows (cursor_at (drop 13 bytes) 0) ≡ Ok (parts, cursor_at (drop 13 bytes) (8 * len)) → len ≤ length (drop 13 bytes)
+pub first_is : (bytes : List ℕ) (info : ParseInfo) (parts : HeaderParts) (len : ℕ) → HeadAt (unit_head nothing_yet) nothing_yet.place bytes (Ok info) → read header.reason_of header_rows (cursor_at (drop 13 bytes) 0) ≡ Ok (parts, cursor_at (drop 13 bytes) (8 * len)) → len ≤ length (drop 13 bytes)
     → leads_behind info.next (13 + len) ≡ true → IsFirstUnit bytes (Ok (parts, 13 + len))
 first_is bytes info parts len h e le leads = (
   omega (arith, le, length-drop 13 bytes, h.0),

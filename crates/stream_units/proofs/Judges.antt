@@ -18,7 +18,7 @@ use Rattle.stream_units.specs.declared.judging.Verdict.TheVariants as verdicts
 use Rattle.stream_units.specs.Units.{Past, nothing_yet, units}
 use Rattle.stream_units.specs.Streams.{limit, past_limit, refusal_of, HasOneAnswer}
 use Rattle.stream_units.specs.Turns.{LimitStops}
-use Rattle.stream_units.specs.Reader.{ReaderState, new_reader, is_last, TakesItem, TakesEnd, NextOver}
+use Rattle.stream_units.specs.Reader.{ReaderState, new_reader, is_end_item, TakesItem, TakesEnd, NextOver}
 use Rattle.stream_units.specs.Judging.{IsVerdict, IsStopped, judging}
 use Rattle.stream_units.proofs.Steady.{units_laws}
 use Rattle.stream_units.proofs.OneAnswer.{one_answer}
@@ -37,14 +37,14 @@ pub record Between (rest0 rest1 : Option (List ℕ)) (r : ReaderState) : Type 0 
 pub between_none : (rest : Option (List ℕ)) (r : ReaderState) → r ≡ new_reader → Between rest rest r
 between_none rest r new = subst (Between rest rest) (sym new) (record { holds = holds_none judge_machine nothing_yet rest None; no_stop = refl; no_end = refl })
 
-pub ends_by : (old new : ReaderState) (rest0 rest1 : Option (List ℕ)) (item : Item) → NextOver old new rest0 rest1 (Ok item) → is_last item ≡ true → TakesEnd old new rest0 rest1
+pub ends_by : (old new : ReaderState) (rest0 rest1 : Option (List ℕ)) (item : Item) → NextOver old new rest0 rest1 (Ok item) → is_end_item item ≡ true → TakesEnd old new rest0 rest1
 ends_by old new rest0 rest1 items.Sequence n e = absurd cc
 ends_by old new rest0 rest1 items.Repeated n e = absurd cc
 ends_by old new rest0 rest1 (items.Picture number) n e = absurd cc
 ends_by old new rest0 rest1 items.Skipped n e = absurd cc
 ends_by old new rest0 rest1 items.End n e = n
 
-pub takes_by : (old new : ReaderState) (rest0 rest1 : Option (List ℕ)) (item : Item) → NextOver old new rest0 rest1 (Ok item) → is_last item ≡ false → TakesItem old new rest0 rest1 item
+pub takes_by : (old new : ReaderState) (rest0 rest1 : Option (List ℕ)) (item : Item) → NextOver old new rest0 rest1 (Ok item) → is_end_item item ≡ false → TakesItem old new rest0 rest1 item
 takes_by old new rest0 rest1 items.Sequence n e = n
 takes_by old new rest0 rest1 items.Repeated n e = n
 takes_by old new rest0 rest1 (items.Picture number) n e = n
@@ -85,7 +85,7 @@ pub judged_stream : (bytes left : List ℕ) (rest1 : Option (List ℕ)) (old new
 judged_stream bytes left rest1 old new fits b n =
     is_verdict bytes verdicts.Stream fits (verdict_of bytes left verdicts.Stream (turned_ended judging units_laws nothing_yet (Some bytes) None None None verdicts.Stream [] b.holds n.meets (λ bytes. refl) (Appends-none None None refl)))
 
-pub judged_stop : (bytes left : List ℕ) (rest1 : Option (List ℕ)) (old : ReaderState) (stop : ReadStop) (verdict : Verdict) → AllByRecursion (λ b. b < 256) bytes → Between (Some bytes) rest1 old → LimitStops old.past old.held rest1 (Some left) stop → IsStopped stop verdict → IsVerdict bytes verdict
+pub judged_stop : (bytes left : List ℕ) (rest1 : Option (List ℕ)) (old : ReaderState) (stop : ReadStop) (verdict : Verdict) → AllByRecursion (λ b. b < 256) bytes → Between (Some bytes) rest1 old → LimitStops units old.past old.held rest1 (Some left) stop → IsStopped stop verdict → IsVerdict bytes verdict
 judged_stop bytes left rest1 old (stops.Refused refusal) verdict fits b n e =
     let told : verdicts.Refused (refusal_of n.fault) ≡ verdict = ap (λ x. verdicts.Refused x) (sym n.there) ∙ sym e in
     subst (IsVerdict bytes) told

@@ -10,6 +10,9 @@ pub mod Groups
 pub mod UnitGroups
 pub mod Stopping
 pub mod HeadRows
+pub mod HeadTurns
+pub mod AloneRows
+pub mod AloneTurns
 pub mod Before
 pub mod FirstUnits
 pub mod PartTurns

@@ -11,7 +11,7 @@ use Rattle.unit_table.specs.Grammar.{bytes_at}
 use Rattle.unit_table.specs.Fronts.{Finishes}
 use Rattle.unit_table.specs.Begun.{Begun, Needs, Moves, Got, Over}
 use Rattle.unit_table.proofs.Begins.{begun_more, begun_held, begun_use, begun_taken, begun_taken-bytes, begun_use-gone, begun_end, begun_trailing, got_back}
-use Rattle.unit_table.proofs.Fields.{needs_row, needs_nothing, needs_end, moves_row, moves_blind, short_row, broken_row, all_fit}
+use Rattle.unit_table.proofs.Fields.{needs_row, needs_end, moves_row, moves_blind, short_row, broken_row, all_fit}
 use Rattle.stream_units.specs.declared.window.Halt.{Halt}
 use Rattle.stream_units.specs.declared.reason.Reason.TheVariants as reasons
 use Rattle.stream_units.specs.declared.reason.Refusal.{Refusal}
@@ -24,7 +24,7 @@ use Rattle.stream_units.specs.Turns.{stop_of, StopsOver, Ends, Takes}
 use Rattle.stream_units.specs.Heads.{leads_behind}
 use Rattle.stream_units.proofs.Steady.{units_laws}
 use Rattle.stream_units.proofs.HeadRows.{read-checked_unit}
-use Rattle.stream_units.proofs.Stopping.{stops_lost, stops_short, stops_refused}
+use Rattle.stream_units.proofs.Stopping.{units_table, stops_lost, stops_short, stops_refused}
 
 -- ---- a unit that was taken
 
@@ -47,9 +47,9 @@ end_needs : Needs units (done End) 1
 end_needs = needs_end units End refl
 
 pub end_trailing : {z : Past} {held0 held1 : List ℕ} {rest0 rest1 : Option (List ℕ)} {place : ℕ} (held2 : List ℕ) (rest2 : Option (List ℕ)) (room : ℕ) (stop : ReadStop) → Begun units z held0 rest0 rest1 place held1 (done End) → Got 1 held1 held2 rest1 rest2 [] → 1 ≤ length held2 → place + length held2 + room ≡ limit
-    → stop ≡ stops.Refused (record { place = place; reason = reasons.TrailingBytes }) → StopsOver z held0 rest0 rest2 room stop
+    → stop ≡ stops.Refused (record { place = place; reason = reasons.TrailingBytes }) → StopsOver units z held0 rest0 rest2 room stop
 end_trailing {z} {held0} {held1} {rest0} {rest1} {place} held2 rest2 room stop b got some total e =
-    subst (StopsOver z held0 rest0 rest2 room) (sym e) (record {
+    subst (StopsOver units z held0 rest0 rest2 room) (sym e) (record {
       fault = record { place = 8 * place; reason = reasons.TrailingBytes };
       there = ap (λ (p : ℕ). let r : Refusal = record { place = p; reason = reasons.TrailingBytes } in r) (omega arith);
       top = place + length held2;
@@ -74,14 +74,14 @@ end_over {z} {held0} {held1} {rest0} {rest1} {place} held2 rest2 room b got none
     }
 
 pub end_lost : {z : Past} {held0 held1 : List ℕ} {rest0 rest1 : Option (List ℕ)} {place : ℕ} (held2 : List ℕ) (rest2 : Option (List ℕ)) (room : ℕ) (halt : Halt) (stop : ReadStop) → Begun units z held0 rest0 rest1 place held1 (done End) → Got 1 held1 held2 rest1 rest2 [] → length held2 < 1 → place + length held2 + room ≡ limit
-    → stop ≡ stop_of halt → StopsOver z held0 rest0 rest2 room stop
-end_lost held2 rest2 room halt stop b got none total e = stops_lost 1 room halt stop (begun_held units_laws 1 rest2 held2 b end_needs got) end_needs none total e
+    → stop ≡ stop_of halt → StopsOver units z held0 rest0 rest2 room stop
+end_lost held2 rest2 room halt stop b got none total e = stops_lost units_table 1 room halt stop (begun_held units_laws 1 rest2 held2 b end_needs got) end_needs none total e
 
 -- ---- a payload that is skipped
 
 skipped_needs : (next : ℕ) → Needs units (skipped_payload next) (next - 13)
 unfolding skipped_payload ◌>>=◌ bytes_under
-skipped_needs next = subst (Needs units (skipped_payload next)) (omega arith) (needs_row units (next - 13) 0 None _ _ (λ v. needs_nothing units _))
+skipped_needs next = needs_row units units_laws (next - 13) None _ _
 
 pub skipped_whole : {z : Past} {held0 : List ℕ} {rest0 rest1 : Option (List ℕ)} {place : ℕ} {old new : WindowSeen} (next : ℕ) (rest2 : Option (List ℕ)) (d : Dropped (next - 13) old new rest1 rest2 (Ok true)) → Begun units z held0 rest0 rest1 place old.held (skipped_payload next) → place ≡ z.place + 13 → next < 2 ^ 32
     → place + length old.held + old.room ≡ limit → Takes z held0 rest0 rest2 new.room new.held (λ unit bytes. unit ≡ Skipped)
@@ -93,20 +93,20 @@ skipped_whole {z} {held0} {rest0} {rest1} {place} {old} {new} next rest2 d b beh
     refl (omega (arith, d.room, total)) (omega (arith, behind, long, few)) (λ bytes at. refl)
 
 pub skipped_short : {z : Past} {held0 : List ℕ} {rest0 rest1 : Option (List ℕ)} {place : ℕ} {old new : WindowSeen} (next : ℕ) (rest2 : Option (List ℕ)) (stop : ReadStop) (d : Dropped (next - 13) old new rest1 rest2 (Ok false)) → Begun units z held0 rest0 rest1 place old.held (skipped_payload next)
-    → place + length old.held + old.room ≡ limit → stop ≡ stops.Refused (record { place = place; reason = reasons.Truncated }) → StopsOver z held0 rest0 rest2 new.room stop
+    → place + length old.held + old.room ≡ limit → stop ≡ stops.Refused (record { place = place; reason = reasons.Truncated }) → StopsOver units z held0 rest0 rest2 new.room stop
 unfolding skipped_payload ◌>>=◌ bytes_under
 skipped_short {z} {held0} {rest0} {rest1} {place} {old} {new} next rest2 stop d b total e =
     let s = d.short refl in
     let all : d.gone ++ new.held ≡ d.gone = ap (λ l. d.gone ++ l) s.1 ∙ append-nil d.gone in
-    stops_short new.room (8 * place) place reasons.Truncated stop (begun_held units_laws (next - 13) rest2 (d.gone ++ new.held) b (skipped_needs next) (got_back d.got))
+    stops_short units_table new.room (8 * place) place reasons.Truncated stop (begun_held units_laws (next - 13) rest2 (d.gone ++ new.held) b (skipped_needs next) (got_back d.got))
     (short_row units (next - 13) _ _ place (d.gone ++ new.held) (omega (arith, s.0, ap (λ (l : List ℕ). length l) all))) s.2 (omega (arith, d.room, total, length-append d.gone new.held)) (omega arith) e
 
 pub skipped_lost : {z : Past} {held0 : List ℕ} {rest0 rest1 : Option (List ℕ)} {place : ℕ} {old new : WindowSeen} (next : ℕ) (rest2 : Option (List ℕ)) (halt : Halt) (stop : ReadStop) (d : Dropped (next - 13) old new rest1 rest2 (Err halt)) → Begun units z held0 rest0 rest1 place old.held (skipped_payload next)
-    → place + length old.held + old.room ≡ limit → stop ≡ stop_of halt → StopsOver z held0 rest0 rest2 new.room stop
+    → place + length old.held + old.room ≡ limit → stop ≡ stop_of halt → StopsOver units z held0 rest0 rest2 new.room stop
 skipped_lost {z} {held0} {rest0} {rest1} {place} {old} {new} next rest2 halt stop d b total e =
     let s = d.err in
     let all : d.gone ++ new.held ≡ d.gone = ap (λ l. d.gone ++ l) s.1 ∙ append-nil d.gone in
-    stops_lost (next - 13) new.room halt stop (begun_held units_laws (next - 13) rest2 (d.gone ++ new.held) b (skipped_needs next) (got_back d.got)) (skipped_needs next) (omega (arith, s.0, ap (λ (l : List ℕ). length l) all))
+    stops_lost units_table (next - 13) new.room halt stop (begun_held units_laws (next - 13) rest2 (d.gone ++ new.held) b (skipped_needs next) (got_back d.got)) (skipped_needs next) (omega (arith, s.0, ap (λ (l : List ℕ). length l) all))
     (omega (arith, d.room, total, length-append d.gone new.held)) e
 
 -- ---- the check of the next offset, behind the n bytes of a unit
@@ -135,9 +135,9 @@ checked_takes_gone {z} {held0} {held1} {rest0} {rest1} room next n IsSuch unit b
     no_end (omega (arith, total)) (omega (arith, short)) (subst (IsSuch unit) (sym (begun_use-gone units_laws [] held1 (done unit) b refl (checked_moves z next n unit leads) ∙ append-nil b.gone)) such)
 
 pub checked_refused : {z : Past} {held0 held1 : List ℕ} {rest0 rest1 : Option (List ℕ)} (room next n : ℕ) (unit : DataUnit) (stop : ReadStop) → Begun units z held0 rest0 rest1 (z.place + n) held1 (next_checked z next >>= λ length. done unit) → leads_behind next n ≡ false
-    → z.place + n + length held1 + room ≡ limit → stop ≡ stops.Refused (record { place = z.place + 5; reason = reasons.OffsetWrong }) → StopsOver z held0 rest0 rest1 room stop
+    → z.place + n + length held1 + room ≡ limit → stop ≡ stops.Refused (record { place = z.place + 5; reason = reasons.OffsetWrong }) → StopsOver units z held0 rest0 rest1 room stop
 checked_refused {z} {held0} {held1} {rest0} {rest1} room next n unit stop b leads total e =
-    stops_refused room (8 * (z.place + 5)) (z.place + 5) reasons.OffsetWrong stop b
+    stops_refused units_table room (8 * (z.place + 5)) (z.place + 5) reasons.OffsetWrong stop b
     (read-checked_unit z next n unit held1 ∙ ap (λ b. judged (8 * (z.place + 5)) (first_broken ((b or_else reasons.OffsetWrong) ∷ [])) (Ok (unit, bytes_at (z.place + n) held1))) leads)
     (λ same. cc) total (omega arith) e
 
@@ -145,28 +145,28 @@ checked_refused {z} {held0} {held1} {rest0} {rest1} room next n unit stop b lead
 
 repeated_needs : (z : Past) (next : ℕ) (first : First) → Needs units (repeated_payload z next first) (length first.payload)
 unfolding repeated_payload ◌>>=◌ bytes_under
-repeated_needs z next first = subst (Needs units (repeated_payload z next first)) (omega arith) (needs_row units (length first.payload) 0 None _ _ (λ v. needs_nothing units _))
+repeated_needs z next first = needs_row units units_laws (length first.payload) None _ _
 
 pub repeated_short : {z : Past} {held0 held1 : List ℕ} {rest0 rest1 : Option (List ℕ)} {place : ℕ} (next : ℕ) (first : First) (held2 : List ℕ) (rest2 : Option (List ℕ)) (room : ℕ) (stop : ReadStop) → Begun units z held0 rest0 rest1 place held1 (repeated_payload z next first)
-    → Got (length first.payload) held1 held2 rest1 rest2 [] → length held2 < length first.payload → IsAtEnd (within room rest2) → place + length held2 + room ≡ limit → stop ≡ stops.Refused (record { place = place; reason = reasons.Truncated }) → StopsOver z held0 rest0 rest2 room stop
+    → Got (length first.payload) held1 held2 rest1 rest2 [] → length held2 < length first.payload → IsAtEnd (within room rest2) → place + length held2 + room ≡ limit → stop ≡ stops.Refused (record { place = place; reason = reasons.Truncated }) → StopsOver units z held0 rest0 rest2 room stop
 unfolding repeated_payload ◌>>=◌ bytes_under
 repeated_short {z} {place = place} next first held2 rest2 room stop b got few at_end total e =
-    stops_short room (8 * place) place reasons.Truncated stop (begun_held units_laws (length first.payload) rest2 held2 b (repeated_needs z next first) got)
+    stops_short units_table room (8 * place) place reasons.Truncated stop (begun_held units_laws (length first.payload) rest2 held2 b (repeated_needs z next first) got)
     (short_row units (length first.payload) _ _ place held2 few) at_end total (omega arith) e
 
 pub repeated_lost : {z : Past} {held0 held1 : List ℕ} {rest0 rest1 : Option (List ℕ)} {place : ℕ} (next : ℕ) (first : First) (held2 : List ℕ) (rest2 : Option (List ℕ)) (room : ℕ) (halt : Halt) (stop : ReadStop) → Begun units z held0 rest0 rest1 place held1 (repeated_payload z next first)
-    → Got (length first.payload) held1 held2 rest1 rest2 [] → length held2 < length first.payload → place + length held2 + room ≡ limit → stop ≡ stop_of halt → StopsOver z held0 rest0 rest2 room stop
+    → Got (length first.payload) held1 held2 rest1 rest2 [] → length held2 < length first.payload → place + length held2 + room ≡ limit → stop ≡ stop_of halt → StopsOver units z held0 rest0 rest2 room stop
 repeated_lost {z} next first held2 rest2 room halt stop b got few total e =
-    stops_lost (length first.payload) room halt stop (begun_held units_laws (length first.payload) rest2 held2 b (repeated_needs z next first) got) (repeated_needs z next first) few total e
+    stops_lost units_table (length first.payload) room halt stop (begun_held units_laws (length first.payload) rest2 held2 b (repeated_needs z next first) got) (repeated_needs z next first) few total e
 
 pub repeated_differs : {z : Past} {held0 held1 : List ℕ} {rest0 rest1 : Option (List ℕ)} {place : ℕ} (next : ℕ) (first : First) (held2 piece : List ℕ) (rest2 : Option (List ℕ)) (room : ℕ) (stop : ReadStop) → Begun units z held0 rest0 rest1 place held1 (repeated_payload z next first)
     → Got (length first.payload) held1 held2 rest1 rest2 [] → length first.payload ≤ length held2 → piece ≡ take (length first.payload) held2 → ((i : ℕ) → get_or piece i 0 < 256) → starts_with nat_eq piece first.payload ≡ false
-    → place + length held2 + room ≡ limit → stop ≡ stops.Refused (record { place = place; reason = reasons.HeaderDiffers }) → StopsOver z held0 rest0 rest2 room stop
+    → place + length held2 + room ≡ limit → stop ≡ stops.Refused (record { place = place; reason = reasons.HeaderDiffers }) → StopsOver units z held0 rest0 rest2 room stop
 unfolding repeated_payload ◌>>=◌ bytes_under
 repeated_differs {z} {held0} {held1} {rest0} {rest1} {place} next first held2 piece rest2 room stop b got many is fits differs total e =
     let n = length first.payload in
     let long : length piece ≡ n = omega (arith, ap (λ (l : List ℕ). length l) is, length-take n held2, many) in
-    stops_refused room (8 * place) place reasons.HeaderDiffers stop (begun_held units_laws n rest2 held2 b (repeated_needs z next first) got)
+    stops_refused units_table room (8 * place) place reasons.HeaderDiffers stop (begun_held units_laws n rest2 held2 b (repeated_needs z next first) got)
     (ap (λ l. read reason_of (repeated_payload z next first) (bytes_at place l)) (sym (ap (λ l. l ++ drop n held2) is ∙ take-append-drop n held2))
     ∙ broken_row units n _ _ place piece (drop n held2) reasons.HeaderDiffers long (all_fit piece fits) (rw differs refl))
     (λ same. cc) total (omega arith) e

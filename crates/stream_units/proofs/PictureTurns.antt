@@ -32,23 +32,23 @@ use Rattle.picture_codec.specs.Decoding.{Decoding, HasTaken, IsTaken, IsSliceRef
 use Rattle.picture_codec.proofs.Taking.{took_none, took_more}
 use Rattle.picture_codec.proofs.Steps.{column_in, number_is}
 use Rattle.unit_table.specs.Grammar.{bytes_at}
-use Rattle.unit_table.specs.Begun.{Begun, Needs, Lacks, Moves, Got}
-use Rattle.unit_table.proofs.Begins.{begun_held, begun_use, begun_lacking, begun_same, begun_taken}
-use Rattle.unit_table.proofs.Fields.{needs_row, needs_nothing, moves_row, short_row, broken_row, all_fit}
+use Rattle.unit_table.specs.Begun.{Begun, Needs, Moves, Got}
+use Rattle.unit_table.proofs.Begins.{begun_held, begun_use, begun_same, begun_taken}
+use Rattle.unit_table.proofs.Fields.{needs_row, moves_row, short_row, broken_row, all_fit}
 use Rattle.stream_units.specs.declared.reason.Reason.{Reason}
 use Rattle.stream_units.specs.declared.reason.Reason.TheVariants as reasons
 use Rattle.stream_units.specs.declared.stop.ReadStop.{ReadStop}
 use Rattle.stream_units.specs.declared.stop.ReadStop.TheVariants as stops
 use Rattle.stream_units.specs.declared.window.Halt.{Halt}
-use Rattle.stream_units.specs.Units.{Past, DataUnit, units, reason_of, transform_reason, has_fields, number_rules, share, slice_rules, slice_rows, next_checked, picture_payload, Picture}
-use Rattle.stream_units.specs.Streams.{limit, is_truncated, frame_under}
+use Rattle.stream_units.specs.Units.{is_truncated, Past, DataUnit, units, reason_of, transform_reason, has_fields, number_rules, share, slice_rules, slice_rows, next_checked, picture_payload, Picture}
+use Rattle.stream_units.specs.Streams.{limit, frame_under}
 use Rattle.stream_units.specs.Heads.{leads_behind}
 use Rattle.stream_units.specs.declared.pictures.Shown.{Shown}
 use Rattle.stream_units.specs.Turns.{stop_of, StopsOver, Takes, IsShown, Shows}
 use Rattle.stream_units.specs.Parts.{IsReady, TookSlices, slice_reason}
 use Rattle.stream_units.proofs.Steady.{units_laws}
-use Rattle.stream_units.proofs.Stopping.{stops_lost, stops_lacking, stops_short, stops_refused}
-use Rattle.stream_units.proofs.Groups.{group_moves, group_refused, group_lacks}
+use Rattle.stream_units.proofs.Stopping.{units_table, stops_lost, stops_short, stops_refused}
+use Rattle.stream_units.proofs.Groups.{group_moves, group_refused}
 use Rattle.stream_units.proofs.UnitGroups.{params_group}
 
 -- ---- a field of so many bytes
@@ -58,24 +58,24 @@ pub record Asked (z : Past) (held0 : List ℕ) (rest0 rest2 : Option (List ℕ))
   pub begun : Begun units z held0 rest0 rest2 at held2 (row (some_bytes n) None rules next)
 
 field_needs : (n : ℕ) (rules : Value → List (Rule Reason)) (next : Value → Rows Reason DataUnit) → Needs units (row (some_bytes n) None rules next) n
-field_needs n rules next = subst (Needs units (row (some_bytes n) None rules next)) (omega arith) (needs_row units n 0 None rules next (λ v. needs_nothing units (next v)))
+field_needs n rules next = needs_row units units_laws n None rules next
 
 asked : {z : Past} {held0 held1 : List ℕ} {rest0 rest1 : Option (List ℕ)} {at : ℕ} {left : Rows Reason DataUnit} (n : ℕ) (held2 : List ℕ) (rest2 : Option (List ℕ)) (rules : Value → List (Rule Reason)) (next : Value → Rows Reason DataUnit) → Begun units z held0 rest0 rest1 at held1 left
     → left ≡ row (some_bytes n) None rules next → Got n held1 held2 rest1 rest2 [] → Asked z held0 rest0 rest2 n at held2 rules next
 asked n held2 rest2 rules next b e got = record { begun = begun_held units_laws n rest2 held2 (begun_same (row (some_bytes n) None rules next) b e) (field_needs n rules next) got }
 
 pub field_short : {z : Past} {held0 held2 : List ℕ} {rest0 rest2 : Option (List ℕ)} {n at : ℕ} {rules : Value → List (Rule Reason)} {next : Value → Rows Reason DataUnit} (room place : ℕ) (stop : ReadStop) → Asked z held0 rest0 rest2 n at held2 rules next → length held2 < n → IsAtEnd (within room rest2) → at + length held2 + room ≡ limit → place ≡ at
-    → stop ≡ stops.Refused (record { place = place; reason = reasons.Truncated }) → StopsOver z held0 rest0 rest2 room stop
-field_short {held2 = held2} {n = n} {at = at} {rules = rules} {next = next} room place stop a few at_end total there e = stops_short room (8 * at) place reasons.Truncated stop a.begun (short_row units n rules next at held2 few) at_end total (omega (arith, there)) e
+    → stop ≡ stops.Refused (record { place = place; reason = reasons.Truncated }) → StopsOver units z held0 rest0 rest2 room stop
+field_short {held2 = held2} {n = n} {at = at} {rules = rules} {next = next} room place stop a few at_end total there e = stops_short units_table room (8 * at) place reasons.Truncated stop a.begun (short_row units n rules next at held2 few) at_end total (omega (arith, there)) e
 
 pub field_lost : {z : Past} {held0 held2 : List ℕ} {rest0 rest2 : Option (List ℕ)} {n at : ℕ} {rules : Value → List (Rule Reason)} {next : Value → Rows Reason DataUnit} (room : ℕ) (halt : Halt) (stop : ReadStop) → Asked z held0 rest0 rest2 n at held2 rules next → length held2 < n → at + length held2 + room ≡ limit
-    → stop ≡ stop_of halt → StopsOver z held0 rest0 rest2 room stop
-field_lost {n = n} {rules = rules} {next = next} room halt stop a few total e = stops_lost n room halt stop a.begun (field_needs n rules next) few total e
+    → stop ≡ stop_of halt → StopsOver units z held0 rest0 rest2 room stop
+field_lost {n = n} {rules = rules} {next = next} room halt stop a few total e = stops_lost units_table n room halt stop a.begun (field_needs n rules next) few total e
 
 pub field_broken : {z : Past} {held0 held2 : List ℕ} {rest0 rest2 : Option (List ℕ)} {n at : ℕ} {rules : Value → List (Rule Reason)} {next : Value → Rows Reason DataUnit} (room place : ℕ) (reason : Reason) (stop : ReadStop) → Asked z held0 rest0 rest2 n at held2 rules next → n ≤ length held2
-    → ((i : ℕ) → get_or (take n held2) i 0 < 256) → first_broken (rules (Bytes (take n held2))) ≡ Some reason → reason ≢ reasons.Truncated → at + length held2 + room ≡ limit → place ≡ at → stop ≡ stops.Refused (record { place = place; reason = reason }) → StopsOver z held0 rest0 rest2 room stop
+    → ((i : ℕ) → get_or (take n held2) i 0 < 256) → first_broken (rules (Bytes (take n held2))) ≡ Some reason → reason ≢ reasons.Truncated → at + length held2 + room ≡ limit → place ≡ at → stop ≡ stops.Refused (record { place = place; reason = reason }) → StopsOver units z held0 rest0 rest2 room stop
 field_broken {held2 = held2} {n = n} {at = at} {rules = rules} {next = next} room place reason stop a many fits broken other total there e =
-    stops_refused room (8 * at) place reason stop a.begun
+    stops_refused units_table room (8 * at) place reason stop a.begun
     (ap (λ l. read reason_of (row (some_bytes n) None rules next) (bytes_at at l)) (sym (take-append-drop n held2))
     ∙ broken_row units n rules next at (take n held2) (drop n held2) reason (omega (arith, length-take n held2, many)) (all_fit (take n held2) fits) broken)
     other total (omega (arith, there)) e
@@ -117,7 +117,7 @@ abbrev NumberAsked : Past → List ℕ → Option (List ℕ) → Option (List �
 NumberAsked z held0 rest0 rest2 at held2 others = Asked z held0 rest0 rest2 4 at held2 (λ v. number_rules z (number_of v)) (λ v. others (number_of v))
 
 pub number_broken : {z : Past} {held0 held2 : List ℕ} {rest0 rest2 : Option (List ℕ)} {at : ℕ} (others : ℕ → Rows Reason DataUnit) (n room place : ℕ) (reason : Reason) (stop : ReadStop) → NumberAsked z held0 rest0 rest2 at held2 others → 4 ≤ length held2
-    → ((i : ℕ) → get_or (take 4 held2) i 0 < 256) → n ≡ from_be_bytes w32 (take 4 held2) → first_broken (number_rules z n) ≡ Some reason → at + length held2 + room ≡ limit → place ≡ at → stop ≡ stops.Refused (record { place = place; reason = reason }) → StopsOver z held0 rest0 rest2 room stop
+    → ((i : ℕ) → get_or (take 4 held2) i 0 < 256) → n ≡ from_be_bytes w32 (take 4 held2) → first_broken (number_rules z n) ≡ Some reason → at + length held2 + room ≡ limit → place ≡ at → stop ≡ stops.Refused (record { place = place; reason = reason }) → StopsOver units z held0 rest0 rest2 room stop
 number_broken {z = z} others n room place reason stop a many fits number broken total there e =
     field_broken room place reason stop a many fits (ap (λ n. first_broken (number_rules z n)) (sym number) ∙ broken) (number_other z n reason broken) total there e
 
@@ -146,51 +146,25 @@ params_taken {z} {held0} {held1} {rest0} {rest1} {at} others count long front p 
     (begun_use units_laws (take long held1) (drop long held1) (others p) b (sym (take-append-drop long held1))
     (subst (λ l. Moves units (params_then others) at l (others p)) piece (group_moves params_group others at front p long e inside)))
 
--- all that is held was read
-all_read : (count : ℕ) (front held1 : List ℕ) (fault : Fault TransformReason) → front ≡ take count held1 → length held1 ≤ count → params_read front ≡ Err fault → params_read held1 ≡ Err fault
-all_read count front held1 fault is all e = ap params_read (sym (is ∙ take_all count held1 all)) ∙ e
-
--- one byte more than are held
-pub params_more : {z : Past} {held0 held1 : List ℕ} {rest0 rest1 : Option (List ℕ)} {at : ℕ} (others : Params → Rows Reason DataUnit) (count : ℕ) (front : List ℕ) (fault : Fault TransformReason) (held2 : List ℕ) (rest2 : Option (List ℕ)) → Begun units z held0 rest0 rest1 at held1 (params_then others)
-    → front ≡ take count held1 → count ≡ length held1 → params_read front ≡ Err fault → Got (count + 1) held1 held2 rest1 rest2 [] → Begun units z held0 rest0 rest2 at held2 (params_then others)
-params_more {held1 = held1} {rest1 = rest1} {at = at} others count front fault held2 rest2 b is all e got =
-    begun_lacking units_laws rest2 held2 b (group_lacks params_group others at held1 fault (all_read count front held1 fault is (omega (arith, all)) e)) (subst (λ n. Got (n + 1) held1 held2 rest1 rest2 []) all got)
-
--- no byte more came
-same_held : (n : ℕ) (held1 held2 : List ℕ) (rest1 rest2 : Option (List ℕ)) → n ≡ length held1 → Got (n + 1) held1 held2 rest1 rest2 [] → length held2 < n + 1 → held2 ≡ held1
-same_held n held1 held2 rest1 rest2 all got few =
-    let none : got.read ≡ [] = nil_from_length got.read (omega (arith, all, few, ap (λ (l : List ℕ). length l) got.parts, length-append held1 got.read)) in
-    sym got.parts ∙ ap (λ l. held1 ++ l) none ∙ append-nil held1
+-- a field is short in all that is held
+pub params_short : {held1 : List ℕ} (at : ℕ) (others : Params → Rows Reason DataUnit) (count : ℕ) (front : List ℕ) (fault : Fault TransformReason) → front ≡ take count held1 → count ≡ length held1 → params_read front ≡ Err fault
+    → read reason_of (params_then others) (bytes_at at held1) ≡ Err (record { place = 8 * at + fault.place; reason = transform_reason fault.reason })
+params_short {held1} at others count front fault is all e = group_refused params_group others at held1 fault (ap params_read (sym (is ∙ take_all count held1 (omega (arith, all)))) ∙ e)
 
 refused_for : (place : ℕ) {r t : Reason} → r ≡ t → (let s : ReadStop = stops.Refused (record { place = place; reason = r }) in s) ≡ stops.Refused (record { place = place; reason = t })
 refused_for place e = ap (λ (r : Reason). let s : ReadStop = stops.Refused (record { place = place; reason = r }) in s) e
-
-pub params_short : {z : Past} {held0 held1 : List ℕ} {rest0 rest1 : Option (List ℕ)} {at : ℕ} (others : Params → Rows Reason DataUnit) (count : ℕ) (front : List ℕ) (fault : Fault TransformReason) (held2 : List ℕ) (rest2 : Option (List ℕ)) (room : ℕ) (reason : Reason) (stop : ReadStop) → Begun units z held0 rest0 rest1 at held1 (params_then others)
-    → front ≡ take count held1 → count ≡ length held1 → params_read front ≡ Err fault → Got (count + 1) held1 held2 rest1 rest2 [] → length held2 < count + 1 → IsAtEnd (within room rest2) → at + length held2 + room ≡ limit
-    → reason ≡ transform_reason fault.reason → stop ≡ stops.Refused (record { place = at + fault.place / 8; reason = reason }) → StopsOver z held0 rest0 rest2 room stop
-params_short {held1 = held1} {rest1 = rest1} {at = at} others count front fault held2 rest2 room reason stop b is all e got few at_end total why s =
-    let same = same_held count held1 held2 rest1 rest2 all got few in
-    let here = group_refused params_group others at held1 fault (all_read count front held1 fault is (omega (arith, all)) e) in
-    stops_short room (8 * at + fault.place) (at + fault.place / 8) (transform_reason fault.reason) stop (params_more others count front fault held2 rest2 b is all e got) (ap (λ l. read reason_of (params_then others) (bytes_at at l)) same ∙ here) at_end total (omega arith) (s ∙ refused_for (at + fault.place / 8) why)
-
-pub params_lost : {z : Past} {held0 held1 : List ℕ} {rest0 rest1 : Option (List ℕ)} {at : ℕ} (others : Params → Rows Reason DataUnit) (count : ℕ) (front : List ℕ) (fault : Fault TransformReason) (held2 : List ℕ) (rest2 : Option (List ℕ)) (room : ℕ) (halt : Halt) (stop : ReadStop) → Begun units z held0 rest0 rest1 at held1 (params_then others)
-    → front ≡ take count held1 → count ≡ length held1 → params_read front ≡ Err fault → Got (count + 1) held1 held2 rest1 rest2 [] → length held2 < count + 1 → at + length held2 + room ≡ limit → stop ≡ stop_of halt → StopsOver z held0 rest0 rest2 room stop
-params_lost {held1 = held1} {rest1 = rest1} {at = at} others count front fault held2 rest2 room halt stop b is all e got few total s =
-    let same = same_held count held1 held2 rest1 rest2 all got few in
-    let lacks : Lacks units (params_then others) at held1 = group_lacks params_group others at held1 fault (all_read count front held1 fault is (omega (arith, all)) e) in
-    stops_lacking room halt stop (params_more others count front fault held2 rest2 b is all e got) (subst (Lacks units (params_then others) at) (sym same) lacks) total s
 
 transform_other : (reason : TransformReason) → is_truncated (transform_reason reason) ≡ false → reason ≢ transforms.Truncated
 transform_other reason h e = let short : is_truncated (transform_reason reason) ≡ true = ap (λ r. is_truncated (transform_reason r)) e in absurd cc
 
 pub params_refused : {z : Past} {held0 held1 : List ℕ} {rest0 rest1 : Option (List ℕ)} {at : ℕ} (others : Params → Rows Reason DataUnit) (count : ℕ) (front : List ℕ) (fault : Fault TransformReason) (room : ℕ) (reason : Reason) (stop : ReadStop) → Begun units z held0 rest0 rest1 at held1 (params_then others)
-    → front ≡ take count held1 → params_read front ≡ Err fault → is_truncated reason ≡ false → at + length held1 + room ≡ limit → reason ≡ transform_reason fault.reason → stop ≡ stops.Refused (record { place = at + fault.place / 8; reason = reason }) → StopsOver z held0 rest0 rest1 room stop
+    → front ≡ take count held1 → params_read front ≡ Err fault → is_truncated reason ≡ false → at + length held1 + room ≡ limit → reason ≡ transform_reason fault.reason → stop ≡ stops.Refused (record { place = at + fault.place / 8; reason = reason }) → StopsOver units z held0 rest0 rest1 room stop
 params_refused {held1 = held1} {at = at} others count front fault room reason stop b is e other' total why s =
     let other : is_truncated (transform_reason fault.reason) ≡ false = ap is_truncated (sym why) ∙ other' in
     let more : bits_of front ++ bits_of (drop count held1) ≡ bits_of held1 = sym (bits_of-append front (drop count held1)) ∙ ap (λ l. bits_of (l ++ drop count held1)) is ∙ ap bits_of (take-append-drop count held1) in
     let here : params_read held1 ≡ Err fault = ap (λ (l : List Bool). read params.reason_of params_rows (record { place = 0; rest = l })) (sym more)
     ∙ read-more_refused params.reason_of params_rows (cursor_at front 0) fault (bits_of (drop count held1)) params_steady.steady (record { whole = omega (arith, length-bits front) }) (transform_other fault.reason other) e in
-    stops_refused room (8 * at + fault.place) (at + fault.place / 8) (transform_reason fault.reason) stop b (group_refused params_group others at held1 fault here)
+    stops_refused units_table room (8 * at + fault.place) (at + fault.place / 8) (transform_reason fault.reason) stop b (group_refused params_group others at held1 fault here)
     (λ t. let short : is_truncated (transform_reason fault.reason) ≡ true = ap is_truncated t in absurd cc) total (omega arith) (s ∙ refused_for (at + fault.place / 8) why)
 
 -- ---- the slices
@@ -291,7 +265,7 @@ slice_other faults.CoefficientTooLarge e = cc
 
 pub slice_broken : {parts : HeaderParts} {z : Past} {held0 held2 : List ℕ} {rest0 rest2 : Option (List ℕ)} {n at : ℕ} {others : List (List ℕ) → Rows Reason DataUnit} {p : Params} {d : Decoding} (room : ℕ) (bytes : List ℕ) (fault : SliceFault) (d' : Decoding) (reason : Reason) (stop : ReadStop) → SliceAsked parts z held0 rest0 rest2 n at held2 others p d
     → d.params ≡ p → frame_of d.shape ≡ frame_under parts → n ≤ length held2 → bytes ≡ take n held2 → ((i : ℕ) → get_or bytes i 0 < 256) → IsSliceRefused bytes fault d d' → at + length held2 + room ≡ limit
-    → reason ≡ slice_reason fault → stop ≡ stops.Refused (record { place = at; reason = reason }) → StopsOver z held0 rest0 rest2 room stop
+    → reason ≡ slice_reason fault → stop ≡ stops.Refused (record { place = at; reason = reason }) → StopsOver units z held0 rest0 rest2 room stop
 slice_broken {parts} {held2 = held2} {n = n} {at = at} {p = p} {d = d} room bytes fault d' reason stop a same frame many is fits refused total why e =
     let broken : first_broken (slice_rules parts p (length a.so_far) (take n held2)) ≡ Some (slice_reason fault) =
     ap (λ l. first_broken (slice_rules parts p (length a.so_far) l)) (sym is) ∙ ap first_broken (sym (rules_same parts p d a.so_far bytes same frame a.has.number)) ∙ refused_breaks d bytes fault refused.why in
@@ -412,9 +386,9 @@ next_read z next at span others bytes there =
     ∙ ap (λ n. judged (8 * (z.place + 5)) (first_broken ((leads_behind next n or_else reasons.OffsetWrong) ∷ [])) (Ok (8 * at, bytes_at at bytes))) size)
 
 pub next_wrong : {z : Past} {held0 held1 : List ℕ} {rest0 rest1 : Option (List ℕ)} {at : ℕ} (others : ℕ → Rows Reason DataUnit) (next span room place : ℕ) (stop : ReadStop) → Begun units z held0 rest0 rest1 at held1 (next_checked z next >>= others)
-    → at ≡ z.place + span → leads_behind next span ≡ false → at + length held1 + room ≡ limit → place ≡ z.place + 5 → stop ≡ stops.Refused (record { place = place; reason = reasons.OffsetWrong }) → StopsOver z held0 rest0 rest1 room stop
+    → at ≡ z.place + span → leads_behind next span ≡ false → at + length held1 + room ≡ limit → place ≡ z.place + 5 → stop ≡ stops.Refused (record { place = place; reason = reasons.OffsetWrong }) → StopsOver units z held0 rest0 rest1 room stop
 next_wrong {z} {held1 = held1} {at = at} others next span room place stop b there wrong total field e =
-    stops_refused room (8 * (z.place + 5)) place reasons.OffsetWrong stop b (next_read z next at span others held1 there ∙ rw wrong refl) (λ t. cc) total (omega (arith, field)) e
+    stops_refused units_table room (8 * (z.place + 5)) place reasons.OffsetWrong stop b (next_read z next at span others held1 there ∙ rw wrong refl) (λ t. cc) total (omega (arith, field)) e
 
 pub next_right : {z : Past} {held0 held1 : List ℕ} {rest0 rest1 : Option (List ℕ)} {at : ℕ} (others : ℕ → Rows Reason DataUnit) (next span : ℕ) → Begun units z held0 rest0 rest1 at held1 (next_checked z next >>= others)
     → at ≡ z.place + span → leads_behind next span ≡ true → Begun units z held0 rest0 rest1 at held1 (others (8 * at))

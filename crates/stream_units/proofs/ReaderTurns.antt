@@ -18,7 +18,7 @@ use Rattle.stream_units.specs.Asking.{WindowSeen}
 use Rattle.stream_units.specs.Units.{Past, DataUnit, Sequence, Repeated, Picture, Skipped, End, units, after}
 use Rattle.stream_units.specs.Streams.{limit, past_limit}
 use Rattle.stream_units.specs.Turns.{IsFound, LimitTakes, LimitOver, LimitStops, shape_of}
-use Rattle.stream_units.specs.Reader.{ReaderState, item_of, is_last, IsPictureOf, IsDecoderOf, Steps, TakesItem, KeepsStop, NextOver}
+use Rattle.stream_units.specs.Reader.{ReaderState, item_of, is_end_item, IsPictureOf, IsDecoderOf, Steps, TakesItem, KeepsStop, NextOver}
 use Rattle.stream_units.specs.ReaderInside.{picture_in, ShowsOne, Keeps}
 
 -- ---- the step behind a unit
@@ -99,8 +99,8 @@ shows_one Skipped made old new shows d k = subst (λ b. ShowsOne b new) (sym (su
 shows_one End made old new shows d k = subst (λ b. ShowsOne b new) (sym (subst (λ m. Keeps m old new shows) d k).1) tt
 
 -- nothing is shown at the end
-pub over_none : (unit : DataUnit) (item : Item) (made old new : Option Decoding) (shows : Bool) → item ≡ item_of unit → is_last item ≡ true → IsDecoderOf unit made → Keeps made old new shows → shows ≡ false
-over_none (Picture parts number params slices) item made old new shows i last d k = absurd (let clash : false ≡ true = sym (ap is_last i) ∙ last in cc)
+pub over_none : (unit : DataUnit) (item : Item) (made old new : Option Decoding) (shows : Bool) → item ≡ item_of unit → is_end_item item ≡ true → IsDecoderOf unit made → Keeps made old new shows → shows ≡ false
+over_none (Picture parts number params slices) item made old new shows i last d k = absurd (let clash : false ≡ true = sym (ap is_end_item i) ∙ last in cc)
 over_none (Sequence parts) item made old new shows i last d k = (subst (λ m. Keeps m old new shows) d k).1
 over_none Repeated item made old new shows i last d k = (subst (λ m. Keeps m old new shows) d k).1
 over_none Skipped item made old new shows i last d k = (subst (λ m. Keeps m old new shows) d k).1
@@ -128,9 +128,9 @@ pub record Leaves (old new : ReaderState) (window : WindowSeen) (found : Found) 
   pub picture : (unit : DataUnit) (bytes : List ℕ) → length bytes ≡ size → IsFound old.past found unit bytes → IsPictureOf unit new.picture
   pub held : new.held ≡ window.held
   pub stop : new.stop ≡ None
-  pub ended : new.ended ≡ is_last item
+  pub ended : new.ended ≡ is_end_item item
 
-taken : {old new : ReaderState} {rest0 rest1 : Option (List ℕ)} {window : WindowSeen} {found : Found} {size : ℕ} {item : Item} (t : LimitTakes old.past old.held rest0 rest1 window.room window.held (IsFound old.past found)) → Leaves old new window found size item → size ≡ limit - window.room - length window.held - old.past.place → is_last item ≡ false → TakesItem old new rest0 rest1 item
+taken : {old new : ReaderState} {rest0 rest1 : Option (List ℕ)} {window : WindowSeen} {found : Found} {size : ℕ} {item : Item} (t : LimitTakes old.past old.held rest0 rest1 window.room window.held (IsFound old.past found)) → Leaves old new window found size item → size ≡ limit - window.room - length window.held - old.past.place → is_end_item item ≡ false → TakesItem old new rest0 rest1 item
 taken {old} {new} {rest0} {rest1} {size = size} t l e going =
     let long : length t.bytes ≡ size = omega (arith, t.total, e) in
     let s = (l.steps t.unit t.bytes long t.such).1 in
@@ -152,16 +152,16 @@ item_is t l e = (l.steps t.unit t.bytes (omega (arith, t.total, e)) t.such).1.is
 pub next_over : (old new : ReaderState) (rest0 rest1 : Option (List ℕ)) (window : WindowSeen) (found : Found) (size : ℕ) (item : Item) → LimitOver old.past old.held rest0 rest1 window (Ok found) → size ≡ limit - window.room - length window.held - old.past.place → Leaves old new window found size item → NextOver old new rest0 rest1 (Ok item)
 next_over old new rest0 rest1 window (founds.Sequence first) size item t e l =
     let i : item ≡ items.Sequence = item_is t l e ∙ ap item_of t.such.0 in
-    subst (λ (x : Item). NextOver old new rest0 rest1 (Ok x)) (sym i) (subst (TakesItem old new rest0 rest1) i (taken t l e (ap is_last i)))
+    subst (λ (x : Item). NextOver old new rest0 rest1 (Ok x)) (sym i) (subst (TakesItem old new rest0 rest1) i (taken t l e (ap is_end_item i)))
 next_over old new rest0 rest1 window founds.Repeated size item t e l =
     let i : item ≡ items.Repeated = item_is t l e ∙ ap item_of t.such in
-    subst (λ (x : Item). NextOver old new rest0 rest1 (Ok x)) (sym i) (subst (TakesItem old new rest0 rest1) i (taken t l e (ap is_last i)))
+    subst (λ (x : Item). NextOver old new rest0 rest1 (Ok x)) (sym i) (subst (TakesItem old new rest0 rest1) i (taken t l e (ap is_end_item i)))
 next_over old new rest0 rest1 window (founds.Picture shown) size item t e l =
     let i : item ≡ items.Picture shown.number = item_is t l e ∙ ap item_of t.such.2.is_picture in
-    subst (λ (x : Item). NextOver old new rest0 rest1 (Ok x)) (sym i) (subst (TakesItem old new rest0 rest1) i (taken t l e (ap is_last i)))
+    subst (λ (x : Item). NextOver old new rest0 rest1 (Ok x)) (sym i) (subst (TakesItem old new rest0 rest1) i (taken t l e (ap is_end_item i)))
 next_over old new rest0 rest1 window founds.Skipped size item t e l =
     let i : item ≡ items.Skipped = item_is t l e ∙ ap item_of t.such in
-    subst (λ (x : Item). NextOver old new rest0 rest1 (Ok x)) (sym i) (subst (TakesItem old new rest0 rest1) i (taken t l e (ap is_last i)))
+    subst (λ (x : Item). NextOver old new rest0 rest1 (Ok x)) (sym i) (subst (TakesItem old new rest0 rest1) i (taken t l e (ap is_end_item i)))
 next_over old new rest0 rest1 window founds.End size item t e l =
     let long : length t.bytes ≡ size = omega (arith, t.total, e, ap (λ (h : List ℕ). length h) t.none) in
     let s = (l.steps End t.bytes long refl).1 in
@@ -172,11 +172,11 @@ next_over old new rest0 rest1 window founds.End size item t e l =
       last = t.last;
       past = s.past;
       shapes = l.shapes End t.bytes long refl;
-      over = (l.held ∙ t.none, l.picture End t.bytes long refl, l.stop, l.ended ∙ ap is_last i);
+      over = (l.held ∙ t.none, l.picture End t.bytes long refl, l.stop, l.ended ∙ ap is_end_item i);
     })
 
 -- no memory, before a byte was read
-pub nothing_due : (z : Past) (held : List ℕ) (rest : Option (List ℕ)) (room : ℕ) → length held ≤ 4096 → z.place + length held + room ≡ limit → LimitStops z held rest rest stops.NoMemory
+pub nothing_due : (z : Past) (held : List ℕ) (rest : Option (List ℕ)) (room : ℕ) → length held ≤ 4096 → z.place + length held + room ≡ limit → LimitStops units z held rest rest stops.NoMemory
 nothing_due z held rest room few total = (z.place + length held, omega (arith, total), begun_due (begun_start units z held rest few))
 
 -- ---- a reader that is seen
@@ -184,6 +184,6 @@ nothing_due z held rest room few total = (z.place + length held, omega (arith, t
 pub along : (seen old new : ReaderState) (rest0 rest1 : Option (List ℕ)) (result : Result Item ReadStop) → old ≡ seen → (old.stop ≡ None → old.ended ≡ false → NextOver old new rest0 rest1 result) → seen.stop ≡ None → seen.ended ≡ false → NextOver seen new rest0 rest1 result
 along seen old new rest0 rest1 result e f = subst (λ (o : ReaderState). o.stop ≡ None → o.ended ≡ false → NextOver o new rest0 rest1 result) e f
 
-pub stopped : (seen old new : ReaderState) (rest0 rest1 : Option (List ℕ)) (stop : ReadStop) → old ≡ seen → (old.stop ≡ None → old.ended ≡ false → LimitStops old.past old.held rest0 rest1 stop) → (old.stop ≡ None → old.ended ≡ false → KeepsStop old new stop)
-    → seen.stop ≡ None → seen.ended ≡ false → LimitStops seen.past seen.held rest0 rest1 stop × KeepsStop seen new stop
-stopped seen old new rest0 rest1 stop e f k = subst (λ (o : ReaderState). o.stop ≡ None → o.ended ≡ false → LimitStops o.past o.held rest0 rest1 stop × KeepsStop o new stop) e (λ no_stop going. (f no_stop going, k no_stop going))
+pub stopped : (seen old new : ReaderState) (rest0 rest1 : Option (List ℕ)) (stop : ReadStop) → old ≡ seen → (old.stop ≡ None → old.ended ≡ false → LimitStops units old.past old.held rest0 rest1 stop) → (old.stop ≡ None → old.ended ≡ false → KeepsStop old new stop)
+    → seen.stop ≡ None → seen.ended ≡ false → LimitStops units seen.past seen.held rest0 rest1 stop × KeepsStop seen new stop
+stopped seen old new rest0 rest1 stop e f k = subst (λ (o : ReaderState). o.stop ≡ None → o.ended ≡ false → LimitStops units o.past o.held rest0 rest1 stop × KeepsStop o new stop) e (λ no_stop going. (f no_stop going, k no_stop going))

@@ -85,5 +85,5 @@ ready_again old new own shape theirs ours is s p frame params = record {
   frame = ap (λ d. frame_of d.shape) is ∙ ap frame_of (sym s) ∙ frame;
   params_are = ap (λ d. d.params) is ∙ sym p ∙ params;
   first = ap (λ d. d.next) is;
-  none_refused = ap (λ d. d.refused) is;
+  waits_refused = ap (λ d. d.refused) is;
 }

@@ -1,5 +1,5 @@
 -- The rows of a unit ask nothing of what follows them, but for the one behind an end of sequence.
-use Rattle.std.proofs.Common.{ℕ, zero, suc, List, [], ◌∷◌, ◌++◌, length, Option, Some, None}
+use Rattle.std.proofs.Common.{ℕ, zero, suc, refl, List, [], ◌∷◌, ◌++◌, length, Option, Some, None}
 use Rattle.field_rows.specs.Rows.{◌>>=◌, bytes_under, word_under}
 use Rattle.field_rows.specs.Pieces.{IsSteady}
 use Rattle.field_rows.proofs.Steady.{steady, IsSteady-bind, IsSteady-bytes_under, IsSteady-done}
@@ -65,4 +65,4 @@ body_steady z = IsSteady-bind (unit_head z) (payload_rows z z.first) (head_stead
 -- the units of a stream are those of a grammar
 pub units_laws : IsGrammar units
 unfolding body_rows unit_head head_rows ◌>>=◌ word_under
-units_laws = record { steady = body_steady; some = λ z. tt }
+units_laws = record { steady = body_steady; some = λ z. tt; short = refl }

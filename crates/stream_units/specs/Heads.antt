@@ -1,6 +1,6 @@
 -- The head of a unit and the whole first unit, as the functions of the code answer them.
 use Rattle.std.specs.Prelude.{◌≡◌, ◌≤◌, ◌<◌, ℕ, ◌+◌, ◌%◌, List, [], ◌∷◌, length, drop, ◌==◌, ◌||◌, ◌&&◌, not, Bool, false, Option, Some, None, is_some, Result, Ok, Err}
-use Rattle.field_rows.specs.Rows.{Rule, ◌or_else◌, first_broken, and_then, Fault, read}
+use Rattle.field_rows.specs.Rows.{Rows, Rule, ◌or_else◌, first_broken, and_then, Fault, read}
 use Rattle.parse_info.specs.declared.Code.{Code}
 use Rattle.parse_info.specs.declared.InfoFault.{InfoFault}
 use Rattle.parse_info.specs.declared.InfoFault.TheVariants as faults
@@ -13,6 +13,7 @@ use Rattle.stream_units.specs.declared.reason.Refusal.{Refusal}
 use Rattle.stream_units.specs.declared.heads.Before.{Before}
 use Rattle.stream_units.specs.Units.{First, Past, nothing_yet, Sequence, reason_of, is_header, is_end_code, next_rules, unit_head, units}
 use Rattle.stream_units.specs.Streams.{refusal_of}
+use Rattle.stream_units.specs.HeadUnits.{leads_on}
 
 -- the picture coding mode of the first sequence header
 abbrev pub coding_of : Option First → Option ℕ
@@ -23,10 +24,10 @@ coding_of (Some first) = Some first.parts.coding
 abbrev pub looking_back : Past → Before
 looking_back z = record { place = z.place; previous = z.previous; coding = coding_of z.first; pictures = z.pictures }
 
--- The head of the unit in front of bytes: it was read whole, or has its first fault, which is a short field only where the bytes end inside the head.
-abbrev pub HeadAt : Past → List ℕ → Result ParseInfo Refusal → Type 0
-HeadAt z bytes (Ok info) = (13 ≤ length bytes) × (read reason_of (unit_head z) (bytes_at z.place bytes) ≡ Ok (info, bytes_at (z.place + 13) (drop 13 bytes)))
-HeadAt z bytes (Err refusal) = (fault : Fault Reason) × (refusal ≡ refusal_of fault) × (read reason_of (unit_head z) (bytes_at z.place bytes) ≡ Err fault) × (fault.reason ≡ reasons.Truncated → length bytes < 13)
+-- The head of the unit at a place, in front of bytes, by its rows: it was read whole, or has its first fault, which is a short field only where the bytes end inside the head.
+abbrev pub HeadAt : Rows Reason ParseInfo → ℕ → List ℕ → Result ParseInfo Refusal → Type 0
+HeadAt rows place bytes (Ok info) = (13 ≤ length bytes) × (read reason_of rows (bytes_at place bytes) ≡ Ok (info, bytes_at (place + 13) (drop 13 bytes)))
+HeadAt rows place bytes (Err refusal) = (fault : Fault Reason) × (refusal ≡ refusal_of fault) × (read reason_of rows (bytes_at place bytes) ≡ Err fault) × (fault.reason ≡ reasons.Truncated → length bytes < 13)
 
 -- The first unit in front of bytes: its sequence header and its length, or its first fault.
 abbrev pub IsFirstUnit : List ℕ → Result (HeaderParts × ℕ) Refusal → Type 0
@@ -73,3 +74,17 @@ judged_head before (Err (faults.PreviousShort code next)) =
 -- a next offset of 0, or of the unit's length
 abbrev pub leads_behind : ℕ → ℕ → Bool
 leads_behind next length = next == 0 || next == length
+
+-- the rule on the next offset of a head alone
+abbrev pub alone_rules : Code → ℕ → List (Rule Reason)
+alone_rules code next = (leads_on code next or_else reasons.OffsetShort) ∷ []
+
+-- what was read of a head alone
+abbrev pub judged_alone : ℕ → Result ParseInfo InfoFault → Result ParseInfo Refusal
+judged_alone place (Ok info) = and_then (passes (place + 5) (first_broken (alone_rules info.code info.next))) (λ checked. Ok info)
+judged_alone place (Err faults.PrefixShort) = Err (record { place = place; reason = reasons.Truncated })
+judged_alone place (Err faults.BadPrefix) = Err (record { place = place; reason = reasons.BadPrefix })
+judged_alone place (Err faults.CodeShort) = Err (record { place = place + 4; reason = reasons.Truncated })
+judged_alone place (Err (faults.UnsupportedCode code)) = Err (record { place = place + 4; reason = reasons.UnsupportedCode code })
+judged_alone place (Err (faults.NextShort code)) = Err (record { place = place + 5; reason = reasons.Truncated })
+judged_alone place (Err (faults.PreviousShort code next)) = and_then (passes (place + 5) (first_broken (alone_rules code next))) (λ checked. Err (record { place = place + 9; reason = reasons.Truncated }))

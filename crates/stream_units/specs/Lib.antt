@@ -7,3 +7,5 @@ pub mod Reader
 pub mod ReaderInside
 pub mod Parts
 pub mod Judging
+pub mod HeadUnits
+pub mod HeadReader

@@ -44,9 +44,9 @@ abbrev pub IsDecoderOf : DataUnit → Option Decoding → Type 0
 IsDecoderOf (Picture parts number params slices) decoder = (d : Decoding) × (decoder ≡ Some d) × Shows parts params slices d
 IsDecoderOf other decoder = decoder ≡ None
 
-abbrev pub is_last : Item → Bool
-is_last items.End = true
-is_last other = false
+abbrev pub is_end_item : Item → Bool
+is_end_item items.End = true
+is_end_item other = false
 
 -- what is behind a unit of these bytes
 pub record Steps (old new : Past) (unit : DataUnit) (bytes : List ℕ) (item : Item) (made : Option Decoding) : Type 0 where
@@ -86,4 +86,4 @@ pub record KeepsStop (old new : ReaderState) (stop : ReadStop) : Type 0 where
 abbrev pub NextOver : ReaderState → ReaderState → Option (List ℕ) → Option (List ℕ) → Result Item ReadStop → Type 0
 NextOver old new rest0 rest1 (Ok items.End) = TakesEnd old new rest0 rest1
 NextOver old new rest0 rest1 (Ok item) = TakesItem old new rest0 rest1 item
-NextOver old new rest0 rest1 (Err stop) = LimitStops old.past old.held rest0 rest1 stop × KeepsStop old new stop
+NextOver old new rest0 rest1 (Err stop) = LimitStops units old.past old.held rest0 rest1 stop × KeepsStop old new stop

@@ -10,7 +10,7 @@ use Rattle.sequence_header.specs.declared.parts.HeaderParts.{HeaderParts}
 use Rattle.sequence_header.specs.Coding.{luma_size, colour_size, luma_depth, colour_depth}
 use Rattle.picture_codec.specs.Pictures.{Frame}
 use Rattle.picture_codec.specs.Samples.{PictureSamples, picture_of}
-use Rattle.stream_units.specs.Units.{Past, nothing_yet, DataUnit, Picture, is_end, reason_of, unit_rows, after}
+use Rattle.stream_units.specs.Units.{Past, nothing_yet, DataUnit, Picture, is_end, is_truncated, reason_of, unit_rows, after}
 
 -- the bytes between two cursors
 abbrev pub bytes_between : Cursor → Cursor → List ℕ
@@ -58,10 +58,6 @@ pub record IsStream (bytes : List ℕ) (es : List Entry) (last : Entry) : Type 0
   pub stream : IsStreamFrom nothing_yet (cursor_at bytes 0) es last
 
 -- Past the limit an input that would be cut off there is too long.
-abbrev pub is_truncated : Reason → Bool
-is_truncated reasons.Truncated = true
-is_truncated _ = false
-
 abbrev pub past_limit : Fault Reason → Fault Reason
 past_limit fault = if is_truncated fault.reason then record { place = 8 * limit; reason = reasons.StreamTooLong } else fault
 

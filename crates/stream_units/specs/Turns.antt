@@ -11,6 +11,7 @@ use Rattle.sequence_header.specs.declared.parts.HeaderParts.{HeaderParts}
 use Rattle.transform_params.specs.Params.{Params}
 use Rattle.picture_codec.specs.Samples.{frame_of, picture_of}
 use Rattle.picture_codec.specs.Decoding.{Decoding}
+use Rattle.unit_table.specs.Grammar.{Grammar}
 use Rattle.unit_table.specs.Fronts.{Finishes, Refuses}
 use Rattle.unit_table.specs.Begun.{Begun, Lost, Due, Taken, Over}
 use Rattle.unit_table.specs.Turn.{TakesUnit, MeetsFront}
@@ -25,8 +26,8 @@ use Rattle.stream_units.specs.declared.pictures.Shown.{Shown}
 use Rattle.stream_units.specs.declared.parts.Found.{Found}
 use Rattle.stream_units.specs.declared.parts.Found.TheVariants as founds
 use Rattle.stream_units.specs.Asking.{WindowSeen}
-use Rattle.stream_units.specs.Units.{Past, First, DataUnit, Sequence, Repeated, Picture, Skipped, End, units, next_checked}
-use Rattle.stream_units.specs.Streams.{limit, is_truncated, past_limit, refusal_of, frame_under}
+use Rattle.stream_units.specs.Units.{Past, First, DataUnit, Sequence, Repeated, Picture, Skipped, End, units, next_checked, is_truncated}
+use Rattle.stream_units.specs.Streams.{limit, past_limit, refusal_of, frame_under}
 
 abbrev pub stop_of : Halt → ReadStop
 stop_of halts.ReadFault = stops.ReadFault
@@ -54,18 +55,19 @@ pub record Ends (z : Past) (held0 : List ℕ) (rest0 rest1 : Option (List ℕ)) 
   pub over : Over units z held0 rest0 rest1 (within room rest1) (z.place + length bytes) (Finishes (length bytes) End)
 
 -- the unit is refused; where the input ends inside it, nothing more comes
-pub record Refused (z : Past) (held0 : List ℕ) (rest0 rest1 : Option (List ℕ)) (room : ℕ) (refusal : Refusal) : Type 0 where
+pub record Refused {Z U : Type 0} (g : Grammar Z Reason U) (z : Z) (held0 : List ℕ) (rest0 rest1 : Option (List ℕ)) (room : ℕ) (refusal : Refusal) : Type 0 where
   pub fault : Fault Reason
   pub there : refusal ≡ refusal_of fault
   pub top : ℕ
   pub total : top + room ≡ limit
   pub at_end : refusal.reason ≡ reasons.Truncated → IsAtEnd (within room rest1)
-  pub over : Over units z held0 rest0 rest1 (within room rest1) top (Refuses fault)
+  pub over : Over g z held0 rest0 rest1 (within room rest1) top (Refuses fault)
 
-abbrev pub StopsOver : Past → List ℕ → Option (List ℕ) → Option (List ℕ) → ℕ → ReadStop → Type 0
-StopsOver z held0 rest0 rest1 room (stops.Refused refusal) = Refused z held0 rest0 rest1 room refusal
-StopsOver z held0 rest0 rest1 room stops.ReadFault = (top : ℕ) × (top ≤ limit) × Lost units z held0 rest0 rest1 top
-StopsOver z held0 rest0 rest1 room stops.NoMemory = (top : ℕ) × (top ≤ limit) × Due units z held0 rest0 rest1 top
+-- the unit of a table stops
+abbrev pub StopsOver : {Z U : Type 0} → Grammar Z Reason U → Z → List ℕ → Option (List ℕ) → Option (List ℕ) → ℕ → ReadStop → Type 0
+StopsOver g z held0 rest0 rest1 room (stops.Refused refusal) = Refused g z held0 rest0 rest1 room refusal
+StopsOver g z held0 rest0 rest1 room stops.ReadFault = (top : ℕ) × (top ≤ limit) × Lost g z held0 rest0 rest1 top
+StopsOver g z held0 rest0 rest1 room stops.NoMemory = (top : ℕ) × (top ≤ limit) × Due g z held0 rest0 rest1 top
 
 -- a failed read has its cause, and without one the count stands still
 abbrev pub StopCause : {X : Type 0} → ℕ → ℕ → Result X ReadStop → Type 0
@@ -97,7 +99,7 @@ pub record ReadsHeader (z : Past) (next : ℕ) (held0 : List ℕ) (rest0 rest1 :
 
 abbrev pub HeaderOver : Past → ℕ → List ℕ → Option (List ℕ) → Option (List ℕ) → WindowSeen → Result (HeaderParts × ℕ) ReadStop → Type 0
 HeaderOver z next held0 rest0 rest1 window (Ok x) = ReadsHeader z next held0 rest0 rest1 window.held x.0 x.1
-HeaderOver z next held0 rest0 rest1 window (Err stop) = StopsOver z held0 rest0 rest1 window.room stop
+HeaderOver z next held0 rest0 rest1 window (Err stop) = StopsOver units z held0 rest0 rest1 window.room stop
 
 -- a picture that was read, of pictures under this header
 pub record IsShown (parts : HeaderParts) (shown : Shown) (unit : DataUnit) (bytes : List ℕ) : Type 0 where
@@ -110,17 +112,17 @@ pub record IsShown (parts : HeaderParts) (shown : Shown) (unit : DataUnit) (byte
 
 -- how the payload of a picture comes out
 abbrev pub PictureOver : Past → List ℕ → Option (List ℕ) → Option (List ℕ) → WindowSeen → HeaderParts → Result Shown ReadStop → Type 0
-PictureOver z held0 rest0 rest1 window parts result = MatchResult result (λ shown. Takes z held0 rest0 rest1 window.room window.held (IsShown parts shown)) (λ stop. StopsOver z held0 rest0 rest1 window.room stop)
+PictureOver z held0 rest0 rest1 window parts result = MatchResult result (λ shown. Takes z held0 rest0 rest1 window.room window.held (IsShown parts shown)) (λ stop. StopsOver units z held0 rest0 rest1 window.room stop)
 
 -- ---- a unit, whichever it is
 
 -- how a unit that doesn't end the stream comes out
-abbrev pub PartOver : {X : Type 0} → Past → List ℕ → Option (List ℕ) → Option (List ℕ) → WindowSeen → (X → DataUnit → List ℕ → Type 0) → Result X ReadStop → Type 0
-PartOver z held0 rest0 rest1 window IsSuch result = MatchResult result (λ x. Takes z held0 rest0 rest1 window.room window.held (IsSuch x)) (λ stop. StopsOver z held0 rest0 rest1 window.room stop)
+abbrev pub TakesOver : {X : Type 0} → Past → List ℕ → Option (List ℕ) → Option (List ℕ) → WindowSeen → (X → DataUnit → List ℕ → Type 0) → Result X ReadStop → Type 0
+TakesOver z held0 rest0 rest1 window IsSuch result = MatchResult result (λ x. Takes z held0 rest0 rest1 window.room window.held (IsSuch x)) (λ stop. StopsOver units z held0 rest0 rest1 window.room stop)
 
 -- how the end comes out
 abbrev pub EndOver : {X : Type 0} → Past → List ℕ → Option (List ℕ) → Option (List ℕ) → WindowSeen → Result X ReadStop → Type 0
-EndOver z held0 rest0 rest1 window result = MatchResult result (λ x. Ends z held0 rest0 rest1 window.room window.held) (λ stop. StopsOver z held0 rest0 rest1 window.room stop)
+EndOver z held0 rest0 rest1 window result = MatchResult result (λ x. Ends z held0 rest0 rest1 window.room window.held) (λ stop. StopsOver units z held0 rest0 rest1 window.room stop)
 
 -- what was found is this unit of these bytes
 abbrev pub IsFound : Past → Found → DataUnit → List ℕ → Type 0
@@ -134,7 +136,7 @@ IsFound z founds.End unit bytes = unit ≡ End
 abbrev pub UnitOver : Past → List ℕ → Option (List ℕ) → Option (List ℕ) → WindowSeen → Result Found ReadStop → Type 0
 UnitOver z held0 rest0 rest1 window (Ok founds.End) = Ends z held0 rest0 rest1 window.room window.held
 UnitOver z held0 rest0 rest1 window (Ok found) = Takes z held0 rest0 rest1 window.room window.held (IsFound z found)
-UnitOver z held0 rest0 rest1 window (Err stop) = StopsOver z held0 rest0 rest1 window.room stop
+UnitOver z held0 rest0 rest1 window (Err stop) = StopsOver units z held0 rest0 rest1 window.room stop
 
 -- ---- the same, of an input that counts up to the limit
 
@@ -159,20 +161,21 @@ pub record LimitEnds (z : Past) (held0 : List ℕ) (rest0 rest1 : Option (List �
   pub meets : MeetsFront limit past_limit units z held0 rest0 rest1 (Finishes (length bytes) End)
 
 -- the unit is refused
-pub record LimitRefused (z : Past) (held0 : List ℕ) (rest0 rest1 : Option (List ℕ)) (refusal : Refusal) : Type 0 where
+pub record LimitRefused {Z U : Type 0} (g : Grammar Z Reason U) (z : Z) (held0 : List ℕ) (rest0 rest1 : Option (List ℕ)) (refusal : Refusal) : Type 0 where
   pub fault : Fault Reason
   pub there : refusal ≡ refusal_of fault
-  pub meets : MeetsFront limit past_limit units z held0 rest0 rest1 (Refuses fault)
+  pub meets : MeetsFront limit past_limit g z held0 rest0 rest1 (Refuses fault)
 
-abbrev pub LimitStops : Past → List ℕ → Option (List ℕ) → Option (List ℕ) → ReadStop → Type 0
-LimitStops z held0 rest0 rest1 (stops.Refused refusal) = LimitRefused z held0 rest0 rest1 refusal
-LimitStops z held0 rest0 rest1 stops.ReadFault = (top : ℕ) × (top ≤ limit) × Lost units z held0 rest0 rest1 top
-LimitStops z held0 rest0 rest1 stops.NoMemory = (top : ℕ) × (top ≤ limit) × Due units z held0 rest0 rest1 top
+-- the unit of a table stops
+abbrev pub LimitStops : {Z U : Type 0} → Grammar Z Reason U → Z → List ℕ → Option (List ℕ) → Option (List ℕ) → ReadStop → Type 0
+LimitStops g z held0 rest0 rest1 (stops.Refused refusal) = LimitRefused g z held0 rest0 rest1 refusal
+LimitStops g z held0 rest0 rest1 stops.ReadFault = (top : ℕ) × (top ≤ limit) × Lost g z held0 rest0 rest1 top
+LimitStops g z held0 rest0 rest1 stops.NoMemory = (top : ℕ) × (top ≤ limit) × Due g z held0 rest0 rest1 top
 
 abbrev pub LimitOver : Past → List ℕ → Option (List ℕ) → Option (List ℕ) → WindowSeen → Result Found ReadStop → Type 0
 LimitOver z held0 rest0 rest1 window (Ok founds.End) = LimitEnds z held0 rest0 rest1 window.room window.held
 LimitOver z held0 rest0 rest1 window (Ok found) = LimitTakes z held0 rest0 rest1 window.room window.held (IsFound z found)
-LimitOver z held0 rest0 rest1 window (Err stop) = LimitStops z held0 rest0 rest1 stop
+LimitOver z held0 rest0 rest1 window (Err stop) = LimitStops units z held0 rest0 rest1 stop
 
 -- the reason where a byte lies past the limit, of an end or a refusal that the limit may have made
 abbrev pub too_long : Result Found ReadStop → Option Reason

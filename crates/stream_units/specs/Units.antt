@@ -59,6 +59,11 @@ is_end Repeated = false
 is_end (Picture parts number params slices) = false
 is_end Skipped = false
 
+-- the reason of a field that is short
+abbrev pub is_truncated : Reason → Bool
+is_truncated reasons.Truncated = true
+is_truncated other = false
+
 abbrev pub reason_of : CodeFault → Reason
 reason_of codes.Short = reasons.Truncated
 reason_of codes.TooLarge = reasons.NumberTooLarge
@@ -227,6 +232,7 @@ after z End bytes = record { place = z.place + length bytes; previous = length b
 abbrev pub units : Grammar Past Reason DataUnit
 units = record {
   reason_of = reason_of;
+  is_short = is_truncated;
   rows = body_rows;
   place = λ z. z.place;
   after = after;

@@ -2,7 +2,7 @@
 
 ghost use Rattle.std.specs.Prelude.{◌≡◌, ◌+◌, ◌^◌, ◌≤◌, length, Err};
 ghost use Rattle.field_rows.specs.Rows.{first_broken};
-ghost use Rattle.stream_units.specs.Units.{is_header, is_end_code, is_skipped, header_reason, transform_reason, next_rules};
+ghost use Rattle.stream_units.specs.Units.{is_header, is_end_code, is_skipped, header_reason, transform_reason, next_rules, unit_head};
 ghost use Rattle.stream_units.specs.Heads.{looking_back, are_fields, passes, code_rules_behind, previous_rules_behind, judged_head, HeadAt, leads_behind, IsFirstUnit};
 
 use crate::earlier::Earlier;
@@ -154,7 +154,8 @@ fn check_previous(before: Before, previous: u32) -> Result<(), Refusal>
     Ok(())
 }
 
-fn refuse(place: u64, reason: Reason) -> Result<ParseInfo, Refusal>
+/// The head is refused at a place.
+pub(crate) fn refuse(place: u64, reason: Reason) -> Result<ParseInfo, Refusal>
     ensures { result ≡ Err (record { place = place; reason = reason }) }
 {
     Err(Refusal { place, reason })
@@ -191,7 +192,7 @@ fn judge(before: Before, read: Result<ParseInfo, InfoFault>) -> Result<ParseInfo
 
 /// The head of the unit in front of the bytes, or its first fault.
 pub(crate) fn read_head(earlier: &Earlier, bytes: &[u8]) -> Result<ParseInfo, Refusal>
-    ensures { HeadAt earlier.now bytes.now result }
+    ensures { HeadAt (unit_head earlier.now) earlier.now.place bytes.now result }
 {
     judge(look_back(earlier), ParseInfo::read(bytes))
 }

@@ -6,7 +6,6 @@ ghost use Rattle.stream_units.specs.Judging.{IsVerdict, IsStopped};
 
 use crate::reader::StreamReader;
 use crate::reason::Refusal;
-use crate::steps::is_last;
 use crate::stop::ReadStop;
 use planes::NoMemory;
 use std::alloc::Global;
@@ -43,7 +42,7 @@ fn judge_units(reader: &mut StreamReader, bytes: &[u8]) -> Result<Verdict, NoMem
             Ok(item) => item,
             Err(stop) => return stopped(stop),
         };
-        if is_last(item) {
+        if item.is_end() {
             return Ok(Verdict::Stream);
         }
     }

@@ -2,6 +2,8 @@
 #![tactic(auto)]
 
 mod earlier;
+mod head_reader;
+mod head_units;
 mod heads;
 mod judging;
 mod laws;
@@ -10,11 +12,13 @@ mod parts;
 mod pictures;
 mod reader;
 pub mod reason;
+mod short;
 mod steps;
 mod stop;
 mod units;
 mod window;
 
+pub use head_reader::HeadReader;
 pub use heads::first_unit;
 pub use judging::{Verdict, judge};
 pub use laws::one_answer;

@@ -5,7 +5,7 @@ ghost use Rattle.stream_units.specs.Turns.{LimitOver, StopCause, too_long};
 
 use crate::earlier::Earlier;
 use crate::parts::Found;
-use crate::reason::{Reason, is_truncated};
+use crate::reason::Reason;
 use crate::stop::{ReadStop, refused};
 use crate::units::unit;
 use crate::window::Window;
@@ -22,7 +22,7 @@ fn too_long(found: &Result<Found, ReadStop>) -> Option<Reason>
         Ok(Found::End) => Some(Reason::TrailingBytes),
         Ok(_) => None,
         Err(ReadStop::Refused(refusal)) => {
-            if is_truncated(refusal.reason) {
+            if refusal.reason.is_truncated() {
                 Some(Reason::StreamTooLong)
             } else {
                 None

@@ -4,13 +4,14 @@ ghost use Rattle.std.specs.Prelude.{◌≡◌, ◌+◌, ◌^◌, ◌≤◌, List
 ghost use Rattle.field_rows.specs.Rows.{done};
 ghost use Rattle.unit_table.specs.Begun.{Begun};
 ghost use Rattle.stream_units.specs.Units.{Skipped, Repeated, End, Past, units, first_payload, skipped_payload, repeated_payload};
-ghost use Rattle.stream_units.specs.Turns.{PartOver, EndOver, HeaderOver, IsFirst, StopCause};
+ghost use Rattle.stream_units.specs.Turns.{TakesOver, EndOver, HeaderOver, IsFirst, StopCause};
 ghost use Rattle.stream_units.specs.declared.stop.ReadStop.TheVariants as stops;
 
 use crate::earlier::{Earlier, First};
 use crate::heads::{header_reason, leads_behind};
 use crate::pictures::Shown;
-use crate::reason::{Reason, is_truncated};
+use crate::reason::{Reason, Refusal};
+use crate::short::read_on;
 use crate::stop::{ReadStop, refused, stop_of};
 use crate::window::Window;
 use sequence_header::SequenceHeader;
@@ -54,7 +55,7 @@ pub(crate) fn skipped<S: Source>(
 ) -> Result<(), ReadStop>
     requires place { earlier.now.place + 13 + length window.old.held + window.old.room ≡ 2 ^ 40 }
     ensures unit { (held0 : List ℕ) (rest0 : Option (List ℕ)) → Begun units earlier.now held0 rest0 (S.rest src.old) (earlier.now.place + 13) window.old.held (skipped_payload next)
-        → PartOver earlier.now held0 rest0 (S.rest src.new) window.new (λ _ unit bytes. unit ≡ Skipped) result }
+        → TakesOver earlier.now held0 rest0 (S.rest src.new) window.new (λ _ unit bytes. unit ≡ Skipped) result }
     ensures cause { StopCause (S.faults src.old) (S.faults src.new) result }
 {
     match window.skip(src, next.saturating_sub(13) as u64) {
@@ -74,7 +75,7 @@ pub(crate) fn repeated<S: Source>(
 ) -> Result<(), ReadStop>
     requires place { earlier.now.place + 13 + length window.old.held + window.old.room ≡ 2 ^ 40 }
     ensures unit { (held0 : List ℕ) (rest0 : Option (List ℕ)) → Begun units earlier.now held0 rest0 (S.rest src.old) (earlier.now.place + 13) window.old.held (repeated_payload earlier.now next first.now)
-        → PartOver earlier.now held0 rest0 (S.rest src.new) window.new (λ _ unit bytes. unit ≡ Repeated) result }
+        → TakesOver earlier.now held0 rest0 (S.rest src.new) window.new (λ _ unit bytes. unit ≡ Repeated) result }
     ensures cause { StopCause (S.faults src.old) (S.faults src.new) result }
 {
     let place = earlier.place();
@@ -118,17 +119,19 @@ fn read_header<S: Source>(
             Ok(read) => return Ok(read),
             Err(fault) => fault,
         };
-        let reason = header_reason(fault.reason);
-        if !is_truncated(reason) {
-            return Err(refused(place + fault.bit / 8, reason));
+        let refusal = Refusal {
+            place: place + fault.bit / 8,
+            reason: header_reason(fault.reason),
+        };
+        if !refusal.reason.is_truncated() {
+            return Err(ReadStop::Refused(refusal));
         }
         if held >= MOST {
             return Err(ReadStop::NoMemory);
         }
-        match window.hold(src, held + 1) {
-            Ok(true) => {}
-            Ok(false) => return Err(refused(place + fault.bit / 8, reason)),
-            Err(halt) => return Err(stop_of(halt)),
+        match read_on(window, src, refusal) {
+            Ok(()) => {}
+            Err(stop) => return Err(stop),
         }
     }
 }
@@ -156,7 +159,7 @@ pub(crate) fn first_header<S: Source>(
     requires place { earlier.now.place + 13 + length window.old.held + window.old.room ≡ 2 ^ 40 }
     requires few { length window.old.held ≤ 4096 }
     ensures unit { (held0 : List ℕ) (rest0 : Option (List ℕ)) → Begun units earlier.now held0 rest0 (S.rest src.old) (earlier.now.place + 13) window.old.held (first_payload earlier.now next)
-        → PartOver earlier.now held0 rest0 (S.rest src.new) window.new IsFirst result }
+        → TakesOver earlier.now held0 rest0 (S.rest src.new) window.new IsFirst result }
     ensures cause { StopCause (S.faults src.old) (S.faults src.new) result }
 {
     let place = earlier.place();

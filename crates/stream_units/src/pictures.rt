@@ -17,7 +17,8 @@ ghost use Rattle.stream_units.specs.Parts.{PartOver, SlicesOver, IsReady, slice_
 
 use crate::earlier::{Earlier, First};
 use crate::heads::{leads_behind, transform_reason};
-use crate::reason::{Reason, is_truncated};
+use crate::reason::{Reason, Refusal};
+use crate::short::read_on;
 use crate::stop::{ReadStop, refused, stop_of};
 use crate::window::Window;
 use picture_codec::PictureDecoder;
@@ -61,7 +62,7 @@ fn number<S: Source>(
 ) -> Result<u32, ReadStop>
     requires first { earlier.now.first ≡ Some first.now }
     requires place { earlier.now.place + 13 + length window.old.held + window.old.room ≡ 2 ^ 40 }
-    ensures part { PartOver (word_under (number_rules earlier.now)) (λ n. n) earlier.now (S.rest src.old) (S.rest src.new) (earlier.now.place + 13) (λ n. 4) window.old window.new result }
+    ensures part { PartOver units (word_under (number_rules earlier.now)) (λ n. n) earlier.now (S.rest src.old) (S.rest src.new) (earlier.now.place + 13) (λ n. 4) window.old window.new result }
     ensures place { OnOk result (earlier.now.place + 17 + length window.new.held + window.new.room ≡ 2 ^ 40) }
     ensures cause { StopCause (S.faults src.old) (S.faults src.new) result }
 {
@@ -92,7 +93,7 @@ fn params<S: Source>(
     place: u64,
 ) -> Result<(TransformParams, u64), ReadStop>
     requires { place + length window.old.held + window.old.room ≡ 2 ^ 40 }
-    ensures part { (z : Past) → PartOver (renamed transform_reason params_rows) (λ x. params_of x.0) z (S.rest src.old) (S.rest src.new) place (λ x. x.1) window.old window.new result }
+    ensures part { (z : Past) → PartOver units (renamed transform_reason params_rows) (λ x. params_of x.0) z (S.rest src.old) (S.rest src.new) place (λ x. x.1) window.old window.new result }
     ensures most { IfOk result (λ x. x.1 ≤ 512) }
     ensures place { IfOk result (λ x. place + x.1 + length window.new.held + window.new.room ≡ 2 ^ 40) }
     ensures cause { StopCause (S.faults src.old) (S.faults src.new) result }
@@ -110,18 +111,20 @@ fn params<S: Source>(
             }
             Err(fault) => fault,
         };
-        let (at, reason) = (place + fault.bit / 8, transform_reason(fault.reason));
-        if !is_truncated(reason) {
-            return Err(refused(at, reason));
+        let refusal = Refusal {
+            place: place + fault.bit / 8,
+            reason: transform_reason(fault.reason),
+        };
+        if !refusal.reason.is_truncated() {
+            return Err(ReadStop::Refused(refusal));
         }
         // No parameters are as long, so no input comes here.
         if count == LONGEST_PARAMS {
             return Err(ReadStop::NoMemory);
         }
-        match window.hold(src, count + 1) {
-            Ok(true) => {}
-            Ok(false) => return Err(refused(at, reason)),
-            Err(halt) => return Err(stop_of(halt)),
+        match read_on(window, src, refusal) {
+            Ok(()) => {}
+            Err(stop) => return Err(stop),
         }
     }
 }

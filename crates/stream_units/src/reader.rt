@@ -7,7 +7,7 @@ ghost use Rattle.stream_units.specs.declared.stop.Item.TheVariants as items;
 
 use crate::earlier::Earlier;
 use crate::limits::next_unit;
-use crate::steps::{is_last, keep, shape_of, step};
+use crate::steps::{keep, shape_of, step};
 use crate::stop::{Item, ReadStop};
 use crate::window::Window;
 use picture_codec::{Picture, PictureDecoder};
@@ -62,8 +62,8 @@ impl StreamReader {
     }
 
     /// Takes the unit in front of the bytes that are held and then the source's. The source is asked only while that
-    /// unit doesn't stand whole in what was read, an end of sequence being whole only where a byte follows it; at most
-    /// 4096 bytes a read.
+    /// unit neither stands whole nor is refused in what was read, an end of sequence being whole only where a byte
+    /// follows it; at most 4096 bytes a read.
     pub fn next<S: Source>(&mut self, src: &mut S) -> Result<Item, ReadStop>
         // The unit is taken, or refused as the grammar of a stream refuses it, or something outside failed.
         ensures next { self.old.stop ≡ None → self.old.ended ≡ false → NextOver self.old self.new (S.rest src.old) (S.rest src.new) result }
@@ -103,7 +103,7 @@ impl StreamReader {
         self.shapes.push(shape_of(&found, start, size));
         let (item, made) = step(&mut self.earlier, found, size);
         self.shows = keep(&mut self.decoder, made);
-        self.ended = is_last(item);
+        self.ended = item.is_end();
         Ok(item)
     }
 

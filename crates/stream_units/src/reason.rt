@@ -1,7 +1,7 @@
 //! Why a stream is refused, and where.
 
 ghost use Rattle.std.specs.Prelude.{◌≡◌};
-ghost use Rattle.stream_units.specs.Streams.{is_truncated};
+ghost use Rattle.stream_units.specs.Units.{is_truncated};
 
 use sequence_header::FieldName;
 
@@ -81,12 +81,14 @@ pub struct Refusal {
     pub reason: Reason,
 }
 
-/// The input ends inside a field.
-pub(crate) fn is_truncated(reason: Reason) -> bool
-    ensures { result ≡ is_truncated reason }
-{
-    match reason {
-        Reason::Truncated => true,
-        _ => false,
+impl Reason {
+    /// The input ends inside a field.
+    pub fn is_truncated(self) -> bool
+        ensures { result ≡ is_truncated self }
+    {
+        match self {
+            Reason::Truncated => true,
+            _ => false,
+        }
     }
 }

@@ -4,7 +4,7 @@ ghost use Rattle.std.specs.Prelude.{◌≡◌, ◌+◌, ◌^◌, ◌≤◌, ◌<
 ghost use Rattle.slice_geometry.specs.Units.{IsUnitAllowed, unit_length};
 ghost use Rattle.stream_units.specs.Units.{Past, DataUnit};
 ghost use Rattle.stream_units.specs.Turns.{IsFound, shape_of};
-ghost use Rattle.stream_units.specs.Reader.{Steps, is_last};
+ghost use Rattle.stream_units.specs.Reader.{Steps};
 ghost use Rattle.stream_units.specs.ReaderInside.{Keeps};
 
 use crate::earlier::Earlier;
@@ -80,11 +80,4 @@ pub(crate) fn keep(decoder: &mut Option<PictureDecoder>, made: Option<PictureDec
         }
         None => false,
     }
-}
-
-/// The stream is over with this item.
-pub(crate) fn is_last(item: Item) -> bool
-    ensures { result ≡ is_last item }
-{
-    matches!(item, Item::End)
 }

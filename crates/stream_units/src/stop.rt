@@ -3,6 +3,7 @@
 ghost use Rattle.std.specs.Prelude.{◌≡◌};
 ghost use Rattle.stream_units.specs.declared.stop.ReadStop.TheVariants as stops;
 ghost use Rattle.stream_units.specs.Turns.{stop_of};
+ghost use Rattle.stream_units.specs.Reader.{is_end_item};
 
 use crate::reason::{Reason, Refusal};
 use crate::window::Halt;
@@ -20,6 +21,15 @@ pub enum Item {
     Skipped,
     /// The end of the sequence, behind which nothing is left.
     End,
+}
+
+impl Item {
+    /// The stream is over with this item.
+    pub fn is_end(self) -> bool
+        ensures { result ≡ is_end_item self }
+    {
+        matches!(self, Item::End)
+    }
 }
 
 /// Why reading stopped.

@@ -1,20 +1,54 @@
 //! One unit, taken from a source.
 
-ghost use Rattle.std.specs.Prelude.{◌≡◌, ◌+◌, ◌^◌, ◌≤◌, List, ℕ, Option, length};
+ghost use Rattle.std.specs.Prelude.{◌≡◌, ◌+◌, ◌^◌, ◌≤◌, List, ℕ, Option, length, OnOk};
 ghost use Rattle.unit_table.specs.Begun.{Begun};
-ghost use Rattle.stream_units.specs.Units.{units, payload_rows};
+ghost use Rattle.stream_units.specs.Units.{units, unit_head, payload_rows};
 ghost use Rattle.stream_units.specs.Turns.{UnitOver, StopCause};
+ghost use Rattle.stream_units.specs.Parts.{PartOver};
 
 use crate::earlier::Earlier;
 use crate::heads::read_head;
 use crate::parts::{Found, end, first_header, repeated, skipped};
 use crate::pictures::picture;
-use crate::stop::{ReadStop, stop_of};
+use crate::short::read_on;
+use crate::stop::ReadStop;
 use crate::window::Window;
 use parse_info::{Code, ParseInfo};
 use picture_codec::PictureDecoder;
 use std::alloc::Global;
 use vc2_io::Source;
+
+// The head of the unit. Bytes are asked for only while it is short.
+fn head<S: Source>(
+    window: &mut Window,
+    src: &mut S,
+    earlier: &Earlier,
+) -> Result<ParseInfo, ReadStop>
+    requires place { earlier.now.place + length window.old.held + window.old.room ≡ 2 ^ 40 }
+    requires few { length window.old.held ≤ 4096 }
+    ensures part { PartOver units (unit_head earlier.now) (λ info. info) earlier.now (S.rest src.old) (S.rest src.new) earlier.now.place (λ info. 13) window.old window.new result }
+    ensures place { OnOk result (earlier.now.place + 13 + length window.new.held + window.new.room ≡ 2 ^ 40) }
+    ensures few { OnOk result (length window.new.held ≤ 4096) }
+    ensures cause { StopCause (S.faults src.old) (S.faults src.new) result }
+{
+    loop {
+        let count = window.len().min(13);
+        let refusal = match read_head(earlier, window.front(count)) {
+            Ok(info) => {
+                window.advance(13);
+                return Ok(info);
+            }
+            Err(refusal) => refusal,
+        };
+        if !refusal.reason.is_truncated() {
+            return Err(ReadStop::Refused(refusal));
+        }
+        match read_on(window, src, refusal) {
+            Ok(()) => {}
+            Err(stop) => return Err(stop),
+        }
+    }
+}
 
 // The payload of the unit with this head.
 fn payload<S: Source>(
@@ -73,15 +107,9 @@ pub(crate) fn unit<S: Source>(
     ensures unit { UnitOver earlier.now window.old.held (S.rest src.old) (S.rest src.new) window.new result }
     ensures cause { StopCause (S.faults src.old) (S.faults src.new) result }
 {
-    let whole = match window.hold(src, 13) {
-        Ok(whole) => whole,
-        Err(halt) => return Err(stop_of(halt)),
-    };
-    let count = if whole { 13 } else { window.len() };
-    let info = match read_head(earlier, window.front(count)) {
+    let info = match head(window, src, earlier) {
         Ok(info) => info,
-        Err(refusal) => return Err(ReadStop::Refused(refusal)),
+        Err(stop) => return Err(stop),
     };
-    window.advance(13);
     payload(alloc, window, src, earlier, info, kept)
 }

@@ -10,12 +10,11 @@ use Rattle.bit_codes.specs.Bits.{Cursor, bits_of}
 use Rattle.bit_codes.proofs.BitLemmas.{length-bits}
 use Rattle.field_rows.specs.Rows.{Rows, done, Fault, read, is_nil}
 use Rattle.field_rows.specs.Pieces.{with_more}
-use Rattle.field_rows.proofs.Pieces.{read-more_refused}
 use Rattle.field_rows.proofs.Reading.{read-done}
-use Rattle.unit_table.specs.Grammar.{Grammar, bytes_at, unit_at, is_whole_by, NoneStands}
+use Rattle.unit_table.specs.Grammar.{Grammar, bytes_at, unit_at, is_settled_by, Waits}
 use Rattle.unit_table.specs.Fronts.{Stands, Finishes, Refuses, size_to, front_behind, front_of}
 use Rattle.unit_table.specs.Begun.{Partway, Prompt, Begun, Needs, Lacks, Moves, Got, Lost, Due, Taken, Over}
-use Rattle.unit_table.proofs.GrammarLaws.{IsGrammar, bytes_at-append, unit-more, none_front}
+use Rattle.unit_table.proofs.GrammarLaws.{IsGrammar, unit-more, unit-refused, waits_front}
 use Rattle.unit_table.proofs.FrontLaws.{front_laws, front-unit, whole_clash}
 
 pub prompt_few : {Z R U : Type 0} (g : Grammar Z R U) (z : Z) (bytes : List ℕ) → length bytes ≤ 4096 → Prompt g z bytes
@@ -31,9 +30,9 @@ begun_start g z held rest few = record {
   prompt = prompt_few g z held few;
 }
 
--- short of what the rows need, no unit stands whole
-pub none_partway : {Z R U : Type 0} (g : Grammar Z R U) (z : Z) (gone : List ℕ) (at : ℕ) (left : Rows R U) (n : ℕ) (bytes : List ℕ) → Partway g z gone at left → Needs g left n → length bytes < n → NoneStands g z (gone ++ bytes)
-none_partway g z gone at left n bytes way needs short = record { none = ap (is_whole_by g) (way.same bytes) ∙ needs.needs at bytes short }
+-- short of what the rows need, the unit waits
+pub waits_partway : {Z R U : Type 0} (g : Grammar Z R U) (z : Z) (gone : List ℕ) (at : ℕ) (left : Rows R U) (n : ℕ) (bytes : List ℕ) → Partway g z gone at left → Needs g left n → length bytes < n → Waits g z (gone ++ bytes)
+waits_partway g z gone at left n bytes way needs short = record { waits = ap (is_settled_by g) (way.same bytes) ∙ needs.needs at bytes short }
 
 prompt_more : {Z R U : Type 0} (g : Grammar Z R U) → IsGrammar g → (z : Z) (gone : List ℕ) (at : ℕ) (left : Rows R U) (n : ℕ) (held new : List ℕ) → Partway g z gone at left → Needs g left n
     → 0 < n → length held + length new < n + 4096 → Prompt g z (gone ++ (held ++ new))
@@ -45,10 +44,10 @@ prompt_more g laws z gone at left n held new way needs some few = record {
       elim (cases_lt (length gone) k) [
         | inl lt ↦ let j = k - length gone in
             let cut : take k v ≡ gone ++ take j (held ++ new) = ap (λ n. take n v) (omega arith) ∙ take-append-add gone (held ++ new) j in
-            subst (NoneStands g z) (sym cut) (none_partway g z gone at left n (take j (held ++ new)) way needs (omega (arith, length-take j (held ++ new))))
+            subst (Waits g z) (sym cut) (waits_partway g z gone at left n (take j (held ++ new)) way needs (omega (arith, length-take j (held ++ new))))
         | inr le ↦ let cut : take k v ≡ take k gone = take-append-le k gone (held ++ new) le in
-            let all = subst (NoneStands g z) (append-nil gone) (none_partway g z gone at left n [] way needs some) in
-            subst (NoneStands g z) (sym cut) (none_front g laws z (take k gone) (drop k gone) (subst (NoneStands g z) (sym (take-append-drop k gone)) all))
+            let all = subst (Waits g z) (append-nil gone) (waits_partway g z gone at left n [] way needs some) in
+            subst (Waits g z) (sym cut) (waits_front g laws z (take k gone) (drop k gone) (subst (Waits g z) (sym (take-append-drop k gone)) all))
       ];
 }
 
@@ -88,7 +87,7 @@ begun_lost {g = g} {z = z} {held1 = held1} {at = at} {left = left} laws n b need
   read = b.read;
   top_is = omega (arith, b.partway.at_is, ap (λ (l : List ℕ). length l) b.parts, length-append b.gone held1);
   took = b.took;
-  none = subst (NoneStands g z) (sym b.parts) (none_partway g z b.gone at left n held1 b.partway needs short);
+  waits = subst (Waits g z) (sym b.parts) (waits_partway g z b.gone at left n held1 b.partway needs short);
   prompt = subst (Prompt g z) (sym b.parts) b.prompt;
 }
 
@@ -118,9 +117,9 @@ begun_taken {g = g} {z = z} {held1 = held1} {at = at} laws unit b no_end =
               let total : length v ≡ length b.gone + length held1 = length-append b.gone held1 in
               let j = k - length b.gone in
               let cut : take k v ≡ b.gone ++ take j held1 = ap (λ n. take n v) (omega arith) ∙ take-append-add b.gone held1 j in
-              let none = subst (NoneStands g z) cut (b.prompt.prompt (omega arith)) in
-              let far : is_whole_by g (unit_at g z (b.gone ++ take j held1)) ≡ true = ap (is_whole_by g) (unit-more g laws z b.gone (take j held1) unit (bytes_at at []) here) ∙ whole_clash g unit (with_more (bytes_at at []) (bits_of (take j held1))) no_end in
-              let clash : true ≡ false = sym far ∙ none.none in
+              let none = subst (Waits g z) cut (b.prompt.prompt (omega arith)) in
+              let far : is_settled_by g (unit_at g z (b.gone ++ take j held1)) ≡ true = ap (is_settled_by g) (unit-more g laws z b.gone (take j held1) unit (bytes_at at []) here) ∙ whole_clash g unit (with_more (bytes_at at []) (bits_of (take j held1))) no_end in
+              let clash : true ≡ false = sym far ∙ none.waits in
               cc)
         ];
       },
@@ -146,12 +145,10 @@ begun_refused {g = g} {z = z} {held0 = held0} {held1 = held1} {at = at} laws see
   ends = λ more told.
       let here : unit_at g z (held0 ++ b.read) ≡ Err fault = ap (unit_at g z) b.parts ∙ b.partway.same held1 ∙ e in
       front_refused g z ((held0 ++ b.read) ++ more) fault
-      (ap (read g.reason_of (g.rows z)) (bytes_at-append (g.place z) (held0 ++ b.read) more)
-      ∙ read-more_refused g.reason_of (g.rows z) (bytes_at (g.place z) (held0 ++ b.read)) fault (bits_of more) (laws.steady z).steady
-      (record { whole = omega (arith, length-bits (held0 ++ b.read)) }) other here);
+      (unit-refused g laws z (held0 ++ b.read) more fault other here);
 }
 
-nothing_more : (rest : Option (List ℕ)) (more : List ℕ) → IsAtEnd rest → rest ≡ Some more → more ≡ []
+pub nothing_more : (rest : Option (List ℕ)) (more : List ℕ) → IsAtEnd rest → rest ≡ Some more → more ≡ []
 nothing_more None more h e = absurd cc
 nothing_more (Some xs) more h e = cc
 
@@ -255,17 +252,17 @@ begun_lacking {g = g} {z = z} {held0 = held0} {held1 = held1} {rest0 = rest0} {r
           let k = length (b.gone ++ (held1 ++ x ∷ new)) - 4096 in
           let le : k ≤ length v = omega (arith, ap (λ (l : List ℕ). length l) all, length-append v (x ∷ new), near) in
           let cut : take k (b.gone ++ (held1 ++ x ∷ new)) ≡ take k v = ap (take k) all ∙ take-append-le k v (x ∷ new) le in
-          let none : NoneStands g z v = record { none = ap (is_whole_by g) (b.partway.same held1) ∙ lacks.lacks } in
-          subst (NoneStands g z) (sym cut) (none_front g laws z (take k v) (drop k v) (subst (NoneStands g z) (sym (take-append-drop k v)) none));
+          let none : Waits g z v = record { waits = ap (is_settled_by g) (b.partway.same held1) ∙ lacks.lacks } in
+          subst (Waits g z) (sym cut) (waits_front g laws z (take k v) (drop k v) (subst (Waits g z) (sym (take-append-drop k v)) none));
     }
 
--- no unit stands whole in bytes that lack
+-- the unit waits for more than bytes that lack
 pub begun_none : {Z R U : Type 0} {g : Grammar Z R U} {z : Z} {held0 held1 : List ℕ} {rest0 rest1 : Option (List ℕ)} {at : ℕ} {left : Rows R U} → Begun g z held0 rest0 rest1 at held1 left → Lacks g left at held1 → Lost g z held0 rest0 rest1 (at + length held1)
 begun_none {g = g} {z = z} {held1 = held1} b lacks = record {
   read = b.read;
   top_is = omega (arith, b.partway.at_is, ap (λ (l : List ℕ). length l) b.parts, length-append b.gone held1);
   took = b.took;
-  none = subst (NoneStands g z) (sym b.parts) (record { none = ap (is_whole_by g) (b.partway.same held1) ∙ lacks.lacks });
+  waits = subst (Waits g z) (sym b.parts) (record { waits = ap (is_settled_by g) (b.partway.same held1) ∙ lacks.lacks });
   prompt = subst (Prompt g z) (sym b.parts) b.prompt;
 }
 

@@ -1,37 +1,25 @@
 -- What rows need, and what is left behind their bytes.
-use Rattle.std.proofs.Common.{◌≡◌, ℕ, ◌+◌, ◌*◌, ◌<◌, ◌≤◌, suc, get_or, true, false, List, [], ◌∷◌, ◌++◌, length, take, drop, Option, Some, None, Result, Ok, Err, inl, inr, refl, ap, ◌∙◌, arith}
+use Rattle.std.proofs.Common.{◌≡◌, ℕ, ◌+◌, ◌*◌, ◌<◌, ◌≤◌, suc, get_or, not, true, false, List, [], ◌∷◌, ◌++◌, length, take, Option, Some, None, Ok, Err, refl, ap, ◌∙◌, arith}
 use Rattle.std.specs.List.{AllByRecursion}
-use Rattle.std.proofs.lemmas.Bool.{cases_lt, le-ltb, lt-ltb}
-use Rattle.std.proofs.lemmas.List.{length-append, length-drop, take_at, drop_at}
+use Rattle.std.proofs.lemmas.Bool.{le-ltb, lt-ltb}
+use Rattle.std.proofs.lemmas.List.{length-append, take_at, drop_at}
 use Rattle.bit_codes.specs.declared.CodeFault.TheVariants as codes
-use Rattle.bit_codes.specs.Bits.{Cursor, bits_of, bytes_of}
+use Rattle.bit_codes.specs.Bits.{bits_of, bytes_of}
 use Rattle.bit_codes.proofs.BitLemmas.{length-bits}
 use Rattle.bit_codes.proofs.ByteLemmas.{bytes_of-bits_of}
-use Rattle.field_rows.specs.Rows.{some_bytes, Value, Bytes, Rule, Rows, done, row, ◌>>=◌, Fault, read, field_at, spelled, judged, first_broken}
+use Rattle.field_rows.specs.Rows.{some_bytes, Value, Bytes, Rule, Rows, done, row, ◌>>=◌, read, field_at, spelled, first_broken}
 use Rattle.field_rows.specs.Pieces.{IsSteady}
 use Rattle.field_rows.proofs.Pieces.{read-more}
 use Rattle.field_rows.proofs.Reading.{read-bind}
 use Rattle.field_rows.proofs.Words.{split-bits}
-use Rattle.unit_table.specs.Grammar.{Grammar, bytes_at, is_whole_by}
+use Rattle.unit_table.specs.Grammar.{Grammar, bytes_at, is_settled_by}
 use Rattle.unit_table.specs.Begun.{Needs, Moves}
-use Rattle.unit_table.proofs.GrammarLaws.{bytes_at-append}
+use Rattle.unit_table.proofs.GrammarLaws.{IsGrammar, bytes_at-append}
 
--- a field of so many bytes, and then rows that need so many
-pub needs_row : {Z R U : Type 0} (g : Grammar Z R U) (n m : ℕ) (at : Option ℕ) (rules : Value → List (Rule R)) (next : Value → Rows R U) → ((v : Value) → Needs g (next v) m) → Needs g (row (some_bytes n) at rules next) (n + m)
+-- fewer bytes than a field has
+pub needs_row : {Z R U : Type 0} (g : Grammar Z R U) → IsGrammar g → (n : ℕ) (at : Option ℕ) (rules : Value → List (Rule R)) (next : Value → Rows R U) → Needs g (row (some_bytes n) at rules next) n
 unfolding read field_at spelled
-needs_row {R = R} {U = U} g n m at rules next others = record {
-  needs = λ place bytes short. elim (cases_lt (length bytes) n) [
-    | inl lt ↦ rw (lt-ltb (length (bits_of bytes)) (8 * n) (omega (arith, length-bits bytes))) refl
-    | inr le ↦ rw (le-ltb (length (bits_of bytes)) (8 * n) (omega (arith, length-bits bytes)), (split-bits n bytes le).1)
-        (judge (first_broken (rules (Bytes (bytes_of (take (8 * n) (bits_of bytes)))))) _ _
-        (ap (λ p. is_whole_by g (read g.reason_of (next (Bytes (bytes_of (take (8 * n) (bits_of bytes))))) (record { place = p; rest = bits_of (drop n bytes) }))) (omega arith)
-        ∙ (others (Bytes (bytes_of (take (8 * n) (bits_of bytes))))).needs (place + n) (drop n bytes) (omega (arith, length-drop n bytes))))
-  ];
-}
-  where
-    judge : (broken : Option R) (at : ℕ) (r : Result (U × Cursor) (Fault R)) → is_whole_by g r ≡ false → is_whole_by g (judged at broken r) ≡ false
-    judge None at r h = h
-    judge (Some reason) at r h = refl
+needs_row g laws n at rules next = record { needs = λ place bytes short. rw (lt-ltb (length (bits_of bytes)) (8 * n) (omega (arith, length-bits bytes))) (ap not laws.short) }
 
 pub needs_nothing : {Z R U : Type 0} (g : Grammar Z R U) (left : Rows R U) → Needs g left 0
 needs_nothing g left = record { needs = λ place bytes short. absurd (omega arith) }
@@ -41,7 +29,7 @@ pub needs_end : {Z R U : Type 0} (g : Grammar Z R U) (unit : U) → g.is_end uni
 unfolding read
 needs_end g unit ends = record { needs = λ place bytes short. none bytes place short }
   where
-    none : (bytes : List ℕ) (place : ℕ) → length bytes < 1 → is_whole_by g (read g.reason_of (done unit) (bytes_at place bytes)) ≡ false
+    none : (bytes : List ℕ) (place : ℕ) → length bytes < 1 → is_settled_by g (read g.reason_of (done unit) (bytes_at place bytes)) ≡ false
     none [] place short = rw ends refl
     none (b ∷ bytes) place short = absurd (omega arith)
 

@@ -8,9 +8,9 @@ use Rattle.bit_codes.proofs.BitLemmas.{length-bits}
 use Rattle.field_rows.specs.Rows.{Fault, is_nil}
 use Rattle.field_rows.specs.Pieces.{with_more}
 use Rattle.vc2_run.specs.Walk.{Step, Whole, IsMachine, NoneWhole}
-use Rattle.unit_table.specs.Grammar.{Grammar, unit_at, is_whole_by, NoneStands}
+use Rattle.unit_table.specs.Grammar.{Grammar, unit_at, is_settled_by, Waits}
 use Rattle.unit_table.specs.Fronts.{Front, Stands, Finishes, Refuses, size_to, front_behind, front_by, front_of, past_front, front_within, Command, step_of, machine_of}
-use Rattle.unit_table.proofs.GrammarLaws.{IsGrammar, unit-more, unit-shorter, none_front}
+use Rattle.unit_table.proofs.GrammarLaws.{IsGrammar, unit-more, unit-shorter, waits_front}
 
 size-more : (bytes more : List ℕ) (behind : Cursor) → length behind.rest < 8 * length bytes → size_to (bytes ++ more) (with_more behind (bits_of more)) ≡ size_to bytes behind
 size-more bytes more behind h = omega (arith, h, length-append bytes more, length-append behind.rest (bits_of more), length-bits more)
@@ -138,25 +138,25 @@ machine_laws limit past g command laws =
           ∙ whole_same size _ _ _ _ (sym s.is_text) (ap (g.after z s.unit) (take-append-le size bytes more (fronts.inside z bytes size s.unit s.stands)) ∙ sym s.is_left);
     }
 
--- ---- where no unit stands whole
+-- ---- where the unit waits for more bytes
 
 none_step : {Z R U E : Type 0} (g : Grammar Z R U) (command : Command Z R U E) (z : Z) (bytes : List ℕ) (front : Front R U) → ((size : ℕ) (unit : U) → front ≡ Stands size unit → ⊥) → NoneWhole (step_of g command z bytes front)
 none_step g command z bytes (Stands size unit) none = none size unit refl
 none_step g command z bytes (Finishes size unit) none = tt
 none_step g command z bytes (Refuses fault) none = tt
 
-pub whole_clash : {Z R U : Type 0} (g : Grammar Z R U) (unit : U) (behind : Cursor) → g.is_end unit ≡ false → is_whole_by g (Ok (unit, behind)) ≡ true
+pub whole_clash : {Z R U : Type 0} (g : Grammar Z R U) (unit : U) (behind : Cursor) → g.is_end unit ≡ false → is_settled_by g (Ok (unit, behind)) ≡ true
 whole_clash g unit behind h = rw h refl
 
-pub none_stands : {Z R U : Type 0} (g : Grammar Z R U) (z : Z) (bytes : List ℕ) → NoneStands g z bytes → (size : ℕ) (unit : U) → front_of g z bytes ≡ Stands size unit → ⊥
+pub none_stands : {Z R U : Type 0} (g : Grammar Z R U) (z : Z) (bytes : List ℕ) → Waits g z bytes → (size : ℕ) (unit : U) → front_of g z bytes ≡ Stands size unit → ⊥
 none_stands g z bytes f size unit k =
     let u = unit_by g z bytes size unit (unit_at g z bytes) refl k in
-    let clash : true ≡ false = sym (ap (is_whole_by g) u.read ∙ whole_clash g unit u.behind u.no_end) ∙ f.none in
+    let clash : true ≡ false = sym (ap (is_settled_by g) u.read ∙ whole_clash g unit u.behind u.no_end) ∙ f.waits in
     cc
 
--- where no unit stands whole in the bytes, the machine finds none
-pub none_whole : {Z R U E : Type 0} (limit : ℕ) (past : Fault R → Fault R) (g : Grammar Z R U) (command : Command Z R U E) → IsGrammar g → (z : Z) (bytes : List ℕ) → NoneStands g z bytes → NoneWhole ((machine_of limit past g command).step z bytes)
+-- where the unit waits for more bytes, the machine finds none
+pub none_whole : {Z R U E : Type 0} (limit : ℕ) (past : Fault R → Fault R) (g : Grammar Z R U) (command : Command Z R U E) → IsGrammar g → (z : Z) (bytes : List ℕ) → Waits g z bytes → NoneWhole ((machine_of limit past g command).step z bytes)
 none_whole limit past g command laws z bytes f =
     let n = limit - g.place z in
     none_step g command z bytes (front_within limit past g z bytes)
-    (λ size unit k. none_stands g z (take n bytes) (none_front g laws z (take n bytes) (drop n bytes) (subst (NoneStands g z) (sym (take-append-drop n bytes)) f)) size unit (stands_front limit past g z bytes size unit _ refl k))
+    (λ size unit k. none_stands g z (take n bytes) (waits_front g laws z (take n bytes) (drop n bytes) (subst (Waits g z) (sym (take-append-drop n bytes)) f)) size unit (stands_front limit past g z bytes size unit _ refl k))

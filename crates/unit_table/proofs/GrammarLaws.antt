@@ -1,20 +1,22 @@
 -- Laws of the units of a grammar.
-use Rattle.std.proofs.Common.{◌≡◌, ℕ, ◌*◌, ◌<◌, Bool, true, false, not, List, [], ◌∷◌, ◌++◌, length, Result, Ok, Err, refl, sym, ap, ◌∙◌, arith}
+use Rattle.std.proofs.Common.{◌≡◌, ◌≢◌, ℕ, ◌*◌, ◌<◌, Bool, true, false, not, List, [], ◌∷◌, ◌++◌, length, Result, Ok, Err, refl, sym, ap, ◌∙◌, arith}
 use Rattle.std.specs.Prelude.{◌||◌}
+use Rattle.bit_codes.specs.declared.CodeFault.TheVariants as codes
 use Rattle.bit_codes.specs.Bits.{Cursor, bits_of}
 use Rattle.bit_codes.proofs.BitLemmas.{length-bits}
 use Rattle.field_rows.specs.Rows.{Fault, read, is_nil}
 use Rattle.field_rows.specs.Pieces.{with_more, IsWhole, IsSteady}
-use Rattle.field_rows.proofs.Pieces.{read-more}
+use Rattle.field_rows.proofs.Pieces.{read-more, read-more_refused}
 use Rattle.field_rows.proofs.Answers.{found_fields}
 use Rattle.field_rows.proofs.Shorter.{BeginsWithBytes, Stand-shorter}
 use Rattle.field_rows.proofs.Words.{bits_of-append}
-use Rattle.unit_table.specs.Grammar.{Grammar, bytes_at, unit_at, is_whole_by, NoneStands}
+use Rattle.unit_table.specs.Grammar.{Grammar, bytes_at, unit_at, is_settled_by, Waits}
 
--- what is asked of a grammar: its rows ask nothing of what follows, and begin with bytes
+-- what is asked of a grammar: its rows ask nothing of what follows, and begin with bytes; and a short field is told by its reason
 pub record IsGrammar {Z R U : Type 0} (g : Grammar Z R U) : Type 0 where
   pub steady : (z : Z) → IsSteady (g.rows z)
   pub some : (z : Z) → BeginsWithBytes (g.rows z)
+  pub short : g.is_short (g.reason_of codes.Short) ≡ true
 
 pub bytes_at-append : (place : ℕ) (a b : List ℕ) → bytes_at place (a ++ b) ≡ with_more (bytes_at place a) (bits_of b)
 bytes_at-append place a b = ap (λ (t : List Bool). let c : Cursor = record { place = 8 * place; rest = t } in c) (bits_of-append a b)
@@ -34,12 +36,25 @@ unit-shorter g laws z bytes unit behind e =
     let f = found_fields g.reason_of (g.rows z) (bytes_at (g.place z) bytes) unit behind e in
     omega (arith, Stand-shorter (g.rows z) f.0 (bytes_at (g.place z) bytes) unit behind (laws.some z) f.1, length-bits bytes)
 
--- what stands whole in front stands whole whatever follows
-whole_more : {Z R U : Type 0} (g : Grammar Z R U) → IsGrammar g → (z : Z) (bytes more : List ℕ) (r : Result (U × Cursor) (Fault R)) (whole : Bool) → unit_at g z bytes ≡ r → is_whole_by g r ≡ whole → is_whole_by g (unit_at g z (bytes ++ more)) ≡ false → is_whole_by g r ≡ false
-whole_more g laws z bytes more (Err fault) whole e h k = refl
-whole_more g laws z bytes more (Ok x) false e h k = h
-whole_more g laws z bytes more (Ok x) true e h k =
-    let far : is_whole_by g (Ok (x.0, with_more x.1 (bits_of more))) ≡ false = ap (is_whole_by g) (sym (unit-more g laws z bytes more x.0 x.1 e)) ∙ k in
+-- what is refused for another reason than shortness is refused whatever follows
+pub unit-refused : {Z R U : Type 0} (g : Grammar Z R U) → IsGrammar g → (z : Z) (bytes more : List ℕ) (fault : Fault R) → fault.reason ≢ g.reason_of codes.Short → unit_at g z bytes ≡ Err fault → unit_at g z (bytes ++ more) ≡ Err fault
+unit-refused g laws z bytes more fault other e =
+    ap (read g.reason_of (g.rows z)) (bytes_at-append (g.place z) bytes more)
+    ∙ read-more_refused g.reason_of (g.rows z) (bytes_at (g.place z) bytes) fault (bits_of more) (laws.steady z).steady (bytes_at-whole (g.place z) bytes) other e
+
+pub not_short : {Z R U : Type 0} (g : Grammar Z R U) → IsGrammar g → (reason : R) → g.is_short reason ≡ false → reason ≢ g.reason_of codes.Short
+not_short g laws reason e same = let clash : true ≡ false = sym laws.short ∙ ap g.is_short (sym same) ∙ e in cc
+
+refused_more : {Z R U : Type 0} (g : Grammar Z R U) → IsGrammar g → (z : Z) (bytes more : List ℕ) (fault : Fault R) (short : Bool) → g.is_short fault.reason ≡ short → unit_at g z bytes ≡ Err fault → is_settled_by g (unit_at g z (bytes ++ more)) ≡ false → not (g.is_short fault.reason) ≡ false
+refused_more g laws z bytes more fault true e h k = ap not e
+refused_more g laws z bytes more fault false e h k = ap (is_settled_by g) (sym (unit-refused g laws z bytes more fault (not_short g laws fault.reason e) h)) ∙ k
+
+-- what settles the unit settles it whatever follows
+settled_more : {Z R U : Type 0} (g : Grammar Z R U) → IsGrammar g → (z : Z) (bytes more : List ℕ) (r : Result (U × Cursor) (Fault R)) (whole : Bool) → unit_at g z bytes ≡ r → is_settled_by g r ≡ whole → is_settled_by g (unit_at g z (bytes ++ more)) ≡ false → is_settled_by g r ≡ false
+settled_more g laws z bytes more (Err fault) whole e h k = refused_more g laws z bytes more fault (g.is_short fault.reason) refl e k
+settled_more g laws z bytes more (Ok x) false e h k = h
+settled_more g laws z bytes more (Ok x) true e h k =
+    let far : is_settled_by g (Ok (x.0, with_more x.1 (bits_of more))) ≡ false = ap (is_settled_by g) (sym (unit-more g laws z bytes more x.0 x.1 e)) ∙ k in
     grow (g.is_end x.0) x.1.rest (bits_of more) h far
   where
     grow : (ends : Bool) (rest tail : List Bool) → (not ends || not (is_nil rest)) ≡ true → (not ends || not (is_nil (rest ++ tail))) ≡ false → (not ends || not (is_nil rest)) ≡ false
@@ -47,5 +62,5 @@ whole_more g laws z bytes more (Ok x) true e h k =
     grow true [] tail h k = refl
     grow true (b ∷ rest) tail h k = k
 
-pub none_front : {Z R U : Type 0} (g : Grammar Z R U) → IsGrammar g → (z : Z) (bytes more : List ℕ) → NoneStands g z (bytes ++ more) → NoneStands g z bytes
-none_front g laws z bytes more f = record { none = whole_more g laws z bytes more (unit_at g z bytes) _ refl refl f.none }
+pub waits_front : {Z R U : Type 0} (g : Grammar Z R U) → IsGrammar g → (z : Z) (bytes more : List ℕ) → Waits g z (bytes ++ more) → Waits g z bytes
+waits_front g laws z bytes more f = record { waits = settled_more g laws z bytes more (unit_at g z bytes) _ refl refl f.waits }

@@ -1,5 +1,5 @@
 -- A unit that is read from an input that counts up to a limit.
-use Rattle.std.proofs.Common.{◌≡◌, ℕ, ◌+◌, ◌-◌, ◌≤◌, ◌<◌, List, [], ◌++◌, length, take, drop, ◌≢◌, Result, Ok, Err, Option, Some, None, Bool, true, false, cond, ltb, refl, sym, ap, subst, ◌∙◌, arith, append_assoc, append-nil}
+use Rattle.std.proofs.Common.{◌≡◌, ℕ, ◌+◌, ◌-◌, ◌≤◌, ◌<◌, List, ◌++◌, length, take, drop, ◌≢◌, Result, Ok, Err, Option, Some, None, Bool, true, false, not, cond, ltb, refl, sym, ap, subst, ◌∙◌, arith, append_assoc, append-nil}
 use Rattle.std.proofs.lemmas.Bool.{ltb-false}
 use Rattle.std.proofs.lemmas.List.{take_all, take_at, length-append, length-take, nil_from_length, take-append-drop, take-append-le}
 use Rattle.std.proofs.Math.Seq.{take-append-add}
@@ -8,12 +8,13 @@ use Rattle.vc2_io.proofs.Known.{Consumes-then}
 use Rattle.vc2_run.specs.Ran.{within}
 use Rattle.bit_codes.specs.Bits.{Cursor}
 use Rattle.field_rows.specs.Rows.{Fault, is_nil}
-use Rattle.unit_table.specs.Grammar.{Grammar, unit_at, is_whole_by, NoneStands}
+use Rattle.unit_table.specs.Grammar.{Grammar, unit_at, is_settled_by, Waits}
 use Rattle.unit_table.specs.Fronts.{Front, Finishes, Refuses, front_behind, front_by, front_of, past_front, front_within}
 use Rattle.unit_table.specs.Begun.{Prompt, Lost, Taken, Over}
 use Rattle.unit_table.specs.Turn.{TakesUnit, MeetsFront}
-use Rattle.unit_table.proofs.GrammarLaws.{IsGrammar, none_front}
+use Rattle.unit_table.proofs.GrammarLaws.{IsGrammar, waits_front}
 use Rattle.unit_table.proofs.FrontLaws.{front_before, front_past}
+use Rattle.unit_table.proofs.Begins.{nothing_more}
 
 -- a unit that ends within the limit
 pub taken_within : {Z R U : Type 0} {g : Grammar Z R U} {z : Z} {held0 held1 bytes : List ℕ} {rest0 rest1 : Option (List ℕ)} {unit : U} (limit : ℕ) (past : Fault R → Fault R) → Taken g z held0 rest0 rest1 bytes held1 unit → g.place z + length bytes + length held1 ≤ limit
@@ -54,24 +55,26 @@ over_stays {g = g} {z = z} {held0 = held0} {rest1 = rest1} {front = front} limit
       same;
 }
 
-nothing_more : (rest : Option (List ℕ)) (more : List ℕ) → IsAtEnd rest → rest ≡ Some more → more ≡ []
-nothing_more None more h e = absurd cc
-nothing_more (Some xs) more h e = cc
+-- and what was read
+pub over_stays-read : {Z R U : Type 0} {g : Grammar Z R U} {z : Z} {held0 : List ℕ} {rest0 rest1 : Option (List ℕ)} {top : ℕ} {front : Front R U} (limit : ℕ) (past : Fault R → Fault R) (room : ℕ) (f : Over g z held0 rest0 rest1 (within room rest1) top front) (total : top + room ≡ limit) (same : past_front limit past g front ≡ front)
+    → (over_stays limit past room f total same).read ≡ f.read
+unfolding over_stays
+over_stays-read limit past room f total same = refl
 
 -- ---- one byte more, at the limit
 
-finish_none : {Z R U : Type 0} (g : Grammar Z R U) (bytes : List ℕ) (size : ℕ) (unit made : U) (behind : Cursor) (ends empty : Bool) → g.is_end made ≡ ends → is_nil behind.rest ≡ empty → front_behind g bytes made behind ends empty ≡ Finishes size unit → is_whole_by g (Ok (made, behind)) ≡ false
+finish_none : {Z R U : Type 0} (g : Grammar Z R U) (bytes : List ℕ) (size : ℕ) (unit made : U) (behind : Cursor) (ends empty : Bool) → g.is_end made ≡ ends → is_nil behind.rest ≡ empty → front_behind g bytes made behind ends empty ≡ Finishes size unit → is_settled_by g (Ok (made, behind)) ≡ false
 finish_none g bytes size unit made behind true true e h k = rw (e, h) refl
 finish_none g bytes size unit made behind true false e h k = absurd cc
 finish_none g bytes size unit made behind false empty e h k = absurd cc
 
-finish_by : {Z R U : Type 0} (g : Grammar Z R U) (bytes : List ℕ) (size : ℕ) (unit : U) (r : Result (U × Cursor) (Fault R)) → front_by g bytes r ≡ Finishes size unit → is_whole_by g r ≡ false
+finish_by : {Z R U : Type 0} (g : Grammar Z R U) (bytes : List ℕ) (size : ℕ) (unit : U) (r : Result (U × Cursor) (Fault R)) → front_by g bytes r ≡ Finishes size unit → is_settled_by g r ≡ false
 finish_by g bytes size unit (Ok x) k = finish_none g bytes size unit x.0 x.1 (g.is_end x.0) (is_nil x.1.rest) refl refl k
-finish_by g bytes size unit (Err fault) k = refl
+finish_by g bytes size unit (Err fault) k = absurd cc
 
--- where the stream finishes, no unit stands whole: no byte follows its last one
-pub none_finished : {Z R U : Type 0} (g : Grammar Z R U) (z : Z) (bytes : List ℕ) (size : ℕ) (unit : U) → front_of g z bytes ≡ Finishes size unit → NoneStands g z bytes
-none_finished g z bytes size unit e = record { none = finish_by g bytes size unit (unit_at g z bytes) e }
+-- where the stream finishes, its last unit waits for a byte
+pub waits_finished : {Z R U : Type 0} (g : Grammar Z R U) (z : Z) (bytes : List ℕ) (size : ℕ) (unit : U) → front_of g z bytes ≡ Finishes size unit → Waits g z bytes
+waits_finished g z bytes size unit e = record { waits = finish_by g bytes size unit (unit_at g z bytes) e }
 
 refuse_none : {Z R U : Type 0} (g : Grammar Z R U) (bytes : List ℕ) (fault : Fault R) (made : U) (behind : Cursor) (ends empty : Bool) → fault.reason ≢ g.trailing → front_behind g bytes made behind ends empty ≡ Refuses fault → ⊥
 refuse_none g bytes fault made behind true true other k = absurd cc
@@ -81,30 +84,32 @@ refuse_none {R = R} g bytes fault made behind true false other k =
     other (sym (ap (λ (f : Fault R). f.reason) same))
 refuse_none g bytes fault made behind false empty other k = absurd cc
 
-refuse_by : {Z R U : Type 0} (g : Grammar Z R U) (bytes : List ℕ) (fault : Fault R) (r : Result (U × Cursor) (Fault R)) → fault.reason ≢ g.trailing → front_by g bytes r ≡ Refuses fault → is_whole_by g r ≡ false
-refuse_by g bytes fault (Ok x) other k = absurd (refuse_none g bytes fault x.0 x.1 (g.is_end x.0) (is_nil x.1.rest) other k)
-refuse_by g bytes fault (Err f) other k = refl
+refuse_by : {Z R U : Type 0} (g : Grammar Z R U) (bytes : List ℕ) (fault : Fault R) (r : Result (U × Cursor) (Fault R)) → g.is_short fault.reason ≡ true → fault.reason ≢ g.trailing → front_by g bytes r ≡ Refuses fault → is_settled_by g r ≡ false
+refuse_by g bytes fault (Ok x) short other k = absurd (refuse_none g bytes fault x.0 x.1 (g.is_end x.0) (is_nil x.1.rest) other k)
+refuse_by {R = R} g bytes fault (Err f) short other k =
+    let same : f ≡ fault = cc in
+    ap (λ (x : Fault R). not (g.is_short x.reason)) same ∙ ap not short
 
--- where it is refused for another reason than bytes behind its last unit, none does either
-pub none_refused : {Z R U : Type 0} (g : Grammar Z R U) (z : Z) (bytes : List ℕ) (fault : Fault R) → fault.reason ≢ g.trailing → front_of g z bytes ≡ Refuses fault → NoneStands g z bytes
-none_refused g z bytes fault other e = record { none = refuse_by g bytes fault (unit_at g z bytes) other e }
+-- where it is refused for a short field, the unit waits
+pub waits_refused : {Z R U : Type 0} (g : Grammar Z R U) (z : Z) (bytes : List ℕ) (fault : Fault R) → g.is_short fault.reason ≡ true → fault.reason ≢ g.trailing → front_of g z bytes ≡ Refuses fault → Waits g z bytes
+waits_refused g z bytes fault short other e = record { waits = refuse_by g bytes fault (unit_at g z bytes) short other e }
 
 -- a read for one byte more failed
 pub over_fault : {Z R U : Type 0} {g : Grammar Z R U} {z : Z} {held0 : List ℕ} {rest0 rest1 seen : Option (List ℕ)} {top : ℕ} {front : Front R U} (rest2 : Option (List ℕ)) (lost : List ℕ) → Over g z held0 rest0 rest1 seen top front
-    → ((v : List ℕ) → front_of g z v ≡ front → NoneStands g z v) → Consumes rest1 rest2 lost → length lost < 1 → Lost g z held0 rest0 rest2 top
+    → ((v : List ℕ) → front_of g z v ≡ front → Waits g z v) → Consumes rest1 rest2 lost → length lost < 1 → Lost g z held0 rest0 rest2 top
 over_fault {g = g} {z = z} {held0 = held0} {rest0 = rest0} {rest1 = rest1} rest2 lost f none took few =
     let empty : f.read ++ lost ≡ f.read = ap (λ l. f.read ++ l) (nil_from_length lost (omega (arith, few))) ∙ append-nil f.read in
     record {
       read = f.read ++ lost;
       top_is = f.top_is ∙ ap (λ l. g.place z + length (held0 ++ l)) (sym empty);
       took = Consumes-then rest0 rest1 rest2 f.read lost f.took took;
-      none = subst (λ l. NoneStands g z (held0 ++ l)) (sym empty) (none (held0 ++ f.read) f.here);
+      waits = subst (λ l. Waits g z (held0 ++ l)) (sym empty) (none (held0 ++ f.read) f.here);
       prompt = subst (λ l. Prompt g z (held0 ++ l)) (sym empty) f.prompt;
     }
 
 -- a byte lies past the limit
 pub over_past : {Z R U : Type 0} {g : Grammar Z R U} {z : Z} {held0 : List ℕ} {rest0 rest1 seen : Option (List ℕ)} {top : ℕ} {front : Front R U} (limit : ℕ) (past : Fault R → Fault R) (laws : IsGrammar g) (rest2 : Option (List ℕ)) (byte : List ℕ) → Over g z held0 rest0 rest1 seen top front → top ≡ limit
-    → ((v : List ℕ) → front_of g z v ≡ front → NoneStands g z v) → Consumes rest1 rest2 byte → length byte ≡ 1 → MeetsFront limit past g z held0 rest0 rest2 (past_front limit past g front)
+    → ((v : List ℕ) → front_of g z v ≡ front → Waits g z v) → Consumes rest1 rest2 byte → length byte ≡ 1 → MeetsFront limit past g z held0 rest0 rest2 (past_front limit past g front)
 over_past {g = g} {z = z} {held0 = held0} {rest0 = rest0} {rest1 = rest1} limit past laws rest2 byte f at none took one =
     let v = held0 ++ f.read in
     let group : held0 ++ (f.read ++ byte) ≡ v ++ byte = sym (append_assoc held0 f.read byte) in
@@ -116,7 +121,7 @@ over_past {g = g} {z = z} {held0 = held0} {rest0 = rest0} {rest1 = rest1} limit 
         prompt = λ long.
             let k = length (v ++ byte) - 4096 in
             let le : k ≤ length v = omega (arith, length-append v byte, one) in
-            subst (NoneStands g z) (sym (take-append-le k v byte le)) (none_front g laws z (take k v) (drop k v) (subst (NoneStands g z) (sym (take-append-drop k v)) (none v f.here)));
+            subst (Waits g z) (sym (take-append-le k v byte le)) (waits_front g laws z (take k v) (drop k v) (subst (Waits g z) (sym (take-append-drop k v)) (none v f.here)));
       });
       ends = λ more told.
           let all : (held0 ++ (f.read ++ byte)) ++ more ≡ v ++ (byte ++ more) = ap (λ l. l ++ more) group ∙ append_assoc v byte more in
@@ -125,6 +130,11 @@ over_past {g = g} {z = z} {held0 = held0} {rest0 = rest0} {rest1 = rest1} limit 
           ∙ front_past limit past g z (v ++ (byte ++ more)) (omega (arith, f.top_is, at, one, length-append v (byte ++ more), length-append byte more))
           ∙ ap (past_front limit past g) (ap (front_of g z) cut ∙ f.here);
     }
+
+pub over_past-read : {Z R U : Type 0} {g : Grammar Z R U} {z : Z} {held0 : List ℕ} {rest0 rest1 seen : Option (List ℕ)} {top : ℕ} {front : Front R U} (limit : ℕ) (past : Fault R → Fault R) (laws : IsGrammar g) (rest2 : Option (List ℕ)) (byte : List ℕ) (f : Over g z held0 rest0 rest1 seen top front) (at : top ≡ limit)
+    (none : (v : List ℕ) → front_of g z v ≡ front → Waits g z v) (took : Consumes rest1 rest2 byte) (one : length byte ≡ 1) → (over_past limit past laws rest2 byte f at none took one).read ≡ f.read ++ byte
+unfolding over_past
+over_past-read limit past laws rest2 byte f at none took one = refl
 
 -- nothing more came
 pub over_none : {Z R U : Type 0} {g : Grammar Z R U} {z : Z} {held0 : List ℕ} {rest0 rest1 seen : Option (List ℕ)} {top : ℕ} {front : Front R U} (limit : ℕ) (past : Fault R → Fault R) (rest2 : Option (List ℕ)) (lost : List ℕ) → Over g z held0 rest0 rest1 seen top front
@@ -141,6 +151,11 @@ over_none {g = g} {z = z} {held0 = held0} {rest0 = rest0} {rest1 = rest1} limit 
           ap (front_within limit past g z) (ap (λ l. (held0 ++ (f.read ++ lost)) ++ l) (nothing_more rest2 more at_end told) ∙ append-nil (held0 ++ (f.read ++ lost)) ∙ same)
           ∙ front_before limit past g z v (omega (arith, near, f.top_is)) ∙ f.here;
     }
+
+pub over_none-read : {Z R U : Type 0} {g : Grammar Z R U} {z : Z} {held0 : List ℕ} {rest0 rest1 seen : Option (List ℕ)} {top : ℕ} {front : Front R U} (limit : ℕ) (past : Fault R → Fault R) (rest2 : Option (List ℕ)) (lost : List ℕ) (f : Over g z held0 rest0 rest1 seen top front) (near : top ≤ limit) (took : Consumes rest1 rest2 lost) (few : length lost < 1) (at_end : IsAtEnd rest2)
+    → (over_none limit past rest2 lost f near took few at_end).read ≡ f.read ++ lost
+unfolding over_none
+over_none-read limit past rest2 lost f near took few at_end = refl
 
 -- within a room that is left nothing follows, so nothing follows
 pub end_of_room : (room : ℕ) (rest : Option (List ℕ)) → 0 < room → IsAtEnd (within room rest) → IsAtEnd rest

@@ -16,10 +16,10 @@ use Rattle.unit_table.specs.Turn.{TakesUnit, MeetsFront}
 use Rattle.unit_table.proofs.GrammarLaws.{IsGrammar}
 use Rattle.unit_table.proofs.FrontLaws.{step-stands, machine_laws, none_whole}
 
-none_due : {Z R U E : Type 0} (limit : ℕ) (past : Fault R → Fault R) (g : Grammar Z R U) (command : Command Z R U E) → IsGrammar g → (z : Z) (bytes : List ℕ) → Prompt g z bytes → NoneDue (machine_of limit past g command) z bytes
+pub none_due : {Z R U E : Type 0} (limit : ℕ) (past : Fault R → Fault R) (g : Grammar Z R U) (command : Command Z R U E) → IsGrammar g → (z : Z) (bytes : List ℕ) → Prompt g z bytes → NoneDue (machine_of limit past g command) z bytes
 none_due limit past g command laws z bytes f long = none_whole limit past g command laws z _ (f.prompt long)
 
-whole_unit : {Z R U E : Type 0} (limit : ℕ) (past : Fault R → Fault R) (g : Grammar Z R U) (command : Command Z R U E) (z : Z) (bytes : List ℕ) (unit : U) → front_within limit past g z bytes ≡ Stands (length bytes) unit
+pub whole_unit : {Z R U E : Type 0} (limit : ℕ) (past : Fault R → Fault R) (g : Grammar Z R U) (command : Command Z R U E) (z : Z) (bytes : List ℕ) (unit : U) → front_within limit past g z bytes ≡ Stands (length bytes) unit
     → (machine_of limit past g command).step z bytes ≡ Whole (length bytes) (command.text z unit) (g.after z unit bytes)
 whole_unit limit past g command z bytes unit e =
     step-stands limit past g command z bytes (length bytes) unit e ∙ ap (λ l. Whole (length bytes) (command.text z unit) (g.after z unit l)) (take_all (length bytes) bytes (omega arith))
@@ -55,7 +55,7 @@ turned_last_fault {limit = limit} {past = past} {g = g} {z = z} {rest2 = rest2} 
 -- a read failed
 pub turned_lost : {Z R U E : Type 0} {g : Grammar Z R U} {z : Z} {rest1 rest2 : Option (List ℕ)} {held : List ℕ} {top : ℕ} (limit : ℕ) (past : Fault R → Fault R) (command : Command Z R U E) (laws : IsGrammar g) (start : Z) (rest0 out0 out1 : Option (List ℕ))
     → Holds (machine_of limit past g command) start rest0 rest1 out0 out1 held z → Lost g z held rest1 rest2 top → Ran (machine_of limit past g command) start rest0 rest2 out0 out1 (Err ReadFault)
-turned_lost {g = g} {z = z} {rest2 = rest2} {held = held} limit past command laws start rest0 out0 out1 h n = holds_lost (machine_laws limit past g command laws) rest2 n.read h n.took (none_whole limit past g command laws z (held ++ n.read) n.none)
+turned_lost {g = g} {z = z} {rest2 = rest2} {held = held} limit past command laws start rest0 out0 out1 h n = holds_lost (machine_laws limit past g command laws) rest2 n.read h n.took (none_whole limit past g command laws z (held ++ n.read) n.waits)
 
 -- no memory was found
 pub turned_no_memory : {Z R U E : Type 0} {g : Grammar Z R U} {z : Z} {rest1 rest2 : Option (List ℕ)} {held : List ℕ} {top : ℕ} (limit : ℕ) (past : Fault R → Fault R) (command : Command Z R U E) (laws : IsGrammar g) (start : Z) (rest0 out0 out1 : Option (List ℕ))

@@ -2,7 +2,7 @@
 use Rattle.std.specs.Prelude.{◌≡◌, ℕ, ◌+◌, ◌-◌, ◌<◌, ◌≤◌, false, List, ◌++◌, length, take, Option, Some}
 use Rattle.std.specs.Io.KnownBytes.{Consumes}
 use Rattle.field_rows.specs.Rows.{Rows, read}
-use Rattle.unit_table.specs.Grammar.{Grammar, bytes_at, unit_at, is_whole_by, NoneStands}
+use Rattle.unit_table.specs.Grammar.{Grammar, bytes_at, unit_at, is_settled_by, Waits}
 use Rattle.unit_table.specs.Fronts.{Front, Stands, front_of}
 
 -- These bytes of the unit are gone, and these rows are left, from a place on: whatever follows, reading the unit is reading the rows that are left.
@@ -10,9 +10,9 @@ pub record Partway {Z R U : Type 0} (g : Grammar Z R U) (z : Z) (gone : List ℕ
   pub at_is : at ≡ g.place z + length gone
   pub same : (more : List ℕ) → unit_at g z (gone ++ more) ≡ read g.reason_of left (bytes_at at more)
 
--- no unit stands whole in these bytes without their last 4096, so none was due before the last read
+-- the unit waits for more than these bytes without their last 4096: so it neither stood nor was refused before the last read
 pub record Prompt {Z R U : Type 0} (g : Grammar Z R U) (z : Z) (bytes : List ℕ) : Type 0 where
-  pub prompt : 4096 < length bytes → NoneStands g z (take (length bytes - 4096) bytes)
+  pub prompt : 4096 < length bytes → Waits g z (take (length bytes - 4096) bytes)
 
 -- A unit was begun with these bytes held: so many were read since, some are gone, the others are held, and these rows are left.
 pub record Begun {Z R U : Type 0} (g : Grammar Z R U) (z : Z) (held0 : List ℕ) (rest0 rest1 : Option (List ℕ)) (at : ℕ) (held1 : List ℕ) (left : Rows R U) : Type 0 where
@@ -23,13 +23,13 @@ pub record Begun {Z R U : Type 0} (g : Grammar Z R U) (z : Z) (held0 : List ℕ)
   pub partway : Partway g z gone at left
   pub prompt : Prompt g z (gone ++ held1)
 
--- from fewer than so many bytes these rows make no whole unit
+-- fewer than so many bytes settle nothing by these rows
 pub record Needs {Z R U : Type 0} (g : Grammar Z R U) (left : Rows R U) (n : ℕ) : Type 0 where
-  pub needs : (place : ℕ) (bytes : List ℕ) → length bytes < n → is_whole_by g (read g.reason_of left (bytes_at place bytes)) ≡ false
+  pub needs : (place : ℕ) (bytes : List ℕ) → length bytes < n → is_settled_by g (read g.reason_of left (bytes_at place bytes)) ≡ false
 
--- from these bytes, which begin at a place, these rows make no whole unit
+-- these bytes, which begin at a place, settle nothing by these rows
 pub record Lacks {Z R U : Type 0} (g : Grammar Z R U) (left : Rows R U) (at : ℕ) (bytes : List ℕ) : Type 0 where
-  pub lacks : is_whole_by g (read g.reason_of left (bytes_at at bytes)) ≡ false
+  pub lacks : is_settled_by g (read g.reason_of left (bytes_at at bytes)) ≡ false
 
 -- behind these bytes, which begin at a place, these rows are left
 pub record Moves {Z R U : Type 0} (g : Grammar Z R U) (left : Rows R U) (at : ℕ) (piece : List ℕ) (others : Rows R U) : Type 0 where
@@ -47,15 +47,15 @@ pub record Got (n : ℕ) (held0 held1 : List ℕ) (rest0 rest1 : Option (List �
 
 -- ---- how a unit comes out, by the bytes held at entry and those that were read since
 
--- no unit stands whole in them; they end at a place
+-- the unit waits for more than them; they end at a place
 pub record Lost {Z R U : Type 0} (g : Grammar Z R U) (z : Z) (held0 : List ℕ) (rest0 rest1 : Option (List ℕ)) (top : ℕ) : Type 0 where
   pub read : List ℕ
   pub top_is : top ≡ g.place z + length (held0 ++ read)
   pub took : Consumes rest0 rest1 read
-  pub none : NoneStands g z (held0 ++ read)
+  pub waits : Waits g z (held0 ++ read)
   pub prompt : Prompt g z (held0 ++ read)
 
--- none was due before the last read
+-- the unit waited before the last read
 pub record Due {Z R U : Type 0} (g : Grammar Z R U) (z : Z) (held0 : List ℕ) (rest0 rest1 : Option (List ℕ)) (top : ℕ) : Type 0 where
   pub read : List ℕ
   pub top_is : top ≡ g.place z + length (held0 ++ read)

@@ -8,6 +8,8 @@ use Rattle.field_rows.specs.Rows.{Rows, Fault, read, is_nil}
 pub record Grammar (Z R U : Type 0) : Type 0 where
   -- the reasons of a short field and of a number that is too large
   pub reason_of : CodeFault → R
+  -- the reason is that of a short field
+  pub is_short : R → Bool
   -- the rows of a unit's own bytes, behind what earlier units left
   pub rows : Z → Rows R U
   -- the place in bytes where the unit begins
@@ -27,11 +29,11 @@ bytes_at place bytes = record { place = 8 * place; rest = bits_of bytes }
 abbrev pub unit_at : {Z R U : Type 0} → Grammar Z R U → Z → List ℕ → Result (U × Cursor) (Fault R)
 unit_at g z bytes = read g.reason_of (g.rows z) (bytes_at (g.place z) bytes)
 
--- A unit was read; where it ends the stream, a bit follows it.
-abbrev pub is_whole_by : {Z R U : Type 0} → Grammar Z R U → Result (U × Cursor) (Fault R) → Bool
-is_whole_by g (Ok x) = not (g.is_end x.0) || not (is_nil x.1.rest)
-is_whole_by g (Err fault) = false
+-- What was read settles the unit: it was read, and where it ends the stream a bit follows it; or it is refused, and not because a field is short.
+abbrev pub is_settled_by : {Z R U : Type 0} → Grammar Z R U → Result (U × Cursor) (Fault R) → Bool
+is_settled_by g (Ok x) = not (g.is_end x.0) || not (is_nil x.1.rest)
+is_settled_by g (Err fault) = not (g.is_short fault.reason)
 
--- No unit stands whole in front of the bytes, an end of the stream being whole only where a byte follows it.
-pub record NoneStands {Z R U : Type 0} (g : Grammar Z R U) (z : Z) (bytes : List ℕ) : Type 0 where
-  pub none : is_whole_by g (unit_at g z bytes) ≡ false
+-- The unit in front waits for more than these bytes: it neither stands whole nor is refused in them, an end of the stream being whole only where a byte follows it.
+pub record Waits {Z R U : Type 0} (g : Grammar Z R U) (z : Z) (bytes : List ℕ) : Type 0 where
+  pub waits : is_settled_by g (unit_at g z bytes) ≡ false

@@ -28,6 +28,7 @@ use Rattle.stream_units.specs.Streams.{limit, past_limit, refusal_of, frame_unde
 use Rattle.stream_units.specs.Turns.{StopCause}
 use Rattle.stream_units.specs.Reader.{ReaderState, new_reader, TakesItem, TakesEnd, IsPictureOf, NextOver}
 use Rattle.stream_units.proofs.Steady.{units_laws}
+use Rattle.stream_units.proofs.ReaderTurns.{after-place}
 use Rattle.vc2_cli.specs.declared.status.Ending.{Ending}
 use Rattle.vc2_cli.specs.declared.status.Ending.TheVariants.{Decoded, Accepted, Refused}
 use Rattle.vc2_cli.specs.declared.status.Status.TheVariants as status
@@ -59,29 +60,6 @@ holds_first machine rest out r new = subst (λ (s : ReaderState). Holds machine 
 
 -- ---- what an answer of the reader says
 
--- the end is told by its item alone
-pub ends_by : (old new : ReaderState) (rest0 rest1 : Option (List ℕ)) (item : Item) → NextOver old new rest0 rest1 (Ok item) → is_end_item item ≡ true → TakesEnd old new rest0 rest1
-ends_by old new rest0 rest1 items.Sequence n e = cc
-ends_by old new rest0 rest1 items.Repeated n e = cc
-ends_by old new rest0 rest1 (items.Picture number) n e = cc
-ends_by old new rest0 rest1 items.Skipped n e = cc
-ends_by old new rest0 rest1 items.End n e = n
-
-pub takes_by : (old new : ReaderState) (rest0 rest1 : Option (List ℕ)) (item : Item) → NextOver old new rest0 rest1 (Ok item) → is_end_item item ≡ false → TakesItem old new rest0 rest1 item
-takes_by old new rest0 rest1 items.Sequence n e = n
-takes_by old new rest0 rest1 items.Repeated n e = n
-takes_by old new rest0 rest1 (items.Picture number) n e = n
-takes_by old new rest0 rest1 items.Skipped n e = n
-takes_by old new rest0 rest1 items.End n e = cc
-
--- a unit lengthens the place by its bytes
-after_place : (z : Past) (unit : DataUnit) (bytes : List ℕ) → (after z unit bytes).place ≡ z.place + length bytes
-after_place z (Sequence parts) bytes = refl
-after_place z Repeated bytes = refl
-after_place z (Picture parts number params slices) bytes = refl
-after_place z Skipped bytes = refl
-after_place z End bytes = refl
-
 -- and the end counts nothing
 after_end : (z : Past) (bytes : List ℕ) → ((after z End bytes).pictures ≡ z.pictures) × ((after z End bytes).slices ≡ z.slices)
 after_end z bytes = (refl, refl)
@@ -100,7 +78,7 @@ pub between_more : (rest0 rest1 rest2 : Option (List ℕ)) (old new : ReaderStat
 between_more rest0 rest1 rest2 old new item b n =
     let t = n.takes in
     let parts = ap (λ (l : List ℕ). length l) t.parts in
-    let place = ap (λ (z : Past). z.place) n.past ∙ after_place old.past n.unit n.bytes in
+    let place = ap (λ (z : Past). z.place) n.past ∙ after-place old.past n.unit n.bytes in
     record {
       taken = b.taken ++ t.read;
       total = omega (arith, length-append b.taken t.read, b.total, parts, length-append old.held t.read, length-append n.bytes new.held, place);
@@ -108,13 +86,6 @@ between_more rest0 rest1 rest2 old new item b n =
       no_stop = n.going.0;
       no_end = n.going.1;
     }
-
-pub place_more : (rest1 rest2 : Option (List ℕ)) (old new : ReaderState) (item : Item) → TakesItem old new rest1 rest2 item → (old.past.place < new.past.place) × (new.past.place ≤ 2 ^ 40)
-place_more rest1 rest2 old new item n =
-    let t = n.takes in
-    let parts = ap (λ (l : List ℕ). length l) t.parts in
-    let place = ap (λ (z : Past). z.place) n.past ∙ after_place old.past n.unit n.bytes in
-    (omega (arith, place, t.some), omega (arith, place, t.most, parts, length-append n.bytes new.held))
 
 -- ---- the bytes that were taken
 

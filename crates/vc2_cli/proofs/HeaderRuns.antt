@@ -11,12 +11,13 @@ use Rattle.vc2_run.specs.declared.Halt.{Halt}
 use Rattle.vc2_run.specs.declared.Halt.TheVariants.{ReadFault, OutFault, NoMemory}
 use Rattle.vc2_run.proofs.Windows.{holds_none, holds_lost, holds_no_memory, holds_ended, holds_last_fault}
 use Rattle.unit_table.specs.Fronts.{Front, Stands, Finishes, Refuses}
+use Rattle.unit_table.proofs.Begins.{nothing_more}
 use Rattle.unit_table.proofs.FrontLaws.{front_laws}
 use Rattle.stream_units.specs.declared.reason.Reason.{Reason}
 use Rattle.stream_units.specs.declared.reason.Reason.TheVariants as reasons
 use Rattle.stream_units.specs.declared.reason.Refusal.{Refusal}
 use Rattle.stream_units.specs.Units.{DataUnit, Sequence, nothing_yet, units}
-use Rattle.stream_units.specs.Streams.{is_truncated}
+use Rattle.stream_units.specs.Units.{is_truncated}
 use Rattle.stream_units.specs.Heads.{IsFirstUnit}
 use Rattle.stream_units.proofs.Steady.{units_laws}
 use Rattle.stream_units.proofs.FirstUnits.{first_stands, first_refused, first_stays_refused, first_takes_all}
@@ -26,7 +27,6 @@ use Rattle.vc2_cli.specs.declared.header.First.TheVariants.{Header, Refused}
 use Rattle.vc2_cli.specs.HeaderTexts.{header_lines}
 use Rattle.vc2_cli.specs.First.{first_at, first_step, header_machine, left_behind, behind_first}
 use Rattle.vc2_cli.specs.FirstTurn.{TookFirst}
-use Rattle.vc2_cli.proofs.Heads.{nothing_follows}
 
 -- ---- the machine: no step of it is a unit that is followed
 
@@ -80,7 +80,7 @@ took_cut rest0 rest1 rest2 bytes none refusal took took' empty end few first = (
   bytes,
   Consumes-along rest0 rest2 _ _ (ap (λ l. bytes ++ l) (nil_from_length none empty) ∙ append-nil bytes) (Consumes-then rest0 rest1 rest2 bytes none took took'),
   few,
-  λ more told. ap (λ l. first_step (first_at (bytes ++ l))) (nothing_follows rest2 more end told) ∙ ap (λ l. first_step (first_at l)) (append-nil bytes) ∙ first_ends bytes refusal first,
+  λ more told. ap (λ l. first_step (first_at (bytes ++ l))) (nothing_more rest2 more end told) ∙ ap (λ l. first_step (first_at l)) (append-nil bytes) ∙ first_ends bytes refusal first,
 )
 
 -- one byte more

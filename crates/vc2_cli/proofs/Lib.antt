@@ -1,10 +1,7 @@
-pub mod Taken
-pub mod Heads
-pub mod ChainLaws
-pub mod Past
 pub mod Settling
 pub mod Parts
 pub mod WorkedRows
 pub mod HeaderRuns
 pub mod Decoding
+pub mod Chaining
 pub mod StreamReplies

@@ -9,8 +9,6 @@ use Rattle.vc2_run.specs.declared.Halt.{Halt}
 use Rattle.vc2_run.specs.declared.Halt.TheVariants as halts
 use Rattle.unit_table.specs.Fronts.{Command, machine_of}
 use Rattle.stream_units.specs.declared.reason.Reason.{Reason}
-use Rattle.stream_units.specs.declared.stop.Item.{Item}
-use Rattle.stream_units.specs.declared.stop.Item.TheVariants as items
 use Rattle.stream_units.specs.declared.stop.ReadStop.{ReadStop}
 use Rattle.stream_units.specs.declared.stop.ReadStop.TheVariants as stops
 use Rattle.stream_units.specs.Units.{Past, DataUnit, Sequence, Repeated, Picture, Skipped, End, units}
@@ -59,11 +57,6 @@ abbrev pub check_machine : Machine Past Ending
 check_machine = machine_of limit past_limit units checking
 
 -- ---- for the code
-
--- the reader is behind the last unit
-abbrev pub is_end_item : Item → Bool
-is_end_item items.End = true
-is_end_item other = false
 
 -- how a command comes out where the reader stops
 abbrev pub stopped : ReadStop → Result Ending Halt

@@ -1,7 +1,6 @@
 pub mod Texts
 pub mod Words
 pub mod Chain
-pub mod Turns
 pub mod Decode
 pub mod Reply
 pub mod Streams

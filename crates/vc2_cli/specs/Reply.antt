@@ -12,7 +12,7 @@ use Rattle.vc2_cli.specs.declared.status.Ending.{Ending}
 use Rattle.vc2_cli.specs.declared.status.Ending.TheVariants as ending
 use Rattle.vc2_cli.specs.Texts.{refusal_line, usage_line, decoded_line}
 use Rattle.vc2_cli.specs.Words.{command_of}
-use Rattle.vc2_cli.specs.Chain.{chain_limited}
+use Rattle.vc2_cli.specs.Chain.{chain_machine}
 use Rattle.vc2_cli.specs.First.{header_machine, behind_first}
 use Rattle.vc2_cli.specs.Decode.{decode_machine, check_machine}
 use Rattle.stream_units.specs.Units.{nothing_yet}
@@ -43,7 +43,7 @@ reply_of left answer = record { status = status_of answer.ending; rest = left; o
 -- the reply to a command, or to words that are refused
 abbrev pub command_reply : Result Command WordFault → List ℕ → Reply
 command_reply (Err fault) input = record { status = status.Usage fault; rest = input; out = []; note = usage_line fault }
-command_reply (Ok Chain) input = reply_of [] (answer_to chain_limited 0 input)
+command_reply (Ok Chain) input = reply_of [] (answer_to chain_machine 0 input)
 command_reply (Ok Header) input = reply_of (behind_first input) (answer_to header_machine 0 input)
 command_reply (Ok Decode) input = reply_of [] (answer_to decode_machine nothing_yet input)
 command_reply (Ok Check) input = reply_of [] (answer_to check_machine nothing_yet input)
@@ -51,7 +51,7 @@ command_reply (Ok Check) input = reply_of [] (answer_to check_machine nothing_ye
 -- the text for `out` that is due once these bytes were taken
 abbrev pub command_due : Result Command WordFault → List ℕ → List ℕ
 command_due (Err fault) taken = []
-command_due (Ok Chain) taken = due chain_limited 0 taken
+command_due (Ok Chain) taken = due chain_machine 0 taken
 command_due (Ok Header) taken = due header_machine 0 taken
 command_due (Ok Decode) taken = due decode_machine nothing_yet taken
 command_due (Ok Check) taken = due check_machine nothing_yet taken

@@ -9,7 +9,7 @@ ghost use Rattle.vc2_cli.specs.declared.status.Ending.TheVariants as ending;
 ghost use Rattle.vc2_cli.specs.Reply.{status_of};
 ghost use Rattle.vc2_cli.specs.Decode.{check_machine, WritesLast};
 
-use crate::decode::{is_end, stopped};
+use crate::decode::stopped;
 use crate::status::Ending;
 use crate::texts::accepted_text;
 use std::alloc::Global;
@@ -60,7 +60,7 @@ fn check_units<S: Source, K: Sink>(
             Ok(item) => item,
             Err(stop) => return stopped(stop),
         };
-        if is_end(item) {
+        if item.is_end() {
             return accept(
                 alloc,
                 out,

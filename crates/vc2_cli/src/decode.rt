@@ -7,20 +7,14 @@ ghost use Rattle.stream_units.specs.Units.{nothing_yet};
 ghost use Rattle.stream_units.specs.Reader.{new_reader};
 ghost use Rattle.vc2_cli.specs.declared.status.Status.TheVariants as status;
 ghost use Rattle.vc2_cli.specs.Reply.{status_of};
-ghost use Rattle.vc2_cli.specs.Decode.{decode_machine, is_end_item, stopped, shown_text};
+ghost use Rattle.vc2_cli.specs.Decode.{decode_machine, stopped, shown_text};
 
 use crate::status::Ending;
 use raw_video::write_picture;
 use std::alloc::Global;
-use stream_units::{Item, ReadStop, StreamReader};
+use stream_units::{ReadStop, StreamReader};
 use vc2_io::{Failed, Sink, Source};
 use vc2_run::Halt;
-
-pub(crate) fn is_end(item: Item) -> bool
-    ensures { result ≡ is_end_item item }
-{
-    matches!(item, Item::End)
-}
 
 // How a command comes out where the reader stops.
 pub(crate) fn stopped(stop: ReadStop) -> Result<Ending, Halt>
@@ -62,7 +56,7 @@ fn decode_units<S: Source, K: Sink>(
             Ok(item) => item,
             Err(stop) => return stopped(stop),
         };
-        if is_end(item) {
+        if item.is_end() {
             return Ok(Ending::Decoded {
                 pictures: reader.pictures(),
                 bytes: reader.taken(),

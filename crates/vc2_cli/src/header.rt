@@ -6,7 +6,6 @@ ghost use Rattle.vc2_cli.specs.Reply.{status_of};
 ghost use Rattle.vc2_cli.specs.First.{header_machine, behind_first};
 ghost use Rattle.vc2_cli.specs.FirstTurn.{TookFirst};
 
-use crate::chain::is_truncated;
 use crate::header_texts::header_text;
 use crate::status::Ending;
 use sequence_header::SequenceHeader;
@@ -36,7 +35,7 @@ fn take_first<S: Source>(alloc: Global, src: &mut S) -> Result<First, Halt>
             Ok(unit) => return Ok(First::Header(unit.0)),
             Err(refusal) => refusal,
         };
-        if !is_truncated(refusal.reason) {
+        if !refusal.reason.is_truncated() {
             return Ok(First::Refused(refusal));
         }
         if bytes.len() >= MOST {

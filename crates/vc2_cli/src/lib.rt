@@ -6,7 +6,6 @@ mod check;
 mod decode;
 mod header;
 mod header_texts;
-mod input;
 mod laws;
 mod status;
 mod texts;

@@ -14,7 +14,7 @@ pub returns-in_err-info : goal.returns-in_err-info
 returns-in_err-info c =
     let bytes = c.args.bytes.now in
     let p = err_from_is_err_and c.from_residual.result c.from_residual.ensures.1 in
-    subst (λ r. IsFirstUnit bytes r) (sym (p.1 ∙ ap Err p.2)) (first_head_refused bytes c.in_err-info.field-0.0 (subst (λ (z : Past). HeadAt z bytes (Err c.in_err-info.field-0.0)) c.new.ensures c.in_err-info.ensures))
+    subst (λ r. IsFirstUnit bytes r) (sym (p.1 ∙ ap Err p.2)) (first_head_refused bytes c.in_err-info.field-0.0 (subst (λ (z : Past). HeadAt (unit_head z) z.place bytes (Err c.in_err-info.field-0.0)) c.new.ensures c.in_err-info.ensures))
 
 pub slice_bounds-read-count : goal.slice_bounds-read-count
 slice_bounds-read-count c = c.in_ok-info.ensures.0
@@ -27,7 +27,7 @@ returns-in-Err c =
     let bytes = c.args.bytes.now in
     let h = subst (λ (l : List ℕ). read reason_of header_rows (cursor_at l 0) ≡ Err (fault_of c.in-Err.fault)) (take_rest bytes 13) c.in-Err.ensures.exact in
     subst (λ (r : Reason). IsFirstUnit bytes (Err (record { place = 13 + c.in-Err.fault.bit / 8; reason = r }))) (sym c.header_reason.ensures)
-    (first_payload_refused bytes c.in_ok-info.info c.in-Err.fault.bit c.in-Err.fault.reason (subst (λ (z : Past). HeadAt z bytes (Ok c.in_ok-info.info)) c.new.ensures c.in_ok-info.ensures) h)
+    (first_payload_refused bytes c.in_ok-info.info c.in-Err.fault.bit c.in-Err.fault.reason (subst (λ (z : Past). HeadAt (unit_head z) z.place bytes (Ok c.in_ok-info.info)) c.new.ensures c.in_ok-info.ensures) h)
 
 pub returns-then-not-leads_behind : goal.returns-then-not-leads_behind
 returns-then-not-leads_behind c =
@@ -35,7 +35,7 @@ returns-then-not-leads_behind c =
     let x = c.in-Ok.read in
     let h = subst (λ (l : List ℕ). read reason_of header_rows (cursor_at l 0) ≡ Ok (x.0, cursor_at l (8 * x.1))) (take_rest bytes 13) c.in-Ok.ensures.exact.0 in
     let le = subst (λ (l : List ℕ). x.1 ≤ length l) (take_rest bytes 13) c.in-Ok.ensures.exact.1 in
-    first_offset_refused bytes c.in_ok-info.info x.0 x.1 (subst (λ (z : Past). HeadAt z bytes (Ok c.in_ok-info.info)) c.new.ensures c.in_ok-info.ensures) h le (sym c.if-not-leads_behind.ensures)
+    first_offset_refused bytes c.in_ok-info.info x.0 x.1 (subst (λ (z : Past). HeadAt (unit_head z) z.place bytes (Ok c.in_ok-info.info)) c.new.ensures c.in_ok-info.ensures) h le (sym c.if-not-leads_behind.ensures)
 
 pub returns : goal.returns
 returns c =
@@ -43,4 +43,4 @@ returns c =
     let x = c.in-Ok.read in
     let h = subst (λ (l : List ℕ). read reason_of header_rows (cursor_at l 0) ≡ Ok (x.0, cursor_at l (8 * x.1))) (take_rest bytes 13) c.in-Ok.ensures.exact.0 in
     let le = subst (λ (l : List ℕ). x.1 ≤ length l) (take_rest bytes 13) c.in-Ok.ensures.exact.1 in
-    first_is bytes c.in_ok-info.info x.0 x.1 (subst (λ (z : Past). HeadAt z bytes (Ok c.in_ok-info.info)) c.new.ensures c.in_ok-info.ensures) h le (sym c.if-not-leads_behind.ensures)
+    first_is bytes c.in_ok-info.info x.0 x.1 (subst (λ (z : Past). HeadAt (unit_head z) z.place bytes (Ok c.in_ok-info.info)) c.new.ensures c.in_ok-info.ensures) h le (sym c.if-not-leads_behind.ensures)

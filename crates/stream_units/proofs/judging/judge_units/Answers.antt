@@ -8,7 +8,7 @@ loop-item-preserved c =
     let b = c.loop-item.invariant.between in
     record {
       between = between_more (Some c.args.bytes.now) (Some c.loop-item.src) (Some c.next.new.src) c.loop-item.reader c.next.new.self c.in-Ok.item b
-          (takes_by c.loop-item.reader c.next.new.self (Some c.loop-item.src) (Some c.next.new.src) c.in-Ok.item (c.in-Ok.ensures.next b.no_stop b.no_end) (sym c.is_last.ensures ∙ cc));
+          (takes_by c.loop-item.reader c.next.new.self (Some c.loop-item.src) (Some c.next.new.src) c.in-Ok.item (c.in-Ok.ensures.next b.no_stop b.no_end) (sym c.is_end.ensures ∙ cc));
     }
 
 pub returns-in-Err : goal.returns-in-Err
@@ -16,8 +16,8 @@ returns-in-Err c =
     let b = c.loop-item.invariant.between in
     told c.stopped.result (λ verdict e. judged_stop c.args.bytes.now c.next.new.src (Some c.loop-item.src) c.loop-item.reader c.in-Err.stop verdict (all_fit c.args.bytes.now c.requires.bytes) b (c.in-Err.ensures.next b.no_stop b.no_end).0 e) c.stopped.ensures
 
-pub returns-then-is_last : goal.returns-then-is_last
-returns-then-is_last c =
+pub returns-then-is_end : goal.returns-then-is_end
+returns-then-is_end c =
     let b = c.loop-item.invariant.between in
     judged_stream c.args.bytes.now c.next.new.src (Some c.loop-item.src) c.loop-item.reader c.next.new.self (all_fit c.args.bytes.now c.requires.bytes) b
-    (ends_by c.loop-item.reader c.next.new.self (Some c.loop-item.src) (Some c.next.new.src) c.in-Ok.item (c.in-Ok.ensures.next b.no_stop b.no_end) (sym c.is_last.ensures ∙ cc))
+    (ends_by c.loop-item.reader c.next.new.self (Some c.loop-item.src) (Some c.next.new.src) c.in-Ok.item (c.in-Ok.ensures.next b.no_stop b.no_end) (sym c.is_end.ensures ∙ cc))

@@ -3,10 +3,10 @@ use Rattle.vc2_cli.specs.declared.words.Command.{Command}
 use Rattle.vc2_cli.specs.declared.status.WordFault.{WordFault}
 use Rattle.vc2_cli.specs.Reply.{command_reply, command_due}
 use Rattle.vc2_cli.specs.Settled.{Settles}
-use Rattle.vc2_cli.specs.Chain.{chain_limited}
+use Rattle.vc2_cli.specs.Chain.{chain_machine}
 use Rattle.vc2_cli.specs.First.{header_machine, behind_first}
 use Rattle.vc2_cli.proofs.HeaderRuns.{header_laws}
-use Rattle.vc2_cli.proofs.ChainLaws.{limited_chain_laws}
+use Rattle.vc2_cli.proofs.Chaining.{chain_laws}
 use Rattle.stream_units.specs.Units.{nothing_yet}
 use Rattle.vc2_cli.specs.Decode.{decode_machine, check_machine}
 use Rattle.vc2_cli.proofs.Decoding.{decode_laws, check_laws}
@@ -20,7 +20,7 @@ returns-in-Chain-clause-settled g c = λ input e.
     let note = g.N.Sink.written in
     subst (λ (r : Result Command WordFault). Settles (command_reply r input) (command_due r) input (rest c.chain.new.src) (out c.args.out.now) (out c.chain.new.out) (note c.args.note.now) (note c.conclude.new.note) c.conclude.result)
     (sym (c.in-Ok.is ∙ ap Ok c.in-Chain.is))
-    (settled chain_limited limited_chain_laws 0 [] (rest c.args.src.now) (rest c.chain.new.src) (out c.args.out.now) (out c.chain.new.out) (note c.args.note.now) (note c.conclude.new.note) input c.chain.result c.conclude.result e
+    (settled chain_machine chain_laws 0 [] (rest c.args.src.now) (rest c.chain.new.src) (out c.args.out.now) (out c.chain.new.out) (note c.args.note.now) (note c.conclude.new.note) input c.chain.result c.conclude.result e
     (at_end (rest c.chain.new.src) c.chain.result c.chain.ensures.end) c.chain.ensures.ran c.conclude.ensures.told)
 
 pub returns-in-Header-clause-settled : goal.returns-in-Header-clause-settled

@@ -37,7 +37,7 @@ invariant_of-self-2 g c =
       total = omega (arith, c.push.ensures.total, c.self.invariant.total, c.reserve.ensures.total, c.shape_of.ensures.size c.self.inside.earlier b.unit b.bytes b.long b.such, place);
       shown = shows_one b.unit c.step-item.result.1 c.next_unit.new.kept c.keep-self-inside.new.decoder c.keep-self-inside.result s.decoder c.keep-self-inside.ensures;
       stopped = λ reason e. absurd (let clash = sym c.in_default.is ∙ e in cc);
-      over = λ e. over_none b.unit c.step-item.result.0 c.step-item.result.1 c.next_unit.new.kept c.keep-self-inside.new.decoder c.keep-self-inside.result s.is_item (sym c.is_last-self-inside.ensures ∙ e) s.decoder c.keep-self-inside.ensures;
+      over = λ e. over_none b.unit c.step-item.result.0 c.step-item.result.1 c.next_unit.new.kept c.keep-self-inside.new.decoder c.keep-self-inside.result s.is_item (sym c.is_end-self-inside.ensures ∙ e) s.decoder c.keep-self-inside.ensures;
       room = λ no_stop going. omega (arith, b.total, place);
       few = λ no_stop going. held_few c.self.inside.earlier c.self.inside.window.held (g.S.Source.rest c.args.src.now) (g.S.Source.rest c.next_unit.new.src) c.next_unit.new.window c.in-Ok.found c.in-Ok.ensures.limit;
     }
@@ -53,5 +53,5 @@ returns-clause-next g c =
       picture = λ unit bytes long such. is_picture unit c.step-item.result.1 c.next_unit.new.kept c.keep-self-inside.new.decoder c.keep-self-inside.result (c.step-item.ensures unit bytes long such).decoder c.keep-self-inside.ensures;
       held = refl;
       stop = no_stop;
-      ended = c.is_last-self-inside.ensures;
+      ended = c.is_end-self-inside.ensures;
     }))
