@@ -1,5 +1,5 @@
 -- What the rows of a head alone read, and the laws of the table of such units.
-use Rattle.std.proofs.Common.{◌≡◌, ℕ, ◌+◌, ◌*◌, ◌/◌, ◌<◌, ◌≤◌, List, [], ◌∷◌, length, drop, Option, Some, None, Result, Ok, Err, Bool, true, false, IsTrue, arith, ap, ◌∙◌, refl}
+use Rattle.std.proofs.Common.{◌≡◌, ℕ, ◌+◌, ◌*◌, ◌<◌, ◌≤◌, List, [], ◌∷◌, length, drop, Some, Result, Ok, Err, Bool, true, false, IsTrue, arith, ap, ◌∙◌, refl}
 use Rattle.std.specs.Prelude.{OnOk, IfErr}
 use Rattle.bit_codes.specs.Bits.{Cursor, bits_of}
 use Rattle.field_rows.specs.Rows.{◌or_else◌, ◌>>=◌, word_under, Fault, read, judged, and_then, first_broken}

@@ -1,17 +1,16 @@
 -- How a unit by its head alone comes out, and the same of an input that counts up to the limit.
-use Rattle.std.proofs.Common.{◌≡◌, ◌≢◌, ℕ, ◌+◌, ◌-◌, ◌*◌, ◌<◌, ◌≤◌, Bool, true, false, cond, List, [], ◌++◌, length, Option, Some, None, Result, Ok, Err, refl, sym, ap, subst, ◌∙◌, arith, append-nil}
+use Rattle.std.proofs.Common.{◌≡◌, ◌≢◌, ℕ, ◌+◌, ◌*◌, ◌<◌, ◌≤◌, true, false, List, [], ◌++◌, length, Option, Some, None, Result, Ok, Err, refl, sym, ap, subst, ◌∙◌, arith, append-nil}
 use Rattle.std.proofs.lemmas.List.{length-append, nil_from_length}
 use Rattle.std.specs.Io.KnownBytes.{Consumes, IsAtEnd}
 use Rattle.vc2_io.proofs.Known.{Consumes-none, Consumes-then}
 use Rattle.vc2_run.specs.Ran.{within}
 use Rattle.field_rows.specs.Rows.{Fault, done, read, ◌>>=◌, bytes_under, word_under}
-use Rattle.parse_info.specs.declared.Code.{Code}
 use Rattle.parse_info.specs.declared.ParseInfo.{ParseInfo}
 use Rattle.parse_info.specs.Head.{head_rows}
-use Rattle.unit_table.specs.Grammar.{bytes_at}
-use Rattle.unit_table.specs.Fronts.{Front, Refuses}
+use Rattle.unit_table.specs.Grammar.{bytes_at, Waits}
+use Rattle.unit_table.specs.Fronts.{Front, Refuses, front_of}
 use Rattle.unit_table.specs.Begun.{Begun, Needs, Got, Over}
-use Rattle.unit_table.specs.Turn.{TakesUnit, MeetsFront}
+use Rattle.unit_table.specs.Turn.{MeetsFront}
 use Rattle.unit_table.proofs.Begins.{begun_start, begun_more, begun_held, begun_taken, begun_short, got_back}
 use Rattle.unit_table.proofs.Fields.{needs_row, moves_blind, short_row}
 use Rattle.unit_table.proofs.Limited.{taken_within, over_stays, over_stays-read, over_fault, over_past, over_past-read, over_none, over_none-read, waits_refused, end_of_room}
@@ -23,11 +22,11 @@ use Rattle.stream_units.specs.declared.reason.Refusal.{Refusal}
 use Rattle.stream_units.specs.declared.stop.ReadStop.{ReadStop}
 use Rattle.stream_units.specs.declared.stop.ReadStop.TheVariants as stops
 use Rattle.stream_units.specs.Asking.{WindowSeen, Dropped}
-use Rattle.stream_units.specs.Units.{is_truncated, reason_of}
+use Rattle.stream_units.specs.Units.{is_truncated}
 use Rattle.stream_units.specs.Streams.{limit, past_limit, refusal_of}
-use Rattle.stream_units.specs.Turns.{stop_of, Refused, StopsOver, LimitStops}
+use Rattle.stream_units.specs.Turns.{stop_of, Refused, StopsOver}
 use Rattle.stream_units.specs.HeadUnits.{heads, head_alone, payload_alone, payload_length, unit_alone, RestsBefore, StopsAlone, AloneOver, is_cut}
-use Rattle.stream_units.specs.HeadReader.{HeadStops, LimitAlone}
+use Rattle.stream_units.specs.HeadReader.{HeadReaderState, HeadStops, LimitAlone}
 use Rattle.stream_units.proofs.AloneRows.{heads_laws, heads_table}
 use Rattle.stream_units.proofs.Stopping.{stops_lost, stops_short, truncated}
 
@@ -38,20 +37,17 @@ alone_begun place held rest few = begun_start heads place held rest few
 
 first_needs : Needs heads unit_alone 1
 unfolding unit_alone head_alone head_rows ◌>>=◌ word_under
-first_needs = fewer (needs_row heads heads_laws 4 None _ _)
-  where
-    fewer : Needs heads _ 4 → Needs heads _ 1
-    fewer n = record { needs = λ place bytes short. n.needs place bytes (omega (arith, short)) }
+first_needs = record { needs = λ place bytes short. (needs_row heads heads_laws 4 None _ _).needs place bytes (omega (arith, short)) }
 
 -- one byte was asked for
-pub first_held : {place : ℕ} {held0 : List ℕ} {rest0 : Option (List ℕ)} (held1 : List ℕ) (rest1 : Option (List ℕ)) → length held0 ≤ 4096 → Got 1 held0 held1 rest0 rest1 [] → Begun heads place held0 rest0 rest1 place held1 (head_alone >>= payload_alone)
+pub first_held : (place : ℕ) {held0 : List ℕ} {rest0 : Option (List ℕ)} (held1 : List ℕ) (rest1 : Option (List ℕ)) → length held0 ≤ 4096 → Got 1 held0 held1 rest0 rest1 [] → Begun heads place held0 rest0 rest1 place held1 (head_alone >>= payload_alone)
 unfolding unit_alone
-first_held {place} {held0} {rest0} held1 rest1 few got = begun_held heads_laws 1 rest1 held1 (alone_begun place held0 rest0 few) first_needs got
+first_held place {held0} {rest0} held1 rest1 few got = begun_held heads_laws 1 rest1 held1 (alone_begun place held0 rest0 few) first_needs got
 
-pub first_lost : {place : ℕ} {held0 : List ℕ} {rest0 : Option (List ℕ)} (held1 : List ℕ) (rest1 : Option (List ℕ)) (room : ℕ) (halt : Halt) (stop : ReadStop) → length held0 ≤ 4096 → Got 1 held0 held1 rest0 rest1 [] → length held1 < 1 → place + length held1 + room ≡ limit → stop ≡ stop_of halt → StopsAlone place held0 rest0 rest1 room stop
+pub first_lost : (place : ℕ) {held0 : List ℕ} {rest0 : Option (List ℕ)} (held1 : List ℕ) (rest1 : Option (List ℕ)) (room : ℕ) (halt : Halt) (stop : ReadStop) → length held0 ≤ 4096 → Got 1 held0 held1 rest0 rest1 [] → length held1 < 1 → place + length held1 + room ≡ limit → stop ≡ stop_of halt → StopsAlone place held0 rest0 rest1 room stop
 unfolding unit_alone
-first_lost {place} {held0} {rest0} held1 rest1 room halt stop few got none total e =
-    subst (StopsAlone place held0 rest0 rest1 room) (sym e) (by halt (stops_lost heads_table 1 room halt (stop_of halt) (first_held held1 rest1 few got) first_needs none total refl))
+first_lost place {held0} {rest0} held1 rest1 room halt stop few got none total e =
+    subst (StopsAlone place held0 rest0 rest1 room) (sym e) (by halt (stops_lost heads_table 1 room halt (stop_of halt) (first_held place held1 rest1 few got) first_needs none total refl))
   where
     by : (halt : Halt) → StopsOver heads place held0 rest0 rest1 room (stop_of halt) → StopsAlone place held0 rest0 rest1 room (stop_of halt)
     by halts.ReadFault s = s
@@ -62,9 +58,9 @@ first_short : (place : ℕ) → read heads.reason_of unit_alone (bytes_at place 
 unfolding unit_alone head_alone head_rows ◌>>=◌ word_under
 first_short place = short_row heads 4 _ _ place [] (omega arith)
 
-pub rests_before : {place : ℕ} {held0 : List ℕ} {rest0 : Option (List ℕ)} (held1 : List ℕ) (rest1 : Option (List ℕ)) (room : ℕ) → length held0 ≤ 4096 → Got 1 held0 held1 rest0 rest1 [] → length held1 < 1 → place + length held1 + room ≡ limit → IsAtEnd (within room rest1) → RestsBefore place held0 rest0 rest1 room held1
+pub rests_before : (place : ℕ) {held0 : List ℕ} {rest0 : Option (List ℕ)} (held1 : List ℕ) (rest1 : Option (List ℕ)) (room : ℕ) → length held0 ≤ 4096 → Got 1 held0 held1 rest0 rest1 [] → length held1 < 1 → place + length held1 + room ≡ limit → IsAtEnd (within room rest1) → RestsBefore place held0 rest0 rest1 room held1
 unfolding unit_alone
-rests_before {place} {held0} {rest0} held1 rest1 room few got none total at_end =
+rests_before place {held0} {rest0} held1 rest1 room few got none total at_end =
     let sizes = ap (λ (l : List ℕ). length l) got.parts in
     let empty : got.read ≡ [] = nil_from_length got.read (omega (arith, none, sizes, length-append held0 got.read)) in
     let no_byte : held1 ≡ [] = nil_from_length held1 (omega (arith, none)) in
@@ -74,7 +70,7 @@ rests_before {place} {held0} {rest0} held1 rest1 room few got none total at_end 
       at_end = at_end;
       total = omega (arith, total, none);
       over = subst (λ n. Over heads place held0 rest0 rest1 (within room rest1) n (Refuses (record { place = 8 * place; reason = reasons.Truncated }))) (omega (arith, none))
-          (begun_short heads_laws (within room rest1) (record { place = 8 * place; reason = reasons.Truncated }) (first_held held1 rest1 few got) (ap (λ l. read heads.reason_of unit_alone (bytes_at place l)) no_byte ∙ first_short place) at_end);
+          (begun_short heads_laws (within room rest1) (record { place = 8 * place; reason = reasons.Truncated }) (first_held place held1 rest1 few got) (ap (λ l. read heads.reason_of unit_alone (bytes_at place l)) no_byte ∙ first_short place) at_end);
     }
 
 -- what stops a unit of which a byte came
@@ -176,7 +172,7 @@ not_trailing fault e same = let clash : true ≡ false = sym e ∙ ap is_truncat
 past_cut : {place : ℕ} {held0 : List ℕ} {rest0 rest1 seen : Option (List ℕ)} {top : ℕ} (fault : Fault Reason) (rest2 : Option (List ℕ)) (byte : List ℕ) → is_truncated fault.reason ≡ true → (over : Over heads place held0 rest0 rest1 seen top (Refuses fault)) → top ≡ limit → Consumes rest1 rest2 byte → length byte ≡ 1
     → HeadStops place held0 rest0 rest2 (stops.Refused (record { place = limit; reason = reasons.StreamTooLong }))
 past_cut {place} {held0} {rest0} {rest1} fault rest2 byte short over at took one =
-    let none = λ v e. waits_refused heads place v fault short (not_trailing fault short) e in
+    let none : (v : List ℕ) → front_of heads place v ≡ Refuses fault → Waits heads place v = λ v e. waits_refused heads place v fault short (not_trailing fault short) e in
     let m = over_past limit past_limit heads_laws rest2 byte over at none took one in
     let long : 0 < length (held0 ++ (over.read ++ byte)) = omega (arith, one, length-append held0 (over.read ++ byte), length-append over.read byte) in
     subst (λ (f : Fault Reason). HeadStops place held0 rest0 rest2 (stops.Refused (refusal_of f))) (cut_fault fault short)
@@ -203,3 +199,11 @@ alone_fault place held0 rest0 rest1 rest2 window (Ok None) lost u e took few = f
 alone_fault place held0 rest0 rest1 rest2 window (Err (stops.Refused refusal)) lost u e took few = fault_cut u.0.fault rest2 lost (ap (λ (x : Refusal). is_truncated x.reason) (sym u.0.there) ∙ e) u.0.over (omega (arith, u.0.total)) took few
 alone_fault place held0 rest0 rest1 rest2 window (Err stops.ReadFault) lost u e took few = absurd cc
 alone_fault place held0 rest0 rest1 rest2 window (Err stops.NoMemory) lost u e took few = absurd cc
+
+-- ---- the reader of such units
+
+-- a stop is kept
+pub kept_alone : (old inside : HeadReaderState) (rest0 rest1 : Option (List ℕ)) (stop : ReadStop) → old ≡ inside → HeadStops inside.place inside.held rest0 rest1 stop → old.ended ≡ false
+    → HeadStops old.place old.held rest0 rest1 stop × (inside.place ≡ old.place) × ((let kept : Option ReadStop = Some stop in kept) ≡ Some stop) × (inside.ended ≡ false)
+kept_alone old inside rest0 rest1 stop e h going =
+    (subst (λ (r : HeadReaderState). HeadStops r.place r.held rest0 rest1 stop) (sym e) h, ap (λ (r : HeadReaderState). r.place) (sym e), refl, ap (λ (r : HeadReaderState). r.ended) (sym e) ∙ going)

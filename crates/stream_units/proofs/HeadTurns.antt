@@ -1,5 +1,5 @@
 -- How the head of a unit comes out, in any table whose units begin with one.
-use Rattle.std.proofs.Common.{◌≡◌, ℕ, ◌+◌, ◌<◌, Bool, true, false, List, [], ◌++◌, length, take, drop, min, Option, Ok, Err, sym, ap, subst, ◌∙◌, arith}
+use Rattle.std.proofs.Common.{◌≡◌, ℕ, ◌+◌, ◌<◌, Bool, true, false, List, [], ◌++◌, length, take, drop, min, Option, Ok, Err, refl, sym, ap, subst, ◌∙◌, arith}
 use Rattle.std.proofs.lemmas.List.{length-take, length-drop, take-append-drop, take_all, nil_from_length}
 use Rattle.bit_codes.specs.Bits.{bits_of}
 use Rattle.bit_codes.proofs.BitLemmas.{length-bits}

@@ -1,25 +1,22 @@
 -- How the payload of the first sequence header comes out.
-use Rattle.std.proofs.Common.{◌≡◌, ◌≢◌, ℕ, ◌+◌, ◌*◌, ◌/◌, ◌<◌, ◌≤◌, true, false, List, [], ◌∷◌, ◌++◌, length, take, drop, Option, Ok, Err, refl, sym, ap, subst, ◌∙◌, arith, append-nil}
-use Rattle.std.proofs.lemmas.List.{length-append, length-take, length-drop, nil_from_length, take-append-drop, drop_at}
-use Rattle.std.specs.Io.KnownBytes.{IsAtEnd}
+use Rattle.std.proofs.Common.{◌≡◌, ℕ, ◌+◌, ◌*◌, ◌/◌, ◌≤◌, true, false, List, length, take, drop, Option, Ok, Err, refl, sym, ap, subst, ◌∙◌, arith}
+use Rattle.std.proofs.lemmas.List.{length-take, length-drop, take-append-drop, drop_at}
 use Rattle.bit_codes.specs.Bits.{cursor_at}
-use Rattle.field_rows.specs.Rows.{Rows, done, read, ◌>>=◌, Fault}
-use Rattle.vc2_run.specs.Ran.{within}
+use Rattle.field_rows.specs.Rows.{Rows, done, read, ◌>>=◌}
 use Rattle.unit_table.specs.Grammar.{bytes_at}
-use Rattle.unit_table.specs.Begun.{Begun, Got}
+use Rattle.unit_table.specs.Begun.{Begun}
 use Rattle.unit_table.proofs.Begins.{begun_use, begun_use-gone}
 use Rattle.sequence_header.specs.declared.parts.HeaderParts.{HeaderParts}
 use Rattle.sequence_header.specs.declared.parts.HeaderReason.{HeaderReason}
 use Rattle.sequence_header.specs.Header.{header_rows}
 use Rattle.sequence_header.specs.Header as header
-use Rattle.stream_units.specs.declared.window.Halt.{Halt}
 use Rattle.stream_units.specs.declared.reason.Reason.{Reason}
 use Rattle.stream_units.specs.declared.reason.Reason.TheVariants as reasons
 use Rattle.stream_units.specs.declared.stop.ReadStop.{ReadStop}
 use Rattle.stream_units.specs.declared.stop.ReadStop.TheVariants as stops
 use Rattle.stream_units.specs.Units.{is_truncated, Past, First, DataUnit, Sequence, reason_of, header_reason, next_checked, first_payload, units}
 use Rattle.stream_units.specs.Streams.{limit}
-use Rattle.stream_units.specs.Turns.{stop_of, StopsOver, Takes, IsFirst, ReadsHeader}
+use Rattle.stream_units.specs.Turns.{StopsOver, Takes, IsFirst, ReadsHeader}
 use Rattle.stream_units.specs.Heads.{leads_behind}
 use Rattle.stream_units.proofs.Steady.{units_laws}
 use Rattle.stream_units.proofs.Groups.{group_moves, group_refused}

@@ -1,9 +1,7 @@
 -- A unit of an input that counts up to the limit.
 use Rattle.std.proofs.Common.{◌≡◌, ◌≢◌, ℕ, ◌+◌, ◌*◌, ◌<◌, Bool, true, false, cond, List, [], length, Option, Some, None, Result, Ok, Err, refl, sym, ap, subst, ◌∙◌, arith}
-use Rattle.std.proofs.lemmas.List.{nil_from_length, length-take}
 use Rattle.std.specs.Io.KnownBytes.{Consumes, IsAtEnd}
 use Rattle.vc2_io.proofs.Known.{Consumes-none}
-use Rattle.vc2_run.specs.Ran.{within}
 use Rattle.field_rows.specs.Rows.{Fault}
 use Rattle.unit_table.specs.Fronts.{Front, Refuses}
 use Rattle.unit_table.proofs.Limited.{taken_within, over_stays, over_fault, over_past, over_none, waits_finished, waits_refused, end_of_room}

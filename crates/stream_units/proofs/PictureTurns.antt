@@ -1,10 +1,10 @@
 -- The parts of a picture's payload, by how each comes out.
-use Rattle.std.proofs.Common.{◌≡◌, ◌≢◌, ℕ, suc, ◌+◌, ◌-◌, ◌*◌, ◌/◌, ◌%◌, ◌^◌, ◌<◌, ◌≤◌, Bool, true, false, not, cond, List, [], ◌∷◌, ◌++◌, length, take, drop, get_or, Option, Some, None, Result, Ok, Err, inl, inr, refl, sym, ap, subst, ◌∙◌, arith, append-nil}
+use Rattle.std.proofs.Common.{◌≡◌, ◌≢◌, ℕ, suc, ◌+◌, ◌-◌, ◌*◌, ◌/◌, ◌%◌, ◌^◌, ◌<◌, ◌≤◌, Bool, true, false, not, cond, List, [], ◌∷◌, ◌++◌, length, take, drop, get_or, Option, Some, None, Result, Ok, Err, inl, inr, refl, sym, ap, subst, ◌∙◌, arith}
 use Rattle.std.specs.Prelude.{◌&&◌, ◌||◌, ◌==◌}
 use Rattle.std.specs.Int.{from_be_bytes, w32}
 use Rattle.std.specs.Io.KnownBytes.{IsAtEnd}
 use Rattle.std.proofs.lemmas.Bool.{cases_lt, le-ltb, lt-ltb}
-use Rattle.std.proofs.lemmas.List.{length-append, length-take, take-append-drop, take-append-le, take_all, nil_from_length}
+use Rattle.std.proofs.lemmas.List.{length-append, length-take, take-append-drop, take-append-le, take_all}
 use Rattle.vc2_run.specs.Ran.{within}
 use Rattle.bit_codes.specs.Bits.{Cursor, cursor_at, bits_of}
 use Rattle.bit_codes.proofs.BitLemmas.{length-bits}
@@ -147,9 +147,9 @@ params_taken {z} {held0} {held1} {rest0} {rest1} {at} others count long front p 
     (subst (λ l. Moves units (params_then others) at l (others p)) piece (group_moves params_group others at front p long e inside)))
 
 -- a field is short in all that is held
-pub params_short : {held1 : List ℕ} (at : ℕ) (others : Params → Rows Reason DataUnit) (count : ℕ) (front : List ℕ) (fault : Fault TransformReason) → front ≡ take count held1 → count ≡ length held1 → params_read front ≡ Err fault
+pub params_short : (held1 : List ℕ) (at : ℕ) (others : Params → Rows Reason DataUnit) (count : ℕ) (front : List ℕ) (fault : Fault TransformReason) → front ≡ take count held1 → count ≡ length held1 → params_read front ≡ Err fault
     → read reason_of (params_then others) (bytes_at at held1) ≡ Err (record { place = 8 * at + fault.place; reason = transform_reason fault.reason })
-params_short {held1} at others count front fault is all e = group_refused params_group others at held1 fault (ap params_read (sym (is ∙ take_all count held1 (omega (arith, all)))) ∙ e)
+params_short held1 at others count front fault is all e = group_refused params_group others at held1 fault (ap params_read (sym (is ∙ take_all count held1 (omega (arith, all)))) ∙ e)
 
 refused_for : (place : ℕ) {r t : Reason} → r ≡ t → (let s : ReadStop = stops.Refused (record { place = place; reason = r }) in s) ≡ stops.Refused (record { place = place; reason = t })
 refused_for place e = ap (λ (r : Reason). let s : ReadStop = stops.Refused (record { place = place; reason = r }) in s) e

@@ -1,5 +1,5 @@
 -- How the reading of a unit stops, by where it stands.
-use Rattle.std.proofs.Common.{◌≡◌, ◌≢◌, ℕ, ◌+◌, ◌/◌, ◌≤◌, ◌<◌, List, [], ◌++◌, length, true, false, not, Option, Result, Err, refl, sym, ap, subst, ◌∙◌, arith}
+use Rattle.std.proofs.Common.{◌≡◌, ◌≢◌, ℕ, ◌+◌, ◌*◌, ◌/◌, ◌≤◌, ◌<◌, List, [], length, true, false, not, Option, Result, Err, refl, sym, ap, subst, ◌∙◌, arith}
 use Rattle.std.specs.Io.KnownBytes.{IsAtEnd}
 use Rattle.vc2_run.specs.Ran.{within}
 use Rattle.field_rows.specs.Rows.{Rows, Fault, read}
@@ -159,3 +159,7 @@ short_lost {g = g} {at = at} {left = left} table fault held2 rest2 room halt sto
 pub stops_told : {Z U : Type 0} {g : Grammar Z Reason U} {z : Z} {held0 held1 : List ℕ} {rest0 rest1 : Option (List ℕ)} {at : ℕ} {left : Rows Reason U} (table : IsTable g) (fault : Fault Reason) (room : ℕ) (refusal : Refusal) → Begun g z held0 rest0 rest1 at held1 left
     → read g.reason_of left (bytes_at at held1) ≡ Err fault → is_truncated fault.reason ≡ false → refusal ≡ refusal_of fault → at + length held1 + room ≡ limit → StopsOver g z held0 rest0 rest1 room (stops.Refused refusal)
 stops_told table fault room refusal b e other there total = stops_refused table room fault.place (fault.place / 8) fault.reason (stops.Refused refusal) b e (not_truncated fault.reason other) total refl (ap stops.Refused there)
+
+-- the refusal for a fault behind a place
+pub told_at : (place bit : ℕ) {named reason : Reason} → named ≡ reason → (let r : Refusal = record { place = place + bit / 8; reason = named } in r) ≡ refusal_of (record { place = 8 * place + bit; reason = reason })
+told_at place bit {named} {reason} e = ap (λ (x : Reason). let r : Refusal = record { place = place + bit / 8; reason = x } in r) e ∙ ap (λ (n : ℕ). let r : Refusal = record { place = n; reason = reason } in r) (omega arith)

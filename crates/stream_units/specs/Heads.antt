@@ -11,7 +11,7 @@ use Rattle.stream_units.specs.declared.reason.Reason.{Reason}
 use Rattle.stream_units.specs.declared.reason.Reason.TheVariants as reasons
 use Rattle.stream_units.specs.declared.reason.Refusal.{Refusal}
 use Rattle.stream_units.specs.declared.heads.Before.{Before}
-use Rattle.stream_units.specs.Units.{First, Past, nothing_yet, Sequence, reason_of, is_header, is_end_code, next_rules, unit_head, units}
+use Rattle.stream_units.specs.Units.{First, Past, nothing_yet, Sequence, reason_of, is_header, is_end_code, next_rules, units}
 use Rattle.stream_units.specs.Streams.{refusal_of}
 use Rattle.stream_units.specs.HeadUnits.{leads_on}
 

@@ -66,11 +66,7 @@ fn read_head(place: u64, bytes: &[u8]) -> Result<ParseInfo, Refusal>
 }
 
 // The head of the unit. Bytes are asked for only while it is short.
-fn head<S: Source>(
-    window: &mut Window,
-    src: &mut S,
-    place: u64,
-) -> Result<ParseInfo, ReadStop>
+fn head<S: Source>(window: &mut Window, src: &mut S, place: u64) -> Result<ParseInfo, ReadStop>
     requires place { place + length window.old.held + window.old.room ≡ 2 ^ 40 }
     requires few { length window.old.held ≤ 4096 }
     ensures part { PartOver heads head_alone (λ info. info) place (S.rest src.old) (S.rest src.new) place (λ info. 13) window.old window.new result }

@@ -5,7 +5,7 @@ use Rattle.bit_codes.specs.Bits.{cursor_at}
 use Rattle.field_rows.specs.Rows.{read}
 use Rattle.sequence_header.specs.Header.{reason_of, header_rows, fault_of}
 use Rattle.stream_units.specs.declared.reason.Reason.{Reason}
-use Rattle.stream_units.specs.Units.{Past}
+use Rattle.stream_units.specs.Units.{Past, unit_head}
 use Rattle.stream_units.specs.Heads.{HeadAt, IsFirstUnit}
 use Rattle.stream_units.proofs.HeadRows.{first_head_refused, first_payload_refused, first_offset_refused, first_is}
 use Rattle.stream_units.proofs.heads.first_unit.Goals as goal

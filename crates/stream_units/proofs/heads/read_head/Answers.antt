@@ -1,4 +1,5 @@
 use Rattle.std.proofs.Common.{sym, ap, subst, ◌∙◌, arith}
+use Rattle.stream_units.specs.Units.{unit_head}
 use Rattle.stream_units.specs.Heads.{HeadAt, judged_head}
 use Rattle.stream_units.proofs.HeadRows.{head_is}
 use Rattle.stream_units.proofs.heads.read_head.Goals as goal

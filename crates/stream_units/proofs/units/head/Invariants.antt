@@ -6,8 +6,8 @@ use Rattle.stream_units.specs.declared.reason.Reason.{Reason}
 use Rattle.stream_units.specs.Units.{DataUnit, units, unit_head}
 use Rattle.stream_units.proofs.units.head.Given as goal
 
-abbrev pub invariant-loop-window : goal.invariant-loop-window
-invariant-loop-window g l =
+abbrev pub invariant-loop-info : goal.invariant-loop-info
+invariant-loop-info g l =
     let z = l.fn.earlier in
     record {
       begun : (others : ParseInfo → Rows Reason DataUnit) (held0 : List ℕ) (rest0 : Option (List ℕ)) → Begun units z held0 rest0 (g.S.Source.rest l.fn.src) z.place l.fn.window.held (unit_head z >>= others)
@@ -17,5 +17,5 @@ invariant-loop-window g l =
       steady : g.S.Source.faults l.src ≡ g.S.Source.faults l.fn.src;
     }
 
-abbrev pub decreases-loop-window : goal.decreases-loop-window
-decreases-loop-window g l = 13 - length l.window.held
+abbrev pub decreases-loop-info : goal.decreases-loop-info
+decreases-loop-info g l = 13 - length l.window.held
