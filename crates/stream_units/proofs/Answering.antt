@@ -16,7 +16,7 @@ use Rattle.unit_table.proofs.FrontLaws.{front_stands, front_before, front_past, 
 use Rattle.stream_units.specs.declared.reason.Reason.{Reason}
 use Rattle.stream_units.specs.declared.reason.Refusal.{Refusal}
 use Rattle.stream_units.specs.Units.{Past, nothing_yet, DataUnit, Sequence, Repeated, Picture, Skipped, End, is_end, reason_of, unit_rows, after, units}
-use Rattle.stream_units.specs.Streams.{bytes_between, Entry, Units, IsRefusalFrom, limit, IsStream, past_limit, IsFault, WithinLimit, PastLimit, BehindLimit, IsRefusal}
+use Rattle.stream_units.specs.Streams.{bytes_between, Entry, total, Units, IsRefusalFrom, limit, IsStream, past_limit, IsFault, WithinLimit, PastLimit, BehindLimit, IsRefusal}
 use Rattle.stream_units.proofs.Steady.{units_laws}
 use Rattle.stream_units.proofs.StreamLaws.{stands_front, refused_front}
 
@@ -41,7 +41,7 @@ machine command = machine_of limit past_limit units command
 abbrev pub near : Past → List ℕ → List ℕ
 near z v = take (limit - z.place) v
 
-after-place : (z : Past) (unit : DataUnit) (bytes : List ℕ) → (after z unit bytes).place ≡ z.place + length bytes
+pub after-place : (z : Past) (unit : DataUnit) (bytes : List ℕ) → (after z unit bytes).place ≡ z.place + length bytes
 after-place z (Sequence parts) bytes = refl
 after-place z Repeated bytes = refl
 after-place z (Picture parts number params slices) bytes = refl
@@ -214,3 +214,19 @@ answer_fault command text same bytes es fault fits (BehindLimit lt last f e) =
 pub answer_refusal : {E : Type 0} (command : Command Past Reason DataUnit E) (text : DataUnit → List ℕ) → ((z : Past) (unit : DataUnit) → command.text z unit ≡ text unit) → (bytes : List ℕ) (refusal : Refusal) → IsBytes bytes → (r : IsRefusal bytes refusal)
     → answer_to (machine command) nothing_yet bytes ≡ ending-of command (command.refused r.fault) (flat_map (λ e. text e.unit) r.units)
 answer_refusal command text same bytes refusal fits r = answer_fault command text same bytes r.units r.fault fits r.is
+
+-- ---- what units leave
+
+-- what each unit adds to is their sum
+pub units-counted : (field : Past → ℕ) (count : DataUnit → ℕ) → ((z : Past) (unit : DataUnit) (bytes : List ℕ) → field (after z unit bytes) ≡ field z + count unit) → (es : List Entry) (z z' : Past) (c c' : Cursor) → Units z c es z' c' → field z' ≡ field z + total count es
+units-counted field count step [] z z' c c' f = ap field (sym f.0) ∙ omega arith
+units-counted field count step (e ∷ es) z z' c c' f =
+    units-counted field count step es (after z e.unit (bytes_between c f.0)) z' f.0 c' f.3 ∙ ap (λ n. n + total count es) (step z e.unit (bytes_between c f.0)) ∙ omega arith
+
+-- the units of a stream before the last lie in its bytes
+pub stream-inside : {E : Type 0} (command : Command Past Reason DataUnit E) (text : DataUnit → List ℕ) → ((z : Past) (unit : DataUnit) → command.text z unit ≡ text unit) → (bytes : List ℕ) (es : List Entry) (last : Entry) → IsBytes bytes → (s : IsStream bytes es last) → s.stream.left.place ≤ length bytes
+stream-inside command text is bytes es last fits s =
+    let f = s.stream in
+    let whole : take limit bytes ≡ bytes = take_all limit bytes s.within in
+    let stood = units-stood command text is es nothing_yet f.left bytes f.mid (omega arith) fits (subst (λ l. Units nothing_yet (bytes_at 0 l) es f.left f.mid) (sym whole) f.units) in
+    omega (arith, stood.total)

@@ -22,8 +22,7 @@ use Rattle.stream_units.specs.Reader.{ReaderState, new_reader, is_end_item, Take
 use Rattle.stream_units.specs.Judging.{IsVerdict, IsStopped, judging}
 use Rattle.stream_units.proofs.Steady.{units_laws}
 use Rattle.stream_units.proofs.OneAnswer.{one_answer}
-use Rattle.stream_units.proofs.Answering.{answer_stream, answer_refusal}
-use Rattle.stream_units.proofs.ReaderTurns.{after-place}
+use Rattle.stream_units.proofs.Answering.{answer_stream, answer_refusal, after-place}
 
 abbrev pub judge_machine : Machine Past Verdict
 judge_machine = machine_of limit past_limit units judging

@@ -72,13 +72,6 @@ behind z held0 rest0 rest1 window founds.End size t e =
     let none = ap (λ (l : List ℕ). length l) t.none in
     record { unit = End; bytes = t.bytes; such = refl; long = omega (arith, t.total, e, none); some = omega (arith, t.total, e, t.some, none); short = omega (arith, t.total, e, t.short, none); total = omega (arith, t.total, e, none) }
 
-pub after-place : (z : Past) (unit : DataUnit) (bytes : List ℕ) → (after z unit bytes).place ≡ z.place + length bytes
-after-place z (Sequence parts) bytes = refl
-after-place z Repeated bytes = refl
-after-place z (Picture parts number params slices) bytes = refl
-after-place z Skipped bytes = refl
-after-place z End bytes = refl
-
 -- few bytes are held while the stream goes on
 pub held_few : (z : Past) (held0 : List ℕ) (rest0 rest1 : Option (List ℕ)) (window : WindowSeen) (found : Found) → LimitOver z held0 rest0 rest1 window (Ok found) → length window.held ≤ 4096
 held_few z held0 rest0 rest1 window (founds.Sequence first) t = t.few

@@ -25,6 +25,11 @@ pub record Entry : Type 0 where
   pub fields : List Value
   pub unit : DataUnit
 
+-- how many there are of something in the units
+abbrev pub total : (DataUnit → ℕ) → List Entry → ℕ
+total count [] = 0
+total count (entry ∷ units) = count entry.unit + total count units
+
 -- These units, none of which ends the stream, stand one after another; what they leave; and the cursor behind them.
 abbrev pub Units : Past → Cursor → List Entry → Past → Cursor → Type 0
 Units z c [] z' c' = (z ≡ z') × (c ≡ c')

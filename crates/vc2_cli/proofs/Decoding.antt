@@ -1,5 +1,5 @@
 -- The exits of a loop over the reader of a stream, for any command over its units.
-use Rattle.std.proofs.Common.{◌≡◌, ◌≤◌, ℕ, ◌+◌, ◌^◌, ◌<◌, true, false, List, [], ◌++◌, length, Option, None, Result, Ok, Err, refl, sym, ap, subst, ◌∙◌, arith}
+use Rattle.std.proofs.Common.{◌≡◌, ◌≤◌, ℕ, ◌+◌, ◌^◌, false, List, [], ◌++◌, length, Option, None, Result, Ok, Err, refl, sym, ap, subst, ◌∙◌, arith}
 use Rattle.std.proofs.lemmas.List.{length-append}
 use Rattle.std.specs.Io.KnownBytes.{Appends, Consumes}
 use Rattle.vc2_io.specs.Outside.{GrewShort, Rose}
@@ -28,12 +28,12 @@ use Rattle.stream_units.specs.Streams.{limit, past_limit, refusal_of, frame_unde
 use Rattle.stream_units.specs.Turns.{StopCause}
 use Rattle.stream_units.specs.Reader.{ReaderState, new_reader, TakesItem, TakesEnd, IsPictureOf, NextOver}
 use Rattle.stream_units.proofs.Steady.{units_laws}
-use Rattle.stream_units.proofs.ReaderTurns.{after-place}
+use Rattle.stream_units.proofs.Answering.{after-place}
 use Rattle.vc2_cli.specs.declared.status.Ending.{Ending}
 use Rattle.vc2_cli.specs.declared.status.Ending.TheVariants.{Decoded, Accepted, Refused}
 use Rattle.vc2_cli.specs.declared.status.Status.TheVariants as status
 use Rattle.vc2_cli.specs.Reply.{status_of}
-use Rattle.vc2_cli.specs.Decode.{unit_text, decoding, checking, last_line, decode_machine, check_machine, is_end_item, stopped, shown_text, WritesLast}
+use Rattle.vc2_cli.specs.Decode.{unit_text, decoding, checking, last_line, decode_machine, check_machine, stopped, shown_text, WritesLast}
 
 pub decode_laws : IsMachine decode_machine
 decode_laws = machine_laws limit past_limit units decoding units_laws

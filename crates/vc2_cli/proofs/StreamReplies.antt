@@ -1,18 +1,15 @@
 -- The replies of `decode` and `check` to streams and refusals.
-use Rattle.std.proofs.Common.{◌≡◌, ℕ, ◌+◌, ◌-◌, ◌≤◌, List, [], ◌∷◌, length, take, refl, sym, ap, subst, ◌∙◌, arith, append-nil}
+use Rattle.std.proofs.Common.{◌≡◌, ℕ, ◌+◌, ◌-◌, List, [], ◌∷◌, length, refl, sym, ap, ◌∙◌, arith, append-nil}
 use Rattle.std.specs.List.{flat_map}
-use Rattle.std.proofs.lemmas.List.{take_all}
-use Rattle.bit_codes.specs.Bits.{Cursor}
 use Rattle.vc2_run.specs.Walk.{answer_to}
-use Rattle.unit_table.specs.Grammar.{bytes_at}
 use Rattle.stream_units.specs.declared.reason.Refusal.{Refusal}
 use Rattle.stream_units.specs.Units.{Past, nothing_yet, DataUnit, Sequence, Repeated, Picture, Skipped, End, after}
-use Rattle.stream_units.specs.Streams.{bytes_between, Entry, Units, limit, IsStream, IsRefusal}
-use Rattle.stream_units.proofs.Answering.{units-stood, answer_stream, answer_refusal}
+use Rattle.stream_units.specs.Streams.{Entry, total, IsStream, IsRefusal}
+use Rattle.stream_units.proofs.Answering.{units-counted, stream-inside, answer_stream, answer_refusal}
 use Rattle.vc2_cli.specs.declared.status.Ending.TheVariants.{Decoded, Accepted, Refused}
 use Rattle.vc2_cli.specs.Decode.{unit_text, decoding, checking, last_line, decode_machine, check_machine}
 use Rattle.vc2_cli.specs.Reply.{reply_of}
-use Rattle.vc2_cli.specs.Streams.{AreBytes, pictures_text, pictures_in, slices_in, total, decoded_reply, accepted_reply, refused_reply, IsDecoded, IsChecked}
+use Rattle.vc2_cli.specs.Streams.{AreBytes, pictures_text, pictures_in, slices_in, decoded_reply, accepted_reply, refused_reply, IsDecoded, IsChecked}
 
 -- ---- what the units leave is counted
 
@@ -30,19 +27,6 @@ slices_after z (Picture parts number params slices) bytes = refl
 slices_after z Skipped bytes = omega arith
 slices_after z End bytes = omega arith
 
-counted : (field : Past → ℕ) (count : DataUnit → ℕ) → ((z : Past) (unit : DataUnit) (bytes : List ℕ) → field (after z unit bytes) ≡ field z + count unit) → (es : List Entry) (z z' : Past) (c c' : Cursor) → Units z c es z' c' → field z' ≡ field z + total count es
-counted field count step [] z z' c c' f = ap field (sym f.0) ∙ omega arith
-counted field count step (e ∷ es) z z' c c' f =
-    counted field count step es (after z e.unit (bytes_between c f.0)) z' f.0 c' f.3 ∙ ap (λ n. n + total count es) (step z e.unit (bytes_between c f.0)) ∙ omega arith
-
--- the units lie in the bytes
-left_inside : (bytes : List ℕ) (es : List Entry) (last : Entry) → AreBytes bytes → (s : IsStream bytes es last) → s.stream.left.place ≤ length bytes
-left_inside bytes es last fits s =
-    let f = s.stream in
-    let whole : take limit bytes ≡ bytes = take_all limit bytes s.within in
-    let stood = units-stood decoding unit_text (λ z unit. refl) es nothing_yet f.left bytes f.mid (omega arith) fits (subst (λ l. Units nothing_yet (bytes_at 0 l) es f.left f.mid) (sym whole) f.units) in
-    omega (arith, stood.total)
-
 no_text : (es : List Entry) → flat_map (λ (e : Entry). let none : List ℕ = [] in none) es ≡ []
 no_text [] = refl
 no_text (e ∷ es) = no_text es
@@ -52,8 +36,8 @@ no_text (e ∷ es) = no_text es
 decoded : (bytes : List ℕ) (es : List Entry) (last : Entry) → AreBytes bytes → IsStream bytes es last → reply_of [] (answer_to decode_machine nothing_yet bytes) ≡ decoded_reply bytes es
 decoded bytes es last fits s =
     let left = s.stream.left in
-    let pictures : left.pictures ≡ total pictures_in es = counted (λ z. z.pictures) pictures_in pictures_after es nothing_yet left _ s.stream.mid s.stream.units ∙ omega arith in
-    let size : left.place + (length bytes - left.place) ≡ length bytes = omega (arith, left_inside bytes es last fits s) in
+    let pictures : left.pictures ≡ total pictures_in es = units-counted (λ z. z.pictures) pictures_in pictures_after es nothing_yet left _ s.stream.mid s.stream.units ∙ omega arith in
+    let size : left.place + (length bytes - left.place) ≡ length bytes = omega (arith, stream-inside decoding unit_text (λ z unit. refl) bytes es last fits s) in
     let ending : Decoded left.pictures (left.place + (length bytes - left.place)) ≡ Decoded (total pictures_in es) (length bytes) = ap (λ n. Decoded n (left.place + (length bytes - left.place))) pictures ∙ ap (Decoded (total pictures_in es)) size in
     ap (reply_of []) (answer_stream decoding unit_text (λ z unit. refl) bytes es last fits s)
     ∙ ap (λ e. reply_of [] (record { ending = e; text = pictures_text es; last = [] })) ending
@@ -68,9 +52,9 @@ decode_refused bytes refusal fits r =
 accepted : (bytes : List ℕ) (es : List Entry) (last : Entry) → AreBytes bytes → IsStream bytes es last → reply_of [] (answer_to check_machine nothing_yet bytes) ≡ accepted_reply bytes es
 accepted bytes es last fits s =
     let left = s.stream.left in
-    let pictures : left.pictures ≡ total pictures_in es = counted (λ z. z.pictures) pictures_in pictures_after es nothing_yet left _ s.stream.mid s.stream.units ∙ omega arith in
-    let slices : left.slices ≡ total slices_in es = counted (λ z. z.slices) slices_in slices_after es nothing_yet left _ s.stream.mid s.stream.units ∙ omega arith in
-    let size : left.place + (length bytes - left.place) ≡ length bytes = omega (arith, left_inside bytes es last fits s) in
+    let pictures : left.pictures ≡ total pictures_in es = units-counted (λ z. z.pictures) pictures_in pictures_after es nothing_yet left _ s.stream.mid s.stream.units ∙ omega arith in
+    let slices : left.slices ≡ total slices_in es = units-counted (λ z. z.slices) slices_in slices_after es nothing_yet left _ s.stream.mid s.stream.units ∙ omega arith in
+    let size : left.place + (length bytes - left.place) ≡ length bytes = omega (arith, stream-inside decoding unit_text (λ z unit. refl) bytes es last fits s) in
     let ending : Accepted left.pictures left.slices (left.place + (length bytes - left.place)) ≡ Accepted (total pictures_in es) (total slices_in es) (length bytes)
     = ap (λ n. Accepted n left.slices (left.place + (length bytes - left.place))) pictures ∙ ap (λ n. Accepted (total pictures_in es) n (left.place + (length bytes - left.place))) slices ∙ ap (Accepted (total pictures_in es) (total slices_in es)) size in
     ap (reply_of []) (answer_stream checking (λ unit. []) (λ z unit. refl) bytes es last fits s)

@@ -1,5 +1,5 @@
 -- The commands over the units of a stream: `decode` writes their pictures, and `check` counts them.
-use Rattle.std.specs.Prelude.{◌≡◌, ℕ, ◌+◌, Bool, true, false, List, [], Option, Some, None, Result, Ok, Err}
+use Rattle.std.specs.Prelude.{◌≡◌, ℕ, ◌+◌, List, [], Option, Some, None, Result, Ok, Err}
 use Rattle.picture_codec.specs.Samples.{PictureSeen, frame_of, picture_of}
 use Rattle.std.specs.Io.KnownBytes.{Appends}
 use Rattle.vc2_io.specs.Outside.{GrewShort}

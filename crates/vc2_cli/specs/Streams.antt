@@ -1,10 +1,10 @@
 -- What `decode` and `check` reply to a stream, and to an input that is refused.
-use Rattle.std.specs.Prelude.{◌≡◌, ◌<◌, ℕ, ◌+◌, List, [], ◌∷◌, length, Ok}
+use Rattle.std.specs.Prelude.{◌≡◌, ◌<◌, ℕ, List, [], length, Ok}
 use Rattle.std.specs.List.{AllByRecursion, flat_map}
 use Rattle.slice_geometry.specs.Slicing.{slice_count}
 use Rattle.stream_units.specs.declared.reason.Refusal.{Refusal}
 use Rattle.stream_units.specs.Units.{DataUnit, Sequence, Repeated, Picture, Skipped, End}
-use Rattle.stream_units.specs.Streams.{Entry, IsStream, IsRefusal}
+use Rattle.stream_units.specs.Streams.{Entry, total, IsStream, IsRefusal}
 use Rattle.vc2_cli.specs.declared.words.Command.TheVariants.{Decode, Check}
 use Rattle.vc2_cli.specs.declared.status.Status.TheVariants as status
 use Rattle.vc2_cli.specs.Texts.{refusal_line, decoded_line, accepted_line}
@@ -32,11 +32,6 @@ slices_in (Sequence parts) = 0
 slices_in Repeated = 0
 slices_in Skipped = 0
 slices_in End = 0
-
--- how many there are of something in the units
-abbrev pub total : (DataUnit → ℕ) → List Entry → ℕ
-total count [] = 0
-total count (entry ∷ units) = count entry.unit + total count units
 
 -- a stream of these units and the last one: all their pictures, and how many pictures and bytes there were
 abbrev pub decoded_reply : List ℕ → List Entry → Reply

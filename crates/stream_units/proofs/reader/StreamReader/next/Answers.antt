@@ -2,7 +2,8 @@ use Rattle.std.proofs.Common.{◌≡◌, ◌+◌, ◌-◌, ◌^◌, ◌++◌, �
 use Rattle.slice_geometry.specs.declared.unit_list.UnitShape.{UnitShape}
 use Rattle.stream_units.specs.declared.stop.ReadStop.TheVariants as stops
 use Rattle.stream_units.specs.ReaderInside.{picture_in}
-use Rattle.stream_units.proofs.ReaderTurns.{behind, after-place, held_few, shows_one, over_none, is_picture, next_over, nothing_due, along, stopped}
+use Rattle.stream_units.proofs.Answering.{after-place}
+use Rattle.stream_units.proofs.ReaderTurns.{behind, held_few, shows_one, over_none, is_picture, next_over, nothing_due, along, stopped}
 use Rattle.stream_units.proofs.reader.StreamReader.next.Goals as goal
 
 pub returns-then-is_err-clause-next : goal.returns-then-is_err-clause-next
