@@ -24,13 +24,13 @@ head_rows bad_prefix unsupported code_rules next_rules previous_rules = do
 
 -- why a head is refused
 pub data HeadReason : Type 0 where
-  IsShort : HeadReason
-  IsBadPrefix : HeadReason
-  IsUnsupported : ℕ → HeadReason
+  FieldShort : HeadReason
+  WrongPrefix : HeadReason
+  OtherCode : ℕ → HeadReason
 
 -- the rows with no further rules
 unfoldable pub plain_rows : Rows HeadReason ParseInfo
-plain_rows = head_rows IsBadPrefix IsUnsupported (λ code. []) (λ code next. []) (λ code next previous. [])
+plain_rows = head_rows WrongPrefix OtherCode (λ code. []) (λ code next. []) (λ code next previous. [])
 
 -- A field that is short is told by the bit where it begins, with the fields ahead of it: the code behind the prefix, and
 -- the next offset behind the code.
@@ -44,9 +44,9 @@ short_fault bytes place =
     else PreviousShort code next))
 
 abbrev pub fault_of : List ℕ → ℕ → HeadReason → InfoFault
-fault_of bytes place IsShort = short_fault bytes place
-fault_of bytes place IsBadPrefix = BadPrefix
-fault_of bytes place (IsUnsupported code) = UnsupportedCode code
+fault_of bytes place FieldShort = short_fault bytes place
+fault_of bytes place WrongPrefix = BadPrefix
+fault_of bytes place (OtherCode code) = UnsupportedCode code
 
 abbrev pub answer_of : List ℕ → Result (ParseInfo × Cursor) (Fault HeadReason) → Result ParseInfo InfoFault
 answer_of bytes (Ok read) = Ok read.0
@@ -54,7 +54,7 @@ answer_of bytes (Err fault) = Err (fault_of bytes fault.place fault.reason)
 
 -- the head in front of the bytes, or its first fault
 unfoldable pub info_at : List ℕ → Result ParseInfo InfoFault
-info_at bytes = answer_of bytes (read (λ fault. IsShort) plain_rows (cursor_at bytes 0))
+info_at bytes = answer_of bytes (read (λ fault. FieldShort) plain_rows (cursor_at bytes 0))
 
 -- the bytes end inside the head
 abbrev pub is_short : InfoFault → Bool

@@ -10,7 +10,7 @@ use Rattle.vc2_io.proofs.Known.{Appends-then, Appends-along}
 use Rattle.picture_codec.specs.Pictures.{Frame}
 use Rattle.picture_codec.specs.Samples.{PictureSamples}
 use Rattle.raw_video.specs.RawText.{is_wide, text_of, raw_text}
-use Rattle.raw_video.proofs.Short.{GrewShort-first, GrewShort-second, GrewShort-along}
+use Rattle.vc2_io.proofs.Short.{GrewShort-first, GrewShort-second, GrewShort-along}
 
 -- what holds anyway holds of an error
 pub OnErr-always : {T E P : Type 0} (r : Result T E) → P → OnErr r P

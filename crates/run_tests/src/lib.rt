@@ -15,3 +15,5 @@ mod rows;
 mod stream_bytes;
 #[cfg(test)]
 mod streams;
+#[cfg(test)]
+mod texts;

@@ -45,60 +45,61 @@ impl<'a> Stream<'a> {
     }
 }
 
+const STREAMS: [Stream<'static>; 7] = [
+    Stream {
+        name: "one_frame_legall_422",
+        bytes: ONE_FRAME_LEGALL_422,
+        pictures: 2,
+        raw_bytes: 24576,
+        checksum: 0xEB34_F273_EA6B_FF02,
+    },
+    Stream {
+        name: "fractional_shares_420",
+        bytes: FRACTIONAL_SHARES_420,
+        pictures: 3,
+        raw_bytes: 8550,
+        checksum: 0xB6A0_8509_D1A2_4D7B,
+    },
+    Stream {
+        name: "haar_flat_444_12bit",
+        bytes: HAAR_FLAT_444_12BIT,
+        pictures: 2,
+        raw_bytes: 12876,
+        checksum: 0xE688_7BF6_93C6_7948,
+    },
+    Stream {
+        name: "fields_420",
+        bytes: FIELDS_420,
+        pictures: 4,
+        raw_bytes: 5760,
+        checksum: 0x0FE3_DC38_0A9D_A91D,
+    },
+    Stream {
+        name: "depth_zero",
+        bytes: DEPTH_ZERO,
+        pictures: 2,
+        raw_bytes: 2304,
+        checksum: 0xF802_3FFE_48AB_2985,
+    },
+    Stream {
+        name: "tiny_shares",
+        bytes: TINY_SHARES,
+        pictures: 2,
+        raw_bytes: 6144,
+        checksum: 0x0DC0_7C24_23C6_5562,
+    },
+    Stream {
+        name: "random_slices",
+        bytes: RANDOM_SLICES,
+        pictures: 3,
+        raw_bytes: 18216,
+        checksum: 0xF9F0_6759_7117_9B8C,
+    },
+];
+
 #[test]
 fn streams_are_decoded(rt: HostRuntime) -> Result<(), Fail> {
-    let streams = [
-        Stream {
-            name: "one_frame_legall_422",
-            bytes: ONE_FRAME_LEGALL_422,
-            pictures: 2,
-            raw_bytes: 24576,
-            checksum: 0xEB34_F273_EA6B_FF02,
-        },
-        Stream {
-            name: "fractional_shares_420",
-            bytes: FRACTIONAL_SHARES_420,
-            pictures: 3,
-            raw_bytes: 8550,
-            checksum: 0xB6A0_8509_D1A2_4D7B,
-        },
-        Stream {
-            name: "haar_flat_444_12bit",
-            bytes: HAAR_FLAT_444_12BIT,
-            pictures: 2,
-            raw_bytes: 12876,
-            checksum: 0xE688_7BF6_93C6_7948,
-        },
-        Stream {
-            name: "fields_420",
-            bytes: FIELDS_420,
-            pictures: 4,
-            raw_bytes: 5760,
-            checksum: 0x0FE3_DC38_0A9D_A91D,
-        },
-        Stream {
-            name: "depth_zero",
-            bytes: DEPTH_ZERO,
-            pictures: 2,
-            raw_bytes: 2304,
-            checksum: 0xF802_3FFE_48AB_2985,
-        },
-        Stream {
-            name: "tiny_shares",
-            bytes: TINY_SHARES,
-            pictures: 2,
-            raw_bytes: 6144,
-            checksum: 0x0DC0_7C24_23C6_5562,
-        },
-        Stream {
-            name: "random_slices",
-            bytes: RANDOM_SLICES,
-            pictures: 3,
-            raw_bytes: 18216,
-            checksum: 0xF9F0_6759_7117_9B8C,
-        },
-    ];
-    for stream in streams {
+    for stream in STREAMS {
         stream.check(&rt, rt.alloc(), &[])?;
         stream.check(&rt, rt.alloc(), &ONE_EACH)?;
     }

@@ -67,62 +67,63 @@ const GREYS: &[u16] = &[0x80, 0x80, 0x80, 0x80];
 /// The end behind a unit of 26 bytes.
 const END_26: &[u8] = b"BBCD\x10\x00\x00\x00\x00\x00\x00\x00\x1A";
 
+const ONE_PICTURE: [Row<'static>; 7] = [
+    (&[HEADER, PICTURE, END], &[[GREY, GREY, GREY]]),
+    (
+        &[
+            HEADER,
+            b"BBCD\xC8\x00\x00\x00\x15\x00\x00\x00\x11\x00\x00\x00\x00\x0C\x92\x70\x00",
+            END,
+        ],
+        &[[GREY, &[0x7E], GREY]],
+    ),
+    (
+        &[
+            HEADER,
+            b"BBCD\xC8\x00\x00\x00\x15\x00\x00\x00\x11\x00\x00\x00\x00\x0C\x92\x70\xFE",
+            END,
+        ],
+        &[[GREY, &[0x00], GREY]],
+    ),
+    (
+        &[
+            LINE,
+            b"BBCD\xC8\x00\x00\x00\x16\x00\x00\x00\x11\x00\x00\x00\x00\x0D\x92\x70\x0A\x03",
+            b"BBCD\x10\x00\x00\x00\x00\x00\x00\x00\x16",
+        ],
+        &[[&[0x80, 0x80], &[0x7A, 0x7A], &[0x80, 0x80]]],
+    ),
+    (
+        &[
+            SQUARE,
+            b"BBCD\xC8\x00\x00\x00\x1A\x00\x00\x00\x11\x00\x00\x00\x00\x24\x94\x9F\x80\x00\xD0\xA4\x12\x6D",
+            END_26,
+        ],
+        &[[&[0x8B, 0x8C, 0x88, 0x8A], GREYS, GREYS]],
+    ),
+    (
+        &[
+            SQUARE,
+            b"BBCD\xC8\x00\x00\x00\x19\x00\x00\x00\x11\x00\x00\x00\x00\x24\x91\x9F\x80\x07\x44\x62\x72",
+            b"BBCD\x10\x00\x00\x00\x00\x00\x00\x00\x19",
+        ],
+        &[[&[0x8C, 0x8C, 0x89, 0x8B], GREYS, GREYS]],
+    ),
+    (
+        &[
+            b"BBCD\x00\x00\x00\x00\x12\x00\x00\x00\x00\x3F\x6E\xD0\x90\xA0",
+            b"BBCD\xC8\x00\x00\x00\x1A\x00\x00\x00\x12\x00\x00\x00\x00\x24\x94\x9F\x80\x00\xD0\xA4\x12\x6D",
+            END_26,
+        ],
+        &[[&[523, 524, 520, 522], &[512], &[512]]],
+    ),
+];
+
 /// One picture: without a wavelet, with prediction from slice to slice, with one level, and with colour of half the size
 /// in 10 bits.
 #[test]
 fn one_picture(rt: HostRuntime) -> Result<(), Fail> {
-    let rows: [Row; 7] = [
-        (&[HEADER, PICTURE, END], &[[GREY, GREY, GREY]]),
-        (
-            &[
-                HEADER,
-                b"BBCD\xC8\x00\x00\x00\x15\x00\x00\x00\x11\x00\x00\x00\x00\x0C\x92\x70\x00",
-                END,
-            ],
-            &[[GREY, &[0x7E], GREY]],
-        ),
-        (
-            &[
-                HEADER,
-                b"BBCD\xC8\x00\x00\x00\x15\x00\x00\x00\x11\x00\x00\x00\x00\x0C\x92\x70\xFE",
-                END,
-            ],
-            &[[GREY, &[0x00], GREY]],
-        ),
-        (
-            &[
-                LINE,
-                b"BBCD\xC8\x00\x00\x00\x16\x00\x00\x00\x11\x00\x00\x00\x00\x0D\x92\x70\x0A\x03",
-                b"BBCD\x10\x00\x00\x00\x00\x00\x00\x00\x16",
-            ],
-            &[[&[0x80, 0x80], &[0x7A, 0x7A], &[0x80, 0x80]]],
-        ),
-        (
-            &[
-                SQUARE,
-                b"BBCD\xC8\x00\x00\x00\x1A\x00\x00\x00\x11\x00\x00\x00\x00\x24\x94\x9F\x80\x00\xD0\xA4\x12\x6D",
-                END_26,
-            ],
-            &[[&[0x8B, 0x8C, 0x88, 0x8A], GREYS, GREYS]],
-        ),
-        (
-            &[
-                SQUARE,
-                b"BBCD\xC8\x00\x00\x00\x19\x00\x00\x00\x11\x00\x00\x00\x00\x24\x91\x9F\x80\x07\x44\x62\x72",
-                b"BBCD\x10\x00\x00\x00\x00\x00\x00\x00\x19",
-            ],
-            &[[&[0x8C, 0x8C, 0x89, 0x8B], GREYS, GREYS]],
-        ),
-        (
-            &[
-                b"BBCD\x00\x00\x00\x00\x12\x00\x00\x00\x00\x3F\x6E\xD0\x90\xA0",
-                b"BBCD\xC8\x00\x00\x00\x1A\x00\x00\x00\x12\x00\x00\x00\x00\x24\x94\x9F\x80\x00\xD0\xA4\x12\x6D",
-                END_26,
-            ],
-            &[[&[523, 524, 520, 522], &[512], &[512]]],
-        ),
-    ];
-    expect_rows(&rt, rt.alloc(), &rows)
+    expect_rows(&rt, rt.alloc(), &ONE_PICTURE)
 }
 
 /// Pictures in turn: twice the same parameters, then another wavelet, the first one again, another index, and a matrix
@@ -150,51 +151,52 @@ fn pictures_in_turn(rt: HostRuntime) -> Result<(), Fail> {
     expect_rows(&rt, rt.alloc(), &[(&units, &wants)])
 }
 
+const THAT_STAND: [(&[&[u8]], &[Item]); 4] = [
+    (
+        &[HEADER, b"BBCD\x10\x00\x00\x00\x00\x00\x00\x00\x11"],
+        &[Item::Sequence],
+    ),
+    (
+        &[
+            b"BBCD\x00\x00\x00\x00\x00\x00\x00\x00\x00\x3F\x27\x42\x4A",
+            b"BBCD\xC8\x00\x00\x00\x00\x00\x00\x00\x11\x00\x00\x00\x00\x0C\x92\x70\x01",
+            b"BBCD\x00\x00\x00\x00\x00\x00\x00\x00\x15\x3F\x27\x42\x4A",
+            b"BBCD\x10\x00\x00\x00\x0D\x00\x00\x00\x11",
+        ],
+        &[Item::Sequence, Item::Picture(0), Item::Repeated],
+    ),
+    (
+        &[
+            HEADER,
+            b"BBCD\xC8\x00\x00\x00\x15\x00\x00\x00\x11\xFF\xFF\xFF\xFF\x0C\x92\x70\x01",
+            b"BBCD\xC8\x00\x00\x00\x15\x00\x00\x00\x15\x00\x00\x00\x00\x0C\x92\x70\x01",
+            END,
+        ],
+        &[Item::Sequence, Item::Picture(u32::MAX), Item::Picture(0)],
+    ),
+    (
+        &[
+            FIELDS,
+            b"BBCD\xC8\x00\x00\x00\x15\x00\x00\x00\x12\xFF\xFF\xFF\xFE\x0C\x92\x70\x01",
+            b"BBCD\xC8\x00\x00\x00\x15\x00\x00\x00\x15\xFF\xFF\xFF\xFF\x0C\x92\x70\x01",
+            b"BBCD\xC8\x00\x00\x00\x15\x00\x00\x00\x15\x00\x00\x00\x00\x0C\x92\x70\x01",
+            b"BBCD\xC8\x00\x00\x00\x15\x00\x00\x00\x15\x00\x00\x00\x01\x0C\x92\x70\x01",
+            END,
+        ],
+        &[
+            Item::Sequence,
+            Item::Picture(u32::MAX - 1),
+            Item::Picture(u32::MAX),
+            Item::Picture(0),
+            Item::Picture(1),
+        ],
+    ),
+];
+
 /// Units that stand: no picture, next offsets of 0, numbers of frames and of fields past 2^32 - 1.
 #[test]
 fn units_that_stand(rt: HostRuntime) -> Result<(), Fail> {
-    let rows: [(&[&[u8]], &[Item]); 4] = [
-        (
-            &[HEADER, b"BBCD\x10\x00\x00\x00\x00\x00\x00\x00\x11"],
-            &[Item::Sequence],
-        ),
-        (
-            &[
-                b"BBCD\x00\x00\x00\x00\x00\x00\x00\x00\x00\x3F\x27\x42\x4A",
-                b"BBCD\xC8\x00\x00\x00\x00\x00\x00\x00\x11\x00\x00\x00\x00\x0C\x92\x70\x01",
-                b"BBCD\x00\x00\x00\x00\x00\x00\x00\x00\x15\x3F\x27\x42\x4A",
-                b"BBCD\x10\x00\x00\x00\x0D\x00\x00\x00\x11",
-            ],
-            &[Item::Sequence, Item::Picture(0), Item::Repeated],
-        ),
-        (
-            &[
-                HEADER,
-                b"BBCD\xC8\x00\x00\x00\x15\x00\x00\x00\x11\xFF\xFF\xFF\xFF\x0C\x92\x70\x01",
-                b"BBCD\xC8\x00\x00\x00\x15\x00\x00\x00\x15\x00\x00\x00\x00\x0C\x92\x70\x01",
-                END,
-            ],
-            &[Item::Sequence, Item::Picture(u32::MAX), Item::Picture(0)],
-        ),
-        (
-            &[
-                FIELDS,
-                b"BBCD\xC8\x00\x00\x00\x15\x00\x00\x00\x12\xFF\xFF\xFF\xFE\x0C\x92\x70\x01",
-                b"BBCD\xC8\x00\x00\x00\x15\x00\x00\x00\x15\xFF\xFF\xFF\xFF\x0C\x92\x70\x01",
-                b"BBCD\xC8\x00\x00\x00\x15\x00\x00\x00\x15\x00\x00\x00\x00\x0C\x92\x70\x01",
-                b"BBCD\xC8\x00\x00\x00\x15\x00\x00\x00\x15\x00\x00\x00\x01\x0C\x92\x70\x01",
-                END,
-            ],
-            &[
-                Item::Sequence,
-                Item::Picture(u32::MAX - 1),
-                Item::Picture(u32::MAX),
-                Item::Picture(0),
-                Item::Picture(1),
-            ],
-        ),
-    ];
-    for (units, items) in rows {
+    for (units, items) in THAT_STAND {
         let bytes = joined(rt.alloc(), units)?;
         expect_twice(&rt, rt.alloc(), bytes.as_slice(), items, Ok(Item::End))?;
     }

@@ -1,7 +1,7 @@
 // The edge over the streams of std.
-ghost use Rattle.std.specs.Prelude.{◌≡◌, ◌<◌, length, None, IfOk, is_err, if◌then◌else◌};
+ghost use Rattle.std.specs.Prelude.{◌≡◌, ◌<◌, ℕ, length, take, None, IfOk, OnErr, is_err, if◌then◌else◌};
 ghost use Rattle.std.specs.Io.{ReadsAtMost, WritesAtMost};
-ghost use Rattle.std.specs.Io.KnownBytes.{ReadConsumes, WriteAppends};
+ghost use Rattle.std.specs.Io.KnownBytes.{ReadConsumes, WriteAppends, Appends};
 ghost use Rattle.vc2_io.specs.Outside.{HasCause, next_count};
 
 use crate::{Failed, Sink, Source};
@@ -91,6 +91,9 @@ impl<W: Write> Sink for StdSink<W> {
         ensures bytes { WriteAppends None None result piece.now }
         ensures cause { HasCause self.old.failures self.new.failures result }
         ensures count { self.new.failures ≡ (if is_err result then next_count self.old.failures else self.old.failures) }
+        // The writer got the front of the piece that is told; after a fault, some front.
+        ensures wrote { IfOk result (λ n. Appends (W.contents self.old.inner) (W.contents self.new.inner) (take n piece.now)) }
+        ensures failed { OnErr result ((n : ℕ) × Appends (W.contents self.old.inner) (W.contents self.new.inner) (take n piece.now)) }
     {
         let count = match self.inner.write(piece) {
             Ok(count) => count,

@@ -46,3 +46,11 @@ fn memory_is_found_for_a_sink(rt: HostRuntime) -> Result<(), Fail> {
     assert_eq!(rt; sink.bytes(), b"some b".as_slice());
     Ok(())
 }
+
+#[test]
+fn null_sink_takes_all(rt: HostRuntime) {
+    let mut sink = NullSink::new();
+    assert_eq!(rt; sink.write(b"some bytes"), Ok(10));
+    assert_eq!(rt; sink.write(b""), Ok(0));
+    assert_eq!(rt; write_whole(&mut sink, b"some bytes"), Ok(()));
+}

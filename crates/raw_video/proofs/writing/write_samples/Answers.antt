@@ -1,6 +1,6 @@
 use Rattle.std.proofs.Common.{◌≡◌, ◌+◌, ◌-◌, arith}
 use Rattle.vc2_io.proofs.Known.{Appends-along}
-use Rattle.raw_video.proofs.Short.{GrewShort-along}
+use Rattle.vc2_io.proofs.Short.{GrewShort-along}
 use Rattle.raw_video.proofs.Pieces.{OnErr-always, Appends-piece, GrewShort-piece}
 use Rattle.raw_video.proofs.writing.write_samples.Goals as goal
 
