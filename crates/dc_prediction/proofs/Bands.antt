@@ -1,6 +1,7 @@
 -- The one band that is restored.
 use Rattle.std.proofs.Common.{◌≡◌, ◌∙◌, ap, refl, ℕ, zero, suc, ◌≤◌, arith, ℤ, ◌+ℤ◌}
-use Rattle.dc_prediction.specs.Prediction.{Grid, prediction, restored, first_row, row_below, IsRestored}
+use Rattle.planes.specs.Raster.{Grid}
+use Rattle.dc_prediction.specs.Prediction.{prediction, restored, first_row, row_below, IsRestored}
 
 pub is_restored : (r : Grid) → IsRestored r (restored r)
 unfolding prediction restored

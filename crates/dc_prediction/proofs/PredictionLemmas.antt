@@ -4,7 +4,8 @@ use Rattle.std.proofs.lemmas.Int.{ints}
 use native.Mathlib.Numerals.{unary_clauses}
 use Rattle.planes.specs.Numbers.{Within}
 use Rattle.planes.proofs.Floors.{IsFloor, floor_third}
-use Rattle.dc_prediction.specs.Prediction.{Grid, mean, prediction, reach, AllLookedAt}
+use Rattle.planes.specs.Raster.{Grid}
+use Rattle.dc_prediction.specs.Prediction.{mean, prediction, reach, AllLookedAt}
 
 pub prediction_corner : (g : Grid) → prediction g 0 0 ≡ pos 0
 unfolding prediction

@@ -3,9 +3,9 @@ use Rattle.std.proofs.Common.{◌≡◌, ◌∙◌, sym, ap, ℕ, zero, suc, ◌
 use Rattle.std.specs.Prelude.{◌⊎◌}
 use Rattle.std.proofs.lemmas.Bool.{cases_lt}
 use Rattle.planes.specs.declared.Rect.{Rect}
-use Rattle.planes.specs.Raster.{Raster, at}
+use Rattle.planes.specs.Raster.{Grid, Raster, at}
 use Rattle.planes.specs.Rect.{IsInRect}
-use Rattle.dc_prediction.specs.Prediction.{Grid, prediction, restored, AllLookedAt}
+use Rattle.dc_prediction.specs.Prediction.{prediction, restored, AllLookedAt}
 use Rattle.dc_prediction.specs.Restoring.{AllLookedAtOutside, RestoresRect}
 use Rattle.dc_prediction.proofs.PredictionLemmas.{prediction_same}
 use Rattle.dc_prediction.proofs.Bands.{is_restored}

@@ -1,7 +1,8 @@
 -- Worked rows, by evaluation.
 use Rattle.std.proofs.Common.{◌≡◌, refl, ℕ, List, [], ◌∷◌, ℤ, pos, negsuc}
 use Rattle.std.specs.Prelude.{slice_index_or}
-use Rattle.dc_prediction.specs.Prediction.{Grid, mean, restored}
+use Rattle.planes.specs.Raster.{Grid}
+use Rattle.dc_prediction.specs.Prediction.{mean, restored}
 
 prediction_of_minus_one_minus_one_minus_two : mean (negsuc 0) (negsuc 0) (negsuc 1) ≡ negsuc 0
 prediction_of_minus_one_minus_one_minus_two = refl

@@ -2,9 +2,9 @@
 
 ghost use Rattle.std.specs.Prelude.{◌≡◌, ℕ, ◌≤◌, ℤ};
 ghost use Rattle.planes.specs.declared.Rect.{Rect};
-ghost use Rattle.planes.specs.Raster.{Raster, at};
+ghost use Rattle.planes.specs.Raster.{Grid, Raster, at};
 ghost use Rattle.planes.specs.Rect.{IsInRect};
-ghost use Rattle.dc_prediction.specs.Prediction.{Grid, prediction, restored, AllLookedAt, IsRestored};
+ghost use Rattle.dc_prediction.specs.Prediction.{prediction, restored, AllLookedAt, IsRestored};
 ghost use Rattle.dc_prediction.specs.Restoring.{AllLookedAtOutside, RestoresRect};
 
 /// For all residuals exactly one band is restored.

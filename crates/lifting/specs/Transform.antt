@@ -1,13 +1,10 @@
 -- Planes as functions of row and column, one level of the transform, and the levels together
 -- (SMPTE ST 2042-1:2017, 15.4: idwt, vh_synth).
 use Rattle.std.specs.Prelude.{ℕ, zero, suc, ◌+◌, ◌-◌, ◌*◌, ◌/◌, ◌%◌, ◌^◌, ◌==◌, if◌then◌else◌, ℤ}
+pub use Rattle.planes.specs.Raster.{Grid}
 use Rattle.lifting.specs.declared.Wavelet.{Wavelet}
 use Rattle.lifting.specs.Steps.{halved, doubled}
 use Rattle.lifting.specs.Lines.{Line, synthesis_line, analysis_line}
-
--- a number at each row and column
-abbrev pub Grid : Type 0
-Grid = ℕ → ℕ → ℤ
 
 abbrev pub on_rows : (Line → Line) → Grid → Grid
 on_rows f g y = f (g y)
