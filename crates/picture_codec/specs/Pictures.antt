@@ -1,4 +1,4 @@
--- The picture of one unit, place by place (SMPTE ST 2042-1:2017, 15: inverse_wavelet_transform, clip_picture, offset_picture).
+-- The picture of one unit, place by place (SMPTE ST 2042-1:2017, 15.3 inverse_wavelet_transform, 15.5 clip_picture, offset_picture).
 use Rattle.std.specs.Prelude.{ℕ, ◌+◌, ◌-◌, ◌*◌, ◌^◌, List, [], slice_index_or, ℤ, pos, neg_ℤ, ◌+ℤ◌, unsigned_abs}
 use Rattle.std.specs.Int.{int_min, int_max}
 use Rattle.slice_geometry.specs.declared.Size.{Size}

@@ -1,4 +1,5 @@
--- The coding parameters of a header (SMPTE ST 2042-1:2017, set_coding_parameters): the sizes and depths of a picture's components.
+-- The coding parameters of a header (SMPTE ST 2042-1:2017, 11.6: set_coding_parameters, picture_dimensions, video_depth): the sizes and depths of
+-- a picture's components.
 use Rattle.std.specs.Prelude.{◌≡◌, ℕ, ◌+◌, ◌/◌, ◌==◌, if◌then◌else◌}
 use Rattle.bit_codes.specs.Codes.{intlog2}
 use Rattle.slice_geometry.specs.declared.Size.{Size}
@@ -11,7 +12,7 @@ use Rattle.sequence_header.specs.declared.parts.SignalField.TheVariants as signa
 abbrev pub range : ℕ → ℕ → ℕ → ℕ → SignalRange
 range a b c d = record { luma_offset = a; luma_excursion = b; colour_offset = c; colour_excursion = d }
 
--- the standard's signal ranges 1 to 4: 8 bit full range, 8 bit video, 10 bit video, 12 bit video
+-- the standard's signal ranges 1 to 4 (11.4.9): 8 bit full range, 8 bit video, 10 bit video, 12 bit video
 abbrev pub preset_range : ℕ → SignalRange
 preset_range n = if n == 1 then range 0 255 128 255 else if n == 2 then range 16 219 128 224 else if n == 3 then range 64 876 512 896 else range 256 3504 2048 3584
 

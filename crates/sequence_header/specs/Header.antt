@@ -1,4 +1,5 @@
--- The rows of the sequence header, in order (SMPTE ST 2042-1:2017, 11: sequence_header). A number past its rule is refused at its own field.
+-- The rows of the sequence header, in order (SMPTE ST 2042-1:2017, 11: sequence_header). Beside each group stands its name there. A number past its
+-- rule is refused at its own field.
 use Rattle.std.specs.Prelude.{ℕ, ◌*◌, ◌-◌, ◌^◌, ◌%◌, ◌&&◌, ◌||◌, not, List, [], ◌∷◌, Option, nat_le, ◌==◌, if◌then◌else◌}
 use Rattle.std.specs.Int.{is_in_range}
 use Rattle.bit_codes.specs.declared.CodeFault.{CodeFault}
@@ -29,6 +30,7 @@ reason_of codes.TooLarge = NumberTooLarge
 abbrev pub fault_of : HeaderFault → Fault HeaderReason
 fault_of f = record { place = f.bit; reason = f.reason }
 
+-- parse_parameters (11.2), and the base video format (11.3)
 unfoldable pub version_rows : Rows HeaderReason Version
 version_rows = do
   major ← within 1 2 VersionRefused
@@ -42,6 +44,7 @@ version_rows = do
 abbrev pub height_rules : ℕ → ℕ → List (Rule HeaderReason)
 height_rules width v = ((is_in_range 1 8192 v && nat_le (width * v) (2 ^ 24)) or_else SizeRefused) ∷ []
 
+-- frame_size (11.4.3)
 unfoldable pub size_rows : Rows HeaderReason Size
 size_rows = do
   size_flag ← flag_set (DefaultTaken field_names.Size)
@@ -56,17 +59,20 @@ sampling_rules size v =
     ∷ ((v == 0 || size.w % 2 == 0) or_else SizeNotDivisible)
     ∷ ((not (v == 2) || size.h % 2 == 0) or_else SizeNotDivisible) ∷ []
 
+-- color_diff_sampling_format (11.4.4)
 unfoldable pub sampling_rows : Size → Rows HeaderReason ℕ
 sampling_rows size = do
   sampling_flag ← flag_set (DefaultTaken field_names.Sampling)
   index ← number_under (sampling_rules size)
   done index
 
+-- scan_format (11.4.5): 0 is progressive, 1 is interlaced
 unfoldable pub scan_rows : Rows HeaderReason (Option ℕ)
 scan_rows = do
   scan_flag ← flag
   if_set scan_flag (within 0 1 ScanUnknown)
 
+-- frame_rate (11.4.6)
 unfoldable pub rate_rows : Rows HeaderReason RateField
 rate_rows = do
   rate_flag ← flag_set (DefaultTaken field_names.Rate)
@@ -78,6 +84,7 @@ rate_rows = do
         done (rates.Pair numerator denominator))
       else done (rates.Index index)
 
+-- pixel_aspect_ratio (11.4.7)
 unfoldable pub aspect_rows : Rows HeaderReason AspectField
 aspect_rows = do
   aspect_flag ← flag
@@ -92,6 +99,7 @@ aspect_rows = do
             else done (aspects.Index index))
       else done aspects.Default
 
+-- clean_area (11.4.8)
 unfoldable pub clean_rows : Rows HeaderReason (Option CleanArea)
 clean_rows = do
   clean_flag ← flag
@@ -102,9 +110,11 @@ clean_rows = do
     top ← number
     done (record { width = width; height = height; left = left; top = top }))
 
+-- the rule of both excursions
 unfoldable pub excursion : Rows HeaderReason ℕ
 excursion = within 1 65535 SignalRefused
 
+-- signal_range (11.4.9)
 unfoldable pub signal_rows : Rows HeaderReason SignalField
 signal_rows = do
   signal_flag ← flag_set (DefaultTaken field_names.Signal)
@@ -118,11 +128,13 @@ signal_rows = do
         done (signals.Custom (record { luma_offset = luma_offset; luma_excursion = luma_excursion; colour_offset = colour_offset; colour_excursion = colour_excursion })))
       else done (signals.Index index)
 
+-- an index behind its flag, as of color_primaries, color_matrix and transfer_function
 unfoldable pub flagged_index : Rows HeaderReason (Option ℕ)
 flagged_index = do
   index_flag ← flag
   if_set index_flag (number)
 
+-- color_spec (11.4.10)
 unfoldable pub colour_rows : Rows HeaderReason ColourField
 colour_rows = do
   colour_flag ← flag
@@ -144,6 +156,7 @@ coding_rules size sampling v =
     (nat_le v 1 or_else CodingModeUnknown)
     ∷ ((v == 0 || (size.h % 2 == 0 && (not (sampling == 2) || size.h % 4 == 0))) or_else SizeNotDivisible) ∷ []
 
+-- the picture coding mode (11.5)
 unfoldable pub coding_rows : Size → ℕ → Rows HeaderReason ℕ
 coding_rows size sampling = number_under (coding_rules size sampling)
 

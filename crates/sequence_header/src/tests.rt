@@ -152,6 +152,7 @@ fn headers_are_written_and_read_again(rt: HostRuntime) -> Result<(), Fail> {
         let (again, taken) = SequenceHeader::read(&bytes).map_err(|_| "not read")?;
         assert_eq!(&rt; taken, length);
         assert_eq!(&rt; *again.parts(), parts);
+        assert_eq!(&rt; again, header);
     }
     Ok(())
 }

@@ -1,4 +1,4 @@
--- A slice as a function of its bytes (SMPTE ST 2042-1:2017, 13.5.3: ld_slice, luma_slice_band, color_diff_slice_band).
+-- A slice as a function of its bytes (SMPTE ST 2042-1:2017, 13.5.3.1 ld_slice, 13.5.6.3 slice_band, 13.5.6.4 color_diff_slice_band).
 use Rattle.std.specs.Prelude.{ℕ, zero, suc, ◌+◌, ◌-◌, ◌*◌, ◌^◌, ◌&&◌, Bool, true, if◌then◌else◌, nat_le, nat_lt, List, [], ◌∷◌, ◌++◌, length, take, drop, replicate, ℤ, unsigned_abs}
 use Rattle.bit_codes.specs.Bits.{bits_of, binary_after}
 use Rattle.bounded_blocks.specs.Reading.{values}
@@ -15,6 +15,7 @@ use Rattle.quant_factors.specs.Weights.{Weights, entry_of, quantiser_of}
 abbrev pub level_rect : Slicing → Size → ℕ → ℕ → ℕ → Rect
 level_rect s size sx sy level = slice_rect s (band_size s.depth level size) sx sy
 
+-- how many places a rectangle has
 abbrev pub area : Rect → ℕ
 area r = (r.x1 - r.x0) * (r.y1 - r.y0)
 
@@ -74,7 +75,7 @@ slice_at s luma colour sx sy bytes = slice_of bytes (place_count s luma sx sy) (
 
 -- ---- dequantised
 
--- the quantiser of a band
+-- the quantiser of a band (13.5.5 slice_quantizers)
 abbrev pub band_quantiser : Weights → ℕ → ℕ → ℕ → ℕ
 band_quantiser matrix qindex level orient = quantiser_of qindex (entry_of matrix level orient)
 
@@ -86,7 +87,7 @@ quantisers each s size sx sy matrix qindex (suc level) =
     quantisers each s size sx sy matrix qindex level
     ++ (replicate count (band_quantiser matrix qindex (suc level) 1) ++ (replicate count (band_quantiser matrix qindex (suc level) 2) ++ replicate count (band_quantiser matrix qindex (suc level) 3)))
 
--- each value by its quantiser
+-- each value by its quantiser (13.3.1 inverse_quant)
 abbrev pub dequantised : List ℤ → List ℕ → List ℤ
 dequantised [] quantisers = []
 dequantised (v ∷ vs) [] = []
@@ -97,8 +98,10 @@ abbrev pub are_small : List ℤ → Bool
 are_small [] = true
 are_small (v ∷ vs) = nat_le (unsigned_abs v) (2 ^ 36) && are_small vs
 
+-- the dequantised values of a slice's luma block, in its order
 abbrev pub luma_values : Slicing → Size → ℕ → ℕ → Weights → Slice → List ℤ
 luma_values s size sx sy matrix slice = dequantised slice.luma (quantisers 1 s size sx sy matrix slice.qindex s.depth)
 
+-- and those of its colour block
 abbrev pub colour_values : Slicing → Size → ℕ → ℕ → Weights → Slice → List ℤ
 colour_values s size sx sy matrix slice = dequantised slice.colour (quantisers 2 s size sx sy matrix slice.qindex s.depth)

@@ -1,4 +1,5 @@
--- Where the subbands and the slices lie (SMPTE ST 2042-1:2017, 13.2.3 and 13.5.6.2).
+-- Where the subbands and the slices lie (SMPTE ST 2042-1:2017, 13.2.3 subband_width, subband_height, and 13.5.6.2 slice_left,
+-- slice_right, slice_top, slice_bottom).
 use Rattle.std.specs.Prelude.{ℕ, ◌+◌, ◌-◌, ◌*◌, ◌/◌, ◌^◌}
 use Rattle.planes.specs.declared.Rect.{Rect}
 use Rattle.planes.specs.Subbands.{subband_length}

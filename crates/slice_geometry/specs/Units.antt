@@ -1,11 +1,13 @@
--- The units of a stream by their lengths: what a schedule looks at.
+-- The units of a stream by their lengths in bytes.
 use Rattle.std.specs.Prelude.{◌≡◌, ℕ, ◌+◌, ◌^◌, ◌≤◌, List, [], ◌∷◌}
 use Rattle.slice_geometry.specs.declared.unit_list.UnitShape.{UnitShape}
 use Rattle.slice_geometry.specs.Slicing.{bytes_before}
 
+-- the bytes of a unit: those before its first slice, and those of its slices
 abbrev pub unit_length : UnitShape → ℕ
 unit_length u = u.head + bytes_before u.a u.b u.slices
 
+-- the limits of a unit, which are those of its slices
 pub record IsUnitAllowed (u : UnitShape) : Type 0 where
   pub some : 1 ≤ u.b
   pub byte : u.b ≤ u.a

@@ -13,6 +13,7 @@ fn layout(rt: &impl Abort, depth: u32, across: u32, down: u32, a: u32, b: u32) -
 #[test]
 fn shares_follow_the_fraction(rt: HostRuntime) {
     let thirds = layout(&rt, 0, 3, 2, 7, 3);
+    assert!(&rt; thirds == layout(&rt, 0, 3, 2, 7, 3) && thirds != layout(&rt, 0, 3, 2, 7, 2));
     assert_eq!(&rt; thirds.count(), 6);
     for (n, bytes) in [2, 2, 3, 2, 2, 3].into_iter().enumerate() {
         assert!(&rt; n < thirds.count() as usize);

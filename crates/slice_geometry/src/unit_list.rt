@@ -50,13 +50,15 @@ impl UnitShapes {
         }
     }
 
-    /// Makes room for n more units, 1 to 3. The units stay, whether or not memory was found.
+    /// Makes room for n more units, 1 to 3. The units stay, and so does room that was there, whether or not memory was
+    /// found.
     pub fn reserve(&mut self, n: usize) -> Result<(), NoMemory>
         requires some { 1 ≤ n }
         requires most { n ≤ 3 }
         ensures units { self.new.units ≡ self.old.units }
         ensures total { self.new.total ≡ self.old.total }
         ensures room { OnOk result (n ≤ self.new.spare) }
+        ensures kept { self.old.spare ≤ self.new.spare }
     {
         self.units.reserve(n)?;
         self.spare = self.spare.max(n);

@@ -27,7 +27,7 @@ reason_of codes.TooLarge = NumberTooLarge
 abbrev pub fault_of : TransformFault → Fault TransformReason
 fault_of f = record { place = f.bit; reason = f.reason }
 
--- the wavelet indices of the profile
+-- the wavelet indices that this profile allows
 abbrev pub is_wavelet : ℕ → Bool
 is_wavelet index = index == 1 || (index == 3 || index == 4)
 
@@ -43,7 +43,7 @@ wavelet_rows = do
   index ← wavelet_index_rows
   done (wavelet_of index)
 
--- the rows of slices, of which there are at most 2 ^ 20
+-- the slices down; there are at most 2 ^ 20 slices in all
 unfoldable pub slices_y_rows : ℕ → Rows TransformReason ℕ
 slices_y_rows slices_x = number_under (λ v. ((is_in_range 1 8192 v && nat_le (slices_x * v) (2 ^ 20)) or_else SlicesRefused) ∷ [])
 
@@ -51,6 +51,7 @@ slices_y_rows slices_x = number_under (λ v. ((is_in_range 1 8192 v && nat_le (s
 unfoldable pub denominator_rows : ℕ → ℕ → Rows TransformReason ℕ
 denominator_rows count a = number_under (λ v. ((nat_le 1 v && (nat_le v a && nat_le (count * a / v) (2 ^ 28))) or_else ShareRefused) ∷ [])
 
+-- the depth, and slice_parameters (12.4.5.2)
 unfoldable pub slicing_rows : Rows TransformReason Slicing
 slicing_rows = do
   depth ← within 0 4 DepthRefused
@@ -60,14 +61,14 @@ slicing_rows = do
   b ← denominator_rows (slices_x * slices_y) a
   done (record { depth = depth; slices_x = slices_x; slices_y = slices_y; a = a; b = b })
 
--- an entry for each band, LL first and then per level HL, LH, HH
+-- quant_matrix (12.4.5.3): an entry for each band, LL first and then per level HL, LH, HH
 unfoldable pub matrix_rows : ℕ → Rows TransformReason Weights
 matrix_rows depth = do
   custom ← flag_set DefaultMatrix
   entries ← numbers (1 + 3 * depth)
   done (record { depth = depth; entries = entries })
 
--- all fields of the transform parameters
+-- all fields of the transform parameters (12.4.1)
 unfoldable pub params_fields : Rows TransformReason Params
 params_fields = do
   wavelet ← wavelet_rows

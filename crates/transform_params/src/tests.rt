@@ -274,6 +274,7 @@ fn worked_parameters(rt: HostRuntime) {
                 assert!(&rt; len <= 4);
                 params.write(&mut written[..len]);
                 assert_eq!(&rt; &written[..len], bytes);
+                assert_eq!(&rt; TransformParams::read(&written[..len]), Ok((params, len)));
             }
             Err(_) => assert!(&rt; false),
         }
