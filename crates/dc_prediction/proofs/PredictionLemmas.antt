@@ -3,7 +3,7 @@ use Rattle.std.proofs.Common.{to_z, of_z, w64, ◌^◌, ◌≡◌, refl, ℕ, ze
 use Rattle.std.proofs.lemmas.Int.{ints}
 use native.Mathlib.Numerals.{unary_clauses}
 use Rattle.planes.specs.Numbers.{Within}
-use Rattle.planes.proofs.Floors.{IsFloor, floor_third}
+use Rattle.planes.proofs.Floors.{IsFloor, floor_third, wider}
 use Rattle.planes.specs.Raster.{Grid}
 use Rattle.dc_prediction.specs.Prediction.{mean, prediction, reach, AllLookedAt}
 
@@ -44,9 +44,6 @@ pub mean_small : (m : ℕ) (a b c : ℤ) → Within m a → Within m b → Withi
 mean_small m a b c pa pb pc =
     let f : IsFloor (a +ℤ b +ℤ c +ℤ pos 1) 3 (mean a b c) = floor_third (a +ℤ b +ℤ c +ℤ pos 1) in
     record { low = omega (arith, ints); high = omega (arith, ints) }
-
-pub wider : (m n : ℕ) (v : ℤ) → m ≤ n → Within m v → Within n v
-wider m n v le p = record { low = omega (arith, ints); high = omega (arith, ints) }
 
 -- a residual on a mean of earlier values
 pub restored_small : (y x : ℕ) (r a b c : ℤ) → Within 68719476736 r → Within ((y + x) * 68719476736) a → Within ((y + x) * 68719476736) b → Within ((y + x) * 68719476736) c → Within (reach y x) (r +ℤ mean a b c)

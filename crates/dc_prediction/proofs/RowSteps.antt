@@ -4,7 +4,8 @@ use Rattle.std.specs.Prelude.{◌⊎◌}
 use Rattle.std.proofs.lemmas.Bool.{cases_eq}
 use Rattle.planes.specs.Numbers.{Within}
 use Rattle.dc_prediction.specs.Prediction.{mean, reach}
-use Rattle.dc_prediction.proofs.PredictionLemmas.{wider, restored_small, sum_small}
+use Rattle.dc_prediction.proofs.PredictionLemmas.{restored_small, sum_small}
+use Rattle.planes.proofs.Floors.{wider}
 
 -- The places x0..x of row y are restored: `row` is the row of before, `up` the row above, and `new` the row as it stands.
 pub record RestoredSoFar (y x0 x : ℕ) (up row new : ℕ → ℤ) : Type 0 where

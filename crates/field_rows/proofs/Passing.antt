@@ -57,7 +57,7 @@ Pass-read {R = R} {A = A} reason_of rows vs a rest p k =
     ∙ ap (λ (n : ℕ). let r : Result (A × Cursor) (Fault R) = Ok (a, record { place = n; rest = rest }) in r) (omega arith)
 
 -- so many zeros fill the last byte
-length-zeros : (n : ℕ) → length (zeros_to_byte_end n) ≡ (8 - n % 8) % 8
+pub length-zeros : (n : ℕ) → length (zeros_to_byte_end n) ≡ (8 - n % 8) % 8
 length-zeros n = length-replicate ((8 - n % 8) % 8) false
 
 -- bytes that are the written fields and zeros to the byte's end are taken whole, and any bytes may follow

@@ -5,7 +5,7 @@ use Rattle.std.proofs.lemmas.Int.{ints}
 use Rattle.std.proofs.lemmas.Bool.{cases_eq}
 use Rattle.std.specs.Int.{int_shr}
 use Rattle.planes.specs.Numbers.{Within}
-use Rattle.planes.proofs.Floors.{IsFloor, floor_half, floor_quarter}
+use Rattle.planes.proofs.Floors.{IsFloor, floor_half, floor_quarter, wider}
 use Rattle.lifting.specs.declared.Wavelet.{Wavelet}
 use Rattle.lifting.specs.declared.Wavelet.TheVariants.{LeGall, HaarFlat, HaarShift}
 use Rattle.lifting.specs.declared.PairStep.TheVariants.{EvenDown, OddUp, EvenUp, OddDown}
@@ -15,9 +15,6 @@ use Rattle.lifting.specs.Transform.{Grid, on_columns, Coefficients, synthesis_le
 use Rattle.lifting.specs.Ranges.{LineWithin, GridWithin, BandsWithin, even_reach, line_reach, level_reach, reach, LineStays, LevelStays, SynthesisStays}
 use Rattle.lifting.proofs.Undone.{before_parity, after_parity, lift_at, lift_other, even_size}
 use Rattle.lifting.proofs.Inside.{before_inside, after_inside, twice_size}
-
-pub wider : (m n : ℕ) (v : ℤ) → m ≤ n → Within m v → Within n v
-wider m n v le p = record { low = omega (arith, ints); high = omega (arith, ints) }
 
 -- ---- steps
 

@@ -5,7 +5,6 @@ use Rattle.std.specs.Prelude.{ℤ}
 use Rattle.planes.specs.Raster.{Raster, height, at}
 use Rattle.planes.specs.Subbands.{BandStack, band_of, subband_length}
 use Rattle.dc_prediction.specs.Prediction.{reach}
-use Rattle.dc_prediction.proofs.PredictionLemmas.{wider}
 use Rattle.slice_geometry.specs.declared.Size.{Size}
 use Rattle.slice_geometry.specs.Shape.{IsSize}
 use Rattle.slice_geometry.specs.Slicing.{Slicing, AreSlicesAllowed, slice_count}
@@ -24,6 +23,7 @@ use Rattle.picture_codec.specs.Decoding.{AreTaken, ArePadded, synthesised}
 use Rattle.picture_codec.proofs.Tables.{tabulated_same}
 use Rattle.picture_codec.specs.Taking.{holder}
 use Rattle.picture_codec.proofs.Taking.{times-le, times-suc}
+use Rattle.planes.proofs.Floors.{wider}
 
 pub padded_whole : (depth length : ℕ) → depth ≤ 4 → padded_length depth length % 2 ^ depth ≡ 0
 padded_whole zero length low = omega arith

@@ -22,7 +22,7 @@ use Rattle.slice_geometry.specs.declared.SliceHead.{SliceHead}
 use Rattle.quant_factors.specs.Weights.{Weights}
 use Rattle.slice_decoder.specs.Slice.{Slice, level_rect, place_number, slice_at, luma_values, colour_values, are_small}
 use Rattle.slice_decoder.specs.Decoded.{IsReady, AreReady, HoldsSlice, KeepsOthers, AllKeepOthers, IsDecoded}
-use Rattle.slice_decoder.proofs.Dealt.{are_small-at}
+use Rattle.slice_decoder.proofs.Dealt.{are_small-at, and-left, and-right}
 use Rattle.slice_decoder.proofs.Stacks.{end_inside}
 use Rattle.transform_params.specs.Params.{Params}
 use Rattle.picture_codec.specs.Pictures.{Frame, size_of, slice_value}
@@ -31,10 +31,7 @@ use Rattle.picture_codec.specs.Samples.{frame_of}
 use Rattle.picture_codec.specs.Decoding.{AreTaken, AllTaken, stack_of}
 use Rattle.picture_codec.proofs.Tables.{row_below, column_below, place_again}
 use Rattle.picture_codec.proofs.Taking.{holder-rises, held-by}
-
-within_abs : (z : ℤ) (m : ℕ) → unsigned_abs z ≤ m → Within m z
-within_abs (pos n) m le = record { low = omega (arith, ints); high = omega (arith, ints) }
-within_abs (negsuc n) m le = record { low = omega (arith, ints); high = omega (arith, ints) }
+use Rattle.slice_decoder.proofs.Decodes.{within_abs}
 
 -- no slice yet
 pub taken_none : (s : Slicing) (size : Size) (b : BandStack) → AreZeroBands b s.depth (padded_length s.depth size.w) (padded_length s.depth size.h) → AreTaken s size 0 b
@@ -173,22 +170,6 @@ module _ (f : Frame) (p : Params) (sx sy : ℕ) (bytes : List ℕ) (old new : Ba
 
 -- ---- all three components
 
-number_of_flag : Bool → ℕ
-number_of_flag true = 1
-number_of_flag false = 0
-
-no_false : (false ≡ true) → ⊥
-unfolding number_of_flag
-no_false e = absurd (omega (arith, ap number_of_flag e))
-
-and_first : (a b : Bool) → (a && b) ≡ true → a ≡ true
-and_first true b e = refl
-and_first false b e = e
-
-and_second : (a b : Bool) → (a && b) ≡ true → b ≡ true
-and_second true b e = e
-and_second false b e = absurd (no_false e)
-
 module _ (s : Slicing) (shape : PictureShape) (n : ℕ) (lt : n < slice_count s) (allowed : AreSlicesAllowed s) where
   pub all_ready : (bands : Trio) → AllTaken s shape n bands → AreReady s shape (n % s.slices_x) (n / s.slices_x) bands
   all_ready bands taken = record {
@@ -210,8 +191,8 @@ module _ (s : Slicing) (shape : PictureShape) (n : ℕ) (lt : n < slice_count s)
   all_more matrix slice head old new taken keeps decoded =
       let lumas = luma_values s shape.luma (n % s.slices_x) (n / s.slices_x) matrix slice in
       let colours = colour_values s shape.colour (n % s.slices_x) (n / s.slices_x) matrix slice in
-      let luma_small = and_first (are_small lumas) (are_small colours) decoded.small in
-      let colour_small = and_second (are_small lumas) (are_small colours) decoded.small in
+      let luma_small = and-left (are_small lumas) (are_small colours) decoded.small in
+      let colour_small = and-right (are_small lumas) (are_small colours) decoded.small in
       record {
         luma = taken_more s shape.luma n lt allowed old.luma new.luma 1 0 lumas taken.luma keeps.luma decoded.luma luma_small;
         c1 = taken_more s shape.colour n lt allowed old.c1 new.c1 2 0 colours taken.c1 keeps.c1 decoded.c1 colour_small;

@@ -46,9 +46,6 @@ joined t0 t1 t2 t3 t4 t5 t6 t7 t8 t9 t10 t11 w1 w2 w3 w4 w5 w6 w7 w8 w9 w10 z e0
 pub all_bits : (place : ℕ) (bytes : List ℕ) → place ≡ 8 * length bytes → bits_before place bytes ≡ bits_of bytes
 all_bits place bytes e = ap (λ (n : ℕ). take n (bits_of bytes)) (e ∙ sym (length-bits bytes)) ∙ take-length (bits_of bytes)
 
-pub length-zeros : (n : ℕ) → length (zeros_to_byte_end n) ≡ (8 - n % 8) % 8
-length-zeros n = length-replicate ((8 - n % 8) % 8) false
-
 -- and none stand before the first
 pub no_bits : (place : ℕ) (bytes : List ℕ) → place ≡ 0 → bits_before place bytes ≡ []
 no_bits place bytes e = ap (λ (n : ℕ). take n (bits_of bytes)) e

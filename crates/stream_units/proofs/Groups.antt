@@ -9,10 +9,10 @@ use Rattle.field_rows.specs.Moved.{moved_answer, renamed_answer, IsMovable}
 use Rattle.field_rows.specs.Pieces.{IsSteady}
 use Rattle.field_rows.proofs.Moves.{read-moved, read-renamed}
 use Rattle.field_rows.proofs.Reading.{read-bind, then_err}
-use Rattle.field_rows.proofs.Words.{bits_of-append}
 use Rattle.unit_table.specs.Grammar.{Grammar, bytes_at}
 use Rattle.unit_table.specs.Begun.{Moves}
 use Rattle.stream_units.proofs.Exact.{read-others}
+use Rattle.bit_codes.proofs.Numbers.{bits_of-append}
 
 -- The rows ask neither for their place nor for what follows, and their reasons have these names in a unit.
 pub record IsGroup {Z R U S A : Type 0} (g : Grammar Z R U) (name : S → R) (reason_of : CodeFault → S) (rows : Rows S A) : Type 0 where

@@ -11,7 +11,7 @@ use Rattle.bit_codes.proofs.BitLemmas.{length-bits}
 use Rattle.field_rows.specs.Rows.{some_bytes, Value, Bytes, bytes_in, Rule, ◌or_else◌, Rows, done, row, ◌>>=◌, Fault, read, word_under, bytes_under, renamed, first_broken, check_at, and_then, judged}
 use Rattle.field_rows.proofs.Pieces.{read-more_refused}
 use Rattle.field_rows.proofs.Reading.{read-bind}
-use Rattle.field_rows.proofs.Words.{bits_of-append, read-check_at}
+use Rattle.field_rows.proofs.Words.{read-check_at}
 use Rattle.slice_geometry.specs.declared.PictureShape.{PictureShape}
 use Rattle.slice_geometry.specs.Slicing.{IsAllowed, slice_count, bytes_before, slice_bytes, total_bytes}
 use Rattle.slice_geometry.proofs.Shares.{bytes_before-rises}
@@ -50,6 +50,7 @@ use Rattle.stream_units.proofs.Steady.{units_laws}
 use Rattle.stream_units.proofs.Stopping.{units_table, stops_lost, stops_short, stops_refused}
 use Rattle.stream_units.proofs.Groups.{group_moves, group_refused}
 use Rattle.stream_units.proofs.UnitGroups.{params_group}
+use Rattle.bit_codes.proofs.Numbers.{bits_of-append}
 
 -- ---- a field of so many bytes
 

@@ -55,6 +55,3 @@ pub bit_length-parts : (p : Params) → bit_length p ≡ length (code_of (wavele
 bit_length-parts p =
     let code = code_of (wavelet_index p.wavelet) in
     omega (arith, ap (λ (t : List Bool). length t) (params_written p), length-append (code ++ written (slicing_fields p.slicing)) (written (matrix_fields p.matrix)), length-append code (written (slicing_fields p.slicing)))
-
-pub length-zeros : (n : ℕ) → length (zeros_to_byte_end n) ≡ (8 - n % 8) % 8
-length-zeros n = length-replicate ((8 - n % 8) % 8) false

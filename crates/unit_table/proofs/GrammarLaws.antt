@@ -9,8 +9,8 @@ use Rattle.field_rows.specs.Pieces.{with_more, IsWhole, IsSteady}
 use Rattle.field_rows.proofs.Pieces.{read-more, read-more_refused}
 use Rattle.field_rows.proofs.Answers.{found_fields}
 use Rattle.field_rows.proofs.Shorter.{BeginsWithBytes, Stand-shorter}
-use Rattle.field_rows.proofs.Words.{bits_of-append}
 use Rattle.unit_table.specs.Grammar.{Grammar, bytes_at, unit_at, is_settled_by, Waits}
+use Rattle.bit_codes.proofs.Numbers.{bits_of-append}
 
 -- what is asked of a grammar: its rows ask nothing of what follows, and begin with bytes; and a short field is told by its reason
 pub record IsGrammar {Z R U : Type 0} (g : Grammar Z R U) : Type 0 where

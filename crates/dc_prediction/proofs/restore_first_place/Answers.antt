@@ -6,9 +6,10 @@ use Rattle.planes.specs.Raster.{at}
 use Rattle.planes.specs.Rect.{IsInRect}
 use Rattle.dc_prediction.specs.Prediction.{reach}
 use Rattle.dc_prediction.specs.Restoring.{row_rect}
-use Rattle.dc_prediction.proofs.PredictionLemmas.{wider, fits, sum_small}
+use Rattle.dc_prediction.proofs.PredictionLemmas.{fits, sum_small}
 use Rattle.dc_prediction.proofs.RowWritten.{first_place_restores}
 use Rattle.dc_prediction.proofs.restore_first_place.Goals as goal
+use Rattle.planes.proofs.Floors.{wider}
 
 pub returns : goal.returns
 returns c =

@@ -6,10 +6,11 @@ use Rattle.planes.specs.Numbers.{Within}
 use Rattle.planes.specs.Raster.{Raster, at}
 use Rattle.dc_prediction.specs.Prediction.{reach}
 use Rattle.dc_prediction.specs.Restoring.{CanRestore, row_rect}
-use Rattle.dc_prediction.proofs.PredictionLemmas.{wider, fits}
+use Rattle.dc_prediction.proofs.PredictionLemmas.{fits}
 use Rattle.dc_prediction.proofs.RowSteps.{FirstSoFar, first_one_more}
 use Rattle.dc_prediction.proofs.RowWritten.{first_row_restores}
 use Rattle.dc_prediction.proofs.restore_first_row.Goals as goal
+use Rattle.planes.proofs.Floors.{wider}
 
 residual : (p : Raster ℤ) (x0 x1 x : ℕ) → CanRestore (row_rect 0 x0 x1) p → x0 ≤ x → x < x1 → Within (2 ^ 36) (at p 0 x)
 residual p x0 x1 x can from to = can.residuals 0 x (record { left = from; right = to; top = omega arith; bottom = omega arith })

@@ -6,10 +6,11 @@ use Rattle.planes.specs.Raster.{Raster, at}
 use Rattle.planes.specs.Rect.{IsInRect}
 use Rattle.dc_prediction.specs.Prediction.{reach}
 use Rattle.dc_prediction.specs.Restoring.{CanRestore, row_rect}
-use Rattle.dc_prediction.proofs.PredictionLemmas.{wider, fits}
+use Rattle.dc_prediction.proofs.PredictionLemmas.{fits}
 use Rattle.dc_prediction.proofs.RowSteps.{RestoredSoFar, one_more}
 use Rattle.dc_prediction.proofs.RowWritten.{inside_restores}
 use Rattle.dc_prediction.proofs.restore_inside.Goals as goal
+use Rattle.planes.proofs.Floors.{wider}
 
 -- what lies left of the first place, and the row above
 module _ (p : Raster ℤ) (y x0 x1 : ℕ) (hy : 0 < y) (hx : 0 < x0) (can : CanRestore (row_rect y x0 x1) p) where

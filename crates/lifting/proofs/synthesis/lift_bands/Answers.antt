@@ -9,10 +9,11 @@ use Rattle.lifting.specs.Places.{side_place}
 use Rattle.lifting.specs.Ranges.{LineWithin, GridWithin, even_reach}
 use Rattle.lifting.specs.Transform.{Grid, interleaved}
 use Rattle.lifting.proofs.Inside.{before_inside, after_inside}
-use Rattle.lifting.proofs.Growth.{wider, even_line}
+use Rattle.lifting.proofs.Growth.{even_line}
 use Rattle.lifting.proofs.Rolling.{Rolled, rolled_first, odd_before, odd_after, rolled_more, last_before, last_after, rolled_whole}
 use Rattle.lifting.proofs.Sides.{side_inside}
 use Rattle.lifting.proofs.synthesis.lift_bands.Goals as goal
+use Rattle.planes.proofs.Floors.{wider}
 
 columns_small : (g : Grid) (h w m : ℕ) → GridWithin (2 * h) (2 * w) m g → (x : ℕ) → x < 2 * w → LineWithin (2 * h) m (λ i. g i (side_place w x))
 columns_small g h w m small x lx i li = small i (side_place w x) li (side_inside w x lx)

@@ -4,9 +4,9 @@ use Rattle.planes.specs.Numbers.{Within}
 use Rattle.planes.specs.Raster.{Raster, height, at}
 use Rattle.planes.specs.Subbands.{BandStack, BandExists, band_of, subband_length}
 use Rattle.lifting.specs.Bands.{AgreeInSize, AreSmall}
-use Rattle.lifting.proofs.Growth.{wider}
 use Rattle.lifting.proofs.Levels.{not_zero}
 use Rattle.lifting.proofs.tests.can_synth.Goals as goal
+use Rattle.planes.proofs.Floors.{wider}
 
 -- a power that the code computes
 power : (depth size : ℕ) → depth ≤ 4 → size % (1 * 2 ^ depth % 4294967296) ≡ 0 → size % 2 ^ depth ≡ 0

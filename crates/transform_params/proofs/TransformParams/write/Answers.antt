@@ -2,10 +2,11 @@ use Rattle.std.proofs.Common.{◌≡◌, ◌*◌, ◌≤◌, ◌++◌, ℕ, List
 use Rattle.bit_codes.specs.Bits.{bits_of, bits_before}
 use Rattle.bit_codes.specs.Codes.{code_of}
 use Rattle.transform_params.specs.Fields.{bit_length}
-use Rattle.transform_params.proofs.Entries.{all_written, all_bits, bit_length-parts, length-zeros}
+use Rattle.transform_params.proofs.Entries.{all_written, all_bits, bit_length-parts}
 use Rattle.transform_params.specs.Views.{params_of}
 use Rattle.transform_params.proofs.WrittenBack.{written_back}
 use Rattle.transform_params.proofs.TransformParams.write.Goals as goal
+use Rattle.field_rows.proofs.Passing.{length-zeros}
 
 pub returns-clause-written : goal.returns-clause-written
 returns-clause-written c =

@@ -4,8 +4,9 @@ use Rattle.sequence_header.specs.declared.parts.HeaderParts.{HeaderParts}
 use Rattle.sequence_header.specs.Bytes.{header_bits, header_len, header_text, IsReadBack}
 use Rattle.sequence_header.proofs.Indices.{rate_index, aspect_index, signal_index, colour_index}
 use Rattle.sequence_header.proofs.Sums.{length-header_bits, header_bits-parts}
-use Rattle.sequence_header.proofs.WroteText.{HaveKinds, read_back, joined, all_bits, no_bits, length-zeros}
+use Rattle.sequence_header.proofs.WroteText.{HaveKinds, read_back, joined, all_bits, no_bits}
 use Rattle.sequence_header.proofs.header.SequenceHeader.put.Goals as goal
+use Rattle.field_rows.proofs.Passing.{length-zeros}
 
 pub put_rate-requires-clause-index : goal.put_rate-requires-clause-index
 put_rate-requires-clause-index c = rate_index c.self.inside.parts.rate c.self.invariant.rate
