@@ -47,10 +47,3 @@ cursor_at-aligned bytes place h =
 pub binary_after-append : (a : List Bool) (m : ℕ) (b : Bool) → binary_after m (a ++ b ∷ []) ≡ 2 * binary_after m a + digit b
 binary_after-append [] m b = refl
 binary_after-append (x ∷ a) m b = binary_after-append a (2 * m + digit x) b
-
--- the first bit behind some
-pub take-next : (i : ℕ) (bits rest : List Bool) (b : Bool) → drop i bits ≡ b ∷ rest → (i < length bits) × (take (i + 1) bits ≡ take i bits ++ b ∷ [])
-take-next i bits rest b e =
-    let lt : i < length bits = omega (arith, length-drop i bits, ap (λ (t : List Bool). length t) e) in
-    let here : get_or bits i false ≡ b = sym (get_or-drop i bits 0 false ∙ ap (λ (k : ℕ). get_or bits k false) (omega arith)) ∙ ap (λ (t : List Bool). get_or t 0 false) e in
-    (lt, take_more bits i false lt ∙ ap (λ (x : Bool). take i bits ++ x ∷ []) here)

@@ -13,21 +13,12 @@ number_from-past m place (true ∷ bits) h = rw (lt-leb m (2 ^ 32) h) refl
 number_from-past m place (false ∷ []) h = rw (lt-leb (2 * m) (2 ^ 32) (omega arith)) refl
 number_from-past m place (false ∷ b ∷ bits) h = number_from-past (2 * m + digit b) (place + 2) bits (omega arith)
 
-pub number_from-nil : (m place : ℕ) (bits : List Bool) (total : Result (ℕ × Cursor) CodeFault) → bits ≡ [] → m ≤ 2 ^ 32 → number_from m place bits ≡ total → total ≡ Err Short
-number_from-nil m place bits total e h same = sym same ∙ rw (e, le-leb m (2 ^ 32) h) refl
-
-pub number_from-last : (m place : ℕ) (bits rest : List Bool) (total : Result (ℕ × Cursor) CodeFault) → bits ≡ true ∷ rest → m ≤ 2 ^ 32 → number_from m place bits ≡ total → total ≡ Ok (m - 1, record { place = place + 1; rest = rest })
-number_from-last m place bits rest total e h same = sym same ∙ rw (e, le-leb m (2 ^ 32) h) refl
-
 pub number_from-large : (m place : ℕ) (bits rest : List Bool) (total : Result (ℕ × Cursor) CodeFault) → bits ≡ false ∷ rest → 2 ^ 32 < 2 * m → number_from m place bits ≡ total → total ≡ Err TooLarge
 number_from-large m place bits rest total e h same = sym same ∙ rw e (large rest)
   where
     large : (rest : List Bool) → number_from m place (false ∷ rest) ≡ Err TooLarge
     large [] = rw (lt-leb (2 * m) (2 ^ 32) h) refl
     large (b ∷ bits) = number_from-past (2 * m + digit b) (place + 2) bits (omega arith)
-
-pub number_from-cut : (m place : ℕ) (bits rest : List Bool) (total : Result (ℕ × Cursor) CodeFault) → bits ≡ false ∷ rest → rest ≡ [] → 2 * m ≤ 2 ^ 32 → number_from m place bits ≡ total → total ≡ Err Short
-number_from-cut m place bits rest total e f h same = sym same ∙ rw (e, f, le-leb (2 * m) (2 ^ 32) h) refl
 
 pub number_from-more : (m place : ℕ) (bits rest rest' : List Bool) (b : Bool) (total : Result (ℕ × Cursor) CodeFault) → bits ≡ false ∷ rest → rest ≡ b ∷ rest' → number_from m place bits ≡ total → number_from (2 * m + digit b) (place + 2) rest' ≡ total
 number_from-more m place bits rest rest' b total e f same = sym (rw (e, f) refl) ∙ same

@@ -14,9 +14,6 @@ block_of-cons bytes place end h le =
     let one : end - place ≡ suc (end - (place + 1)) = omega arith in
     rw (one, drop-bits bytes place (omega arith)) refl
 
-pub block_of-nil : (bytes : List ℕ) (place end : ℕ) → end ≤ place → block_of bytes place end ≡ []
-block_of-nil bytes place end h = let none : end - place ≡ 0 = omega arith in rw none refl
-
 -- a part of a block is left behind some of its bits
 pub block_of-drop : (n : ℕ) (bytes : List ℕ) (place end : ℕ) → place + n ≤ end → drop n (block_of bytes place end) ≡ block_of bytes (place + n) end
 block_of-drop n bytes place end h =

@@ -122,13 +122,6 @@ below_range low high n h = rw (lt-leb low n h) refl
 pub above_range : (low high n : ℕ) → high < n → is_in_range low high n ≡ false
 above_range low high n h = elim (cases_lt n low) [ inl lt ↦ below_range low high n lt | inr le ↦ rw (le-leb low n le, lt-leb n high h) refl ]
 
--- rows that are chosen by a test
-pub Pass-if_true : {R A : Type 0} (b : Bool) (rows others : Rows R A) (vs : List Value) (a : A) → b ≡ true → Pass rows vs a → Pass (cond b rows others) vs a
-Pass-if_true b rows others vs a e p = rw e p
-
-pub Pass-if_false : {R A : Type 0} (b : Bool) (rows others : Rows R A) (vs : List Value) (a : A) → b ≡ false → Pass others vs a → Pass (cond b rows others) vs a
-Pass-if_false b rows others vs a e p = rw e p
-
 pub Pass-if_set : {R A : Type 0} (rows : Rows R A) (vs : List Value) (a : A) → Pass rows vs a → Pass (if_set true rows) vs (Some a)
 unfolding if_set
 Pass-if_set rows vs a p = subst (λ (t : List Value). Pass (rows >>= λ x. done (Some x)) t (Some a)) (append-nil vs) (Pass-bind rows (λ x. done (Some x)) vs [] a (Some a) p (Pass-done (Some a)))
@@ -136,6 +129,3 @@ Pass-if_set rows vs a p = subst (λ (t : List Value). Pass (rows >>= λ x. done 
 pub Pass-if_not_set : {R A : Type 0} (rows : Rows R A) → Pass (if_set false rows) [] None
 unfolding if_set
 Pass-if_not_set rows = Pass-done None
-
--- for groups whose fields are given one by one; a row with rules of its own has to be added
-pub ruleset passing = (Pass-then, Pass-done, Pass-number, Pass-within, Pass-flag, Pass-flag_set, Pass-if_set, Pass-if_not_set)

@@ -56,12 +56,6 @@ tabulated_fits size depth g each =
       ];
     }
 
-pub synthesised_fits : (wavelet : Wavelet) (size : Size) (depth : ℕ) (b : BandStack) → IsDepth depth → AreSamples size depth (synthesised wavelet size depth b)
-unfolding synthesised
-synthesised_fits wavelet size depth b is =
-    let low = band_size b.depth 0 size in
-    tabulated_fits size depth (λ y x. sample_of depth (synthesis wavelet low.h low.w (coefficients_of b) b.depth y x)) (λ y x. sample_small depth (synthesis wavelet low.h low.w (coefficients_of b) b.depth y x) is)
-
 -- what a picture shows of a plane has the component's size
 pub shown_fits : (size : Size) (depth w h : ℕ) (g : Grid) → w ≡ size.w → h ≡ size.h → IsDepth depth → AreSamples size depth (tabulated (record { w = w; h = h }) (λ y x. sample_of depth (g y x)))
 shown_fits size depth w h g ew eh is =

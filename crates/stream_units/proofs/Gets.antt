@@ -5,9 +5,6 @@ use Rattle.vc2_io.proofs.Known.{Consumes-then, Consumes-none}
 use Rattle.unit_table.specs.Begun.{Got}
 use Rattle.stream_units.specs.Asking.{WindowSeen, Refilled}
 
-pub got_none : (n : ℕ) (held : List ℕ) (rest : Option (List ℕ)) → Got n held held rest rest []
-got_none n held rest = record { read = []; took = Consumes-none rest; parts = append-nil held; asked = λ h. absurd (omega arith); few = λ h. absurd (omega arith) }
-
 -- one read more, while there are too few
 pub got_refill : {n : ℕ} {held0 gone : List ℕ} {rest0 rest1 rest2 : Option (List ℕ)} {mid new : WindowSeen} → Got n held0 mid.held rest0 rest1 gone → Refilled mid new rest1 rest2 → length gone + length mid.held < n → Got n held0 new.held rest0 rest2 gone
 got_refill {held0 = held0} {gone = gone} {rest0 = rest0} {rest1 = rest1} {rest2 = rest2} {mid = mid} got more short = record {

@@ -266,9 +266,6 @@ begun_none {g = g} {z = z} {held1 = held1} b lacks = record {
   prompt = subst (Prompt g z) (sym b.parts) b.prompt;
 }
 
-pub needs_lacks : {Z R U : Type 0} {g : Grammar Z R U} {left : Rows R U} (n at : ℕ) (bytes : List ℕ) → Needs g left n → length bytes < n → Lacks g left at bytes
-needs_lacks n at bytes needs short = record { lacks = needs.needs at bytes short }
-
 -- a stop for want of memory, wherever the unit is
 pub begun_due : {Z R U : Type 0} {g : Grammar Z R U} {z : Z} {held0 held1 : List ℕ} {rest0 rest1 : Option (List ℕ)} {at : ℕ} {left : Rows R U} → Begun g z held0 rest0 rest1 at held1 left → Due g z held0 rest0 rest1 (at + length held1)
 begun_due {g = g} {z = z} {held1 = held1} b = record {

@@ -21,9 +21,6 @@ pub needs_row : {Z R U : Type 0} (g : Grammar Z R U) → IsGrammar g → (n : �
 unfolding read field_at spelled
 needs_row g laws n at rules next = record { needs = λ place bytes short. rw (lt-ltb (length (bits_of bytes)) (8 * n) (omega (arith, length-bits bytes))) (ap not laws.short) }
 
-pub needs_nothing : {Z R U : Type 0} (g : Grammar Z R U) (left : Rows R U) → Needs g left 0
-needs_nothing g left = record { needs = λ place bytes short. absurd (omega arith) }
-
 -- an end of the stream needs a byte behind it
 pub needs_end : {Z R U : Type 0} (g : Grammar Z R U) (unit : U) → g.is_end unit ≡ true → Needs g (done unit) 1
 unfolding read

@@ -60,10 +60,6 @@ holds_first machine rest out r new = subst (λ (s : ReaderState). Holds machine 
 
 -- ---- what an answer of the reader says
 
--- and the end counts nothing
-after_end : (z : Past) (bytes : List ℕ) → ((after z End bytes).pictures ≡ z.pictures) × ((after z End bytes).slices ≡ z.slices)
-after_end z bytes = (refl, refl)
-
 -- what is shown behind a unit is its picture
 text_shown : (unit : DataUnit) (shown : Option PictureSeen) → IsPictureOf unit shown → shown_text shown ≡ unit_text unit
 text_shown (Sequence parts) shown f = ap shown_text f
@@ -127,12 +123,6 @@ ran_stopped command is rest0 rest1 rest2 out0 out1 old new (stops.Refused refusa
     (λ bytes. ap (λ e. Ends e (command.last e)) ending ∙ ap (λ l. Ends (Refused refusal) l) (is.silent refusal)) (Appends-none out1 out1 refl)
 ran_stopped command is rest0 rest1 rest2 out0 out1 old new stops.ReadFault h n = turned_lost limit past_limit command units_laws nothing_yet rest0 out0 out1 h n.0.2
 ran_stopped command is rest0 rest1 rest2 out0 out1 old new stops.NoMemory h n = turned_no_memory limit past_limit command units_laws nothing_yet rest0 out0 out1 h n.0.2
-
--- a run that stopped has no further bytes where it is done
-pub no_end_stopped : (stop : ReadStop) (P : Type 0) → (ending : Ending) → stopped stop ≡ Ok ending → status_of ending ≡ status.Done → P
-no_end_stopped (stops.Refused refusal) P ending e d = let same : Refused refusal ≡ ending = cc in let s : status_of (Refused refusal) ≡ status.Done = ap status_of same ∙ d in cc
-no_end_stopped stops.ReadFault P ending e d = cc
-no_end_stopped stops.NoMemory P ending e d = cc
 
 pub cause_stopped : (src0 src1 src2 out0 out1 : ℕ) (stop : ReadStop) → src1 ≡ src0 → out1 ≡ out0 → StopCause {X = Item} src1 src2 (Err stop) → HaltHasCause src0 src2 out0 out1 (stopped stop)
 cause_stopped src0 src1 src2 out0 out1 (stops.Refused refusal) s o h = (h ∙ s, o)

@@ -74,15 +74,6 @@ pub took_refusal : (rest0 rest1 : Option (List ℕ)) (bytes : List ℕ) (refusal
 took_refusal rest0 rest1 bytes refusal took few other first =
     (bytes, took, few, λ more told. first_ends (bytes ++ more) refusal (first_stays_refused bytes more refusal (truncated_not refusal.reason other) first))
 
--- nothing follows
-pub took_cut : (rest0 rest1 rest2 : Option (List ℕ)) (bytes none : List ℕ) (refusal : Refusal) → Consumes rest0 rest1 bytes → Consumes rest1 rest2 none → length none ≡ 0 → IsAtEnd rest2 → length bytes ≤ 250 → IsFirstUnit bytes (Err refusal) → TookFirst rest0 rest2 (Ok (Refused refusal))
-took_cut rest0 rest1 rest2 bytes none refusal took took' empty end few first = (
-  bytes,
-  Consumes-along rest0 rest2 _ _ (ap (λ l. bytes ++ l) (nil_from_length none empty) ∙ append-nil bytes) (Consumes-then rest0 rest1 rest2 bytes none took took'),
-  few,
-  λ more told. ap (λ l. first_step (first_at (bytes ++ l))) (nothing_more rest2 more end told) ∙ ap (λ l. first_step (first_at l)) (append-nil bytes) ∙ first_ends bytes refusal first,
-)
-
 -- one byte more
 pub fresh_more : (bytes : List ℕ) (byte : ℕ) (refusal : Refusal) → IsFirstUnit bytes (Err refusal) → Fresh (bytes ++ byte ∷ [])
 fresh_more bytes byte refusal first = inr (bytes, byte, refusal, refl, first)
@@ -112,9 +103,6 @@ header_out_fault rest0 rest1 out0 out1 parts text took is short =
     holds_last_fault header_laws rest1 out1 took.0 text ending.Done (holds_none header_machine 0 rest0 out0) took.1 (λ long. first_none _)
     (λ more told. ap first_step (header_more took.0 more parts took.3) ∙ ap (λ l. Ends ending.Done l) (sym is)) short
 
-pub header_no_memory : (rest0 rest1 out : Option (List ℕ)) (parts : HeaderParts) → TookFirst rest0 rest1 (Ok (Header parts)) → Ran header_machine 0 rest0 rest1 out out (Err NoMemory)
-header_no_memory rest0 rest1 out parts took = holds_no_memory header_laws rest1 took.0 (holds_none header_machine 0 rest0 out) took.1 (λ long. first_none _)
-
 -- what is left of the input
 pub header_left : (rest0 rest1 : Option (List ℕ)) (parts : HeaderParts) (input more : List ℕ) → TookFirst rest0 rest1 (Ok (Header parts)) → rest0 ≡ Some input → rest1 ≡ Some more → more ≡ behind_first input
 header_left rest0 rest1 parts input more took is is' =
@@ -125,6 +113,3 @@ header_left rest0 rest1 parts input more took is is' =
     joined None rest1 input more taken is is' took = cc
     joined (Some xs) None input more taken is is' took = cc
     joined (Some xs) (Some ys) input more taken is is' took = let same : xs ≡ input = cc in let same' : ys ≡ more = cc in sym same ∙ took ∙ ap (λ l. taken ++ l) same'
-
-pub took_few : (rest0 rest1 : Option (List ℕ)) (result : Result First Halt) → TookFirst rest0 rest1 result → TakesAtMost 250 rest0 rest1
-took_few rest0 rest1 result took = (took.0, took.2, took.1)
