@@ -3,7 +3,7 @@ use Rattle.std.proofs.Common.{to_z, of_z, w64, ◌^◌, ◌≡◌, refl, ℕ, ze
 use Rattle.std.proofs.lemmas.Int.{ints}
 use native.Mathlib.Numerals.{unary_clauses}
 use Rattle.planes.specs.Numbers.{Within}
-use Rattle.planes.proofs.Floors.{IsFloor, floor_third, wider}
+use Rattle.planes.proofs.Floors.{IsFloor, floor_third}
 use Rattle.planes.specs.Raster.{Grid}
 use Rattle.dc_prediction.specs.Prediction.{mean, prediction, reach, AllLookedAt}
 

@@ -1,5 +1,5 @@
 -- The rows of a head over bytes, field by field.
-use Rattle.std.proofs.Common.{◌≡◌, ℕ, suc, ◌+◌, ◌*◌, ◌≤◌, List, [], ◌∷◌, length, take, drop, Bool, true, false, cond, ltb, Option, Some, None, Result, Ok, Err, refl, ap, ◌∙◌, arith}
+use Rattle.std.proofs.Common.{◌≡◌, ℕ, suc, ◌+◌, List, [], ◌∷◌, length, take, drop, Bool, true, false, cond, ltb, Option, Some, None, Result, Ok, Err, refl, ap, ◌∙◌, arith}
 use Rattle.std.specs.Prelude.{slice_index, ◌==◌}
 use Rattle.std.specs.Int.{from_be_bytes, w32}
 use Rattle.std.proofs.lemmas.Bool.{ltb-false, ltb-true, cond_above}
@@ -7,11 +7,7 @@ use Rattle.std.proofs.lemmas.List.{get_or-drop}
 use Rattle.bit_codes.specs.declared.CodeFault.{CodeFault}
 use Rattle.bit_codes.specs.declared.CodeFault.TheVariants as codes
 use Rattle.bit_codes.specs.Bits.{Cursor, bits_of}
-use Rattle.field_rows.specs.Rows.{Value, Number, Flag, Bytes, Skipped, Here, IsEnd, some_bytes, bytes_in, Rule, ◌or_else◌, Rows, done, ◌>>=◌, word_under, byte_under, Fault, read, and_then, judged, first_broken}
-use Rattle.field_rows.specs.Standing.{IsSpelling, Stand}
-use Rattle.field_rows.proofs.Answers.{found_fields}
-use Rattle.field_rows.proofs.Pieces.{Stand-along}
-use Rattle.bit_codes.proofs.BitLemmas.{length-bits}
+use Rattle.field_rows.specs.Rows.{Rule, ◌or_else◌, Rows, done, ◌>>=◌, word_under, byte_under, Fault, read, and_then, judged, first_broken}
 use Rattle.field_rows.proofs.Reading.{read-bind, read-done}
 use Rattle.field_rows.proofs.Words.{IsBytes, read-word, read-word_short, read-byte, read-byte_short, read-word_under, read-byte_under}
 use Rattle.parse_info.specs.declared.Code.{Code}

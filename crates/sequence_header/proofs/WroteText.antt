@@ -1,8 +1,7 @@
 -- What was written is the header's text, and it is read back.
-use Rattle.std.proofs.Common.{◌≡◌, ℕ, ◌-◌, ◌*◌, ◌%◌, Bool, false, List, [], ◌++◌, length, take, refl, sym, ap, ◌∙◌, append_assoc}
-use Rattle.std.proofs.lemmas.List.{length-replicate}
+use Rattle.std.proofs.Common.{◌≡◌, ℕ, ◌*◌, Bool, List, [], ◌++◌, length, take, refl, sym, ap, ◌∙◌, append_assoc}
 use Rattle.std.proofs.Math.Seq.{take-length}
-use Rattle.bit_codes.specs.Bits.{bits_of, bits_before, zeros_to_byte_end}
+use Rattle.bit_codes.specs.Bits.{bits_of, bits_before}
 use Rattle.bit_codes.proofs.BitLemmas.{length-bits}
 use Rattle.field_rows.specs.Given.{AreOfKind}
 use Rattle.field_rows.proofs.Passing.{kinds-bind, Pass-read_bytes}
