@@ -1,7 +1,7 @@
 -- Bytes that are got by reads in turn.
 use Rattle.std.proofs.Common.{◌≡◌, ℕ, ◌+◌, ◌<◌, ◌≤◌, List, [], ◌∷◌, ◌++◌, length, Option, refl, sym, ap, ◌∙◌, arith, append_assoc, append-nil, subst}
 use Rattle.std.proofs.lemmas.List.{length-append, nil_from_length}
-use Rattle.vc2_io.proofs.Known.{Consumes-then, Consumes-none}
+use Rattle.vc2_io.proofs.Known.{Consumes-then}
 use Rattle.unit_table.specs.Begun.{Got}
 use Rattle.stream_units.specs.Asking.{WindowSeen, Refilled}
 

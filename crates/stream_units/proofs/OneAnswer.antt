@@ -1,23 +1,46 @@
 -- Each list of bytes is a stream or has a refusal, never both.
-use Rattle.std.proofs.Common.{◌≡◌, ℕ, zero, suc, ◌+◌, ◌*◌, ◌<◌, ◌≤◌, Bool, true, false, List, [], ◌∷◌, ◌++◌, length, map, take, Result, Ok, Err, inl, inr, ◌⊎◌, refl, sym, ap, subst, ◌∙◌, arith}
-use Rattle.bit_codes.specs.Bits.{Cursor, bits_of, cursor_at}
-use Rattle.field_rows.specs.Rows.{Value, ◌>>=◌, Fault, read, and_then, word_under}
-use Rattle.field_rows.specs.Standing.{Stand, IsRefused}
+use Rattle.std.proofs.Common.{◌≡◌, ℕ, zero, suc, ◌+◌, ◌*◌, ◌<◌, ◌≤◌, Bool, true, false, List, [], ◌∷◌, ◌++◌, length, map, take, drop, cond, ltb, Result, Ok, Err, inl, inr, ◌⊎◌, refl, sym, ap, subst, ◌∙◌, arith}
+use Rattle.std.proofs.lemmas.List.{length-append, length-drop}
+use Rattle.bit_codes.specs.declared.CodeFault.{CodeFault}
+use Rattle.bit_codes.specs.declared.CodeFault.TheVariants as codes
+use Rattle.bit_codes.specs.Bits.{Cursor, bits_of, bytes_of, cursor_at}
+use Rattle.bit_codes.proofs.BitLemmas.{length-bits}
+use Rattle.field_rows.specs.Rows.{Value, Bytes, some_bytes, spelled, ◌>>=◌, Fault, read, and_then, word_under}
+use Rattle.field_rows.specs.Standing.{StandsAt, Stand, IsRefused}
 use Rattle.field_rows.proofs.Answers.{found_fields, found_refusal, Stand-read, IsRefused-read, Stand-one}
-use Rattle.field_rows.proofs.Shorter.{Stand-shorter}
+use Rattle.field_rows.proofs.Spellings.{field_is}
+use Rattle.field_rows.proofs.Pieces.{Stand-along}
 use Rattle.parse_info.specs.Head.{head_rows}
 use Rattle.stream_units.specs.declared.reason.Reason.{Reason}
 use Rattle.stream_units.specs.declared.reason.Reason.TheVariants as reasons
 use Rattle.stream_units.specs.Units.{Past, nothing_yet, DataUnit, reason_of, unit_head, body_rows, unit_rows, after}
-use Rattle.stream_units.specs.Streams.{bytes_between, ends, Entry, Units, IsStreamFrom, IsRefusalFrom, limit, past_limit, IsFault, WithinLimit, PastLimit, BehindLimit, refusal_of, HasOneAnswer, stream_from}
-use Rattle.std.proofs.lemmas.Bool.{cases_lt}
+use Rattle.stream_units.specs.Streams.{bytes_between, ends, Entry, Units, IsStreamFrom, IsRefusalFrom, limit, past_limit, IsFault, WithinLimit, PastLimit, BehindLimit, refusal_of, IsStream, HasOneAnswer, stream_from, stream_of}
+use Rattle.stream_units.specs.Laws.{units_in, ReadsTheRelations, HasNoMoreUnits}
+use Rattle.std.proofs.lemmas.Bool.{cases_lt, ltb-false}
 
--- each unit takes bits
-unit-shorter : (z : Past) (vs : List Value) (c : Cursor) (unit : DataUnit) (mid : Cursor) → Stand (unit_rows z) vs c unit mid → length mid.rest < length c.rest
+bits_left : Result (Value × Cursor) CodeFault → ℕ
+bits_left (Ok x) = length x.1.rest
+bits_left (Err e) = 0
+
+-- each unit takes a byte at least, as its prefix has four
+prefix-long : (v : Value) (c mid : Cursor) → StandsAt (some_bytes 4) v c mid → length mid.rest + 8 ≤ length c.rest
+unfolding spelled bits_left
+prefix-long v c mid f = by (ltb (length c.rest) 32) refl (field_is (some_bytes 4) v c mid f)
+  where
+    by : (short : Bool) → ltb (length c.rest) 32 ≡ short → cond {A = Result (Value × Cursor) CodeFault} short (Err codes.Short) (Ok (Bytes (bytes_of (take 32 c.rest)), record { place = c.place + 32; rest = drop 32 c.rest })) ≡ Ok (v, mid) → length mid.rest + 8 ≤ length c.rest
+    by true e h = absurd cc
+    by false e h =
+        let left : length (drop 32 c.rest) ≡ length mid.rest = ap bits_left h in
+        omega (arith, ltb-false (length c.rest) 32 e, left, length-drop 32 c.rest)
+
+unit-shorter : (z : Past) (vs : List Value) (c : Cursor) (unit : DataUnit) (mid : Cursor) → Stand (unit_rows z) vs c unit mid → length mid.rest + 8 ≤ length c.rest
 unfolding unit_rows body_rows unit_head head_rows ◌>>=◌ word_under
-unit-shorter z vs c unit mid f = Stand-shorter (unit_rows z) vs c unit mid tt f
+unit-shorter z [] c unit mid f = absurd f
+unit-shorter z (v ∷ vs) c unit mid f =
+    let more = Stand-along _ vs f.0 unit mid f.3 in
+    omega (arith, prefix-long v c f.0 f.1, ap (λ (t : List Bool). length t) more.parts, length-append more.text mid.rest)
 
-abbrev entries : List Entry → List DataUnit
+abbrev pub entries : List Entry → List DataUnit
 entries es = map (λ e. e.unit) es
 
 and_then-front : (r : Result (List DataUnit) (Fault Reason)) → r ≡ and_then r (λ others. Ok ([] ++ others))
@@ -34,10 +57,10 @@ unit-read : (n : ℕ) (z : Past) (c mid : Cursor) (e : Entry) → Stand (unit_ro
 unit-read n z c mid e f h = rw (Stand-read reason_of (unit_rows z) e.fields c e.unit mid f, h) refl
 
 -- where the units before leave it, reading goes on
-units-read : (es : List Entry) (n : ℕ) (z z' : Past) (c c' : Cursor) (r : Result (List DataUnit) (Fault Reason)) → length c.rest < n → Units z c es z' c'
-    → ((m : ℕ) → length c'.rest < m → stream_from m z' c' ≡ r) → stream_from n z c ≡ and_then r (λ others. Ok (entries es ++ others))
+units-read : (es : List Entry) (n : ℕ) (z z' : Past) (c c' : Cursor) (r : Result (List DataUnit) (Fault Reason)) → length c.rest < 8 * n → Units z c es z' c'
+    → ((m : ℕ) → length c'.rest < 8 * m → stream_from m z' c' ≡ r) → stream_from n z c ≡ and_then r (λ others. Ok (entries es ++ others))
 units-read [] n z z' c c' r h f k =
-    let here : stream_from n z' c' ≡ r = k n (subst (λ (x : Cursor). length x.rest < n) f.1 h) in
+    let here : stream_from n z' c' ≡ r = k n (subst (λ (x : Cursor). length x.rest < 8 * n) f.1 h) in
     subst (λ (x : Past). stream_from n x c ≡ and_then r (λ others. Ok ([] ++ others))) (sym f.0)
     (subst (λ (x : Cursor). stream_from n z' x ≡ and_then r (λ others. Ok ([] ++ others))) (sym f.1) (here ∙ and_then-front r))
 units-read (e ∷ es) zero z z' c c' r h f k = absurd (omega arith)
@@ -46,18 +69,18 @@ units-read (e ∷ es) (suc n) z z' c c' r h f k =
     let others = units-read es n (after z e.unit (bytes_between c f.0)) z' f.0 c' r (omega arith) f.3 k in
     unit-read n z c f.0 e f.1 f.2 ∙ ap (λ (x : Result (List DataUnit) (Fault Reason)). and_then x (λ others. Ok (e.unit ∷ others))) others ∙ and_then-more e.unit (entries es) r
 
-last-read : (n : ℕ) (z : Past) (c behind : Cursor) (last : Entry) → length c.rest < n → Stand (unit_rows z) last.fields c last.unit behind → ends last.unit behind ≡ true → stream_from n z c ≡ Ok (last.unit ∷ [])
+last-read : (n : ℕ) (z : Past) (c behind : Cursor) (last : Entry) → length c.rest < 8 * n → Stand (unit_rows z) last.fields c last.unit behind → ends last.unit behind ≡ true → stream_from n z c ≡ Ok (last.unit ∷ [])
 last-read zero z c behind last h f e = absurd (omega arith)
 last-read (suc n) z c behind last h f e = rw (Stand-read reason_of (unit_rows z) last.fields c last.unit behind f, e) refl
 
-refused-read : (n : ℕ) (z : Past) (c : Cursor) (fields : List Value) (fault : Fault Reason) → length c.rest < n → IsRefused reason_of (unit_rows z) fields c fault → stream_from n z c ≡ Err fault
+refused-read : (n : ℕ) (z : Past) (c : Cursor) (fields : List Value) (fault : Fault Reason) → length c.rest < 8 * n → IsRefused reason_of (unit_rows z) fields c fault → stream_from n z c ≡ Err fault
 refused-read zero z c fields fault h f = absurd (omega arith)
 refused-read (suc n) z c fields fault h f = rw (IsRefused-read reason_of (unit_rows z) fields c fault f) refl
 
-pub stream-read : (es : List Entry) (n : ℕ) (z : Past) (c : Cursor) (last : Entry) → length c.rest < n → IsStreamFrom z c es last → stream_from n z c ≡ Ok (entries es ++ last.unit ∷ [])
+pub stream-read : (es : List Entry) (n : ℕ) (z : Past) (c : Cursor) (last : Entry) → length c.rest < 8 * n → IsStreamFrom z c es last → stream_from n z c ≡ Ok (entries es ++ last.unit ∷ [])
 stream-read es n z c last h f = units-read es n z f.left c f.mid (Ok (last.unit ∷ [])) h f.units (λ m g. last-read m f.left f.mid f.behind last g f.end f.last_one)
 
-pub refusal-read : (es : List Entry) (n : ℕ) (z : Past) (c : Cursor) (fields : List Value) (fault : Fault Reason) → length c.rest < n → IsRefusalFrom z c es fields fault → stream_from n z c ≡ Err fault
+pub refusal-read : (es : List Entry) (n : ℕ) (z : Past) (c : Cursor) (fields : List Value) (fault : Fault Reason) → length c.rest < 8 * n → IsRefusalFrom z c es fields fault → stream_from n z c ≡ Err fault
 refusal-read es n z c fields fault h f = units-read es n z f.left c f.mid (Err fault) h f.units (λ m g. refused-read m f.left f.mid fields fault g f.refused)
 
 -- ---- and there is one or the other
@@ -208,3 +231,45 @@ far bytes lt (inr f) = inr (
 -- the law
 pub one_answer : (bytes : List ℕ) → HasOneAnswer bytes
 one_answer bytes = elim (cases_lt limit (length bytes)) [ inl lt ↦ far bytes lt (is_one (take limit bytes)) | inr le ↦ near bytes le (is_one bytes) ]
+
+-- ---- reading, and how many units there are
+
+reads_stream : (bytes : List ℕ) → length bytes ≤ limit → (es : List Entry) (last : Entry) → IsStreamFrom nothing_yet (cursor_at bytes 0) es last → stream_of bytes ≡ Ok (units_in es last)
+reads_stream bytes le es last f = stream-read es (length bytes + 1) nothing_yet (cursor_at bytes 0) last (omega (arith, length-bits bytes)) f
+
+reads_fault : (bytes : List ℕ) (es : List Entry) (fields : List Value) (fault : Fault Reason) → IsRefusalFrom nothing_yet (cursor_at bytes 0) es fields fault → stream_of bytes ≡ Err fault
+reads_fault bytes es fields fault f = refusal-read es (length bytes + 1) nothing_yet (cursor_at bytes 0) fields fault (omega (arith, length-bits bytes)) f
+
+pub reads_the_relations : (bytes : List ℕ) → ReadsTheRelations bytes
+reads_the_relations bytes = record {
+  stream = λ le made. ((λ e. found_stream le made e (answer_there)), (λ f. reads_stream bytes le f.0 f.1 f.2.stream ∙ ap (λ us. Ok us) (sym f.3)));
+  fault = λ le fault. ((λ e. found_fault le fault e (answer_there)), (λ f. of_fault le f.0 fault f.1));
+}
+  where
+    answer_there : IsAnswer nothing_yet (cursor_at bytes 0)
+    answer_there = has_answer (length (bits_of bytes) + 1) nothing_yet (cursor_at bytes 0) (omega arith)
+
+    found_stream : length bytes ≤ limit → (made : List DataUnit) → stream_of bytes ≡ Ok made → IsAnswer nothing_yet (cursor_at bytes 0) → (es : List Entry) × (last : Entry) × IsStream bytes es last × (made ≡ units_in es last)
+    found_stream le made e (inl f) = (f.0, f.1, record { within = le; stream = f.2 }, (let both : (let r : Result (List DataUnit) (Fault Reason) = Ok made in r) ≡ Ok (units_in f.0 f.1) = sym e ∙ reads_stream bytes le f.0 f.1 f.2 in cc))
+    found_stream le made e (inr f) = absurd (let both : (let r : Result (List DataUnit) (Fault Reason) = Ok made in r) ≡ Err f.2 = sym e ∙ reads_fault bytes f.0 f.1 f.2 f.3 in cc)
+
+    found_fault : length bytes ≤ limit → (fault : Fault Reason) → stream_of bytes ≡ Err fault → IsAnswer nothing_yet (cursor_at bytes 0) → (es : List Entry) × IsFault bytes es fault
+    found_fault le fault e (inl f) = absurd (let both : (let r : Result (List DataUnit) (Fault Reason) = Err fault in r) ≡ Ok (units_in f.0 f.1) = sym e ∙ reads_stream bytes le f.0 f.1 f.2 in cc)
+    found_fault le fault e (inr f) =
+        let same : f.2 ≡ fault = (let both : (let r : Result (List DataUnit) (Fault Reason) = Err fault in r) ≡ Err f.2 = sym e ∙ reads_fault bytes f.0 f.1 f.2 f.3 in cc) in
+        (f.0, subst (IsFault bytes f.0) same (WithinLimit le f.1 f.3))
+
+    of_fault : length bytes ≤ limit → (es : List Entry) (fault : Fault Reason) → IsFault bytes es fault → stream_of bytes ≡ Err fault
+    of_fault le es fault (WithinLimit h fields r) = reads_fault bytes es fields fault r
+    of_fault le es fault (PastLimit h fields before r e) = absurd (omega arith)
+    of_fault le es fault (BehindLimit h last r e) = absurd (omega arith)
+
+-- each unit has a byte
+units-long : (es : List Entry) (z z' : Past) (c c' : Cursor) → Units z c es z' c' → length c'.rest + 8 * length es ≤ length c.rest
+units-long [] z z' c c' f = omega (arith, ap (λ (x : Cursor). length x.rest) f.1)
+units-long (e ∷ es) z z' c c' f = omega (arith, unit-shorter z e.fields c e.unit f.0 f.1, units-long es (after z e.unit (bytes_between c f.0)) z' f.0 c' f.3)
+
+pub no_more_units : (bytes : List ℕ) → HasNoMoreUnits bytes
+no_more_units bytes es last s =
+    let f = s.stream in
+    omega (arith, units-long es nothing_yet f.left (cursor_at bytes 0) f.mid f.units, unit-shorter f.left last.fields f.mid last.unit f.behind f.end, length-bits bytes)

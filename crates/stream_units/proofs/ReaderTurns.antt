@@ -15,7 +15,7 @@ use Rattle.stream_units.specs.declared.pictures.Shown.{Shown}
 use Rattle.stream_units.specs.declared.parts.Found.{Found}
 use Rattle.stream_units.specs.declared.parts.Found.TheVariants as founds
 use Rattle.stream_units.specs.Asking.{WindowSeen}
-use Rattle.stream_units.specs.Units.{Past, DataUnit, Sequence, Repeated, Picture, Skipped, End, units, after}
+use Rattle.stream_units.specs.Units.{Past, DataUnit, Sequence, Repeated, Picture, Skipped, End, units}
 use Rattle.stream_units.specs.Streams.{limit, past_limit}
 use Rattle.stream_units.specs.Turns.{IsFound, LimitTakes, LimitOver, LimitStops, shape_of}
 use Rattle.stream_units.specs.Reader.{ReaderState, item_of, is_end_item, IsPictureOf, IsDecoderOf, Steps, TakesItem, KeepsStop, NextOver}

@@ -7,5 +7,6 @@ pub mod Reader
 pub mod ReaderInside
 pub mod Parts
 pub mod Judging
+pub mod Laws
 pub mod HeadUnits
 pub mod HeadReader

@@ -114,8 +114,8 @@ stream_of bytes = stream_from (length bytes + 1) nothing_yet (cursor_at bytes 0)
 abbrev pub frame_under : HeaderParts → Frame
 frame_under parts = record { luma = luma_size parts; colour = colour_size parts; luma_depth = luma_depth parts; colour_depth = colour_depth parts }
 
--- the picture of each picture unit, in order
-abbrev pub pictures_of : List DataUnit → List PictureSamples
+-- the picture of each picture unit, in order, with its sizes and depths
+abbrev pub pictures_of : List DataUnit → List (Frame × PictureSamples)
 pictures_of [] = []
-pictures_of (Picture parts number params slices ∷ others) = picture_of (frame_under parts) params slices ∷ pictures_of others
+pictures_of (Picture parts number params slices ∷ others) = (frame_under parts, picture_of (frame_under parts) params slices) ∷ pictures_of others
 pictures_of (other ∷ others) = pictures_of others

@@ -21,7 +21,9 @@ mod window;
 pub use head_reader::HeadReader;
 pub use heads::first_unit;
 pub use judging::{Verdict, judge};
-pub use laws::one_answer;
+pub use laws::{
+    no_more_units_than_bytes, one_answer, reading_is_the_relations, units_stand_whatever_follows,
+};
 pub use reader::StreamReader;
 pub use reason::{Reason, Refusal};
 pub use stop::{Item, ReadStop};

@@ -1,23 +1,29 @@
 -- What `decode` and `check` reply to a stream, and to an input that is refused.
-use Rattle.std.specs.Prelude.{◌≡◌, ◌<◌, ℕ, List, [], length, Ok}
+use Rattle.std.specs.Prelude.{◌≡◌, ◌<◌, ℕ, List, [], length, map, Ok}
 use Rattle.std.specs.List.{AllByRecursion, flat_map}
 use Rattle.slice_geometry.specs.Slicing.{slice_count}
+use Rattle.picture_codec.specs.Pictures.{Frame}
+use Rattle.picture_codec.specs.Samples.{PictureSamples}
+use Rattle.raw_video.specs.RawText.{raw_text}
 use Rattle.stream_units.specs.declared.reason.Refusal.{Refusal}
 use Rattle.stream_units.specs.Units.{DataUnit, Sequence, Repeated, Picture, Skipped, End}
-use Rattle.stream_units.specs.Streams.{Entry, total, IsStream, IsRefusal}
+use Rattle.stream_units.specs.Streams.{Entry, total, pictures_of, IsStream, IsRefusal}
 use Rattle.vc2_cli.specs.declared.words.Command.TheVariants.{Decode, Check}
 use Rattle.vc2_cli.specs.declared.status.Status.TheVariants as status
 use Rattle.vc2_cli.specs.Texts.{refusal_line, decoded_line, accepted_line}
-use Rattle.vc2_cli.specs.Decode.{unit_text}
 use Rattle.vc2_cli.specs.Reply.{Reply, command_reply}
 
 -- numbers below 256
 abbrev pub AreBytes : List ℕ → Type 0
 AreBytes bytes = AllByRecursion (λ byte. byte < 256) bytes
 
--- the raw text of the units' pictures, one after another
+-- the raw text of pictures, one after another
+abbrev pub raw_texts : List (Frame × PictureSamples) → List ℕ
+raw_texts pictures = flat_map (λ picture. raw_text picture.0 picture.1) pictures
+
+-- that of the pictures of these units
 abbrev pub pictures_text : List Entry → List ℕ
-pictures_text units = flat_map (λ entry. unit_text entry.unit) units
+pictures_text units = raw_texts (pictures_of (map (λ entry. entry.unit) units))
 
 abbrev pub pictures_in : DataUnit → ℕ
 pictures_in (Picture parts number params slices) = 1
