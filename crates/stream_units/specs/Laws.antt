@@ -1,5 +1,5 @@
 -- The laws of streams, beside that each list of bytes has one answer.
-use Rattle.std.specs.Prelude.{◌≡◌, ◌↔◌, ◌≤◌, ℕ, ◌+◌, List, [], ◌∷◌, ◌++◌, length, map, Result, Ok, Err}
+use Rattle.std.specs.Prelude.{◌≡◌, ◌↔◌, ◌≤◌, ℕ, ◌+◌, List, [], ◌∷◌, ◌++◌, length, map, Ok, Err}
 use Rattle.field_rows.specs.Rows.{Fault}
 use Rattle.unit_table.specs.Fronts.{Stands, front_of}
 use Rattle.stream_units.specs.declared.reason.Reason.{Reason}
