@@ -2,7 +2,6 @@
 
 use crate::{BitReader, BitWriter, CodeFault, Short, intlog2, sint_len, uint_len};
 use std::process::Abort;
-use std::test::Fail;
 
 /// Asserts that the first bits of bytes are those of a text of 0 and 1.
 fn assert_bits(rt: &impl Abort, bytes: &[u8; 12], text: &str) {
@@ -76,9 +75,21 @@ fn signed_codes(rt: HostRuntime) {
     }
 }
 
+/// Asserts what the next bits are, so many at a time.
+fn assert_numbers(
+    rt: &impl Abort,
+    reader: &mut BitReader<'_>,
+    numbers: &[(u32, Result<u64, Short>)],
+) {
+    for (n, number) in numbers {
+        assert!(rt; *n <= 32);
+        assert_eq!(rt; reader.bits(*n), *number);
+    }
+}
+
 /// Bits that other calls write stay, and zeros fill a byte.
 #[test]
-fn bits_and_bytes(rt: HostRuntime) {
+fn written_bits(rt: HostRuntime) {
     let mut bytes = [0xFF; 3];
     let mut writer = BitWriter::new(&mut bytes);
     writer.put_flag(false);
@@ -87,15 +98,16 @@ fn bits_and_bytes(rt: HostRuntime) {
     writer.align();
     assert_eq!(&rt; writer.place(), 16);
     assert_eq!(&rt; bytes, [0x2A, 0x40, 0xFF]);
-    let mut reader = BitReader::new(&bytes);
-    assert_eq!(&rt; reader.bits(1), Ok(0));
-    assert_eq!(&rt; reader.bits(9), Ok(0xA9));
-    assert_eq!(&rt; reader.bits(15), Err(Short));
+}
+
+/// What isn't there is short, and leaves the place.
+#[test]
+fn read_bits(rt: HostRuntime) {
+    let mut reader = BitReader::new(&[0x2A, 0x40, 0xFF]);
+    assert_numbers(&rt, &mut reader, &[(1, Ok(0)), (9, Ok(0xA9)), (15, Err(Short))]);
     reader.align();
-    assert_eq!(&rt; reader.place(), 16);
-    assert_eq!(&rt; reader.bits(8), Ok(0xFF));
-    assert_eq!(&rt; reader.flag(), Err(Short));
-    assert_eq!(&rt; reader.bits(0), Ok(0));
+    assert_numbers(&rt, &mut reader, &[(8, Ok(0xFF)), (1, Err(Short)), (0, Ok(0))]);
+    assert_eq!(&rt; reader.place(), 24);
 }
 
 /// After 31 pairs with a 1 in them one more 0 is too large already; after zeros alone it is not.
@@ -118,26 +130,51 @@ fn faults_of_numbers(rt: HostRuntime) {
     }
 }
 
+/// A field, and what it holds.
+#[derive(Clone, Copy)]
+enum Field {
+    Number(u32),
+    Flag(bool),
+    Bits(u32, u64),
+}
+
+/// Asserts what the next field holds.
+fn assert_field(rt: &impl Abort, reader: &mut BitReader<'_>, field: Field) {
+    match field {
+        Field::Number(v) => assert_eq!(rt; reader.uint(), Ok(v)),
+        Field::Flag(v) => assert_eq!(rt; reader.flag(), Ok(v)),
+        Field::Bits(n, v) => {
+            assert!(rt; n <= 32);
+            assert_eq!(rt; reader.bits(n), Ok(v));
+        }
+    }
+}
+
 /// The fields of the smallest sequence header have 31 bits.
 #[test]
-fn smallest_header(rt: HostRuntime) -> Result<(), Fail> {
+fn smallest_header(rt: HostRuntime) {
     let mut reader = BitReader::new(&[0x3F, 0x27, 0x42, 0x4A]);
-    for expected in [1, 0, 0, 0, 0] {
-        assert_eq!(&rt; reader.uint(), Ok(expected));
+    for field in [
+        Field::Number(1),
+        Field::Number(0),
+        Field::Number(0),
+        Field::Number(0),
+        Field::Number(0),
+        Field::Flag(true),
+        Field::Number(1),
+        Field::Number(1),
+        Field::Flag(true),
+        Field::Number(0),
+        Field::Bits(2, 1),
+        Field::Number(3),
+        Field::Bits(3, 1),
+        Field::Number(1),
+        Field::Flag(false),
+        Field::Number(0),
+    ] {
+        assert_field(&rt, &mut reader, field);
     }
-    assert_eq!(&rt; reader.flag(), Ok(true));
-    assert_eq!(&rt; reader.uint(), Ok(1));
-    assert_eq!(&rt; reader.uint(), Ok(1));
-    assert_eq!(&rt; reader.flag(), Ok(true));
-    assert_eq!(&rt; reader.uint(), Ok(0));
-    assert_eq!(&rt; reader.bits(2), Ok(1));
-    assert_eq!(&rt; reader.uint(), Ok(3));
-    assert_eq!(&rt; reader.bits(3), Ok(1));
-    assert_eq!(&rt; reader.uint(), Ok(1));
-    assert_eq!(&rt; reader.flag(), Ok(false));
-    assert_eq!(&rt; reader.uint(), Ok(0));
     assert_eq!(&rt; reader.place(), 31);
     reader.align();
     assert_eq!(&rt; reader.place(), 32);
-    Ok(())
 }

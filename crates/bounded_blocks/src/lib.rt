@@ -34,7 +34,7 @@ pub struct Block<'a> {
 }
 
 impl<'a> Model for Block<'a> {
-    ghost use Rattle.std.specs.Prelude.{ℕ, ◌*◌, ◌^◌, ◌≤◌, List, Bool, length};
+    ghost use Rattle.std.specs.Prelude.{◌*◌, ◌^◌, ◌≤◌, List, Bool, length};
     ghost use Rattle.bounded_blocks.specs.Parts.{block_of};
 
     ghost Value = { List Bool };

@@ -3,7 +3,6 @@
 
 ghost use Rattle.std.specs.Prelude.{◌≡◌, ◌≢◌, ℕ, ◌+◌, ◌-◌, ◌*◌, ◌^◌, ◌<◌, ◌≤◌, length, nat_lt, if◌then◌else◌};
 ghost use Rattle.planes.specs.Raster.{height, at};
-ghost use Rattle.planes.specs.Subbands.{HaveSizes};
 ghost use Rattle.lifting.specs.Places.{place, woven, side_place};
 ghost use Rattle.lifting.specs.Steps.{halved};
 ghost use Rattle.lifting.specs.Lines.{synthesis_line};

@@ -1,13 +1,14 @@
-ghost use Rattle.std.specs.Prelude.{◌≡◌, ℕ, ◌%◌, ◌^◌, ◌<◌, ◌≤◌, true, pos, slice_index_or, length};
+ghost use Rattle.std.specs.Prelude.{◌≡◌, ℕ, ◌%◌, ◌^◌, ◌<◌, ◌≤◌, true};
 ghost use Rattle.planes.specs.Numbers.{Within};
-ghost use Rattle.planes.specs.Raster.{Raster, height, at};
-ghost use Rattle.planes.specs.Subbands.{BandExists, band_of, subband_length};
+ghost use Rattle.planes.specs.Raster.{height, at};
+ghost use Rattle.planes.specs.Subbands.{BandExists, band_of};
 ghost use Rattle.lifting.specs.Bands.{AgreeInSize, AreSmall};
 ghost use Rattle.lifting.specs.Places.{place};
 
 use crate::{Wavelet, synth, synth_level};
 use planes::{Bands, NoMemory, Plane};
 use std::alloc::Global;
+use std::process::Abort;
 use std::test::Fail;
 
 // Whether each magnitude is at most 2^36.
@@ -72,6 +73,15 @@ fn can_synth(bands: &Bands, plane: &Plane, scratch: &Plane) -> bool
     true
 }
 
+/// Asserts the first places of the first two rows, which are alike.
+fn assert_level(rt: &impl Abort, plane: &Plane, row: &[i64; 4]) {
+    assert!(rt; plane.w() == 5 && plane.h() == 3);
+    for y in 0..2u32 {
+        assert_eq!(rt; &plane.row(y)[..4], row.as_slice());
+    }
+    assert_eq!(rt; (plane.get(0, 4), plane.get(2, 0)), (70, 80));
+}
+
 /// The levels of 4 by 2 by each wavelet, in place.
 #[test]
 fn levels_in_place(rt: HostRuntime) -> Result<(), Fail> {
@@ -84,17 +94,9 @@ fn levels_in_place(rt: HostRuntime) -> Result<(), Fail> {
         plane.row_mut(0)[..4].copy_from_slice(&[10, 3, 6, -2]);
         plane.set(0, 4, 70);
         plane.set(2, 0, 80);
-        assert!(rt; is_small(&plane));
+        assert!(&rt; is_small(&plane));
         synth_level(wavelet, &mut plane, 4, 2);
-        assert_eq!(rt; plane.h(), 3);
-        assert_eq!(rt; plane.w(), 5);
-        for y in 0..2u32 {
-            for (x, value) in row.iter().enumerate() {
-                assert_eq!(rt; plane.get(y, x as u32), *value);
-            }
-        }
-        assert_eq!(rt; plane.get(0, 4), 70);
-        assert_eq!(rt; plane.get(2, 0), 80);
+        assert_level(&rt, &plane, &row);
     }
     Ok(())
 }
@@ -201,39 +203,47 @@ const BY_HAAR_SHIFT: [[i64; 8]; 4] = [
     [10, 13, 14, 11, 3, 3, -3, -2],
 ];
 
-#[test]
-fn two_levels(rt: HostRuntime) -> Result<(), Fail> {
-    for (wavelet, rows) in [
-        (Wavelet::LeGall, BY_LEGALL),
-        (Wavelet::HaarFlat, BY_HAAR_FLAT),
-        (Wavelet::HaarShift, BY_HAAR_SHIFT),
-    ] {
-        let plane = synthesised(rt.alloc(), wavelet, &TWO_LEVELS, 2, 8, 4)?.expect(&rt, "sizes");
-        assert_eq!(rt; plane.h(), 4);
-        for y in 0..4u32 {
-            assert_eq!(rt; plane.row(y), rows[y as usize].as_slice());
-        }
+/// Asserts what coefficients of these sizes become, row by row.
+fn assert_synthesised(
+    rt: &impl Abort,
+    plane: Result<Option<Plane>, NoMemory>,
+    rows: &[&[i64]],
+) -> Result<(), Fail> {
+    let plane = plane?.expect(rt, "sizes");
+    assert_eq!(rt; plane.h() as usize, rows.len());
+    for (y, row) in rows.iter().enumerate() {
+        assert!(rt; y < plane.h() as usize);
+        assert_eq!(rt; plane.row(y as u32), *row);
     }
     Ok(())
 }
 
-/// One pair of rows and of columns, and no level at all.
+#[test]
+fn two_levels(rt: HostRuntime) -> Result<(), Fail> {
+    for (wavelet, [a, b, c, d]) in [
+        (Wavelet::LeGall, &BY_LEGALL),
+        (Wavelet::HaarFlat, &BY_HAAR_FLAT),
+        (Wavelet::HaarShift, &BY_HAAR_SHIFT),
+    ] {
+        let plane = synthesised(rt.alloc(), wavelet, &TWO_LEVELS, 2, 8, 4);
+        assert_synthesised(&rt, plane, &[a, b, c, d])?;
+    }
+    Ok(())
+}
+
+/// One pair of rows and of columns.
+const PAIR: [Coefficient; 4] = [
+    (0, 0, 0, 0, 20),
+    (1, 1, 0, 0, 3),
+    (1, 2, 0, 0, -4),
+    (1, 3, 0, 0, 1),
+];
+
+/// One pair, and no level at all.
 #[test]
 fn smallest_planes(rt: HostRuntime) -> Result<(), Fail> {
-    let pair = [
-        (0, 0, 0, 0, 20),
-        (1, 1, 0, 0, 3),
-        (1, 2, 0, 0, -4),
-        (1, 3, 0, 0, 1),
-    ];
-    let plane = synthesised(rt.alloc(), Wavelet::LeGall, &pair, 1, 2, 2)?.expect(&rt, "sizes");
-    assert_eq!(rt; plane.h(), 2);
-    assert_eq!(rt; plane.row(0), [11, 12].as_slice());
-    assert_eq!(rt; plane.row(1), [8, 10].as_slice());
-    let plane = synthesised(rt.alloc(), Wavelet::LeGall, &[(0, 0, 0, 0, -5)], 0, 1, 1)?.expect(
-        &rt, "sizes",
-    );
-    assert_eq!(rt; plane.h(), 1);
-    assert_eq!(rt; plane.row(0), [-5].as_slice());
-    Ok(())
+    let pair = synthesised(rt.alloc(), Wavelet::LeGall, &PAIR, 1, 2, 2);
+    assert_synthesised(&rt, pair, &[&[11, 12], &[8, 10]])?;
+    let one = synthesised(rt.alloc(), Wavelet::LeGall, &[(0, 0, 0, 0, -5)], 0, 1, 1);
+    assert_synthesised(&rt, one, &[&[-5]])
 }

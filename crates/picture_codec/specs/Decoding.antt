@@ -18,7 +18,7 @@ use Rattle.transform_params.specs.Params.{Params}
 use Rattle.picture_codec.specs.Pictures.{size_of, sample_of}
 use Rattle.picture_codec.specs.Samples.{SampleRows, PictureSamples, PictureSeen, tabulated, with_component, frame_of, bits_of}
 use Rattle.slice_decoder.specs.declared.SliceFault.{SliceFault}
-use Rattle.slice_decoder.specs.Slice.{Slice, slice_at, luma_values, colour_values, are_small}
+use Rattle.slice_decoder.specs.Slice.{Slice, slice_at, is_small}
 use Rattle.slice_decoder.specs.Decoded.{AllKeepOthers, IsRefused}
 use Rattle.picture_codec.specs.Taking.{holder, Took, TakesSlice}
 
@@ -112,8 +112,7 @@ next_slice d bytes = slice_at d.params.slicing d.shape.luma d.shape.colour (colu
 pub record IsTaken (bytes : List ℕ) (old new : Decoding) : Type 0 where
   pub state : new ≡ record old { bands = new.bands; next = old.next + 1 }
   pub fits : (next_slice old bytes).too_long ≡ false
-  pub small : (are_small (luma_values old.params.slicing old.shape.luma (column_of old) (row_of_slices old) old.params.matrix (next_slice old bytes))
-      && are_small (colour_values old.params.slicing old.shape.colour (column_of old) (row_of_slices old) old.params.matrix (next_slice old bytes))) ≡ true
+  pub small : is_small old.params.slicing old.shape.luma old.shape.colour (column_of old) (row_of_slices old) old.params.matrix (next_slice old bytes) ≡ true
   pub each : (c : Component) → TakesSlice (frame_of old.shape) old.params c (column_of old) (row_of_slices old) bytes (stack_of old.bands c) (stack_of new.bands c)
 
 -- it was refused: its own places have any values, and all others stay

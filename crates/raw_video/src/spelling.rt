@@ -1,5 +1,5 @@
 // Samples to bytes.
-ghost use Rattle.std.specs.Prelude.{◌≡◌, ◌*◌, ◌≤◌, length, take, true, false, Bool};
+ghost use Rattle.std.specs.Prelude.{◌≡◌, ◌*◌, ◌≤◌, length, take, true, false};
 ghost use Rattle.picture_codec.specs.Samples.{frame_of};
 ghost use Rattle.raw_video.specs.RawText.{is_wide, text_of};
 

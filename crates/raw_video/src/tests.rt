@@ -1,6 +1,6 @@
 //! Pictures and their bytes, worked out by hand.
 
-ghost use Rattle.std.specs.Prelude.{◌≡◌, ◌^◌};
+ghost use Rattle.std.specs.Prelude.{◌≡◌};
 ghost use Rattle.slice_geometry.specs.Shape.{IsSize, IsDepth};
 ghost use Rattle.picture_codec.specs.Pictures.{size_of, depth_of};
 ghost use Rattle.picture_codec.specs.Samples.{frame_of};

@@ -1,6 +1,6 @@
 //! Single fields, with the place of their fault.
 
-ghost use Rattle.std.specs.Prelude.{◌≡◌, ◌<◌, ◌≤◌, ◌^◌, IfOk, ◌∷◌, []};
+ghost use Rattle.std.specs.Prelude.{◌≡◌, ◌<◌, ◌≤◌, IfOk};
 ghost use Rattle.field_rows.specs.Rows.{Gives, read, number, within, flag, flag_set};
 ghost use Rattle.sequence_header.specs.Header.{reason_of, fault_of};
 

@@ -6,7 +6,7 @@ ghost use Rattle.field_rows.specs.Rows.{Gives, GivesOf, read, number_under, firs
 ghost use Rattle.field_rows.specs.Given.{Pass};
 ghost use Rattle.sequence_header.specs.Fields.{version_fields, size_fields, sampling_fields, scan_fields, rate_fields, aspect_fields, clean_fields, signal_fields, index_fields, colour_fields, coding_fields};
 ghost use Rattle.sequence_header.specs.Checking.{Passes};
-ghost use Rattle.sequence_header.specs.Header.{reason_of, fault_of, version_rows, height_rules, size_rows, sampling_rules, sampling_rows, scan_rows, rate_rows, aspect_rows, clean_rows, excursion, signal_rows, flagged_index, colour_rows, coding_rules, coding_rows, header_fields, header_rows};
+ghost use Rattle.sequence_header.specs.Header.{reason_of, fault_of, version_rows, height_rules, size_rows, sampling_rules, sampling_rows, scan_rows, rate_rows, aspect_rows, clean_rows, excursion, signal_rows, flagged_index, colour_rows, coding_rows, header_fields, header_rows};
 
 use crate::fields::{flag, flag_set, number, number_within};
 use crate::parts::*;

@@ -15,7 +15,7 @@ use Rattle.slice_geometry.specs.Geometry.{padded_length}
 use Rattle.quant_factors.specs.Weights.{Weights}
 use Rattle.slice_decoder.specs.declared.SliceFault.{SliceFault}
 use Rattle.slice_decoder.specs.declared.SliceFault.TheVariants.{LumaLengthTooLong, CoefficientTooLarge}
-use Rattle.slice_decoder.specs.Slice.{Slice, level_rect, place_number, luma_values, colour_values, are_small}
+use Rattle.slice_decoder.specs.Slice.{Slice, level_rect, place_number, luma_values, colour_values, is_small}
 use Rattle.slice_decoder.specs.Dealing.{KeepsOutside}
 
 -- The bands of one component are ready for the slice in column sx and row sy: they have their sizes, and what is looked at outside the slice
@@ -53,7 +53,7 @@ pub record IsDecoded (s : Slicing) (shape : PictureShape) (sx sy : ℕ) (matrix 
   pub qindex : head.qindex ≡ slice.qindex
   pub luma_bits : head.luma_bits ≡ slice.luma_bits
   pub fits : slice.too_long ≡ false
-  pub small : (are_small (luma_values s shape.luma sx sy matrix slice) && are_small (colour_values s shape.colour sx sy matrix slice)) ≡ true
+  pub small : is_small s shape.luma shape.colour sx sy matrix slice ≡ true
   pub luma : HoldsSlice 1 0 s shape.luma sx sy (luma_values s shape.luma sx sy matrix slice) bands.luma
   pub c1 : HoldsSlice 2 0 s shape.colour sx sy (colour_values s shape.colour sx sy matrix slice) bands.c1
   pub c2 : HoldsSlice 2 1 s shape.colour sx sy (colour_values s shape.colour sx sy matrix slice) bands.c2
@@ -61,4 +61,4 @@ pub record IsDecoded (s : Slicing) (shape : PictureShape) (sx sy : ℕ) (matrix 
 -- why a slice is refused: its luma length is above the bits left, or else some dequantised magnitude passes 2 ^ 36
 abbrev pub IsRefused : Slicing → PictureShape → ℕ → ℕ → Weights → Slice → SliceFault → Type 0
 IsRefused s shape sx sy matrix slice LumaLengthTooLong = slice.too_long ≡ true
-IsRefused s shape sx sy matrix slice CoefficientTooLarge = (slice.too_long ≡ false) × ((are_small (luma_values s shape.luma sx sy matrix slice) && are_small (colour_values s shape.colour sx sy matrix slice)) ≡ false)
+IsRefused s shape sx sy matrix slice CoefficientTooLarge = (slice.too_long ≡ false) × (is_small s shape.luma shape.colour sx sy matrix slice ≡ false)

@@ -105,3 +105,7 @@ luma_values s size sx sy matrix slice = dequantised slice.luma (quantisers 1 s s
 -- and those of its colour block
 abbrev pub colour_values : Slicing → Size → ℕ → ℕ → Weights → Slice → List ℤ
 colour_values s size sx sy matrix slice = dequantised slice.colour (quantisers 2 s size sx sy matrix slice.qindex s.depth)
+
+-- no dequantised value of the slice passes 2 ^ 36
+abbrev pub is_small : Slicing → Size → Size → ℕ → ℕ → Weights → Slice → Bool
+is_small s luma colour sx sy matrix slice = are_small (luma_values s luma sx sy matrix slice) && are_small (colour_values s colour sx sy matrix slice)

@@ -1,11 +1,11 @@
 // The values of a block, dealt out to the subbands of one component, or of the two colour components in turn.
 
-ghost use Rattle.std.specs.Prelude.{◌≡◌, ◌+◌, ◌*◌, ◌<◌, ◌≤◌, true, length};
-ghost use Rattle.planes.specs.Subbands.{BandExists, orient_number, HaveSizes};
+ghost use Rattle.std.specs.Prelude.{◌≡◌, ◌+◌, ◌*◌, ◌<◌, ◌≤◌, true};
+ghost use Rattle.planes.specs.Subbands.{orient_number, HaveSizes};
 ghost use Rattle.slice_geometry.specs.Shape.{IsSize};
 ghost use Rattle.slice_geometry.specs.Geometry.{padded_length};
 ghost use Rattle.slice_decoder.specs.Slice.{are_small};
-ghost use Rattle.slice_decoder.specs.Dealing.{dealt, behind};
+ghost use Rattle.slice_decoder.specs.Dealing.{dealt};
 ghost use Rattle.slice_decoder.specs.Components.{part_of, level_of, orient_of, quantisers_before, BandsHold, BandsKeep};
 
 use crate::bands::{fill_rect, fill_rects};

@@ -1,14 +1,13 @@
 //! One slice in: its values, dequantised, at their places in the subbands, and the lowest subbands restored.
 #![tactic(auto)]
 
-ghost use Rattle.std.specs.Prelude.{◌≡◌, ℕ, ◌+◌, ◌-◌, ◌*◌, ◌^◌, ◌<◌, ◌≤◌, true, length, take, drop, MatchResult};
-ghost use Rattle.bit_codes.specs.Bits.{bits_of, binary_after, Cursor};
+ghost use Rattle.std.specs.Prelude.{◌≡◌, ℕ, ◌+◌, ◌-◌, ◌*◌, ◌^◌, ◌<◌, ◌≤◌, length, take, drop, MatchResult};
+ghost use Rattle.bit_codes.specs.Bits.{bits_of, binary_after};
 ghost use Rattle.bit_codes.specs.Bits as bits;
 ghost use Rattle.bounded_blocks.specs.Parts.{block_of};
 ghost use Rattle.dc_prediction.specs.Restoring.{CanRestore, RestoresRect};
 ghost use Rattle.slice_geometry.specs.Slicing as slicing;
-ghost use Rattle.slice_decoder.specs.Slice.{slice_at, are_small};
-ghost use Rattle.slice_decoder.specs.Dealing.{dealt};
+ghost use Rattle.slice_decoder.specs.Slice.{slice_at};
 ghost use Rattle.slice_decoder.specs.Components.{part_of, numbered};
 ghost use Rattle.slice_decoder.specs.Read.{IsRead};
 ghost use Rattle.slice_decoder.specs.Decoded.{AreReady, AllKeepOthers, IsDecoded, IsRefused};

@@ -24,7 +24,7 @@ use Rattle.transform_params.specs.Params.{Params, params_rows}
 use Rattle.transform_params.proofs.Movable.{params_steady}
 use Rattle.slice_decoder.specs.declared.SliceFault.{SliceFault}
 use Rattle.slice_decoder.specs.declared.SliceFault.TheVariants as faults
-use Rattle.slice_decoder.specs.Slice.{slice_at, luma_values, colour_values, are_small}
+use Rattle.slice_decoder.specs.Slice.{slice_at, is_small}
 use Rattle.slice_decoder.specs.Decoded.{IsRefused}
 use Rattle.picture_codec.specs.Pictures.{Frame}
 use Rattle.picture_codec.specs.Samples.{frame_of, picture_of}
@@ -241,7 +241,7 @@ frame_rules p f n bytes =
     let sy = n / s.slices_x in
     let slice = slice_at s f.luma f.colour sx sy bytes in
     (not slice.too_long or_else reasons.LumaLengthTooLong)
-    ∷ ((are_small (luma_values s f.luma sx sy p.matrix slice) && are_small (colour_values s f.colour sx sy p.matrix slice)) or_else reasons.CoefficientTooLarge) ∷ []
+    ∷ (is_small s f.luma f.colour sx sy p.matrix slice or_else reasons.CoefficientTooLarge) ∷ []
 
 rules_same : (parts : HeaderParts) (p : Params) (d : Decoding) (so_far : List (List ℕ)) (bytes : List ℕ) → d.params ≡ p → frame_of d.shape ≡ frame_under parts → d.next ≡ length so_far → frame_rules d.params (frame_of d.shape) d.next bytes ≡ slice_rules parts p (length so_far) bytes
 rules_same parts p d so_far bytes same frame number =

@@ -1,4 +1,4 @@
--- How the parts of a picture's payload come out.
+-- How the parts of a unit come out.
 use Rattle.std.specs.Prelude.{◌≡◌, ℕ, ◌+◌, true, false, List, [], length, Option, Result, Err, MatchResult}
 use Rattle.field_rows.specs.Rows.{Rows, ◌>>=◌, Fault, read}
 use Rattle.slice_geometry.specs.declared.PictureShape.{PictureShape}

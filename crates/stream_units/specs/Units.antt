@@ -17,7 +17,7 @@ use Rattle.transform_params.specs.declared.faults.TransformReason.{TransformReas
 use Rattle.transform_params.specs.declared.faults.TransformReason.TheVariants as transforms
 use Rattle.transform_params.specs.Params.{Params, params_rows}
 use Rattle.slice_geometry.specs.Slicing.{slice_count, slice_bytes}
-use Rattle.slice_decoder.specs.Slice.{slice_at, luma_values, colour_values, are_small}
+use Rattle.slice_decoder.specs.Slice.{slice_at, is_small}
 use Rattle.stream_units.specs.declared.reason.Reason.{Reason}
 use Rattle.stream_units.specs.declared.reason.Reason.TheVariants as reasons
 use Rattle.unit_table.specs.Grammar.{Grammar}
@@ -144,7 +144,7 @@ slice_rules parts p n bytes =
     let colour = colour_size parts in
     let slice = slice_at s luma colour sx sy bytes in
     (not slice.too_long or_else reasons.LumaLengthTooLong)
-    ∷ ((are_small (luma_values s luma sx sy p.matrix slice) && are_small (colour_values s colour sx sy p.matrix slice)) or_else reasons.CoefficientTooLarge) ∷ []
+    ∷ (is_small s luma colour sx sy p.matrix slice or_else reasons.CoefficientTooLarge) ∷ []
 
 -- ---- the rows of a unit, in order
 

@@ -1,6 +1,6 @@
 //! The parts of units: what stands behind their heads.
 
-ghost use Rattle.std.specs.Prelude.{◌≡◌, ◌+◌, ◌^◌, ◌≤◌, List, ℕ, Option, Some, length, IfOk, IfErr};
+ghost use Rattle.std.specs.Prelude.{◌≡◌, ◌+◌, ◌^◌, ◌≤◌, List, ℕ, Option, length, IfOk, IfErr};
 ghost use Rattle.field_rows.specs.Rows.{done};
 ghost use Rattle.unit_table.specs.Begun.{Begun};
 ghost use Rattle.stream_units.specs.Units.{Skipped, Repeated, End, Past, units, first_payload, skipped_payload, repeated_payload};

@@ -3,7 +3,7 @@
 ghost use Rattle.std.specs.Prelude.{◌≡◌, ◌≤◌, ◌<◌, ◌+◌, ◌*◌, ◌^◌, ◌++◌, List, ℕ, length, Ok};
 ghost use Rattle.std.specs.List.{AllByRecursion};
 ghost use Rattle.slice_geometry.specs.Slicing.{IsAllowed};
-ghost use Rattle.bit_codes.specs.Bits.{bits_before, bits_behind, cursor_at};
+ghost use Rattle.bit_codes.specs.Bits.{bits_before, cursor_at};
 ghost use Rattle.field_rows.specs.Rows.{read};
 ghost use Rattle.field_rows.specs.Given.{written};
 ghost use Rattle.transform_params.specs.Params.{reason_of, params_rows};

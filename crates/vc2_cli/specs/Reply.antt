@@ -2,7 +2,7 @@
 use Rattle.std.specs.Prelude.{◌≡◌, ◌≤◌, ◌<◌, ℕ, ◌-◌, List, [], length, take, Option, Some, Result, Ok, Err}
 use Rattle.std.specs.Io.KnownBytes.{Appends, Consumes, Keeps}
 use Rattle.vc2_io.specs.Outside.{Rose, GrewShort}
-use Rattle.vc2_run.specs.Walk.{Answer, answer_to, out_of, due, IsFront, IsShort}
+use Rattle.vc2_run.specs.Walk.{Answer, answer_to, out_of, due, IsFront, IsShort, IsPrompt}
 use Rattle.vc2_cli.specs.declared.words.Command.{Command}
 use Rattle.vc2_cli.specs.declared.words.Command.TheVariants.{Chain, Header, Decode, Check}
 use Rattle.vc2_cli.specs.declared.status.WordFault.{WordFault}
@@ -70,10 +70,6 @@ IsStatusOf reply status.OutFault = Unit {0}
 IsStatusOf reply status.NoteFault = Unit {0}
 IsStatusOf reply status.NoMemory = Unit {0}
 IsStatusOf reply other = other ≡ reply.status
-
--- what is due for all but the last 4096 bytes that were taken stands in the text
-abbrev pub IsPrompt : (List ℕ → List ℕ) → List ℕ → List ℕ → Type 0
-IsPrompt due taken text = 4096 < length taken → IsFront (due (take (length taken - 4096) taken)) text
 
 -- A write of the reply's text failed: a part of it went out, and not all.
 abbrev pub StopsShort : Reply → (List ℕ → List ℕ) → List ℕ → Option (List ℕ) → Option (List ℕ) → Option (List ℕ) → Type 0

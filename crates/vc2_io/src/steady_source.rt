@@ -1,5 +1,5 @@
 // A source over bytes in memory that never fails.
-ghost use Rattle.std.specs.Prelude.{◌≡◌, ◌≤◌, length, min, drop, Some, Ok};
+ghost use Rattle.std.specs.Prelude.{◌≡◌, length, min, Some, Ok};
 ghost use Rattle.std.specs.Io.{ReadsAtMost};
 ghost use Rattle.std.specs.Io.KnownBytes.{ReadConsumes};
 ghost use Rattle.vc2_io.specs.Outside.{HasCause};
