@@ -88,6 +88,7 @@ impl<'a> Block<'a> {
 #[cfg(test)]
 mod tests {
     use super::*;
+    use std::process::Abort;
 
     /// Each block of at most three bits: its bits at the front of a byte, how many they are, and its first five values.
     #[rattlefmt::skip]
@@ -109,17 +110,28 @@ mod tests {
         (0b1110_0000, 3, [0, 0, 0, 0, 0]),
     ];
 
+    /// Asserts what a block's first values are, one by one and as a row.
+    fn assert_block(rt: &impl Abort, bytes: &[u8; 2], count: u64, expected: [i64; 5]) {
+        assert!(rt; count <= 8);
+        let mut block = Block::new(bytes, 8, count);
+        for value in expected {
+            assert_eq!(rt; block.sint(), Sint::Is(value));
+        }
+        let mut out = [7; 5];
+        assert!(rt; Block::new(bytes, 8, count).fill(&mut out) && out == expected);
+    }
+
     #[test]
     fn short_blocks(rt: HostRuntime) {
         for (bits, count, expected) in SHORT_BLOCKS {
-            let bytes = [0b1010_0101, bits];
-            let mut block = Block::new(&bytes, 8, count.min(8));
-            for value in expected {
-                assert_eq!(rt; block.sint(), Sint::Is(value));
-            }
-            let mut out = [7; 5];
-            assert!(rt; Block::new(&bytes, 8, count.min(8)).fill(&mut out));
-            assert_eq!(rt; out, expected);
+            assert_block(&rt, &[0b1010_0101, bits], count, expected);
+        }
+    }
+
+    /// Asserts what is read of a block in turn.
+    fn assert_values(rt: &impl Abort, block: &mut Block<'_>, values: &[Sint]) {
+        for value in values {
+            assert_eq!(rt; block.sint(), *value);
         }
     }
 
@@ -128,16 +140,12 @@ mod tests {
     fn greatest_magnitudes(rt: HostRuntime) {
         let told = [0, 0, 0, 0, 0, 0, 0, 0, 0b0000_0001, 0b1000_1011];
         let mut block = Block::new(&told, 0, 77);
-        assert_eq!(rt; block.sint(), Sint::Is(0x10_0000_0000));
-        assert_eq!(rt; block.sint(), Sint::Is(-1));
-        assert_eq!(rt; block.sint(), Sint::Is(0));
+        let greatest = Sint::Is(0x10_0000_0000);
+        assert_values(&rt, &mut block, &[greatest, Sint::Is(-1), Sint::Is(0)]);
 
         let huge = [0, 0, 0, 0, 0, 0, 0, 0, 0b0000_0100, 0b1100_1011];
         let mut block = Block::new(&huge, 0, 77);
-        let mut out = [7; 3];
-        assert!(rt; !block.fill(&mut out));
-        assert_eq!(rt; block.sint(), Sint::Huge);
-        assert_eq!(rt; block.sint(), Sint::Is(-1));
-        assert_eq!(rt; block.sint(), Sint::Is(0));
+        assert!(&rt; !block.fill(&mut [7; 3]));
+        assert_values(&rt, &mut block, &[Sint::Huge, Sint::Is(-1), Sint::Is(0)]);
     }
 }
