@@ -147,6 +147,3 @@ pub fn restore_rect(plane: &mut Plane, rect: Rect)
         restore_row(plane, y, rect.x0, rect.x1);
     }
 }
-
-#[cfg(test)]
-mod tests;

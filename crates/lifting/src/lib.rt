@@ -50,6 +50,3 @@ pub enum OneStep {
     /// `v - a`
     OddDown,
 }
-
-#[cfg(test)]
-mod tests;

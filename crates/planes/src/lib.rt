@@ -233,6 +233,3 @@ impl Plane {
         }
     }
 }
-
-#[cfg(test)]
-mod tests;

@@ -1,6 +1,6 @@
 use Rattle.std.proofs.Common.{◌≡◌}
 use Rattle.planes.specs.Raster.{height}
-use Rattle.dc_prediction.proofs.tests.residuals.Given as goal
+use Rattle.codec_tests.proofs.prediction.residuals.Given as goal
 
 abbrev pub invariant-loop-y : goal.invariant-loop-y
 invariant-loop-y l = record {

@@ -1,9 +1,11 @@
+//! The lowest subband restored, whole and by slices.
+
 ghost use Rattle.std.specs.Prelude.{◌≡◌, ℕ, ◌^◌, true, pos, slice_index_or, IfOk};
 ghost use Rattle.planes.specs.Numbers.{Within};
 ghost use Rattle.planes.specs.Raster.{height};
 ghost use Rattle.dc_prediction.specs.Restoring.{CanRestore};
 
-use crate::restore_rect;
+use dc_prediction::restore_rect;
 use planes::{NoMemory, Plane, Rect};
 use std::alloc::Global;
 use std::test::Fail;

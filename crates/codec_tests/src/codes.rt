@@ -1,6 +1,6 @@
 //! Worked codes, and the faults at the bounds.
 
-use crate::{BitReader, BitWriter, CodeFault, Short, intlog2, sint_len, uint_len};
+use bit_codes::{BitReader, BitWriter, CodeFault, Short, intlog2, sint_len, uint_len};
 use std::process::Abort;
 
 /// Asserts that the first bits of bytes are those of a text of 0 and 1.
@@ -20,8 +20,7 @@ fn assert_code(rt: &impl Abort, v: u32, text: &str) {
     assert_eq!(rt; writer.place(), text.len() as u64);
     assert_bits(rt, &bytes, text);
     let mut reader = BitReader::new(&bytes);
-    assert_eq!(rt; reader.uint(), Ok(v));
-    assert_eq!(rt; reader.place(), text.len() as u64);
+    assert_eq!(rt; (reader.uint(), reader.place()), (Ok(v), text.len() as u64));
 }
 
 #[test]
@@ -53,12 +52,15 @@ fn signed_codes(rt: HostRuntime) {
     for (v, text) in codes {
         let mut bytes = [0x55; 12];
         let mut writer = BitWriter::new(&mut bytes);
-        assert!(&rt; v.unsigned_abs() <= 4);
-        assert!(&rt; sint_len(v) <= 6);
+        assert!(&rt; v.unsigned_abs() <= 4 && sint_len(v) <= 6);
         writer.put_sint(v);
         assert_eq!(&rt; writer.place(), text.len() as u64);
         assert_bits(&rt, &bytes, text);
     }
+}
+
+#[test]
+fn logarithms(rt: HostRuntime) {
     let logs: [(u32, u32); 8] = [
         (1, 0),
         (2, 1),
@@ -104,9 +106,17 @@ fn written_bits(rt: HostRuntime) {
 #[test]
 fn read_bits(rt: HostRuntime) {
     let mut reader = BitReader::new(&[0x2A, 0x40, 0xFF]);
-    assert_numbers(&rt, &mut reader, &[(1, Ok(0)), (9, Ok(0xA9)), (15, Err(Short))]);
+    assert_numbers(
+        &rt,
+        &mut reader,
+        &[(1, Ok(0)), (9, Ok(0xA9)), (15, Err(Short))],
+    );
     reader.align();
-    assert_numbers(&rt, &mut reader, &[(8, Ok(0xFF)), (1, Err(Short)), (0, Ok(0))]);
+    assert_numbers(
+        &rt,
+        &mut reader,
+        &[(8, Ok(0xFF)), (1, Err(Short)), (0, Ok(0))],
+    );
     assert_eq!(&rt; reader.place(), 24);
 }
 
@@ -125,8 +135,7 @@ fn faults_of_numbers(rt: HostRuntime) {
     for (bytes, fault) in cases {
         assert!(&rt; bytes.len() <= 9);
         let mut reader = BitReader::new(bytes);
-        assert_eq!(&rt; reader.uint(), Err(fault));
-        assert_eq!(&rt; reader.place(), 0);
+        assert_eq!(&rt; (reader.uint(), reader.place()), (Err(fault), 0));
     }
 }
 

@@ -2,7 +2,7 @@ use Rattle.std.proofs.Common.{◌≡◌, ℕ, ◌+◌, ◌-◌, ◌/◌, ◌<◌
 use Rattle.planes.specs.Numbers.{Within}
 use Rattle.planes.specs.Raster.{height, at}
 use Rattle.planes.specs.Subbands.{band_of}
-use Rattle.lifting.proofs.tests.can_synth.Given as goal
+use Rattle.codec_tests.proofs.synthesis.can_synth.Given as goal
 
 abbrev pub invariant-loop-n : goal.invariant-loop-n
 invariant-loop-n l = (m orient : ℕ) → m < l.n → 1 ≤ orient → orient ≤ 3

@@ -1,4 +1,6 @@
-use super::*;
+//! Planes, their rows on loan, and subbands.
+
+use planes::{Bands, Orient, Plane, Three};
 use std::process::Abort;
 use std::test::Fail;
 

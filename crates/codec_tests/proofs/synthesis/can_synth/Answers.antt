@@ -5,7 +5,7 @@ use Rattle.planes.specs.Raster.{Raster, height, at}
 use Rattle.planes.specs.Subbands.{BandStack, BandExists, band_of, subband_length}
 use Rattle.lifting.specs.Bands.{AgreeInSize, AreSmall}
 use Rattle.lifting.proofs.Levels.{not_zero}
-use Rattle.lifting.proofs.tests.can_synth.Goals as goal
+use Rattle.codec_tests.proofs.synthesis.can_synth.Goals as goal
 use Rattle.planes.proofs.Floors.{wider}
 
 -- a power that the code computes

@@ -1,3 +1,5 @@
+//! Levels of synthesis, against an independent model.
+
 ghost use Rattle.std.specs.Prelude.{◌≡◌, ℕ, ◌%◌, ◌^◌, ◌<◌, ◌≤◌, true};
 ghost use Rattle.planes.specs.Numbers.{Within};
 ghost use Rattle.planes.specs.Raster.{height, at};
@@ -5,7 +7,7 @@ ghost use Rattle.planes.specs.Subbands.{BandExists, band_of};
 ghost use Rattle.lifting.specs.Bands.{AgreeInSize, AreSmall};
 ghost use Rattle.lifting.specs.Places.{place};
 
-use crate::{Wavelet, synth, synth_level};
+use lifting::{Wavelet, synth, synth_level};
 use planes::{Bands, NoMemory, Plane};
 use std::alloc::Global;
 use std::process::Abort;
