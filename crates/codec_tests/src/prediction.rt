@@ -8,6 +8,7 @@ ghost use Rattle.dc_prediction.specs.Restoring.{CanRestore};
 use dc_prediction::restore_rect;
 use planes::{NoMemory, Plane, Rect};
 use std::alloc::Global;
+use std::process::Abort;
 use std::test::Fail;
 
 /// The residuals of a band of four columns and three rows, and its values, worked out by hand.
@@ -54,6 +55,22 @@ fn can_restore(plane: &Plane, rect: Rect) -> bool
     rect.x1 <= plane.w() && rect.y1 <= plane.h() && plane.w() <= 8192 && plane.h() <= 8192
 }
 
+/// Restores the rectangles in turn.
+fn restore_all(rt: &impl Abort, plane: &mut Plane, rects: &[Rect]) {
+    for rect in rects {
+        assert!(rt; can_restore(plane, *rect));
+        restore_rect(plane, *rect);
+    }
+}
+
+/// Asserts that a band has its values.
+fn assert_values(rt: &impl Abort, band: &Plane) {
+    assert_eq!(rt; band.h(), 3);
+    for y in 0..3u32 {
+        assert_eq!(rt; band.row(y), VALUES[y as usize].as_slice());
+    }
+}
+
 /// The band whole, by rows of slices, and slice by slice.
 #[test]
 fn bands_restored(rt: HostRuntime) -> Result<(), Fail> {
@@ -70,14 +87,8 @@ fn bands_restored(rt: HostRuntime) -> Result<(), Fail> {
     ];
     for rects in partitions {
         let mut plane = residuals(rt.alloc())?;
-        for rect in rects {
-            assert!(rt; can_restore(&plane, *rect));
-            restore_rect(&mut plane, *rect);
-        }
-        assert_eq!(rt; plane.h(), 3);
-        for y in 0..3u32 {
-            assert_eq!(rt; plane.row(y), VALUES[y as usize].as_slice());
-        }
+        restore_all(&rt, &mut plane, rects);
+        assert_values(&rt, &plane);
     }
     Ok(())
 }
