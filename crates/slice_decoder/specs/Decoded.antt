@@ -1,5 +1,5 @@
 -- What decoding a slice leaves in the subbands.
-use Rattle.std.specs.Prelude.{◌≡◌, ℕ, ◌+◌, ◌*◌, ◌≤◌, ◌&&◌, true, false, List, slice_index_or, ℤ, pos, ◌+ℤ◌}
+use Rattle.std.specs.Prelude.{◌≡◌, ℕ, ◌+◌, ◌*◌, ◌≤◌, true, false, List, slice_index_or, ℤ, pos, ◌+ℤ◌}
 use Rattle.planes.specs.Numbers.{Within}
 use Rattle.planes.specs.Raster.{at}
 use Rattle.planes.specs.Rect.{IsInRect}

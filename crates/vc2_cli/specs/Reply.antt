@@ -1,5 +1,5 @@
 -- What the program replies to its words and its input, and what of it stands after a status.
-use Rattle.std.specs.Prelude.{◌≡◌, ◌≤◌, ◌<◌, ℕ, ◌-◌, List, [], length, take, Option, Some, Result, Ok, Err}
+use Rattle.std.specs.Prelude.{◌≡◌, ◌≤◌, ℕ, List, [], Option, Some, Result, Ok, Err}
 use Rattle.std.specs.Io.KnownBytes.{Appends, Consumes, Keeps}
 use Rattle.vc2_io.specs.Outside.{Rose, GrewShort}
 use Rattle.vc2_run.specs.Walk.{Answer, answer_to, out_of, due, IsFront, IsShort, IsPrompt}
