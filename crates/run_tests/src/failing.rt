@@ -1,10 +1,13 @@
 // Runs over parts of streams, and runs whose ends fail.
-use crate::row::{NONE, ONE_EACH, SMALLEST, only, refused};
-use std::alloc::Global;
+use crate::row::SMALLEST;
+use crate::runs::{
+    NONE, ONE_EACH, Outcome, Sinks, assert_decoded, assert_outcome, only, refused, run_word,
+};
+use std::alloc::{AllocError, Global};
 use std::process::Abort;
 use std::test::Fail;
 use vc2_cli::{Reason, Status, WordFault, run};
-use vc2_io::{MemSink, MemSource, fill};
+use vc2_io::MemSource;
 
 // What the picture of the smallest stream comes to.
 const PICTURE: &[u8] = b"\x80\x80\x80";
@@ -30,16 +33,14 @@ fn check_cut(
     pieces: &[usize],
     place: u64,
 ) -> Result<(), Fail> {
-    let words = [String::from_str(alloc, "decode")?];
-    let line = format!(in alloc; "refused at {place}: Truncated\n")?;
+    let note = format!(in alloc; "refused at {place}: Truncated\n")?;
     let mut src = MemSource::new(input, pieces, &[]);
-    let mut out = MemSink::new(alloc, 100, 0, &NONE)?;
-    let mut note = MemSink::new(alloc, 100, 0, &NONE)?;
-    let status = run(alloc, &words, &mut src, &mut out, &mut note);
-    assert_eq!(rt; status, refused(place, Reason::Truncated));
-    assert_eq!(rt; out.bytes(), due(input.len()));
-    assert_eq!(rt; note.bytes(), line.as_bytes());
-    Ok(())
+    let outcome = Outcome {
+        status: refused(place, Reason::Truncated),
+        out: due(input.len()),
+        note: note.as_bytes(),
+    };
+    assert_decoded(rt, alloc, "a cut stream", &mut src, &outcome)
 }
 
 #[test]
@@ -52,21 +53,27 @@ fn cut_streams_are_truncated(rt: HostRuntime) -> Result<(), Fail> {
     Ok(())
 }
 
+// Runs a command with a key over the smallest stream.
+fn run_keyed(alloc: Global, word: &str, sinks: &mut Sinks) -> Result<Status, AllocError> {
+    let words = [
+        String::from_str(alloc, word)?,
+        String::from_str(alloc, "x=1")?,
+    ];
+    let mut src = MemSource::new(SMALLEST, &[], &[]);
+    Ok(run(alloc, &words, &mut src, &mut sinks.out, &mut sinks.note))
+}
+
 #[test]
 fn keys_are_refused(rt: HostRuntime) -> Result<(), Fail> {
-    let alloc = rt.alloc();
+    let outcome = Outcome {
+        status: Status::Usage(WordFault::UnknownKey(1)),
+        out: b"",
+        note: b"usage: UnknownKey word 1\n",
+    };
     for word in ["decode", "check"] {
-        let words = [
-            String::from_str(alloc, word)?,
-            String::from_str(alloc, "x=1")?,
-        ];
-        let mut src = MemSource::new(SMALLEST, &[], &[]);
-        let mut out = MemSink::new(alloc, 100, 0, &NONE)?;
-        let mut note = MemSink::new(alloc, 100, 0, &NONE)?;
-        let status = run(alloc, &words, &mut src, &mut out, &mut note);
-        assert_eq!(rt; status, Status::Usage(WordFault::UnknownKey(1)));
-        assert_eq!(rt; out.bytes(), b"".as_slice());
-        assert_eq!(rt; note.bytes(), b"usage: UnknownKey word 1\n".as_slice());
+        let mut sinks = Sinks::new(rt.alloc())?;
+        let status = run_keyed(rt.alloc(), word, &mut sinks)?;
+        assert_outcome(&rt, word, status, &sinks, &outcome);
     }
     Ok(())
 }
@@ -76,90 +83,61 @@ fn check_failing(
     rt: &impl Abort,
     alloc: Global,
     failing: [&[u64; 4]; 3],
-    status: Status,
-    out_text: &[u8],
-    note_text: &[u8],
+    outcome: &Outcome,
 ) -> Result<(), Fail> {
-    let words = [String::from_str(alloc, "decode")?];
     let [failing_src, failing_out, failing_note] = failing;
     let mut src = MemSource::new(SMALLEST, &ONE_EACH, failing_src);
-    let mut out = MemSink::new(alloc, 100, 1, failing_out)?;
-    let mut note = MemSink::new(alloc, 100, 1, failing_note)?;
-    let answer = run(alloc, &words, &mut src, &mut out, &mut note);
-    assert_eq!(rt; answer, status);
-    assert_eq!(rt; out.bytes(), out_text);
-    assert_eq!(rt; note.bytes(), note_text);
+    let mut sinks = Sinks::failing(alloc, 1, failing_out, failing_note)?;
+    let status = run_word(alloc, "decode", &mut src, &mut sinks)?;
+    assert_outcome(rt, "a failing call", status, &sinks, outcome);
     Ok(())
 }
 
+// What a run comes to in which no call fails.
+const DECODED: Outcome<'static> = Outcome {
+    status: Status::Done,
+    out: PICTURE,
+    note: NOTE,
+};
+
 #[test]
 fn each_read_may_fail(rt: HostRuntime) -> Result<(), Fail> {
-    let alloc = rt.alloc();
     for call in 0..52 {
         let failing = only(call as u64);
-        check_failing(
-            &rt,
-            alloc,
-            [&failing, &NONE, &NONE],
-            Status::ReadFault,
-            due(call),
-            b"",
-        )?;
+        let outcome = Outcome {
+            status: Status::ReadFault,
+            out: due(call),
+            note: b"",
+        };
+        check_failing(&rt, rt.alloc(), [&failing, &NONE, &NONE], &outcome)?;
     }
-    check_failing(
-        &rt,
-        alloc,
-        [&only(52), &NONE, &NONE],
-        Status::Done,
-        PICTURE,
-        NOTE,
-    )
+    check_failing(&rt, rt.alloc(), [&only(52), &NONE, &NONE], &DECODED)
 }
 
 #[test]
 fn each_write_may_fail(rt: HostRuntime) -> Result<(), Fail> {
-    let alloc = rt.alloc();
     for call in 0..3 {
         let failing = only(call as u64);
-        check_failing(
-            &rt,
-            alloc,
-            [&NONE, &failing, &NONE],
-            Status::OutFault,
-            &PICTURE[..call],
-            b"",
-        )?;
+        let outcome = Outcome {
+            status: Status::OutFault,
+            out: &PICTURE[..call],
+            note: b"",
+        };
+        check_failing(&rt, rt.alloc(), [&NONE, &failing, &NONE], &outcome)?;
     }
-    check_failing(
-        &rt,
-        alloc,
-        [&NONE, &only(3), &NONE],
-        Status::Done,
-        PICTURE,
-        NOTE,
-    )
+    check_failing(&rt, rt.alloc(), [&NONE, &only(3), &NONE], &DECODED)
 }
 
 #[test]
 fn each_write_of_the_note_may_fail(rt: HostRuntime) -> Result<(), Fail> {
-    let alloc = rt.alloc();
     for call in 0..20 {
         let failing = only(call as u64);
-        check_failing(
-            &rt,
-            alloc,
-            [&NONE, &NONE, &failing],
-            Status::NoteFault,
-            PICTURE,
-            &NOTE[..call],
-        )?;
+        let outcome = Outcome {
+            status: Status::NoteFault,
+            out: PICTURE,
+            note: &NOTE[..call],
+        };
+        check_failing(&rt, rt.alloc(), [&NONE, &NONE, &failing], &outcome)?;
     }
-    check_failing(
-        &rt,
-        alloc,
-        [&NONE, &NONE, &only(20)],
-        Status::Done,
-        PICTURE,
-        NOTE,
-    )
+    check_failing(&rt, rt.alloc(), [&NONE, &NONE, &only(20)], &DECODED)
 }

@@ -12,6 +12,8 @@ mod row;
 #[cfg(test)]
 mod rows;
 #[cfg(test)]
+mod runs;
+#[cfg(test)]
 mod stream_bytes;
 #[cfg(test)]
 mod streams;

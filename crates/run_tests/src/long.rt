@@ -1,11 +1,11 @@
 // Streams with a long unit that is skipped.
 use crate::hexadecimal::bytes_of;
-use crate::row::{NONE, only};
+use crate::runs::{NONE, Outcome, Sinks, assert_decoded, assert_outcome, only, run_word};
 use std::alloc::Global;
 use std::process::Abort;
 use std::test::Fail;
-use vc2_cli::{Status, run};
-use vc2_io::{MemSink, MemSource, fill};
+use vc2_cli::Status;
+use vc2_io::{MemSource, fill};
 
 // A million zeros between two parts in hexadecimal.
 fn long_stream(alloc: Global, head: &str, tail: &str) -> Result<Vec<u8>, Fail> {
@@ -34,40 +34,54 @@ fn unit_behind(alloc: Global) -> Result<Vec<u8>, Fail> {
     )
 }
 
-fn check_decoded(rt: &impl Abort, alloc: Global, input: &[u8]) -> Result<(), Fail> {
-    let words = [String::from_str(alloc, "decode")?];
+fn check_decoded(rt: &impl Abort, alloc: Global, name: &str, input: &[u8]) -> Result<(), Fail> {
     let mut src = MemSource::new(input, &[], &[]);
-    let mut out = MemSink::new(alloc, 100, 0, &NONE)?;
-    let mut note = MemSink::new(alloc, 100, 0, &NONE)?;
-    let status = run(alloc, &words, &mut src, &mut out, &mut note);
-    assert_eq!(rt; status, Status::Done);
-    assert_eq!(rt; out.bytes(), b"\x80\x80\x80".as_slice());
-    assert_eq!(rt; note.bytes(), b"pictures 1 bytes 1000064\n".as_slice());
-    Ok(())
+    let outcome = Outcome {
+        status: Status::Done,
+        out: b"\x80\x80\x80",
+        note: b"pictures 1 bytes 1000064\n",
+    };
+    assert_decoded(rt, alloc, name, &mut src, &outcome)
 }
 
 #[test]
 fn long_units_are_skipped(rt: HostRuntime) -> Result<(), Fail> {
     let alloc = rt.alloc();
-    check_decoded(&rt, alloc, unit_before(alloc)?.as_slice())?;
-    check_decoded(&rt, alloc, unit_behind(alloc)?.as_slice())
+    check_decoded(&rt, alloc, "before", unit_before(alloc)?.as_slice())?;
+    check_decoded(&rt, alloc, "behind", unit_behind(alloc)?.as_slice())
+}
+
+// Asserts what a run comes to where the picture's write fails.
+fn assert_failed_write(rt: &impl Abort, alloc: Global, src: &mut MemSource) -> Result<(), Fail> {
+    let mut sinks = Sinks::failing(alloc, 0, &only(0), &NONE)?;
+    let status = run_word(alloc, "decode", src, &mut sinks)?;
+    let outcome = Outcome {
+        status: Status::OutFault,
+        out: b"",
+        note: b"",
+    };
+    assert_outcome(rt, "a failed write", status, &sinks, &outcome);
+    Ok(())
+}
+
+// Asserts that a source has so many bytes left, or more.
+fn assert_left(
+    rt: &impl Abort,
+    alloc: Global,
+    src: &mut MemSource,
+    least: usize,
+) -> Result<(), Fail> {
+    let mut left = vec![in alloc; 0; 1000064]?;
+    let count = fill(src, left.as_mut_slice())?;
+    assert!(rt; count >= least, "{count} bytes were left");
+    Ok(())
 }
 
 // The picture's write fails, and at most 4096 bytes were read behind its unit of 38 bytes.
 #[test]
 fn a_failed_write_ends_the_reading(rt: HostRuntime) -> Result<(), Fail> {
-    let alloc = rt.alloc();
-    let words = [String::from_str(alloc, "decode")?];
-    let input = unit_behind(alloc)?;
+    let input = unit_behind(rt.alloc())?;
     let mut src = MemSource::new(input.as_slice(), &[], &[]);
-    let mut out = MemSink::new(alloc, 100, 0, &only(0))?;
-    let mut note = MemSink::new(alloc, 100, 0, &NONE)?;
-    let status = run(alloc, &words, &mut src, &mut out, &mut note);
-    assert_eq!(rt; status, Status::OutFault);
-    assert_eq!(rt; out.bytes(), b"".as_slice());
-    assert_eq!(rt; note.bytes(), b"".as_slice());
-    let mut left = vec![in alloc; 0; 1000064]?;
-    let count = fill(&mut src, left.as_mut_slice())?;
-    assert!(rt; count >= 995931, "{count} bytes were left");
-    Ok(())
+    assert_failed_write(&rt, rt.alloc(), &mut src)?;
+    assert_left(&rt, rt.alloc(), &mut src, 995931)
 }

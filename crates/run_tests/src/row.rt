@@ -1,33 +1,17 @@
-// A worked input, and what a run over it comes to.
-use crate::hexadecimal::bytes_of;
+// Rows of worked inputs, and the smallest stream.
+use crate::runs::{ONE_EACH, Outcome, Sinks, assert_outcome, run_digits};
 use std::alloc::Global;
 use std::process::Abort;
 use std::test::Fail;
-use vc2_cli::{Reason, Refusal, Status, run};
-use vc2_io::{MemSink, MemSource};
+use vc2_cli::Status;
 
 /// The smallest stream: a header unit, a picture unit and an end unit.
 pub(crate) const SMALLEST: &[u8] = b"BBCD\x00\x00\x00\x00\x11\x00\x00\x00\x00\x3F\x27\x42\x4A\
     BBCD\xC8\x00\x00\x00\x15\x00\x00\x00\x11\x00\x00\x00\x00\x0C\x92\x70\x01\
     BBCD\x10\x00\x00\x00\x00\x00\x00\x00\x15";
 
-/// Reads of one byte.
-pub(crate) const ONE_EACH: [usize; 100] = [1; 100];
-
-/// Sinks whose calls don't fail.
-pub(crate) const NONE: [u64; 4] = [u64::MAX; 4];
-
-/// The call that fails, of a sink.
-pub(crate) fn only(call: u64) -> [u64; 4] {
-    [call, u64::MAX, u64::MAX, u64::MAX]
-}
-
-pub(crate) fn refused(place: u64, reason: Reason) -> Status {
-    Status::Refused(Refusal { place, reason })
-}
-
 /// A run of one command over an input in hexadecimal.
-#[derive(Drop)]
+#[derive(Clone, Copy)]
 pub(crate) struct Row<'a> {
     pub name: &'a str,
     pub word: &'a str,
@@ -39,16 +23,14 @@ pub(crate) struct Row<'a> {
 
 impl<'a> Row<'a> {
     fn check(&self, rt: &impl Abort, alloc: Global, pieces: &[usize]) -> Result<(), Fail> {
-        let name = self.name;
-        let words = [String::from_str(alloc, self.word)?];
-        let input = bytes_of(alloc, self.input)?;
-        let mut src = MemSource::new(input.as_slice(), pieces, &[]);
-        let mut out = MemSink::new(alloc, 1000, 0, &NONE)?;
-        let mut note = MemSink::new(alloc, 1000, 0, &NONE)?;
-        let status = run(alloc, &words, &mut src, &mut out, &mut note);
-        assert_eq!(rt; status, self.status, "{name}");
-        assert_eq!(rt; out.bytes(), self.out, "{name}");
-        assert_eq!(rt; note.bytes(), self.note.as_bytes(), "{name}");
+        let outcome = Outcome {
+            status: self.status,
+            out: self.out,
+            note: self.note.as_bytes(),
+        };
+        let mut sinks = Sinks::new(alloc)?;
+        let status = run_digits(alloc, self.word, self.input, pieces, &mut sinks)?;
+        assert_outcome(rt, self.name, status, &sinks, &outcome);
         Ok(())
     }
 }

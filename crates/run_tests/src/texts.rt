@@ -1,28 +1,25 @@
 // The texts that no worked row has: further reasons, and the name of each kind of unit.
-use crate::hexadecimal::bytes_of;
-use crate::row::NONE;
+use crate::runs::{Sinks, run_digits};
 use std::alloc::Global;
 use std::process::Abort;
 use std::test::Fail;
-use vc2_cli::run;
-use vc2_io::{MemSink, MemSource};
 
+// Asserts what was written to both sinks.
+fn assert_texts(rt: &impl Abort, sinks: &Sinks, texts: (&[u8], &[u8])) {
+    assert_eq!(rt; (sinks.out.bytes(), sinks.note.bytes()), texts);
+}
+
+// Asserts what a run of a command over an input in hexadecimal writes.
 fn expect_texts(
     rt: &impl Abort,
     alloc: Global,
     word: &str,
     input: &str,
-    texts: [&[u8]; 2],
+    texts: (&[u8], &[u8]),
 ) -> Result<(), Fail> {
-    let words = [String::from_str(alloc, word)?];
-    let input = bytes_of(alloc, input)?;
-    let [out_text, note_text] = texts;
-    let mut src = MemSource::new(input.as_slice(), &[], &[]);
-    let mut out = MemSink::new(alloc, 1000, 0, &NONE)?;
-    let mut note = MemSink::new(alloc, 1000, 0, &NONE)?;
-    run(alloc, &words, &mut src, &mut out, &mut note);
-    assert_eq!(rt; note.bytes(), note_text);
-    assert_eq!(rt; out.bytes(), out_text);
+    let mut sinks = Sinks::new(alloc)?;
+    run_digits(alloc, word, input, &[], &mut sinks)?;
+    assert_texts(rt, &sinks, texts);
     Ok(())
 }
 
@@ -96,12 +93,17 @@ const REASONS: [(&str, &[u8]); 18] = [
     ),
 ];
 
-#[test]
-fn reasons_have_their_names(rt: HostRuntime) -> Result<(), Fail> {
-    for (input, note) in REASONS {
-        expect_texts(&rt, rt.alloc(), "decode", input, [b"", note])?;
+// Asserts that `decode` writes no picture of these inputs, and these notes.
+fn expect_notes(rt: &impl Abort, alloc: Global, rows: &[(&str, &[u8])]) -> Result<(), Fail> {
+    for (input, note) in rows {
+        expect_texts(rt, alloc, "decode", input, (b"", note))?;
     }
     Ok(())
+}
+
+#[test]
+fn reasons_have_their_names(rt: HostRuntime) -> Result<(), Fail> {
+    expect_notes(&rt, rt.alloc(), &REASONS)
 }
 
 // One field, and then the end.
@@ -115,7 +117,7 @@ fn half_a_frame_is_written(rt: HostRuntime) -> Result<(), Fail> {
         rt.alloc(),
         "decode",
         HALF_FRAME,
-        [b"\x80\x80\x80", b"refused at 43: HalfFrame\n"],
+        (b"\x80\x80\x80", b"refused at 43: HalfFrame\n"),
     )
 }
 
@@ -134,5 +136,5 @@ const LINES: &[u8] = b"0 sequence-header next 13 previous 0\n\
 
 #[test]
 fn units_have_their_names(rt: HostRuntime) -> Result<(), Fail> {
-    expect_texts(&rt, rt.alloc(), "chain", UNITS, [LINES, b""])
+    expect_texts(&rt, rt.alloc(), "chain", UNITS, (LINES, b""))
 }
