@@ -1,6 +1,6 @@
 //! Streams that are refused, each with what stands before.
 
-use crate::reading::{END, FIELDS, HEADER, LINE, PICTURE, expect_twice, joined, refused};
+use crate::reading::{END, FIELDS, HEADER, LINE, PICTURE, expect_units, refused};
 use sequence_header::FieldName;
 use std::alloc::Global;
 use std::process::Abort;
@@ -16,12 +16,9 @@ const SHOWN: &[Item] = &[Item::Sequence, Item::Picture(0)];
 /// The units of a stream, what stands of it, and where and why it is refused.
 type Row<'a> = (&'a [&'a [u8]], &'a [Item], u64, Reason);
 
-fn expect_refusals(rt: &impl Abort, alloc: Global, rows: &[Row]) -> Result<(), Fail> {
-    for (units, items, place, reason) in rows {
-        let bytes = joined(alloc, units)?;
-        expect_twice(rt, alloc, bytes.as_slice(), items, refused(*place, *reason))?;
-    }
-    Ok(())
+fn expect_refusal(rt: &impl Abort, alloc: Global, row: &Row) -> Result<(), Fail> {
+    let (units, items, place, reason) = row;
+    expect_units(rt, alloc, units, items, refused(*place, *reason))
 }
 
 const HEADS_AND_OFFSETS: [Row<'static>; 33] = [
@@ -239,7 +236,10 @@ const HEADS_AND_OFFSETS: [Row<'static>; 33] = [
 /// Prefixes, codes, offsets, repeated headers, skipped payloads, and what lies behind the end.
 #[test]
 fn heads_and_offsets(rt: HostRuntime) -> Result<(), Fail> {
-    expect_refusals(&rt, rt.alloc(), &HEADS_AND_OFFSETS)
+    for row in &HEADS_AND_OFFSETS {
+        expect_refusal(&rt, rt.alloc(), row)?;
+    }
+    Ok(())
 }
 
 const PICTURES: [Row<'static>; 28] = [
@@ -509,7 +509,10 @@ const PICTURES: [Row<'static>; 28] = [
 /// Numbers, transform parameters, slices, and the next offset behind them.
 #[test]
 fn pictures(rt: HostRuntime) -> Result<(), Fail> {
-    expect_refusals(&rt, rt.alloc(), &PICTURES)
+    for row in &PICTURES {
+        expect_refusal(&rt, rt.alloc(), row)?;
+    }
+    Ok(())
 }
 
 /// The head of a first unit, whose next offset is wrong.
@@ -569,9 +572,9 @@ const HEADERS: [(&[u8], u64, Reason); 24] = [
 /// The first sequence header, by its rules. Each comes before that of the next offset.
 #[test]
 fn sequence_headers(rt: HostRuntime) -> Result<(), Fail> {
-    for (payload, place, reason) in HEADERS {
-        let units = [HEAD, payload];
-        expect_refusals(&rt, rt.alloc(), &[(&units, NOTHING, place, reason)])?;
+    for (payload, place, reason) in &HEADERS {
+        let last = refused(*place, *reason);
+        expect_units(&rt, rt.alloc(), &[HEAD, payload], NOTHING, last)?;
     }
     Ok(())
 }
