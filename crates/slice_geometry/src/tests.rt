@@ -65,10 +65,10 @@ const RULES: [([u32; 5], Option<LayoutFault>); 12] = [
 // The order of the rules, and layouts at the limits.
 #[test]
 fn the_first_broken_rule_is_told(rt: HostRuntime) {
-    for (numbers, fault) in RULES {
-        let [depth, across, down, a, b] = numbers;
+    for (numbers, fault) in &RULES {
+        let [depth, across, down, a, b] = *numbers;
         let answer = Layout::check(depth, across, down, a, b);
-        assert_same(&rt, (numbers, answer.err()), (numbers, fault));
+        assert_same(&rt, (*numbers, answer.err()), (*numbers, *fault));
     }
     let largest = layout(&rt, 0, 8192, 128, MOST, MOST - 1);
     assert_same(&rt, largest.total_bytes(), 1 << 20);
@@ -109,7 +109,8 @@ const PLACES: [(u32, u32, u32, u32, u32); 6] = [
 #[test]
 fn slices_have_their_places(rt: HostRuntime) {
     let three = layout(&rt, 2, 3, 1, 1, 1);
-    for (level, sx, x0, x1, y1) in PLACES {
+    for place in &PLACES {
+        let (level, sx, x0, x1, y1) = *place;
         assert!(&rt; level <= three.depth() && sx < three.slices_x());
         let found = three.band_rect(FIVE_BY_THREE, level, sx, 0);
         let wanted = Rect { x0, x1, y0: 0, y1 };
