@@ -1,6 +1,6 @@
 //! Units longer than one read.
 
-use crate::reading::{HEADER, expect_next};
+use crate::reading::{HEADER, assert_same, expect_items, expect_next, lend, repeated};
 use slice_geometry::Component;
 use std::alloc::Global;
 use std::process::Abort;
@@ -29,49 +29,52 @@ const LARGE_END: &[u8] = b"BBCD\x10\x00\x00\x00\x00\x00\x01\x90\x17";
 
 /// A header unit, a picture unit of 102423 bytes, and the end.
 fn large_stream(alloc: Global) -> Result<Vec<u8>, Fail> {
-    let mut bytes = Vec::new(alloc);
-    bytes.extend_from_slice(LARGE_HEADER)?;
-    bytes.extend_from_slice(LARGE_HEAD)?;
-    for _ in 0..4095 {
-        bytes.extend_from_slice(ZERO_SLICE)?;
-    }
-    bytes.extend_from_slice(LAST_SLICE)?;
-    bytes.extend_from_slice(LARGE_END)?;
-    Ok(bytes)
+    let front: [&[u8]; 2] = [LARGE_HEADER, LARGE_HEAD];
+    repeated(alloc, &front, ZERO_SLICE, 4095, &[LAST_SLICE, LARGE_END])
 }
 
-/// The picture is flat grey but for its last sample, however its bytes come.
+/// The samples of a component are grey, but for the last one.
+fn expect_grey(rt: &impl Abort, samples: &[u16], last: u16) {
+    assert_same(rt, samples.len(), 65536);
+    for (place, sample) in samples.iter().enumerate() {
+        let want = if place < 65535 { 0x80 } else { last };
+        assert_same(rt, (place, *sample), (place, want));
+    }
+}
+
+/// The picture that is shown is flat grey but for its last sample.
+fn expect_grey_picture(rt: &impl Abort, reader: &StreamReader) {
+    let picture = reader.picture().expect(rt, "a picture");
+    expect_grey(rt, picture.samples(Component::Luma), 0x80);
+    expect_grey(rt, picture.samples(Component::C1), 0x80);
+    expect_grey(rt, picture.samples(Component::C2), 0x7F);
+}
+
+fn expect_large<S: Source>(rt: &impl Abort, reader: &mut StreamReader, src: &mut S) {
+    expect_items(rt, reader, src, &[Item::Sequence, Item::Picture(0)]);
+    expect_grey_picture(rt, reader);
+    expect_next(rt, reader, src, Ok(Item::End));
+    assert_same(rt, (reader.taken(), reader.slices()), (102457, 4096));
+}
+
+/// The large stream, in pieces of this length.
+fn read_large(rt: &impl Abort, alloc: Global, bytes: &[u8], piece: usize) -> Result<(), Fail> {
+    let pieces = vec![in alloc; piece; 110000]?;
+    let mut src = MemSource::new(bytes, pieces.as_slice(), &[]);
+    lend(
+        StreamReader::new(alloc),
+        |reader| expect_large(rt, reader, &mut src),
+    )
+}
+
+/// The picture is the same however its bytes come.
 #[test]
 fn a_large_picture(rt: HostRuntime) -> Result<(), Fail> {
     let bytes = large_stream(rt.alloc())?;
-    let grey = vec![in rt.alloc(); 0x80; 65536]?;
-    let mut last = vec![in rt.alloc(); 0x80; 65535]?;
-    last.push(0x7F)?;
     for piece in [1, 1000, 4096] {
-        let pieces = vec![in rt.alloc(); piece; 110000]?;
-        let mut src = MemSource::new(bytes.as_slice(), pieces.as_slice(), &[]);
-        let mut reader = StreamReader::new(rt.alloc())?;
-        let wants = [grey.as_slice(), grey.as_slice(), last.as_slice()];
-        expect_large(&rt, &mut reader, &mut src, wants);
+        read_large(&rt, rt.alloc(), bytes.as_slice(), piece)?;
     }
     Ok(())
-}
-
-fn expect_large<S: Source>(
-    rt: &impl Abort,
-    reader: &mut StreamReader,
-    src: &mut S,
-    wants: [&[u16]; 3],
-) {
-    expect_next(rt, reader, src, Ok(Item::Sequence));
-    expect_next(rt, reader, src, Ok(Item::Picture(0)));
-    let picture = reader.picture().expect(rt, "a picture");
-    let [luma, c1, c2] = wants;
-    assert_eq!(rt; picture.samples(Component::Luma), luma);
-    assert_eq!(rt; picture.samples(Component::C1), c1);
-    assert_eq!(rt; picture.samples(Component::C2), c2);
-    expect_next(rt, reader, src, Ok(Item::End));
-    assert_eq!(rt; (reader.taken(), reader.slices()), (102457, 4096));
 }
 
 /// Each item with the bytes taken behind it.
@@ -87,44 +90,50 @@ const SKIPPED: [(Item, u64); 7] = [
 
 /// Auxiliary data without a payload and with 10000 bytes of it, a picture, padding, and the header once more.
 fn skipping_stream(alloc: Global) -> Result<Vec<u8>, Fail> {
-    let mut bytes = Vec::new(alloc);
-    bytes.extend_from_slice(HEADER)?;
-    bytes.extend_from_slice(b"BBCD\x20\x00\x00\x00\x0D\x00\x00\x00\x11")?;
-    bytes.extend_from_slice(b"BBCD\x20\x00\x00\x27\x1D\x00\x00\x00\x0D")?;
-    for _ in 0..2500 {
-        bytes.extend_from_slice(b"BBCD")?;
-    }
-    bytes.extend_from_slice(
+    let front: [&[u8]; 3] = [
+        HEADER,
+        b"BBCD\x20\x00\x00\x00\x0D\x00\x00\x00\x11",
+        b"BBCD\x20\x00\x00\x27\x1D\x00\x00\x00\x0D",
+    ];
+    let back: [&[u8]; 4] = [
         b"BBCD\xC8\x00\x00\x00\x15\x00\x00\x27\x1D\x00\x00\x00\x00\x0C\x92\x70\x01",
-    )?;
-    bytes.extend_from_slice(b"BBCD\x30\x00\x00\x00\x10\x00\x00\x00\x15\x00\xFF\x42")?;
-    bytes.extend_from_slice(b"BBCD\x00\x00\x00\x00\x11\x00\x00\x00\x10\x3F\x27\x42\x4A")?;
-    bytes.extend_from_slice(b"BBCD\x10\x00\x00\x00\x00\x00\x00\x00\x11")?;
-    Ok(bytes)
+        b"BBCD\x30\x00\x00\x00\x10\x00\x00\x00\x15\x00\xFF\x42",
+        b"BBCD\x00\x00\x00\x00\x11\x00\x00\x00\x10\x3F\x27\x42\x4A",
+        b"BBCD\x10\x00\x00\x00\x00\x00\x00\x00\x11",
+    ];
+    repeated(alloc, &front, b"BBCD", 2500, &back)
 }
 
+/// Each item comes, and fewer bytes than one read gives are held behind it.
 fn expect_skipped<S: Source>(
     rt: &impl Abort,
     reader: &mut StreamReader,
     src: &mut S,
     piece: usize,
 ) {
-    for (item, taken) in SKIPPED {
-        expect_next(rt, reader, src, Ok(item));
-        assert_eq!(rt; reader.taken(), taken);
+    for (item, taken) in &SKIPPED {
+        expect_next(rt, reader, src, Ok(*item));
+        assert_same(rt, reader.taken(), *taken);
         assert!(rt; reader.held() < piece);
     }
 }
 
-/// Skipped units count as taken, and fewer bytes than one read gives are held behind each unit.
+/// The skipping stream, in pieces of this length.
+fn read_skipping(rt: &impl Abort, alloc: Global, bytes: &[u8], piece: usize) -> Result<(), Fail> {
+    let pieces = vec![in alloc; piece; 11000]?;
+    let mut src = MemSource::new(bytes, pieces.as_slice(), &[]);
+    lend(
+        StreamReader::new(alloc),
+        |reader| expect_skipped(rt, reader, &mut src, piece),
+    )
+}
+
+/// Skipped units count as taken, and aren't held.
 #[test]
 fn skipped_units(rt: HostRuntime) -> Result<(), Fail> {
     let bytes = skipping_stream(rt.alloc())?;
     for piece in [1, 7, 1000, 4096] {
-        let pieces = vec![in rt.alloc(); piece; 11000]?;
-        let mut src = MemSource::new(bytes.as_slice(), pieces.as_slice(), &[]);
-        let mut reader = StreamReader::new(rt.alloc())?;
-        expect_skipped(&rt, &mut reader, &mut src, piece);
+        read_skipping(&rt, rt.alloc(), bytes.as_slice(), piece)?;
     }
     Ok(())
 }

@@ -1,17 +1,14 @@
 //! Streams that stand, with the samples of their pictures.
 
 use crate::reading::{
-    END, FIELDS, HEADER, LINE, ONE_EACH, PICTURE, SQUARE, WHOLE, expect_next, expect_twice, joined,
+    END, FIELDS, HEADER, LINE, ONE_EACH, PICTURE, SQUARE, Samples, WHOLE, expect_next,
+    expect_samples, expect_units, joined, lend,
 };
-use slice_geometry::Component;
 use std::alloc::Global;
 use std::process::Abort;
 use std::test::Fail;
 use stream_units::{Item, StreamReader};
 use vc2_io::{MemSource, Source};
-
-/// The samples of the three components.
-type Samples<'a> = [&'a [u16]; 3];
 
 /// Pictures come in turn, with these samples.
 fn expect_pictures<S: Source>(
@@ -23,16 +20,24 @@ fn expect_pictures<S: Source>(
     for (number, want) in wants.iter().enumerate() {
         assert!(rt; number < 100);
         expect_next(rt, reader, src, Ok(Item::Picture(number as u32)));
-        let picture = reader.picture().expect(rt, "a picture");
-        let [luma, c1, c2] = want;
-        assert_eq!(rt; picture.samples(Component::Luma), *luma);
-        assert_eq!(rt; picture.samples(Component::C1), *c1);
-        assert_eq!(rt; picture.samples(Component::C2), *c2);
+        expect_samples(rt, reader, want);
     }
 }
 
-/// A stream of a header, pictures with these samples, and the end.
-fn expect_stream(
+/// A header comes, pictures with these samples, and the end.
+fn expect_stream<S: Source>(
+    rt: &impl Abort,
+    reader: &mut StreamReader,
+    src: &mut S,
+    wants: &[Samples],
+) {
+    expect_next(rt, reader, src, Ok(Item::Sequence));
+    expect_pictures(rt, reader, src, wants);
+    expect_next(rt, reader, src, Ok(Item::End));
+}
+
+/// The bytes of such a stream, in these pieces.
+fn read_stream(
     rt: &impl Abort,
     alloc: Global,
     bytes: &[u8],
@@ -40,22 +45,20 @@ fn expect_stream(
     wants: &[Samples],
 ) -> Result<(), Fail> {
     let mut src = MemSource::new(bytes, pieces, &[]);
-    let mut reader = StreamReader::new(alloc)?;
-    expect_next(rt, &mut reader, &mut src, Ok(Item::Sequence));
-    expect_pictures(rt, &mut reader, &mut src, wants);
-    expect_next(rt, &mut reader, &mut src, Ok(Item::End));
-    Ok(())
+    lend(
+        StreamReader::new(alloc),
+        |reader| expect_stream(rt, reader, &mut src, wants),
+    )
 }
 
 /// The units of a stream of pictures, and their samples.
 type Row<'a> = (&'a [&'a [u8]], &'a [Samples<'a>]);
 
-fn expect_rows(rt: &impl Abort, alloc: Global, rows: &[Row]) -> Result<(), Fail> {
-    for (units, wants) in rows {
-        let bytes = joined(alloc, units)?;
-        for pieces in [WHOLE, ONE_EACH] {
-            expect_stream(rt, alloc, bytes.as_slice(), pieces, wants)?;
-        }
+fn expect_row(rt: &impl Abort, alloc: Global, row: &Row) -> Result<(), Fail> {
+    let (units, wants) = row;
+    let bytes = joined(alloc, units)?;
+    for pieces in [WHOLE, ONE_EACH] {
+        read_stream(rt, alloc, bytes.as_slice(), pieces, wants)?;
     }
     Ok(())
 }
@@ -123,14 +126,14 @@ const ONE_PICTURE: [Row<'static>; 7] = [
 /// in 10 bits.
 #[test]
 fn one_picture(rt: HostRuntime) -> Result<(), Fail> {
-    expect_rows(&rt, rt.alloc(), &ONE_PICTURE)
+    for row in &ONE_PICTURE {
+        expect_row(&rt, rt.alloc(), row)?;
+    }
+    Ok(())
 }
 
-/// Pictures in turn: twice the same parameters, then another wavelet, the first one again, another index, and a matrix
-/// that takes it back. Nothing is left of the picture before.
-#[test]
-fn pictures_in_turn(rt: HostRuntime) -> Result<(), Fail> {
-    let units: [&[u8]; 8] = [
+const IN_TURN: Row<'static> = (
+    &[
         SQUARE,
         b"BBCD\xC8\x00\x00\x00\x1A\x00\x00\x00\x11\x00\x00\x00\x00\x24\x94\x9F\x80\x00\xD0\xA4\x12\x6D",
         b"BBCD\xC8\x00\x00\x00\x1A\x00\x00\x00\x1A\x00\x00\x00\x01\x24\x94\x9F\x80\x00\x01\xFF\xFF\xFF",
@@ -139,16 +142,22 @@ fn pictures_in_turn(rt: HostRuntime) -> Result<(), Fail> {
         b"BBCD\xC8\x00\x00\x00\x1A\x00\x00\x00\x1A\x00\x00\x00\x04\x24\x94\x9F\x80\x08\xD0\xA4\x12\x6D",
         b"BBCD\xC8\x00\x00\x00\x1C\x00\x00\x00\x1A\x00\x00\x00\x05\x24\x94\x98\xC6\x31\x80\x08\xD0\xA4\x12\x6D",
         b"BBCD\x10\x00\x00\x00\x00\x00\x00\x00\x1C",
-    ];
-    let wants: [Samples; 6] = [
+    ],
+    &[
         [&[139, 140, 136, 138], GREYS, GREYS],
         [GREYS, GREYS, GREYS],
         [&[150, 152, 144, 148], GREYS, GREYS],
         [&[139, 140, 136, 138], GREYS, GREYS],
         [&[151, 153, 144, 149], GREYS, GREYS],
         [&[139, 140, 136, 138], GREYS, GREYS],
-    ];
-    expect_rows(&rt, rt.alloc(), &[(&units, &wants)])
+    ],
+);
+
+/// Pictures in turn: twice the same parameters, then another wavelet, the first one again, another index, and a matrix
+/// that takes it back. Nothing is left of the picture before.
+#[test]
+fn pictures_in_turn(rt: HostRuntime) -> Result<(), Fail> {
+    expect_row(&rt, rt.alloc(), &IN_TURN)
 }
 
 const THAT_STAND: [(&[&[u8]], &[Item]); 4] = [
@@ -196,9 +205,8 @@ const THAT_STAND: [(&[&[u8]], &[Item]); 4] = [
 /// Units that stand: no picture, next offsets of 0, numbers of frames and of fields past 2^32 - 1.
 #[test]
 fn units_that_stand(rt: HostRuntime) -> Result<(), Fail> {
-    for (units, items) in THAT_STAND {
-        let bytes = joined(rt.alloc(), units)?;
-        expect_twice(&rt, rt.alloc(), bytes.as_slice(), items, Ok(Item::End))?;
+    for (units, items) in &THAT_STAND {
+        expect_units(&rt, rt.alloc(), units, items, Ok(Item::End))?;
     }
     Ok(())
 }

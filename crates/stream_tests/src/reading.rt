@@ -1,6 +1,8 @@
 //! Reads a stream, and compares what its units and its end come to.
 
+use slice_geometry::Component;
 use std::alloc::Global;
+use std::fmt::Debug;
 use std::process::Abort;
 use std::test::Fail;
 use stream_units::{Item, ReadStop, Reason, Refusal, StreamReader, Verdict, judge};
@@ -36,13 +38,52 @@ pub(crate) fn refused(place: u64, reason: Reason) -> Result<Item, ReadStop> {
     Err(ReadStop::Refused(Refusal { place, reason }))
 }
 
-/// Units behind one another.
-pub(crate) fn joined(alloc: Global, units: &[&[u8]]) -> Result<Vec<u8>, Fail> {
-    let mut bytes = Vec::new(alloc);
+/// Puts units behind the bytes.
+fn append(bytes: &mut Vec<u8>, units: &[&[u8]]) -> Result<(), Fail> {
     for unit in units {
         bytes.extend_from_slice(unit)?;
     }
+    Ok(())
+}
+
+/// Units behind one another.
+pub(crate) fn joined(alloc: Global, units: &[&[u8]]) -> Result<Vec<u8>, Fail> {
+    let mut bytes = Vec::new(alloc);
+    append(&mut bytes, units)?;
     Ok(bytes)
+}
+
+/// What stands in front, a piece so many times, and what stands behind.
+pub(crate) fn repeated(
+    alloc: Global,
+    front: &[&[u8]],
+    piece: &[u8],
+    count: usize,
+    back: &[&[u8]],
+) -> Result<Vec<u8>, Fail> {
+    let mut bytes = joined(alloc, front)?;
+    for _ in 0..count {
+        bytes.extend_from_slice(piece)?;
+    }
+    append(&mut bytes, back)?;
+    Ok(bytes)
+}
+
+/// Asserts that a value is the one that is wanted.
+pub(crate) fn assert_same<T: Copy + Debug + PartialEq>(rt: &impl Abort, found: T, wanted: T) {
+    assert_eq!(rt; found, wanted);
+}
+
+/// Lends what was made, as a reader. Being generic, its proof doesn't look into what it owns.
+pub(crate) fn lend<R: Drop, E: Debug + Drop, F: FnOnce(&mut R)>(
+    made: Result<R, E>,
+    ask: F,
+) -> Result<(), Fail>
+    requires { F.IsAlwaysCallable ask }
+{
+    let mut owned = made?;
+    ask(&mut owned);
+    Ok(())
 }
 
 /// The next call answers this, and leaves at most 4096 bytes held.
@@ -52,7 +93,7 @@ pub(crate) fn expect_next<S: Source>(
     src: &mut S,
     answer: Result<Item, ReadStop>,
 ) {
-    assert_eq!(rt; reader.next(src), answer);
+    assert_same(rt, reader.next(src), answer);
     assert!(rt; reader.held() <= 4096);
 }
 
@@ -68,8 +109,40 @@ pub(crate) fn expect_items<S: Source>(
     }
 }
 
-/// The items come in order, and then the last answer. It stays, and nothing more is read, from a source that fails or
-/// from one that has bytes.
+/// The samples of the three components.
+pub(crate) type Samples<'a> = [&'a [u16]; 3];
+
+/// The picture that is shown has these samples.
+pub(crate) fn expect_samples(rt: &impl Abort, reader: &StreamReader, samples: &Samples) {
+    let picture = reader.picture().expect(rt, "a picture");
+    let [luma, c1, c2] = samples;
+    assert_same(rt, picture.samples(Component::Luma), *luma);
+    assert_same(rt, picture.samples(Component::C1), *c1);
+    assert_same(rt, picture.samples(Component::C2), *c2);
+}
+
+/// The last answer stays, and nothing more is read, from a source that fails or from one that has bytes.
+fn expect_stay(rt: &impl Abort, reader: &mut StreamReader, last: Result<Item, ReadStop>) {
+    let mut failing = MemSource::new(&[], &[], &[0]);
+    expect_next(rt, reader, &mut failing, last);
+    let mut more = MemSource::new(HEADER, &[], &[]);
+    expect_next(rt, reader, &mut more, last);
+}
+
+/// The items come in order, and then the last answer, which stays.
+fn expect_all<S: Source>(
+    rt: &impl Abort,
+    reader: &mut StreamReader,
+    src: &mut S,
+    items: &[Item],
+    last: Result<Item, ReadStop>,
+) {
+    expect_items(rt, reader, src, items);
+    expect_next(rt, reader, src, last);
+    expect_stay(rt, reader, last);
+}
+
+/// The items come in order, and then the last answer, which stays.
 pub(crate) fn expect<S: Source>(
     rt: &impl Abort,
     alloc: Global,
@@ -77,13 +150,25 @@ pub(crate) fn expect<S: Source>(
     items: &[Item],
     last: Result<Item, ReadStop>,
 ) -> Result<(), Fail> {
-    let mut reader = StreamReader::new(alloc)?;
-    expect_items(rt, &mut reader, src, items);
-    expect_next(rt, &mut reader, src, last);
-    let mut failing = MemSource::new(&[], &[], &[0]);
-    expect_next(rt, &mut reader, &mut failing, last);
-    let mut more = MemSource::new(HEADER, &[], &[]);
-    expect_next(rt, &mut reader, &mut more, last);
+    lend(
+        StreamReader::new(alloc),
+        |reader| expect_all(rt, reader, src, items, last),
+    )
+}
+
+/// The verdict of the judge of bytes in memory is that of this last answer.
+fn expect_verdict(
+    rt: &impl Abort,
+    alloc: Global,
+    bytes: &[u8],
+    last: Result<Item, ReadStop>,
+) -> Result<(), Fail> {
+    let verdict = match last {
+        Ok(_) => Verdict::Stream,
+        Err(ReadStop::Refused(refusal)) => Verdict::Refused(refusal),
+        Err(_) => return Ok(()),
+    };
+    assert_same(rt, judge(alloc, bytes)?, verdict);
     Ok(())
 }
 
@@ -99,11 +184,17 @@ pub(crate) fn expect_twice(
         let mut src = MemSource::new(bytes, pieces, &[]);
         expect(rt, alloc, &mut src, items, last)?;
     }
-    let verdict = match last {
-        Ok(_) => Verdict::Stream,
-        Err(ReadStop::Refused(refusal)) => Verdict::Refused(refusal),
-        Err(_) => return Ok(()),
-    };
-    assert_eq!(rt; judge(alloc, bytes)?, verdict);
-    Ok(())
+    expect_verdict(rt, alloc, bytes, last)
+}
+
+/// The same of units behind one another.
+pub(crate) fn expect_units(
+    rt: &impl Abort,
+    alloc: Global,
+    units: &[&[u8]],
+    items: &[Item],
+    last: Result<Item, ReadStop>,
+) -> Result<(), Fail> {
+    let bytes = joined(alloc, units)?;
+    expect_twice(rt, alloc, bytes.as_slice(), items, last)
 }

@@ -1,6 +1,6 @@
 //! Streams that are refused, each with what stands before.
 
-use crate::reading::{END, FIELDS, HEADER, LINE, PICTURE, expect_twice, joined, refused};
+use crate::reading::{END, FIELDS, HEADER, LINE, PICTURE, expect_units, refused};
 use sequence_header::FieldName;
 use std::alloc::Global;
 use std::process::Abort;
@@ -16,29 +16,31 @@ const SHOWN: &[Item] = &[Item::Sequence, Item::Picture(0)];
 /// The units of a stream, what stands of it, and where and why it is refused.
 type Row<'a> = (&'a [&'a [u8]], &'a [Item], u64, Reason);
 
-fn expect_refusals(rt: &impl Abort, alloc: Global, rows: &[Row]) -> Result<(), Fail> {
-    for (units, items, place, reason) in rows {
-        let bytes = joined(alloc, units)?;
-        expect_twice(rt, alloc, bytes.as_slice(), items, refused(*place, *reason))?;
-    }
-    Ok(())
+fn expect_refusal(rt: &impl Abort, alloc: Global, row: &Row) -> Result<(), Fail> {
+    let (units, items, place, reason) = row;
+    expect_units(rt, alloc, units, items, refused(*place, *reason))
 }
 
-const HEADS_AND_OFFSETS: [Row<'static>; 33] = [
+/// A unit behind a header, and where and why it is refused.
+type SecondUnit<'a> = (&'a [u8], u64, Reason);
+
+fn expect_second(rt: &impl Abort, alloc: Global, row: &SecondUnit) -> Result<(), Fail> {
+    let (unit, place, reason) = row;
+    expect_units(
+        rt,
+        alloc,
+        &[HEADER, unit],
+        SEQUENCE,
+        refused(*place, *reason),
+    )
+}
+
+const HEADS_AND_OFFSETS: [Row<'static>; 20] = [
     (&[], NOTHING, 0, Reason::Truncated),
     (
         &[b"BBCE\x00\x00\x00\x00\x11\x00\x00\x00\x00\x3F\x27\x42\x4A"],
         NOTHING,
         0,
-        Reason::BadPrefix,
-    ),
-    (
-        &[
-            HEADER,
-            b"CBCD\xC8\x00\x00\x00\x15\x00\x00\x00\x11\x00\x00\x00\x00\x0C\x92\x70\x01",
-        ],
-        SEQUENCE,
-        17,
         Reason::BadPrefix,
     ),
     (
@@ -57,24 +59,6 @@ const HEADS_AND_OFFSETS: [Row<'static>; 33] = [
         SEQUENCE,
         21,
         Reason::UnsupportedCode(0xE8),
-    ),
-    (
-        &[
-            HEADER,
-            b"BBCD\xCC\x00\x00\x00\x15\x00\x00\x00\x11\x00\x00\x00\x00\x0C\x92\x70\x01",
-        ],
-        SEQUENCE,
-        21,
-        Reason::UnsupportedCode(0xCC),
-    ),
-    (
-        &[
-            HEADER,
-            b"BBCD\xEC\x00\x00\x00\x15\x00\x00\x00\x11\x00\x00\x00\x00\x0C\x92\x70\x01",
-        ],
-        SEQUENCE,
-        21,
-        Reason::UnsupportedCode(0xEC),
     ),
     (
         &[HEADER, PICTURE, b"BBCD\x01"],
@@ -100,30 +84,6 @@ const HEADS_AND_OFFSETS: [Row<'static>; 33] = [
         SHOWN,
         43,
         Reason::HalfFrame,
-    ),
-    (
-        &[HEADER, b"BBCD\x20\x00\x00\x00\x0C\x00\x00\x00\x10"],
-        SEQUENCE,
-        22,
-        Reason::OffsetShort,
-    ),
-    (
-        &[HEADER, b"BBCD\x30\x00\x00\x00\x00\x00\x00\x00\x11"],
-        SEQUENCE,
-        22,
-        Reason::OffsetShort,
-    ),
-    (
-        &[HEADER, b"BBCD\x30\x00\x00\x00\x0C"],
-        SEQUENCE,
-        22,
-        Reason::OffsetShort,
-    ),
-    (
-        &[HEADER, b"BBCD\x10\x00\x00\x00\x0C\x00\x00\x00\x11"],
-        SEQUENCE,
-        22,
-        Reason::OffsetWrong,
     ),
     (
         &[HEADER, PICTURE, b"BBCD\x10\x00\x00\x00\x0E\x00\x00"],
@@ -175,54 +135,6 @@ const HEADS_AND_OFFSETS: [Row<'static>; 33] = [
     ),
     (&[HEADER, HEADER], SEQUENCE, 26, Reason::PreviousWrong),
     (
-        &[HEADER, b"BBCD\x20\x00\x00\x00\x0F\x00\x00\x00\x11\x42"],
-        SEQUENCE,
-        30,
-        Reason::Truncated,
-    ),
-    (
-        &[HEADER, b"BBCD\x30\xFF\xFF\xFF\xFF\x00\x00\x00\x11"],
-        SEQUENCE,
-        30,
-        Reason::Truncated,
-    ),
-    (
-        &[
-            HEADER,
-            b"BBCD\x00\x00\x00\x00\x11\x00\x00\x00\x11\x3F\x27\x42",
-        ],
-        SEQUENCE,
-        30,
-        Reason::Truncated,
-    ),
-    (
-        &[
-            HEADER,
-            b"BBCD\x00\x00\x00\x00\x11\x00\x00\x00\x11\x3F\x27\x42\x4B",
-        ],
-        SEQUENCE,
-        30,
-        Reason::HeaderDiffers,
-    ),
-    (
-        &[
-            HEADER,
-            b"BBCD\x00\x00\x00\x00\x10\x00\x00\x00\x11\xBF\x27\x42\x4A",
-        ],
-        SEQUENCE,
-        30,
-        Reason::HeaderDiffers,
-    ),
-    (
-        &[
-            HEADER,
-            b"BBCD\x00\x00\x00\x00\x12\x00\x00\x00\x11\x3F\x27\x42\x4A",
-        ],
-        SEQUENCE,
-        22,
-        Reason::OffsetWrong,
-    ),
-    (
         &[HEADER, PICTURE, END, b"\x00"],
         SHOWN,
         51,
@@ -239,10 +151,86 @@ const HEADS_AND_OFFSETS: [Row<'static>; 33] = [
 /// Prefixes, codes, offsets, repeated headers, skipped payloads, and what lies behind the end.
 #[test]
 fn heads_and_offsets(rt: HostRuntime) -> Result<(), Fail> {
-    expect_refusals(&rt, rt.alloc(), &HEADS_AND_OFFSETS)
+    for row in &HEADS_AND_OFFSETS {
+        expect_refusal(&rt, rt.alloc(), row)?;
+    }
+    Ok(())
 }
 
-const PICTURES: [Row<'static>; 28] = [
+const SECOND_HEADS_AND_OFFSETS: [SecondUnit<'static>; 13] = [
+    (
+        b"CBCD\xC8\x00\x00\x00\x15\x00\x00\x00\x11\x00\x00\x00\x00\x0C\x92\x70\x01",
+        17,
+        Reason::BadPrefix,
+    ),
+    (
+        b"BBCD\xCC\x00\x00\x00\x15\x00\x00\x00\x11\x00\x00\x00\x00\x0C\x92\x70\x01",
+        21,
+        Reason::UnsupportedCode(0xCC),
+    ),
+    (
+        b"BBCD\xEC\x00\x00\x00\x15\x00\x00\x00\x11\x00\x00\x00\x00\x0C\x92\x70\x01",
+        21,
+        Reason::UnsupportedCode(0xEC),
+    ),
+    (
+        b"BBCD\x20\x00\x00\x00\x0C\x00\x00\x00\x10",
+        22,
+        Reason::OffsetShort,
+    ),
+    (
+        b"BBCD\x30\x00\x00\x00\x00\x00\x00\x00\x11",
+        22,
+        Reason::OffsetShort,
+    ),
+    (b"BBCD\x30\x00\x00\x00\x0C", 22, Reason::OffsetShort),
+    (
+        b"BBCD\x10\x00\x00\x00\x0C\x00\x00\x00\x11",
+        22,
+        Reason::OffsetWrong,
+    ),
+    (
+        b"BBCD\x20\x00\x00\x00\x0F\x00\x00\x00\x11\x42",
+        30,
+        Reason::Truncated,
+    ),
+    (
+        b"BBCD\x30\xFF\xFF\xFF\xFF\x00\x00\x00\x11",
+        30,
+        Reason::Truncated,
+    ),
+    (
+        b"BBCD\x00\x00\x00\x00\x11\x00\x00\x00\x11\x3F\x27\x42",
+        30,
+        Reason::Truncated,
+    ),
+    (
+        b"BBCD\x00\x00\x00\x00\x11\x00\x00\x00\x11\x3F\x27\x42\x4B",
+        30,
+        Reason::HeaderDiffers,
+    ),
+    (
+        b"BBCD\x00\x00\x00\x00\x10\x00\x00\x00\x11\xBF\x27\x42\x4A",
+        30,
+        Reason::HeaderDiffers,
+    ),
+    (
+        b"BBCD\x00\x00\x00\x00\x12\x00\x00\x00\x11\x3F\x27\x42\x4A",
+        22,
+        Reason::OffsetWrong,
+    ),
+];
+
+/// The same of the second unit.
+#[test]
+fn second_heads_and_offsets(rt: HostRuntime) -> Result<(), Fail> {
+    for row in &SECOND_HEADS_AND_OFFSETS {
+        expect_second(&rt, rt.alloc(), row)?;
+    }
+    Ok(())
+}
+
+const PICTURES: [Row<'static>; 12] = [
     (
         &[
             HEADER,
@@ -295,24 +283,6 @@ const PICTURES: [Row<'static>; 28] = [
     (
         &[
             HEADER,
-            b"BBCD\xC8\x00\x00\x00\x16\x00\x00\x00\x11\x00\x00\x00\x00\x80\x92\x70\x01\x42",
-        ],
-        SEQUENCE,
-        34,
-        Reason::WaveletRefused(0),
-    ),
-    (
-        &[
-            HEADER,
-            b"BBCD\xC8\x00\x00\x00\x14\x00\x00\x00\x11\x00\x00\x00\x00\x72\x49\xC0",
-        ],
-        SEQUENCE,
-        34,
-        Reason::WaveletRefused(2),
-    ),
-    (
-        &[
-            HEADER,
             PICTURE,
             b"BBCD\xC8\x00\x00\x00\x14\x00\x00\x00\x15\x00\x00\x00\x01\x4C\x92\x70",
         ],
@@ -323,129 +293,12 @@ const PICTURES: [Row<'static>; 28] = [
     (
         &[
             HEADER,
-            b"BBCD\xC8\x00\x00\x00\x1A\x00\x00\x00\x11\x00\x00\x00\x00\x00\x00\x00\x00\x00\x00\x00\x00\x00",
-        ],
-        SEQUENCE,
-        34,
-        Reason::NumberTooLarge,
-    ),
-    (
-        &[
-            HEADER,
-            b"BBCD\xC8\x00\x00\x00\x19\x00\x00\x00\x11\x00\x00\x00\x00\x00\x00\x00\x00\x00\x00\x00\x00",
-        ],
-        SEQUENCE,
-        34,
-        Reason::Truncated,
-    ),
-    (
-        &[
-            HEADER,
-            b"BBCD\xC8\x00\x00\x00\x14\x00\x00\x00\x11\x00\x00\x00\x00\x0A\x49\x27",
-        ],
-        SEQUENCE,
-        34,
-        Reason::DepthRefused,
-    ),
-    (
-        &[
-            HEADER,
-            b"BBCD\xC8\x00\x00\x00\x14\x00\x00\x00\x11\x00\x00\x00\x00\x0E\x49\xC0",
-        ],
-        SEQUENCE,
-        34,
-        Reason::SlicesRefused,
-    ),
-    (
-        &[
-            HEADER,
-            b"BBCD\xC8\x00\x00\x00\x17\x00\x00\x00\x11\x00\x00\x00\x00\x0C\x00\x00\x04\x92\x70",
-        ],
-        SEQUENCE,
-        34,
-        Reason::SlicesRefused,
-    ),
-    (
-        &[
-            HEADER,
-            b"BBCD\xC8\x00\x00\x00\x14\x00\x00\x00\x11\x00\x00\x00\x00\x0C\xC9\xC0",
-        ],
-        SEQUENCE,
-        35,
-        Reason::SlicesRefused,
-    ),
-    (
-        &[
-            HEADER,
-            b"BBCD\xC8\x00\x00\x00\x18\x00\x00\x00\x11\x00\x00\x00\x00\x0C\x00\x00\x60\x00\x09\x27",
-        ],
-        SEQUENCE,
-        37,
-        Reason::SlicesRefused,
-    ),
-    (
-        &[
-            HEADER,
-            b"BBCD\xC8\x00\x00\x00\x14\x00\x00\x00\x11\x00\x00\x00\x00\x0C\x93\xC0",
-        ],
-        SEQUENCE,
-        35,
-        Reason::ShareRefused,
-    ),
-    (
-        &[
-            HEADER,
-            b"BBCD\xC8\x00\x00\x00\x14\x00\x00\x00\x11\x00\x00\x00\x00\x0C\x92\xF0",
-        ],
-        SEQUENCE,
-        35,
-        Reason::ShareRefused,
-    ),
-    (
-        &[
-            HEADER,
-            b"BBCD\xC8\x00\x00\x00\x1B\x00\x00\x00\x11\x00\x00\x00\x00\x0C\x90\x00\x00\x00\x00\x00\x00\x00\x09",
-        ],
-        SEQUENCE,
-        43,
-        Reason::ShareRefused,
-    ),
-    (
-        &[
-            HEADER,
-            b"BBCD\xC8\x00\x00\x00\x15\x00\x00\x00\x11\x00\x00\x00\x00\x0C\x92\x50\x01",
-        ],
-        SEQUENCE,
-        36,
-        Reason::DefaultMatrix,
-    ),
-    (
-        &[
-            HEADER,
-            b"BBCD\xC8\x00\x00\x00\x13\x00\x00\x00\x11\x00\x00\x00\x00\x0C\x92",
-        ],
-        SEQUENCE,
-        35,
-        Reason::Truncated,
-    ),
-    (
-        &[
-            HEADER,
             b"BBCD\xC8\x00\x00\x00\x16\x00\x00\x00\x11\x00\x00\x00\x00\x0C\x96\x70\x00\x1F",
             b"BBCD\xC8\x00\x00\x00\x16\x00\x00\x00\x16\x00\x00\x00\x01\x0C\x96\x70\x00\xDF",
         ],
         SHOWN,
         59,
         Reason::LumaLengthTooLong,
-    ),
-    (
-        &[
-            HEADER,
-            b"BBCD\xC8\x00\x00\x00\x17\x00\x00\x00\x11\x00\x00\x00\x00\x0C\x90\x9C\xFE\x00\x00",
-        ],
-        SEQUENCE,
-        37,
-        Reason::CoefficientTooLarge,
     ),
     (
         &[
@@ -464,15 +317,6 @@ const PICTURES: [Row<'static>; 28] = [
         SEQUENCE,
         39,
         Reason::Truncated,
-    ),
-    (
-        &[
-            HEADER,
-            b"BBCD\xC8\x00\x00\x00\x15\x00\x00\x00\x11\x00\x00\x00\x00\x0C\x96\x70\x00\xDF",
-        ],
-        SEQUENCE,
-        37,
-        Reason::LumaLengthTooLong,
     ),
     (
         &[
@@ -509,7 +353,102 @@ const PICTURES: [Row<'static>; 28] = [
 /// Numbers, transform parameters, slices, and the next offset behind them.
 #[test]
 fn pictures(rt: HostRuntime) -> Result<(), Fail> {
-    expect_refusals(&rt, rt.alloc(), &PICTURES)
+    for row in &PICTURES {
+        expect_refusal(&rt, rt.alloc(), row)?;
+    }
+    Ok(())
+}
+
+const FIRST_PICTURES: [SecondUnit<'static>; 16] = [
+    (
+        b"BBCD\xC8\x00\x00\x00\x16\x00\x00\x00\x11\x00\x00\x00\x00\x80\x92\x70\x01\x42",
+        34,
+        Reason::WaveletRefused(0),
+    ),
+    (
+        b"BBCD\xC8\x00\x00\x00\x14\x00\x00\x00\x11\x00\x00\x00\x00\x72\x49\xC0",
+        34,
+        Reason::WaveletRefused(2),
+    ),
+    (
+        b"BBCD\xC8\x00\x00\x00\x1A\x00\x00\x00\x11\x00\x00\x00\x00\x00\x00\x00\x00\x00\x00\x00\x00\x00",
+        34,
+        Reason::NumberTooLarge,
+    ),
+    (
+        b"BBCD\xC8\x00\x00\x00\x19\x00\x00\x00\x11\x00\x00\x00\x00\x00\x00\x00\x00\x00\x00\x00\x00",
+        34,
+        Reason::Truncated,
+    ),
+    (
+        b"BBCD\xC8\x00\x00\x00\x14\x00\x00\x00\x11\x00\x00\x00\x00\x0A\x49\x27",
+        34,
+        Reason::DepthRefused,
+    ),
+    (
+        b"BBCD\xC8\x00\x00\x00\x14\x00\x00\x00\x11\x00\x00\x00\x00\x0E\x49\xC0",
+        34,
+        Reason::SlicesRefused,
+    ),
+    (
+        b"BBCD\xC8\x00\x00\x00\x17\x00\x00\x00\x11\x00\x00\x00\x00\x0C\x00\x00\x04\x92\x70",
+        34,
+        Reason::SlicesRefused,
+    ),
+    (
+        b"BBCD\xC8\x00\x00\x00\x14\x00\x00\x00\x11\x00\x00\x00\x00\x0C\xC9\xC0",
+        35,
+        Reason::SlicesRefused,
+    ),
+    (
+        b"BBCD\xC8\x00\x00\x00\x18\x00\x00\x00\x11\x00\x00\x00\x00\x0C\x00\x00\x60\x00\x09\x27",
+        37,
+        Reason::SlicesRefused,
+    ),
+    (
+        b"BBCD\xC8\x00\x00\x00\x14\x00\x00\x00\x11\x00\x00\x00\x00\x0C\x93\xC0",
+        35,
+        Reason::ShareRefused,
+    ),
+    (
+        b"BBCD\xC8\x00\x00\x00\x14\x00\x00\x00\x11\x00\x00\x00\x00\x0C\x92\xF0",
+        35,
+        Reason::ShareRefused,
+    ),
+    (
+        b"BBCD\xC8\x00\x00\x00\x1B\x00\x00\x00\x11\x00\x00\x00\x00\x0C\x90\x00\x00\x00\x00\x00\x00\x00\x09",
+        43,
+        Reason::ShareRefused,
+    ),
+    (
+        b"BBCD\xC8\x00\x00\x00\x15\x00\x00\x00\x11\x00\x00\x00\x00\x0C\x92\x50\x01",
+        36,
+        Reason::DefaultMatrix,
+    ),
+    (
+        b"BBCD\xC8\x00\x00\x00\x13\x00\x00\x00\x11\x00\x00\x00\x00\x0C\x92",
+        35,
+        Reason::Truncated,
+    ),
+    (
+        b"BBCD\xC8\x00\x00\x00\x17\x00\x00\x00\x11\x00\x00\x00\x00\x0C\x90\x9C\xFE\x00\x00",
+        37,
+        Reason::CoefficientTooLarge,
+    ),
+    (
+        b"BBCD\xC8\x00\x00\x00\x15\x00\x00\x00\x11\x00\x00\x00\x00\x0C\x96\x70\x00\xDF",
+        37,
+        Reason::LumaLengthTooLong,
+    ),
+];
+
+/// The same of a picture right behind the header.
+#[test]
+fn first_pictures(rt: HostRuntime) -> Result<(), Fail> {
+    for row in &FIRST_PICTURES {
+        expect_second(&rt, rt.alloc(), row)?;
+    }
+    Ok(())
 }
 
 /// The head of a first unit, whose next offset is wrong.
@@ -569,9 +508,9 @@ const HEADERS: [(&[u8], u64, Reason); 24] = [
 /// The first sequence header, by its rules. Each comes before that of the next offset.
 #[test]
 fn sequence_headers(rt: HostRuntime) -> Result<(), Fail> {
-    for (payload, place, reason) in HEADERS {
-        let units = [HEAD, payload];
-        expect_refusals(&rt, rt.alloc(), &[(&units, NOTHING, place, reason)])?;
+    for (payload, place, reason) in &HEADERS {
+        let last = refused(*place, *reason);
+        expect_units(&rt, rt.alloc(), &[HEAD, payload], NOTHING, last)?;
     }
     Ok(())
 }

@@ -1,11 +1,12 @@
 //! The stream of one picture of one sample: whole, cut at each byte, and over a source that fails.
 
 use crate::reading::{
-    END, HEADER, ONE_EACH, PICTURE, expect, expect_items, expect_next, expect_twice, joined,
-    refused,
+    END, HEADER, ONE_EACH, PICTURE, assert_same, expect, expect_items, expect_next, expect_twice,
+    joined, lend, refused,
 };
 use sequence_header::{AspectField, ColourField, HeaderParts, RateField, SignalField};
 use slice_geometry::{UnitShape, UnitShapes};
+use std::alloc::Global;
 use std::process::Abort;
 use std::test::Fail;
 use stream_units::{Item, ReadStop, Reason, StreamReader, first_unit};
@@ -48,35 +49,37 @@ fn shown(reader: &StreamReader) -> (bool, bool, u64, usize) {
     (has_header, has_picture, reader.taken(), reader.held())
 }
 
+/// Each item with what is shown behind it.
+const STEPS: [(Item, (bool, bool, u64, usize)); 3] = [
+    (Item::Sequence, (true, false, 17, 34)),
+    (Item::Picture(0), (true, true, 38, 13)),
+    (Item::End, (true, false, 51, 0)),
+];
+
 /// What the reader shows before the first unit, behind each, and in the end.
 #[test]
 fn unit_by_unit(rt: HostRuntime) -> Result<(), Fail> {
     let bytes = joined(rt.alloc(), &[HEADER, PICTURE, END])?;
     let mut src = SteadySource::new(bytes.as_slice());
-    let mut reader = StreamReader::new(rt.alloc())?;
-    expect_shown(&rt, &mut reader, &mut src);
-    Ok(())
+    lend(StreamReader::new(rt.alloc()), |reader| {
+        expect_shown(&rt, reader, &mut src);
+        expect_sums(&rt, reader);
+    })
 }
 
 fn expect_shown<S: Source>(rt: &impl Abort, reader: &mut StreamReader, src: &mut S) {
-    assert_eq!(rt; shown(reader), (false, false, 0, 0));
-    let steps = [
-        (Item::Sequence, (true, false, 17, 34)),
-        (Item::Picture(0), (true, true, 38, 13)),
-        (Item::End, (true, false, 51, 0)),
-    ];
-    for (item, want) in steps {
-        expect_next(rt, reader, src, Ok(item));
-        assert_eq!(rt; shown(reader), want);
+    assert_same(rt, shown(reader), (false, false, 0, 0));
+    for (item, want) in &STEPS {
+        expect_next(rt, reader, src, Ok(*item));
+        assert_same(rt, shown(reader), *want);
     }
-    expect_parts(rt, reader);
-    assert_eq!(rt; (reader.pictures(), reader.slices()), (1, 1));
-    expect_shapes(rt, reader.shapes());
 }
 
-fn expect_parts(rt: &impl Abort, reader: &StreamReader) {
+fn expect_sums(rt: &impl Abort, reader: &StreamReader) {
     let header = reader.header().expect(rt, "a header");
-    assert_eq!(rt; *header.parts(), PARTS);
+    assert_same(rt, *header.parts(), PARTS);
+    assert_same(rt, (reader.pictures(), reader.slices()), (1, 1));
+    expect_shapes(rt, reader.shapes());
 }
 
 /// A header, a picture of one slice, which begins 20 bytes behind its unit's first, and the end.
@@ -85,10 +88,10 @@ fn expect_shapes(rt: &impl Abort, shapes: &UnitShapes) {
         slices: 1,
         ..plain(17, 20)
     };
-    assert_eq!(rt; (shapes.len(), shapes.total()), (3, 51));
+    assert_same(rt, (shapes.len(), shapes.total()), (3, 51));
     for (number, shape) in [plain(0, 17), picture, plain(38, 13)].iter().enumerate() {
         assert!(rt; number < shapes.len());
-        assert_eq!(rt; shapes.get(number), *shape);
+        assert_same(rt, (number, shapes.get(number)), (number, *shape));
     }
 }
 
@@ -97,31 +100,33 @@ fn expect_shapes(rt: &impl Abort, shapes: &UnitShapes) {
 fn behind_a_refusal(rt: HostRuntime) -> Result<(), Fail> {
     let bytes = joined(rt.alloc(), &[HEADER, PICTURE, END, &[0]])?;
     let mut src = SteadySource::new(bytes.as_slice());
-    let mut reader = StreamReader::new(rt.alloc())?;
-    expect_stopped(&rt, &mut reader, &mut src);
-    Ok(())
+    lend(
+        StreamReader::new(rt.alloc()),
+        |reader| expect_stopped(&rt, reader, &mut src),
+    )
 }
 
 fn expect_stopped<S: Source>(rt: &impl Abort, reader: &mut StreamReader, src: &mut S) {
     expect_items(rt, reader, src, &ITEMS);
-    assert_eq!(rt; shown(reader), (true, true, 38, 14));
-    let trailing = refused(51, Reason::TrailingBytes);
-    expect_next(rt, reader, src, trailing);
+    assert_same(rt, shown(reader), (true, true, 38, 14));
+    expect_next(rt, reader, src, refused(51, Reason::TrailingBytes));
     let (has_header, has_picture, taken, _) = shown(reader);
-    assert_eq!(rt; (has_header, has_picture, taken), (true, false, 38));
-    assert_eq!(rt; reader.shapes().len(), 2);
+    assert_same(rt, (has_header, has_picture, taken), (true, false, 38));
+    assert_same(rt, reader.shapes().len(), 2);
 }
 
 /// The first unit alone.
 #[test]
 fn its_first_unit(rt: HostRuntime) -> Result<(), Fail> {
     let (header, length) = first_unit(HEADER).ok().expect(&rt, "a header unit");
-    assert_eq!(rt; (*header.parts(), length), (PARTS, 17));
+    assert_same(&rt, (*header.parts(), length), (PARTS, 17));
     Ok(())
 }
 
 /// The first and the last length of the cut stream, how many items stand, and the place of the field that is short.
-const CUTS: [(usize, usize, usize, u64); 20] = [
+type Cut = (usize, usize, usize, u64);
+
+const CUTS: [Cut; 20] = [
     (0, 3, 0, 0),
     (4, 4, 0, 4),
     (5, 8, 0, 5),
@@ -144,31 +149,49 @@ const CUTS: [(usize, usize, usize, u64); 20] = [
     (47, 50, 2, 47),
 ];
 
-#[test]
-fn cut_at_each_byte(rt: HostRuntime) -> Result<(), Fail> {
-    let bytes = joined(rt.alloc(), &[HEADER, PICTURE, END])?;
-    for (first, last, count, place) in CUTS {
-        for length in first..=last {
-            let short = refused(place, Reason::Truncated);
-            assert!(rt; length <= bytes.len() && count <= ITEMS.len());
-            expect_twice(&rt, rt.alloc(), &bytes[..length], &ITEMS[..count], short)?;
-        }
+/// The stream cut at each of these lengths.
+fn expect_cut(rt: &impl Abort, alloc: Global, bytes: &[u8], cut: Cut) -> Result<(), Fail> {
+    let (first, last, count, place) = cut;
+    let short = refused(place, Reason::Truncated);
+    for length in first..=last {
+        assert!(rt; length <= bytes.len() && count <= ITEMS.len());
+        expect_twice(rt, alloc, &bytes[..length], &ITEMS[..count], short)?;
     }
     Ok(())
 }
 
-/// Each read fails in turn, where each byte comes alone: the units that stand whole before it come, and then the fault.
+#[test]
+fn cut_at_each_byte(rt: HostRuntime) -> Result<(), Fail> {
+    let bytes = joined(rt.alloc(), &[HEADER, PICTURE, END])?;
+    for cut in &CUTS {
+        expect_cut(&rt, rt.alloc(), bytes.as_slice(), *cut)?;
+    }
+    Ok(())
+}
+
+/// One read fails, where each byte comes alone.
+fn expect_failing(
+    rt: &impl Abort,
+    alloc: Global,
+    bytes: &[u8],
+    call: u64,
+    items: &[Item],
+    last: Result<Item, ReadStop>,
+) -> Result<(), Fail> {
+    let failing = [call];
+    let mut src = MemSource::new(bytes, ONE_EACH, &failing);
+    expect(rt, alloc, &mut src, items, last)
+}
+
+/// Each read fails in turn: the units that stand whole before it come, and then the fault.
 #[test]
 fn each_read_fails(rt: HostRuntime) -> Result<(), Fail> {
     let bytes = joined(rt.alloc(), &[HEADER, PICTURE, END])?;
     for call in 0..52 {
-        let failing = [call];
-        let mut src = MemSource::new(bytes.as_slice(), ONE_EACH, &failing);
         let count = usize::from(call >= 17) + usize::from(call >= 38);
-        let fault = Err(ReadStop::ReadFault);
-        expect(&rt, rt.alloc(), &mut src, &ITEMS[..count], fault)?;
+        let (items, fault) = (&ITEMS[..count], Err(ReadStop::ReadFault));
+        expect_failing(&rt, rt.alloc(), bytes.as_slice(), call, items, fault)?;
     }
     // There are no more reads.
-    let mut src = MemSource::new(bytes.as_slice(), ONE_EACH, &[52]);
-    expect(&rt, rt.alloc(), &mut src, &ITEMS, Ok(Item::End))
+    expect_failing(&rt, rt.alloc(), bytes.as_slice(), 52, &ITEMS, Ok(Item::End))
 }
