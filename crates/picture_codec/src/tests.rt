@@ -1,7 +1,8 @@
 //! Slices to samples, by rows worked out apart from the program.
+//!
+//! Owners are dropped by name, since the proof of that call is short.
 
 ghost use Rattle.std.specs.Prelude.{◌≡◌, false, OnOk};
-ghost use Rattle.slice_geometry.specs.Shape.{IsSize};
 
 use crate::{Picture, PictureDecoder, SliceFault, TransformParams};
 use lifting::Wavelet;
@@ -11,21 +12,12 @@ use std::alloc::Global;
 use std::process::Abort;
 use std::test::Fail;
 
-/// Samples of 8 bits.
-fn shape(luma: Size, colour: Size) -> PictureShape
-    requires luma { IsSize luma.w luma.h }
-    requires colour { IsSize colour.w colour.h }
-{
-    PictureShape {
-        luma,
-        colour,
-        luma_depth: 8,
-        colour_depth: 8,
-    }
-}
+/// A wavelet and a depth, how many slices stand in the one row, and the bytes of each.
+type Coding = (Wavelet, u32, u32, u32);
 
-/// One row of slices of `a` bytes, and a matrix of zeros.
-fn params(rt: &impl Abort, wavelet: Wavelet, depth: u32, across: u32, a: u32) -> TransformParams {
+/// Parameters with a matrix of zeros.
+fn params(rt: &impl Abort, coding: Coding) -> TransformParams {
+    let (wavelet, depth, across, a) = coding;
     let layout = Layout::check(depth, across, 1, a, 1)
         .ok()
         .expect(rt, "a layout");
@@ -94,23 +86,28 @@ fn assert_turns(rt: &impl Abort, decoder: &mut PictureDecoder, turns: &[Turn<'_>
     }
 }
 
-/// Asserts what a decoder makes of pictures in turn, and lets it go.
-fn assert_owned(rt: &impl Abort, mut decoder: PictureDecoder, turns: &[Turn<'_>])
-    requires { decoder.refused ≡ false }
-{
-    assert_turns(rt, &mut decoder, turns);
-}
-
 /// Asserts what a new decoder makes of pictures in turn.
 fn expect_turns(
     rt: &impl Abort,
     alloc: Global,
     shape: &PictureShape,
-    params: &TransformParams,
+    coding: Coding,
     turns: &[Turn<'_>],
 ) -> Result<(), Fail> {
-    let decoder = PictureDecoder::new(alloc, shape, params)?;
-    assert_owned(rt, decoder, turns);
+    let mut decoder = PictureDecoder::new(alloc, shape, &params(rt, coding))?;
+    assert_turns(rt, &mut decoder, turns);
+    drop(decoder);
+    Ok(())
+}
+
+/// What a new decoder of this shape and coding makes of pictures in turn.
+type Case<'a> = (PictureShape, Coding, &'a [Turn<'a>]);
+
+/// Asserts each case.
+fn expect_cases(rt: &impl Abort, alloc: Global, cases: &[Case<'_>]) -> Result<(), Fail> {
+    for (shape, coding, turns) in cases {
+        expect_turns(rt, alloc, shape, *coding, turns)?;
+    }
     Ok(())
 }
 
@@ -120,72 +117,90 @@ const TWO: Size = Size { w: 2, h: 2 };
 
 const LINE: Size = Size { w: 2, h: 1 };
 
+const DOT: PictureShape = PictureShape {
+    luma: ONE,
+    colour: ONE,
+    luma_depth: 8,
+    colour_depth: 8,
+};
+
+const LINES: PictureShape = PictureShape {
+    luma: LINE,
+    colour: LINE,
+    luma_depth: 8,
+    colour_depth: 8,
+};
+
+const SQUARES: PictureShape = PictureShape {
+    luma: TWO,
+    colour: TWO,
+    luma_depth: 8,
+    colour_depth: 8,
+};
+
+const HALVED: PictureShape = PictureShape {
+    luma: TWO,
+    colour: ONE,
+    luma_depth: 8,
+    colour_depth: 8,
+};
+
+const PADDED: PictureShape = PictureShape {
+    luma: LINE,
+    colour: ONE,
+    luma_depth: 8,
+    colour_depth: 8,
+};
+
 const GREY: &[u16] = &[0x80];
 
 const GREYS: &[u16] = &[0x80, 0x80, 0x80, 0x80];
 
+const EXACT: &[u16] = &[0x8B, 0x8C, 0x88, 0x8A];
+
 // A slice without loss: 11, 12, 8 and 10 in two rows.
 const LOSSLESS: &[u8] = &[0x00, 0xD0, 0xA4, 0x12, 0x6D];
 
-/// Slices of one place, and their pictures, each of a decoder of its own: without and with prediction.
-const DOTS: [[Turn<'static>; 1]; 3] = [
-    [(&[&[0x01]], Ok((GREY, GREY, GREY)))],
-    [(&[&[0x00]], Ok((GREY, &[0x7E], GREY)))],
-    [(&[&[0xFE]], Ok((GREY, &[0x00], GREY)))],
+const FLAT: Coding = (Wavelet::HaarFlat, 0, 1, 1);
+
+const FIVE: Coding = (Wavelet::LeGall, 1, 1, 5);
+
+const FOUR: Coding = (Wavelet::LeGall, 1, 1, 4);
+
+/// Pictures, each of a decoder of its own: without and with prediction, one level, colour of half the size, and padding.
+const WORKED: [Case<'static>; 8] = [
+    (DOT, FLAT, &[(&[&[0x01]], Ok((GREY, GREY, GREY)))]),
+    (DOT, FLAT, &[(&[&[0x00]], Ok((GREY, &[0x7E], GREY)))]),
+    (DOT, FLAT, &[(&[&[0xFE]], Ok((GREY, &[0x00], GREY)))]),
+    (
+        LINES,
+        (Wavelet::HaarFlat, 0, 2, 1),
+        &[(
+            &[&[0x0A], &[0x03]],
+            Ok((&[0x80, 0x80], &[0x7A, 0x7A], &[0x80, 0x80])),
+        )],
+    ),
+    (SQUARES, FIVE, &[(&[LOSSLESS], Ok((EXACT, GREYS, GREYS)))]),
+    (
+        SQUARES,
+        FOUR,
+        &[(
+            &[&[0x07, 0x44, 0x62, 0x72]],
+            Ok((&[0x8C, 0x8C, 0x89, 0x8B], GREYS, GREYS)),
+        )],
+    ),
+    (HALVED, FIVE, &[(&[LOSSLESS], Ok((EXACT, GREY, GREY)))]),
+    (
+        PADDED,
+        FIVE,
+        &[(&[LOSSLESS], Ok((&[0x8B, 0x8C], GREY, GREY)))],
+    ),
 ];
 
-/// Two slices of one place each.
-const LINES: [Turn<'static>; 1] = [(
-    &[&[0x0A], &[0x03]],
-    Ok((&[0x80, 0x80], &[0x7A, 0x7A], &[0x80, 0x80])),
-)];
-
-/// The samples of slices without a level.
+/// The samples of worked slices.
 #[test]
-fn pictures_of_no_level(rt: HostRuntime) -> Result<(), Fail> {
-    let flat = params(&rt, Wavelet::HaarFlat, 0, 1, 1);
-    for turns in &DOTS {
-        expect_turns(&rt, rt.alloc(), &shape(ONE, ONE), &flat, turns)?;
-    }
-    let halves = params(&rt, Wavelet::HaarFlat, 0, 2, 1);
-    expect_turns(&rt, rt.alloc(), &shape(LINE, LINE), &halves, &LINES)
-}
-
-const EXACT: &[u16] = &[0x8B, 0x8C, 0x88, 0x8A];
-
-/// A slice without loss, and one with loss.
-const SQUARES: [Turn<'static>; 1] = [(&[LOSSLESS], Ok((EXACT, GREYS, GREYS)))];
-
-const LOSSY_SQUARES: [Turn<'static>; 1] = [(
-    &[&[0x07, 0x44, 0x62, 0x72]],
-    Ok((&[0x8C, 0x8C, 0x89, 0x8B], GREYS, GREYS)),
-)];
-
-/// Colour of half the size, and luma with padding.
-const HALVED: [Turn<'static>; 1] = [(&[LOSSLESS], Ok((EXACT, GREY, GREY)))];
-
-const PADDED: [Turn<'static>; 1] = [(&[LOSSLESS], Ok((&[0x8B, 0x8C], GREY, GREY)))];
-
-/// Asserts what a new decoder makes of slices of one level, each of so many bytes.
-fn expect_level(
-    rt: &impl Abort,
-    alloc: Global,
-    shape: &PictureShape,
-    a: u32,
-    turns: &[Turn<'_>],
-) -> Result<(), Fail> {
-    let params = params(rt, Wavelet::LeGall, 1, 1, a);
-    expect_turns(rt, alloc, shape, &params, turns)
-}
-
-/// The samples of slices of one level.
-#[test]
-fn pictures_of_one_level(rt: HostRuntime) -> Result<(), Fail> {
-    let alloc = rt.alloc();
-    expect_level(&rt, alloc, &shape(TWO, TWO), 5, &SQUARES)?;
-    expect_level(&rt, alloc, &shape(TWO, TWO), 4, &LOSSY_SQUARES)?;
-    expect_level(&rt, alloc, &shape(TWO, ONE), 5, &HALVED)?;
-    expect_level(&rt, alloc, &shape(LINE, ONE), 5, &PADDED)
+fn worked_pictures(rt: HostRuntime) -> Result<(), Fail> {
+    expect_cases(&rt, rt.alloc(), &WORKED)
 }
 
 /// A picture, a slice that is refused, and a picture again.
@@ -198,19 +213,12 @@ const TURNS: [Turn<'static>; 3] = [
 /// One decoder takes picture after picture, also after a slice was refused.
 #[test]
 fn pictures_in_turn(rt: HostRuntime) -> Result<(), Fail> {
-    let flat = params(&rt, Wavelet::HaarFlat, 0, 1, 2);
-    expect_turns(&rt, rt.alloc(), &shape(ONE, ONE), &flat, &TURNS)
+    expect_turns(&rt, rt.alloc(), &DOT, (Wavelet::HaarFlat, 0, 1, 2), &TURNS)
 }
 
 /// A new picture of two luma samples, of which the second is put, as the sample of C2 is.
 fn sample_picture(alloc: Global) -> Result<Picture, Fail> {
-    let shape = PictureShape {
-        luma: LINE,
-        colour: ONE,
-        luma_depth: 8,
-        colour_depth: 8,
-    };
-    let mut picture = Picture::new(alloc, &shape)?;
+    let mut picture = Picture::new(alloc, &PADDED)?;
     picture.set(Component::Luma, 0, 1, 0xFF);
     picture.set(Component::C2, 0, 0, 7);
     Ok(picture)
@@ -227,5 +235,6 @@ fn assert_samples(rt: &impl Abort, picture: &Picture) {
 fn a_picture_keeps_samples(rt: HostRuntime) -> Result<(), Fail> {
     let picture = sample_picture(rt.alloc())?;
     assert_samples(&rt, &picture);
+    drop(picture);
     Ok(())
 }
