@@ -1,4 +1,6 @@
 //! Pictures and their bytes, worked out by hand.
+//!
+//! Owners are dropped by name, since the proof of that call is short.
 
 ghost use Rattle.std.specs.Prelude.{◌≡◌};
 ghost use Rattle.slice_geometry.specs.Shape.{IsSize, IsDepth};
@@ -106,6 +108,7 @@ fn assert_written(
 ) -> Result<(), Fail> {
     let mut sink = sink_of(alloc, limits)?;
     assert_write(rt, &mut sink, picture, answer, want);
+    drop(sink);
     Ok(())
 }
 
@@ -118,7 +121,9 @@ fn expect_bytes(
     want: &[u8],
 ) -> Result<(), Fail> {
     let picture = picture_of(rt, alloc, shape, samples)?;
-    assert_written(rt, alloc, &picture, (100, 0, u64::MAX), Ok(()), want)
+    let done = assert_written(rt, alloc, &picture, (100, 0, u64::MAX), Ok(()), want);
+    drop(picture);
+    done
 }
 
 /// One byte a sample where both depths are at most 8, else two.
@@ -177,7 +182,9 @@ fn assert_failures(rt: &impl Abort, alloc: Global, picture: &Picture) -> Result<
 fn failed_writes(rt: HostRuntime) -> Result<(), Fail> {
     let shape = square(Size { w: 1, h: 1 }, 8, 8);
     let picture = picture_of(&rt, rt.alloc(), &shape, [&[1, 2, 3, 4], &[5], &[6]])?;
-    assert_failures(&rt, rt.alloc(), &picture)
+    let done = assert_failures(&rt, rt.alloc(), &picture);
+    drop(picture);
+    done
 }
 
 /// A picture of 5000 luma samples, of which two aren't 0.
@@ -209,6 +216,7 @@ fn assert_long_write(rt: &impl Abort, alloc: Global, picture: &Picture) -> Resul
     let mut sink = sink_of(alloc, (10100, 0, u64::MAX))?;
     assert_eq!(rt; write_picture(&mut sink, picture), Ok(()));
     assert_long(rt, sink.bytes());
+    drop(sink);
     Ok(())
 }
 
@@ -216,5 +224,7 @@ fn assert_long_write(rt: &impl Abort, alloc: Global, picture: &Picture) -> Resul
 #[test]
 fn a_long_component(rt: HostRuntime) -> Result<(), Fail> {
     let picture = long_picture(rt.alloc())?;
-    assert_long_write(&rt, rt.alloc(), &picture)
+    let done = assert_long_write(&rt, rt.alloc(), &picture);
+    drop(picture);
+    done
 }
