@@ -1,3 +1,7 @@
+//! Slices of one place and of one level, and their values.
+//!
+//! Owners are dropped by name, since the proof of that call is short.
+
 ghost use Rattle.std.specs.Prelude.{◌≡◌, ℕ, ◌<◌, IfOk};
 ghost use Rattle.slice_geometry.specs.Shape.{IsSize};
 ghost use Rattle.slice_decoder.specs.Decoded.{IsReady, AreReady};
@@ -118,6 +122,7 @@ fn expect_one_place(
     let (layout, shape) = (layout(rt, 0, 1, bytes.len() as u32), shape(ONE));
     let mut bands = zeros(alloc, &layout, &shape)?;
     let values = first_values(rt, &layout, &shape, bytes, &mut bands);
+    drop(bands);
     assert_eq!(rt; values, *want);
     Ok(())
 }
@@ -172,6 +177,7 @@ fn a_slice_of_one_level(rt: HostRuntime) -> Result<(), Fail> {
     };
     assert_head(&rt, &layout, &shape, &bytes, &mut bands, head);
     assert_one_level(&rt, &bands);
+    drop(bands);
     Ok(())
 }
 
@@ -191,5 +197,6 @@ fn a_slice_of_no_place(rt: HostRuntime) -> Result<(), Fail> {
     };
     assert_head(&rt, &layout, &shape, &[0x14, 0x5F], &mut bands, head);
     assert_lowest(&rt, &bands.c2, 0);
+    drop(bands);
     Ok(())
 }
