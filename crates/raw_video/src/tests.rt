@@ -1,4 +1,6 @@
 //! Pictures and their bytes, worked out by hand.
+//!
+//! Owners are dropped by name, since the proof of that call is short.
 
 ghost use Rattle.std.specs.Prelude.{◌≡◌};
 ghost use Rattle.slice_geometry.specs.Shape.{IsSize, IsDepth};
@@ -12,8 +14,6 @@ use std::alloc::Global;
 use std::process::Abort;
 use std::test::Fail;
 use vc2_io::{Failed, MemSink};
-
-const NO_CALL: [u64; 4] = [u64::MAX, u64::MAX, u64::MAX, u64::MAX];
 
 // The size of a component.
 fn size_of(shape: &PictureShape, c: Component) -> Size
@@ -76,7 +76,43 @@ fn square(colour: Size, luma_depth: u32, colour_depth: u32) -> PictureShape
     }
 }
 
-// Writes the picture of these samples, and compares its bytes.
+/// Asserts what a write of the picture answers, and what went out.
+fn assert_write(
+    rt: &impl Abort,
+    sink: &mut MemSink,
+    picture: &Picture,
+    answer: Result<(), Failed>,
+    want: &[u8],
+) {
+    let given = write_picture(sink, picture);
+    assert_eq!(rt; (given, sink.bytes()), (answer, want));
+}
+
+/// The room of a sink, the most that a call takes where that isn't 0, and the call that fails.
+type Limits = (usize, usize, u64);
+
+fn sink_of(alloc: Global, limits: Limits) -> Result<MemSink, Fail> {
+    let (room, most, failing) = limits;
+    let sink = MemSink::new(alloc, room, most, &[failing, u64::MAX, u64::MAX, u64::MAX])?;
+    Ok(sink)
+}
+
+/// Asserts what a write of the picture to a sink of these limits answers, and what goes out.
+fn assert_written(
+    rt: &impl Abort,
+    alloc: Global,
+    picture: &Picture,
+    limits: Limits,
+    answer: Result<(), Failed>,
+    want: &[u8],
+) -> Result<(), Fail> {
+    let mut sink = sink_of(alloc, limits)?;
+    assert_write(rt, &mut sink, picture, answer, want);
+    drop(sink);
+    Ok(())
+}
+
+/// Asserts the bytes of the picture of these samples.
 fn expect_bytes(
     rt: &impl Abort,
     alloc: Global,
@@ -85,10 +121,9 @@ fn expect_bytes(
     want: &[u8],
 ) -> Result<(), Fail> {
     let picture = picture_of(rt, alloc, shape, samples)?;
-    let mut sink = MemSink::new(alloc, 100, 0, &NO_CALL)?;
-    assert_eq!(rt; write_picture(&mut sink, &picture), Ok(()));
-    assert_eq!(rt; sink.bytes(), want);
-    Ok(())
+    let done = assert_written(rt, alloc, &picture, (100, 0, u64::MAX), Ok(()), want);
+    drop(picture);
+    done
 }
 
 /// One byte a sample where both depths are at most 8, else two.
@@ -123,39 +158,39 @@ fn bytes_of_pictures(rt: HostRuntime) -> Result<(), Fail> {
         &square(dot, 9, 8),
         [&[0x100, 0, 1, 2], &[0xFF], &[0x80]],
         b"\x00\x01\x00\x00\x01\x00\x02\x00\xFF\x00\x80\x00",
-    )?;
+    )
+}
+
+/// Sinks, and what goes out before a failed write: by calls of three bytes, of which one fails, and into room for five.
+const FAILURES: [(Limits, &[u8]); 5] = [
+    ((100, 3, 0), b""),
+    ((100, 3, 1), b"\x01\x02\x03"),
+    ((100, 3, 2), b"\x01\x02\x03\x04"),
+    ((100, 3, 3), b"\x01\x02\x03\x04\x05"),
+    ((5, 0, u64::MAX), b"\x01\x02\x03\x04\x05"),
+];
+
+/// Asserts what goes out of a picture before each failed write.
+fn assert_failures(rt: &impl Abort, alloc: Global, picture: &Picture) -> Result<(), Fail> {
+    for (limits, want) in &FAILURES {
+        assert_written(rt, alloc, picture, *limits, Err(Failed), want)?;
+    }
     Ok(())
 }
 
-/// What went out before a failed write: by calls of three bytes, of which one fails, and into room for five.
 #[test]
 fn failed_writes(rt: HostRuntime) -> Result<(), Fail> {
-    let alloc = rt.alloc();
     let shape = square(Size { w: 1, h: 1 }, 8, 8);
-    let picture = picture_of(&rt, alloc, &shape, [&[1, 2, 3, 4], &[5], &[6]])?;
-    for (failing, want) in [
-        (0, b"".as_slice()),
-        (1, b"\x01\x02\x03".as_slice()),
-        (2, b"\x01\x02\x03\x04".as_slice()),
-        (3, b"\x01\x02\x03\x04\x05".as_slice()),
-    ] {
-        let mut sink = MemSink::new(alloc, 100, 3, &[failing, u64::MAX, u64::MAX, u64::MAX])?;
-        assert_eq!(rt; write_picture(&mut sink, &picture), Err(Failed));
-        assert_eq!(rt; sink.bytes(), want);
-    }
-    let mut sink = MemSink::new(alloc, 5, 0, &NO_CALL)?;
-    assert_eq!(rt; write_picture(&mut sink, &picture), Err(Failed));
-    assert_eq!(rt; sink.bytes(), b"\x01\x02\x03\x04\x05".as_slice());
-    Ok(())
+    let picture = picture_of(&rt, rt.alloc(), &shape, [&[1, 2, 3, 4], &[5], &[6]])?;
+    let done = assert_failures(&rt, rt.alloc(), &picture);
+    drop(picture);
+    done
 }
 
-/// More samples than go out in one piece.
-#[test]
-fn a_long_component(rt: HostRuntime) -> Result<(), Fail> {
-    let alloc = rt.alloc();
-    let long = Size { w: 5000, h: 1 };
+/// A picture of 5000 luma samples, of which two aren't 0.
+fn long_picture(alloc: Global) -> Result<Picture, Fail> {
     let shape = PictureShape {
-        luma: long,
+        luma: Size { w: 5000, h: 1 },
         colour: Size { w: 1, h: 1 },
         luma_depth: 10,
         colour_depth: 8,
@@ -163,14 +198,33 @@ fn a_long_component(rt: HostRuntime) -> Result<(), Fail> {
     let mut picture = Picture::new(alloc, &shape)?;
     picture.set(Component::Luma, 0, 4095, 0x123);
     picture.set(Component::Luma, 0, 4999, 0x3FE);
-    let mut sink = MemSink::new(alloc, 10100, 0, &NO_CALL)?;
-    assert_eq!(rt; write_picture(&mut sink, &picture), Ok(()));
-    let bytes = sink.bytes();
+    Ok(picture)
+}
+
+/// Asserts that bytes are those of the long picture: how many there are, and those around its two samples.
+fn assert_long(rt: &impl Abort, bytes: &[u8]) {
     assert!(rt; bytes.len() == 10004);
     assert_eq!(rt; &bytes[8190..8192], b"\x23\x01".as_slice());
     assert_eq!(rt;
         &bytes[9996..10004],
         b"\x00\x00\xFE\x03\x00\x00\x00\x00".as_slice()
     );
+}
+
+/// Asserts what goes out of the long picture.
+fn assert_long_write(rt: &impl Abort, alloc: Global, picture: &Picture) -> Result<(), Fail> {
+    let mut sink = sink_of(alloc, (10100, 0, u64::MAX))?;
+    assert_eq!(rt; write_picture(&mut sink, picture), Ok(()));
+    assert_long(rt, sink.bytes());
+    drop(sink);
     Ok(())
+}
+
+/// More samples than go out in one piece.
+#[test]
+fn a_long_component(rt: HostRuntime) -> Result<(), Fail> {
+    let picture = long_picture(rt.alloc())?;
+    let done = assert_long_write(&rt, rt.alloc(), &picture);
+    drop(picture);
+    done
 }
