@@ -1,4 +1,4 @@
-//! Tests of the crates below the streams: bits and fields, planes and pictures, and no code. What is expected was worked out apart from
+//! Tests of what is below streams, from bits to pictures and their raw text. What is expected was worked out apart from
 //! the program.
 #![tactic(auto)]
 
@@ -9,8 +9,22 @@ mod codes;
 #[cfg(test)]
 mod heads;
 #[cfg(test)]
+mod layouts;
+#[cfg(test)]
+mod parameters;
+#[cfg(test)]
+mod pictures;
+#[cfg(test)]
 mod planes_and_bands;
 #[cfg(test)]
 mod prediction;
+#[cfg(test)]
+mod quantisers;
+#[cfg(test)]
+mod raw_pictures;
+#[cfg(test)]
+mod sequence_headers;
+#[cfg(test)]
+mod slices;
 #[cfg(test)]
 mod synthesis;

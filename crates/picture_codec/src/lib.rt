@@ -10,6 +10,3 @@ pub use decoder::PictureDecoder;
 pub use picture::Picture;
 pub use slice_decoder::SliceFault;
 pub use transform_params::{TransformFault, TransformParams, TransformReason};
-
-#[cfg(test)]
-mod tests;

@@ -143,6 +143,3 @@ pub fn quantisers_are_lawful()
     ensures error { TheErrorIsSmall }
     ensures coarser { CoarserIsNoGreater }
 {}
-
-#[cfg(test)]
-mod tests;

@@ -5,6 +5,3 @@ mod spelling;
 mod writing;
 
 pub use writing::write_picture;
-
-#[cfg(test)]
-mod tests;

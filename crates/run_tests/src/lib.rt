@@ -19,3 +19,5 @@ mod stream_bytes;
 mod streams;
 #[cfg(test)]
 mod texts;
+#[cfg(test)]
+mod top_call;

@@ -21,6 +21,3 @@ pub use parts::{
     AspectField, CleanArea, ColourField, FieldName, HeaderFault, HeaderParts, HeaderReason,
     RateField, SignalField, SignalRange,
 };
-
-#[cfg(test)]
-mod tests;

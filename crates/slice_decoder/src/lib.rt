@@ -168,6 +168,3 @@ pub fn decode_slice(
     restore(&mut bands.c2, colour);
     Ok(head)
 }
-
-#[cfg(test)]
-mod tests;

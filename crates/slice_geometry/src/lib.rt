@@ -70,6 +70,3 @@ pub fn each_place_lies_in_one_slice()
     ensures held { EachPlaceIsHeld }
     ensures alone { NoPlaceIsShared }
 {}
-
-#[cfg(test)]
-mod tests;

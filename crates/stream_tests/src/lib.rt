@@ -14,3 +14,5 @@ mod reading;
 mod refusals;
 #[cfg(test)]
 mod smallest;
+#[cfg(test)]
+mod sources;

@@ -22,6 +22,3 @@ pub struct TransformParams {
     pub matrix: Matrix,
     pub ghost deep: { matrix.depth ≡ layout.depth },
 }
-
-#[cfg(test)]
-mod tests;

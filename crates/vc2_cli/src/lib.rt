@@ -19,6 +19,3 @@ pub use status::{Ending, Status, WordFault, exit_code};
 pub use stream_units::{Reason, Refusal};
 pub use top::run;
 pub use words::{Command, read_words};
-
-#[cfg(test)]
-mod tests;

@@ -1,5 +1,7 @@
-use super::*;
+//! Shares, rectangles, and the units of a stream.
+
 use planes::Rect;
+use slice_geometry::{Layout, LayoutFault, Size, UnitShape, UnitShapes, length_bits};
 use std::fmt::Debug;
 use std::process::Abort;
 use std::test::Fail;

@@ -1,7 +1,7 @@
 use Rattle.std.proofs.Common.{ℕ, Result, Ok, Err, IfOk, ap}
 use Rattle.slice_decoder.specs.Decoded.{IsReady}
 use Rattle.slice_decoder.proofs.Ready.{ready-zero}
-use Rattle.slice_decoder.proofs.tests.zero_bands.Goals as goal
+use Rattle.codec_tests.proofs.slices.zero_bands.Goals as goal
 
 if_ok : {T E : Type 0} (r : Result T E) (P Q : T → Type 0) → ((x : T) → P x → Q x) → IfOk r P → IfOk r Q
 if_ok (Ok x) P Q from p = from x p

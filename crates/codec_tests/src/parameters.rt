@@ -1,9 +1,9 @@
 //! Worked parameters, and each rule at its bound and past it.
 
-use crate::{TransformFault, TransformParams, TransformReason};
 use bit_codes::{BitWriter, uint_len};
 use lifting::Wavelet;
 use std::process::Abort;
+use transform_params::{TransformFault, TransformParams, TransformReason};
 
 /// Puts numbers where there is room for them.
 fn put_numbers(rt: &impl Abort, writer: &mut BitWriter<'_>, numbers: &[u32]) {

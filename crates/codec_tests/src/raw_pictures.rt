@@ -7,8 +7,8 @@ ghost use Rattle.slice_geometry.specs.Shape.{IsSize, IsDepth};
 ghost use Rattle.picture_codec.specs.Pictures.{size_of, depth_of};
 ghost use Rattle.picture_codec.specs.Samples.{frame_of};
 
-use crate::write_picture;
 use picture_codec::Picture;
+use raw_video::write_picture;
 use slice_geometry::{Component, PictureShape, Size};
 use std::alloc::Global;
 use std::process::Abort;

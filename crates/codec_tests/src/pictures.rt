@@ -4,8 +4,8 @@
 
 ghost use Rattle.std.specs.Prelude.{◌≡◌, false, OnOk};
 
-use crate::{Picture, PictureDecoder, SliceFault, TransformParams};
 use lifting::Wavelet;
+use picture_codec::{Picture, PictureDecoder, SliceFault, TransformParams};
 use quant_factors::Matrix;
 use slice_geometry::{Component, Layout, PictureShape, Size};
 use std::alloc::Global;

@@ -1,5 +1,7 @@
-use super::*;
+//! Factors, offsets, quantised numbers, and a matrix.
+
 use planes::Orient;
+use quant_factors::{Dequantised, Matrix, factor, forward, inverse, offset};
 use std::fmt::Debug;
 use std::process::Abort;
 

@@ -1,6 +1,6 @@
 //! Worked headers: read, written, checked rule by rule, and the pictures that they make.
 
-use crate::{
+use sequence_header::{
     AspectField, CleanArea, ColourField, FieldName, HeaderFault, HeaderParts, HeaderReason,
     RateField, SequenceHeader, SignalField, SignalRange,
 };

@@ -6,9 +6,10 @@ ghost use Rattle.std.specs.Prelude.{◌≡◌, ℕ, ◌<◌, IfOk};
 ghost use Rattle.slice_geometry.specs.Shape.{IsSize};
 ghost use Rattle.slice_decoder.specs.Decoded.{IsReady, AreReady};
 
-use super::*;
-use planes::{NoMemory, Orient};
-use slice_geometry::Size;
+use planes::{Bands, NoMemory, Orient, Trio};
+use quant_factors::Matrix;
+use slice_decoder::{SliceFault, decode_slice};
+use slice_geometry::{Layout, PictureShape, Size, SliceHead};
 use std::alloc::Global;
 use std::process::Abort;
 use std::test::Fail;
