@@ -54,5 +54,7 @@ pub fn judge(alloc: Global, bytes: &[u8]) -> Result<Verdict, NoMemory>
     ensures { IfOk result (IsVerdict bytes.now) }
 {
     let mut reader = StreamReader::new(alloc)?;
-    judge_units(&mut reader, bytes)
+    let verdict = judge_units(&mut reader, bytes);
+    drop(reader);
+    verdict
 }

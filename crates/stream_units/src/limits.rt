@@ -56,7 +56,13 @@ pub(crate) fn next_unit<S: Source>(
     let mut byte = [0; 1];
     match fill(src, &mut byte) {
         Ok(0) => found,
-        Ok(_) => Err(refused(LIMIT, reason)),
-        Err(_) => Err(ReadStop::ReadFault),
+        Ok(_) => {
+            drop(found);
+            Err(refused(LIMIT, reason))
+        }
+        Err(_) => {
+            drop(found);
+            Err(ReadStop::ReadFault)
+        }
     }
 }

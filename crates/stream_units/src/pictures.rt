@@ -143,6 +143,7 @@ fn ready(
             decoder.restart();
             return Ok(decoder);
         }
+        drop(decoder);
     }
     match PictureDecoder::new(alloc, shape, params) {
         Ok(decoder) => Ok(decoder),

@@ -84,7 +84,11 @@ pub(crate) fn check<S: Source, K: Sink>(
     ensures cause { HaltHasCause (S.faults src.old) (S.faults src.new) (K.faults out.old) (K.faults out.new) result }
 {
     match StreamReader::new(alloc) {
-        Ok(mut reader) => check_units(alloc, &mut reader, src, out),
+        Ok(mut reader) => {
+            let result = check_units(alloc, &mut reader, src, out);
+            drop(reader);
+            result
+        }
         Err(_) => Err(Halt::NoMemory),
     }
 }

@@ -81,7 +81,11 @@ pub(crate) fn decode<S: Source, K: Sink>(
     ensures cause { HaltHasCause (S.faults src.old) (S.faults src.new) (K.faults out.old) (K.faults out.new) result }
 {
     match StreamReader::new(alloc) {
-        Ok(mut reader) => decode_units(&mut reader, src, out),
+        Ok(mut reader) => {
+            let result = decode_units(&mut reader, src, out);
+            drop(reader);
+            result
+        }
         Err(_) => Err(Halt::NoMemory),
     }
 }
