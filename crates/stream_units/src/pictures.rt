@@ -220,8 +220,15 @@ pub(crate) fn picture<S: Source>(
     let (params, size) = params(window, src, place + 17)?;
     let mut decoder = ready(alloc, kept, &first.header().picture_shape(), &params)?;
     let head = 17 + size;
-    slices(window, src, place + head, &mut decoder)?;
+    match slices(window, src, place + head, &mut decoder) {
+        Ok(()) => {}
+        Err(stop) => {
+            drop(decoder);
+            return Err(stop);
+        }
+    }
     if !leads_behind(next, head + u64::from(params.layout.total_bytes())) {
+        drop(decoder);
         return Err(refused(place + 5, Reason::OffsetWrong));
     }
     decoder.finish();

@@ -43,8 +43,8 @@ returns-in_err-decoder-clause-unit g c = λ held0 rest0 b.
     subst (PictureOver z held0 rest0 (g.S.Source.rest c.params.new.src) c.params.new.window parts) (sym (e.1 ∙ ap Err (e.2 ∙ c.in_err-decoder.ensures)))
     (stops_due c.params.new.window.room b2 c.in_ok-params.ensures.place)
 
-pub returns-in_err-slices-clause-unit : goal.returns-in_err-slices-clause-unit
-returns-in_err-slices-clause-unit g c = λ held0 rest0 b.
+pub returns-in-Err-clause-unit : goal.returns-in-Err-clause-unit
+returns-in-Err-clause-unit g c = λ held0 rest0 b.
     let z = c.args.earlier.now in
     let next = c.args.next in
     let parts = c.args.first.now.parts in
@@ -55,14 +55,7 @@ returns-in_err-slices-clause-unit g c = λ held0 rest0 b.
     let ready = c.in_ok-decoder.ensures in
     let frame = ready_frame parts c.header.result.now c.picture_shape.result p c.in_ok-decoder.decoder ready c.picture_shape.ensures c.header.ensures in
     let b3 = slices_begun parts p c.in_ok-decoder.decoder.params (behind_slices z next parts number p) (begun_at (c.place-place.result + (17 + c.in_ok-params.size)) b2 (omega arith)) ready.params_are in
-    let e = err_from_is_err_and c.from_residual-in_err-slices.result c.from_residual-in_err-slices.ensures.1 in
-    subst (PictureOver z held0 rest0 (g.S.Source.rest c.slices.new.src) c.slices.new.window parts) (sym (e.1 ∙ ap Err e.2))
-    (c.in_err-slices.ensures.part parts z frame (behind_slices z next parts number p) held0 rest0 b3)
-
-pub returns-in_err-slices-clause-cause : goal.returns-in_err-slices-clause-cause
-returns-in_err-slices-clause-cause g c =
-    let e = err_from_is_err_and c.from_residual-in_err-slices.result c.from_residual-in_err-slices.ensures.1 in
-    cause_behind (Unit {0}) (g.S.Source.faults c.args.src.now) (g.S.Source.faults c.params.new.src) (g.S.Source.faults c.slices.new.src) c.in_err-slices.field-0.0 c.from_residual-in_err-slices.result (e.1 ∙ ap Err e.2) (c.in_ok-params.ensures.cause ∙ c.in_ok-number.ensures.cause) c.in_err-slices.ensures.cause
+    c.in-Err.ensures.part parts z frame (behind_slices z next parts number p) held0 rest0 b3
 
 pub returns-then-not-leads_behind-clause-unit : goal.returns-then-not-leads_behind-clause-unit
 returns-then-not-leads_behind-clause-unit g c = λ held0 rest0 b.
@@ -76,11 +69,11 @@ returns-then-not-leads_behind-clause-unit g c = λ held0 rest0 b.
     let ready = c.in_ok-decoder.ensures in
     let frame = ready_frame parts c.header.result.now c.picture_shape.result p c.in_ok-decoder.decoder ready c.picture_shape.ensures c.header.ensures in
     let b3 = slices_begun parts p c.in_ok-decoder.decoder.params (behind_slices z next parts number p) (begun_at (c.place-place.result + (17 + c.in_ok-params.size)) b2 (omega arith)) ready.params_are in
-    let t = c.in_ok-slices.ensures.part parts z frame (behind_slices z next parts number p) held0 rest0 b3 in
+    let t = c.in-Ok.ensures.part parts z frame (behind_slices z next parts number p) held0 rest0 b3 in
     let size : total_bytes c.in_ok-decoder.decoder.params.slicing ≡ total_bytes p.slicing = ap (λ q. total_bytes q.slicing) ready.params_are in
     let span = 17 + c.in_ok-params.size + c.from.result in
     let there : c.place-place.result + (17 + c.in_ok-params.size) + total_bytes c.in_ok-decoder.decoder.params.slicing ≡ z.place + span = omega (arith, c.place-place.ensures.value, c.from.ensures, c.total_bytes.ensures, size) in
-    next_wrong (λ length. done (Picture parts number p t.slices)) next span c.slices.new.window.room (c.place-place.result + 5) c.refused.result t.begun there (sym c.leads_behind.ensures ∙ c.if-not-leads_behind.true) c.in_ok-slices.ensures.place (omega (arith, c.place-place.ensures.value)) c.refused.ensures
+    next_wrong (λ length. done (Picture parts number p t.slices)) next span c.slices.new.window.room (c.place-place.result + 5) c.refused.result t.begun there (sym c.leads_behind.ensures ∙ c.if-not-leads_behind.true) c.in-Ok.ensures.place (omega (arith, c.place-place.ensures.value)) c.refused.ensures
 
 pub returns-clause-unit : goal.returns-clause-unit
 returns-clause-unit g c = λ held0 rest0 b.
@@ -94,12 +87,12 @@ returns-clause-unit g c = λ held0 rest0 b.
     let ready = c.in_ok-decoder.ensures in
     let frame = ready_frame parts c.header.result.now c.picture_shape.result p c.in_ok-decoder.decoder ready c.picture_shape.ensures c.header.ensures in
     let b3 = slices_begun parts p c.in_ok-decoder.decoder.params (behind_slices z next parts number p) (begun_at (c.place-place.result + (17 + c.in_ok-params.size)) b2 (omega arith)) ready.params_are in
-    let t = c.in_ok-slices.ensures.part parts z frame (behind_slices z next parts number p) held0 rest0 b3 in
+    let t = c.in-Ok.ensures.part parts z frame (behind_slices z next parts number p) held0 rest0 b3 in
     let size : total_bytes c.in_ok-decoder.decoder.params.slicing ≡ total_bytes p.slicing = ap (λ q. total_bytes q.slicing) ready.params_are in
     let span = 17 + c.in_ok-params.size + c.from.result in
     let there : c.place-place.result + (17 + c.in_ok-params.size) + total_bytes c.in_ok-decoder.decoder.params.slicing ≡ z.place + span = omega (arith, c.place-place.ensures.value, c.from.ensures, c.total_bytes.ensures, size) in
     let right = next_right (λ length. done (Picture parts number p t.slices)) next span t.begun there (sym c.leads_behind.ensures ∙ c.if-not-leads_behind.false) in
-    let few : total_bytes p.slicing ≤ 2 ^ 28 = subst (λ q. total_bytes q.slicing ≤ 2 ^ 28) ready.params_are c.in_ok-slices.ensures.allowed.share.total in
-    let shows = finished_shows parts p t.slices c.slices.new.decoder c.finish.new.self (ap frame_of c.in_ok-slices.ensures.shape ∙ frame) (c.in_ok-slices.ensures.params ∙ ready.params_are) c.finish.ensures.state (c.finish.ensures.unit t.slices t.has) in
+    let few : total_bytes p.slicing ≤ 2 ^ 28 = subst (λ q. total_bytes q.slicing ≤ 2 ^ 28) ready.params_are c.in-Ok.ensures.allowed.share.total in
+    let shows = finished_shows parts p t.slices c.slices.new.decoder c.finish.new.self (ap frame_of c.in-Ok.ensures.shape ∙ frame) (c.in-Ok.ensures.params ∙ ready.params_are) c.finish.ensures.state (c.finish.ensures.unit t.slices t.has) in
     picture_taken parts (record { number = number; layout = c.in_ok-params.params.layout; head = 17 + c.in_ok-params.size; decoder = c.finish.new.self }) p t.slices c.slices.new.window.room right
-    (omega (arith, c.place-place.ensures.value, size)) (omega (arith, few, c.in_ok-params.ensures.most)) c.in_ok-slices.ensures.place refl shows
+    (omega (arith, c.place-place.ensures.value, size)) (omega (arith, few, c.in_ok-params.ensures.most)) c.in-Ok.ensures.place refl shows
