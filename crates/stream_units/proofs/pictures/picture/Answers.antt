@@ -6,7 +6,7 @@ use Rattle.picture_codec.specs.Samples.{frame_of}
 use Rattle.field_rows.specs.Rows.{done}
 use Rattle.stream_units.specs.Units.{Picture}
 use Rattle.stream_units.specs.Turns.{PictureOver}
-use Rattle.stream_units.proofs.Stopping.{stops_due, cause_behind}
+use Rattle.stream_units.proofs.Stopping.{stops_due}
 use Rattle.stream_units.proofs.PictureTurns.{behind_slices, behind_params, behind_number, payload_begun, begun_at, slices_begun, ready_frame, finished_shows, next_wrong, next_right, picture_taken}
 use Rattle.stream_units.proofs.pictures.picture.Goals as goal
 
