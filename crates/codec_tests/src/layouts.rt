@@ -1,15 +1,10 @@
 //! Shares, rectangles, and the units of a stream.
 
+use crate::same::assert_same;
 use planes::Rect;
 use slice_geometry::{Layout, LayoutFault, Size, UnitShape, UnitShapes, length_bits};
-use std::fmt::Debug;
 use std::process::Abort;
 use std::test::Fail;
-
-/// Asserts that a value is the one that is wanted.
-fn assert_same<T: Copy + Debug + PartialEq>(rt: &impl Abort, found: T, wanted: T) {
-    assert_eq!(rt; found, wanted);
-}
 
 fn layout(rt: &impl Abort, depth: u32, across: u32, down: u32, a: u32, b: u32) -> Layout {
     Layout::check(depth, across, down, a, b)

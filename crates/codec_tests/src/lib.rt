@@ -23,6 +23,8 @@ mod quantisers;
 #[cfg(test)]
 mod raw_pictures;
 #[cfg(test)]
+mod same;
+#[cfg(test)]
 mod sequence_headers;
 #[cfg(test)]
 mod slices;

@@ -1,14 +1,8 @@
 //! Factors, offsets, quantised numbers, and a matrix.
 
+use crate::same::assert_same;
 use planes::Orient;
 use quant_factors::{Dequantised, Matrix, factor, forward, inverse, offset};
-use std::fmt::Debug;
-use std::process::Abort;
-
-/// Asserts that a value is the one that is wanted.
-fn assert_same<T: Copy + Debug + PartialEq>(rt: &impl Abort, found: T, wanted: T) {
-    assert_eq!(rt; found, wanted);
-}
 
 /// Indices with their factors and offsets.
 const FACTORS_AND_OFFSETS: [(u32, u64, u64); 10] = [
