@@ -89,13 +89,17 @@ column_of d = d.next % d.params.slicing.slices_x
 abbrev pub row_of_slices : Decoding → ℕ
 row_of_slices d = d.next / d.params.slicing.slices_x
 
+-- the bands of a component of this size, of its padded size and all zero
+abbrev pub AreNewBands : Slicing → Size → BandStack → Type 0
+AreNewBands s size b = AreZeroBands b s.depth (padded_length s.depth size.w) (padded_length s.depth size.h)
+
 -- a new decoder: all bands are zero
 pub record IsNewDecoder (shape : PictureShape) (params : Params) (d : Decoding) : Type 0 where
   pub shape_is : d.shape ≡ shape
   pub params_are : d.params ≡ params
-  pub luma : AreZeroBands d.bands.luma params.slicing.depth (padded_length params.slicing.depth shape.luma.w) (padded_length params.slicing.depth shape.luma.h)
-  pub c1 : AreZeroBands d.bands.c1 params.slicing.depth (padded_length params.slicing.depth shape.colour.w) (padded_length params.slicing.depth shape.colour.h)
-  pub c2 : AreZeroBands d.bands.c2 params.slicing.depth (padded_length params.slicing.depth shape.colour.w) (padded_length params.slicing.depth shape.colour.h)
+  pub luma : AreNewBands params.slicing shape.luma d.bands.luma
+  pub c1 : AreNewBands params.slicing shape.colour d.bands.c1
+  pub c2 : AreNewBands params.slicing shape.colour d.bands.c2
   pub first : d.next ≡ 0
   pub none_refused : d.refused ≡ false
   pub unfinished : d.picture ≡ None

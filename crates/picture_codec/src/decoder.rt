@@ -1,14 +1,12 @@
 //! The decoder of pictures.
 
 ghost use Rattle.std.specs.Prelude.{◌≡◌, ◌≢◌, ℕ, List, length, IfOk, MatchResult, false, None, Some};
-ghost use Rattle.planes.specs.Subbands.{AreZeroBands};
 ghost use Rattle.slice_geometry.specs.Shape.{IsSize};
 ghost use Rattle.slice_geometry.specs.Slicing.{IsAllowed, slice_count};
-ghost use Rattle.slice_geometry.specs.Geometry as geometry;
 ghost use Rattle.transform_params.specs.Views.{params_of};
 ghost use Rattle.picture_codec.specs.Pictures as pictures;
 ghost use Rattle.picture_codec.specs.Samples.{frame_of, picture_of};
-ghost use Rattle.picture_codec.specs.Decoding.{AreTaken, ArePadded, IsNewDecoder, IsTaken, IsSliceRefused, HasTaken, with_synthesised, synthesised_picture, wanted_of};
+ghost use Rattle.picture_codec.specs.Decoding.{AreTaken, ArePadded, AreNewBands, IsNewDecoder, IsTaken, IsSliceRefused, HasTaken, with_synthesised, synthesised_picture, wanted_of};
 
 use crate::picture::Picture;
 use lifting::synth;
@@ -44,10 +42,21 @@ impl Workspace {
 // The bands of a component, all zero.
 fn zero_bands(alloc: Global, layout: &Layout, size: Size) -> Result<Bands, NoMemory>
     requires { IsSize size.w size.h }
-    ensures { IfOk result (λ b. AreZeroBands b layout.now.depth (geometry.padded_length layout.now.depth size.w) (geometry.padded_length layout.now.depth size.h)) }
+    ensures { IfOk result (AreNewBands layout.now size) }
 {
     let padded = layout.padded_size(size);
     Bands::new(alloc, layout.depth(), padded.w, padded.h)
+}
+
+// The bands of the three components, all zero.
+fn zero_trio(alloc: Global, layout: &Layout, shape: &PictureShape) -> Result<Trio, NoMemory>
+    ensures { IfOk result (λ bands. AreNewBands layout.now shape.now.luma bands.luma × AreNewBands layout.now shape.now.colour bands.c1 × AreNewBands layout.now shape.now.colour bands.c2) }
+{
+    Ok(Trio {
+        luma: zero_bands(alloc, layout, shape.luma)?,
+        c1: zero_bands(alloc, layout, shape.colour)?,
+        c2: zero_bands(alloc, layout, shape.colour)?,
+    })
 }
 
 // The size of a component.
@@ -129,11 +138,7 @@ impl PictureDecoder {
         let layout = &params.layout;
         Ok(PictureDecoder {
             params: *params,
-            bands: Trio {
-                luma: zero_bands(alloc, layout, shape.luma)?,
-                c1: zero_bands(alloc, layout, shape.colour)?,
-                c2: zero_bands(alloc, layout, shape.colour)?,
-            },
+            bands: zero_trio(alloc, layout, shape)?,
             luma_room: Workspace::new(alloc, layout, shape.luma)?,
             colour_room: Workspace::new(alloc, layout, shape.colour)?,
             picture: Picture::new(alloc, shape)?,

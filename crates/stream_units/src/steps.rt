@@ -75,7 +75,7 @@ pub(crate) fn keep(decoder: &mut Option<PictureDecoder>, made: Option<PictureDec
 {
     match made {
         Some(made) => {
-            *decoder = Some(made);
+            drop(decoder.replace(made));
             true
         }
         None => false,

@@ -1,6 +1,5 @@
 use Rattle.std.proofs.Common.{◌≡◌, ap, sym, subst, arith}
 use Rattle.slice_geometry.specs.declared.PictureShape.{PictureShape}
-use Rattle.planes.specs.declared.Trio.{Trio}
 use Rattle.picture_codec.specs.Decoding.{IsSound}
 use Rattle.picture_codec.proofs.Steps.{taken_none}
 use Rattle.picture_codec.proofs.decoder.PictureDecoder.new.Goals as goal
@@ -9,14 +8,14 @@ pub invariant_of-result : goal.invariant_of-result
 invariant_of-result c =
     let s = c.args.params.now.layout in
     let shape = c.args.shape.now in
-    let bands : Trio = record { luma = c.in_ok-zero_bands.field-0; c1 = c.in_ok-zero_bands-2.field-0; c2 = c.in_ok-zero_bands-3.field-0 } in
+    let bands = c.in_ok-zero_trio.field-0 in
     let same_shape : c.in_ok-new-3.field-0.shape ≡ shape = ap (λ p. p.shape) c.in_ok-new-3.ensures in
     subst (λ (sh : PictureShape). IsSound s sh 0 bands c.in_ok-new.field-0.plane c.in_ok-new.field-0.scratch c.in_ok-new-2.field-0.plane c.in_ok-new-2.field-0.scratch) (sym same_shape)
     (record {
       taken = record {
-        luma = taken_none s shape.luma c.in_ok-zero_bands.field-0 c.in_ok-zero_bands.ensures;
-        c1 = taken_none s shape.colour c.in_ok-zero_bands-2.field-0 c.in_ok-zero_bands-2.ensures;
-        c2 = taken_none s shape.colour c.in_ok-zero_bands-3.field-0 c.in_ok-zero_bands-3.ensures;
+        luma = taken_none s shape.luma bands.luma c.in_ok-zero_trio.ensures.0;
+        c1 = taken_none s shape.colour bands.c1 c.in_ok-zero_trio.ensures.1;
+        c2 = taken_none s shape.colour bands.c2 c.in_ok-zero_trio.ensures.2;
         few = omega arith;
       };
       luma = c.in_ok-new.ensures;
