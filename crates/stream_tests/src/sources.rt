@@ -1,16 +1,11 @@
 //! Sources and sinks over real streams, and the calls that take memory.
 
-use std::fmt::Debug;
+use crate::reading::assert_same;
 use std::fs;
 use std::fs::File;
 use std::process::Abort;
 use std::test::Fail;
 use vc2_io::{Failed, MemSink, NullSink, Sink, Source, StdSink, StdSource, fill, write_whole};
-
-/// Asserts that a value is the one that is wanted.
-fn assert_same<T: Copy + Debug + PartialEq>(rt: &impl Abort, found: T, wanted: T) {
-    assert_eq!(rt; found, wanted);
-}
 
 /// Asserts that the next bytes that fill a buffer are these.
 fn assert_filled<S: Source>(rt: &impl Abort, source: &mut S, buffer: &mut [u8], bytes: &[u8]) {
