@@ -10,3 +10,6 @@ pub mod Judging
 pub mod Laws
 pub mod HeadUnits
 pub mod HeadReader
+pub mod Encoded
+pub mod Writer
+pub mod WriterInside
