@@ -20,6 +20,6 @@ pub mod HeaderTurns
 pub mod PictureTurns
 pub mod Ready
 pub mod UnitTurns
-pub mod InLimit
+pub mod Taking
 pub mod ReaderTurns
 pub mod Judges

@@ -10,3 +10,5 @@ pub mod Judging
 pub mod Laws
 pub mod HeadUnits
 pub mod HeadReader
+pub mod Stops
+pub mod Taking
