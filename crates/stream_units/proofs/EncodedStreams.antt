@@ -9,7 +9,7 @@ use Rattle.bit_codes.specs.Bits.{bits_of, bytes_of, Cursor, cursor_at, zeros_to_
 use Rattle.bit_codes.proofs.BitLemmas.{length-bits}
 use Rattle.bit_codes.proofs.Numbers.{bits_of-append}
 use Rattle.bit_codes.proofs.ByteLemmas.{bytes_of-bits_of, bytes_of-fit}
-use Rattle.field_rows.specs.Rows.{Value, Rows, done, ◌>>=◌, ◌or_else◌, read, first_broken, no_more, field_at, spelled}
+use Rattle.field_rows.specs.Rows.{Value, Rows, done, ◌>>=◌, ◌or_else◌, read, first_broken, no_more, field_at, spelled, is_nil}
 use Rattle.field_rows.specs.Given.{written}
 use Rattle.field_rows.specs.Standing.{Stand}
 use Rattle.field_rows.proofs.Answers.{found_fields}
@@ -25,11 +25,11 @@ use Rattle.sequence_header.proofs.Bounds.{header_short}
 use Rattle.transform_params.specs.Params.{Params}
 use Rattle.transform_params.specs.Fields as written_params
 use Rattle.transform_params.specs.Fields.{bit_length, unit_length, params_bytes, IsLawful}
-use Rattle.unit_table.specs.Grammar.{bytes_at}
+use Rattle.unit_table.specs.Grammar.{Behind, Inner, ends_by, tail_rows, bytes_at}
 use Rattle.unit_table.specs.Begun.{Moves}
 use Rattle.stream_units.specs.declared.reason.Reason.{Reason}
 use Rattle.stream_units.specs.declared.reason.Reason.TheVariants as reasons
-use Rattle.stream_units.specs.Units.{First, Past, nothing_yet, DataUnit, Sequence, Repeated, Picture, Skipped, End, is_end, reason_of, code_rules, number_rules, body_rows, tail_rows, unit_rows, after, units}
+use Rattle.stream_units.specs.Units.{First, Past, nothing_yet, DataUnit, Sequence, Repeated, Picture, Skipped, End, unit_behind, reason_of, code_rules, number_rules, body_rows, unit_rows, after, units}
 use Rattle.stream_units.specs.Streams.{bytes_between, Entry, Units, IsStreamFrom, IsStream, limit, frame_under, pictures_of}
 use Rattle.picture_codec.specs.Samples.{picture_of}
 use Rattle.stream_units.specs.Encoded.{header_unit, picture_bytes, picture_unit, end_unit, number_after, units_behind, Settings, encoded, pictures_under, units_of, AreSlices, IsSliced, AreLawful, IsStreamOf}
@@ -84,17 +84,17 @@ place_after z (Picture parts number params slices) bytes = refl
 place_after z Skipped bytes = refl
 place_after z End bytes = refl
 
-stands : (z : Past) (unit : DataUnit) (bytes more : List ℕ) → Moves units (body_rows z) z.place bytes (done unit) → is_end unit ≡ false
+stands : (z : Past) (unit : DataUnit) (bytes more : List ℕ) → Moves units (body_rows z) z.place bytes (done unit) → unit_behind unit ≡ Inner
     → (vs : List Value) × Stand (unit_rows z) vs (bytes_at z.place (bytes ++ more)) unit (bytes_at (z.place + length bytes) more)
 unfolding unit_rows tail_rows
-stands z unit bytes more m no_end =
+stands z unit bytes more m inner =
     let behind = bytes_at (z.place + length bytes) more in
     found_fields reason_of (unit_rows z) (bytes_at z.place (bytes ++ more)) unit behind
-    (then_ok reason_of (body_rows z) tail_rows (bytes_at z.place (bytes ++ more)) behind unit (Ok (unit, behind)) (m.moves more ∙ read-done reason_of unit behind) (rw no_end (read-done reason_of unit behind)))
+    (then_ok reason_of (body_rows z) (λ made. tail_rows (unit_behind made) made) (bytes_at z.place (bytes ++ more)) behind unit (Ok (unit, behind)) (m.moves more ∙ read-done reason_of unit behind) (ap (λ b. read reason_of (tail_rows b unit) behind) inner ∙ read-done reason_of unit behind))
 
-found_more : (z : Past) (unit : DataUnit) (bytes more : List ℕ) (found : List DataUnit) → Moves units (body_rows z) z.place bytes (done unit) → is_end unit ≡ false → Fit bytes → Found (after z unit bytes) more found → Found z (bytes ++ more) (unit ∷ found)
-found_more z unit bytes more found m no_end fits f =
-    let s = stands z unit bytes more m no_end in
+found_more : (z : Past) (unit : DataUnit) (bytes more : List ℕ) (found : List DataUnit) → Moves units (body_rows z) z.place bytes (done unit) → unit_behind unit ≡ Inner → Fit bytes → Found (after z unit bytes) more found → Found z (bytes ++ more) (unit ∷ found)
+found_more z unit bytes more found m inner fits f =
+    let s = stands z unit bytes more m inner in
     let entry : Entry = record { fields = s.0; unit = unit } in
     let mid = bytes_at (z.place + length bytes) more in
     let there : bytes_at (after z unit bytes).place more ≡ mid = ap (λ n. bytes_at n more) (place_after z unit bytes) in
@@ -106,7 +106,7 @@ found_more z unit bytes more found m no_end fits f =
         left = f.stream.left;
         mid = f.stream.mid;
         behind = f.stream.behind;
-        units = (mid, s.1, no_end, subst (λ x. Units x mid f.entries f.stream.left f.stream.mid) (sym left) (subst (λ c. Units (after z unit bytes) c f.entries f.stream.left f.stream.mid) there f.stream.units));
+        units = (mid, s.1, ap (λ b. ends_by b (is_nil mid.rest)) inner, subst (λ x. Units x mid f.entries f.stream.left f.stream.mid) (sym left) (subst (λ c. Units (after z unit bytes) c f.entries f.stream.left f.stream.mid) there f.stream.units));
         end = f.stream.end;
         last_one = f.stream.last_one;
       };
@@ -114,7 +114,7 @@ found_more z unit bytes more found m no_end fits f =
       ends = f.ends;
     }
 
-end_there : (place : ℕ) → read reason_of (tail_rows End) (bytes_at place []) ≡ Ok (End, bytes_at place [])
+end_there : (place : ℕ) → read reason_of (tail_rows (unit_behind End) End) (bytes_at place []) ≡ Ok (End, bytes_at place [])
 unfolding tail_rows read ◌>>=◌ no_more field_at spelled
 end_there place = refl
 
@@ -124,7 +124,7 @@ found_end z bytes m =
     let behind = bytes_at (z.place + length bytes) [] in
     let here : bytes_at z.place (bytes ++ []) ≡ bytes_at z.place bytes = ap (bytes_at z.place) (append-nil bytes) in
     let s = found_fields reason_of (unit_rows z) (bytes_at z.place (bytes ++ [])) End behind
-        (then_ok reason_of (body_rows z) tail_rows (bytes_at z.place (bytes ++ [])) behind End (Ok (End, behind)) (m.moves [] ∙ read-done reason_of End behind) (end_there (z.place + length bytes))) in
+    (then_ok reason_of (body_rows z) (λ made. tail_rows (unit_behind made) made) (bytes_at z.place (bytes ++ [])) behind End (Ok (End, behind)) (m.moves [] ∙ read-done reason_of End behind) (end_there (z.place + length bytes))) in
     record {
       entries = [];
       last = record { fields = s.0; unit = End };

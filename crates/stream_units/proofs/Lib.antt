@@ -20,7 +20,7 @@ pub mod HeaderTurns
 pub mod PictureTurns
 pub mod Ready
 pub mod UnitTurns
-pub mod InLimit
+pub mod Taking
 pub mod ReaderTurns
 pub mod Judges
 pub mod EncodedPieces

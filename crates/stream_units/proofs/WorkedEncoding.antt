@@ -15,8 +15,19 @@ use Rattle.stream_units.specs.Encoded.{Settings, encoded}
 abbrev one_place : ℕ → ℕ → ℕ → Settings
 one_place height coding first = record {
   parts = record {
-    major = 1; minor = 0; level = 0; width = 1; height = height; sampling = 0; scan = None; rate = rates.Index 3; aspect = aspects.Default;
-    clean = None; signal = signals.Index 1; colour = colours.Default; coding = coding;
+    major = 1;
+    minor = 0;
+    level = 0;
+    width = 1;
+    height = height;
+    sampling = 0;
+    scan = None;
+    rate = rates.Index 3;
+    aspect = aspects.Default;
+    clean = None;
+    signal = signals.Index 1;
+    colour = colours.Default;
+    coding = coding;
   };
   params = record { wavelet = HaarFlat; slicing = record { depth = 0; slices_x = 1; slices_y = 1; a = 1; b = 1 }; matrix = record { depth = 0; entries = 0 ∷ [] } };
   first = first;

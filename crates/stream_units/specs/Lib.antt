@@ -13,3 +13,5 @@ pub mod HeadReader
 pub mod Encoded
 pub mod Writer
 pub mod WriterInside
+pub mod Stops
+pub mod Taking

@@ -12,6 +12,7 @@ use picture_codec::Picture;
 /// Encodes pictures of one shape, each into the payload of its unit, always under the same transform parameters.
 pub trait PayloadEncoder {
     ghost shape: { Self → PictureShape };
+
     ghost params: { Self → Params };
 
     /// The bytes of a picture's slices.

@@ -6,7 +6,9 @@ ghost use Rattle.stream_units.specs.Writer.{Starts, WritesPicture, WritesEnd, Wr
 
 use crate::payload_encoder::PayloadEncoder;
 use crate::write_stop::WriteStop;
-use crate::written_units::{end_unit, picture_shape, plain_shape, write_header_unit, write_picture_unit};
+use crate::written_units::{
+    end_unit, picture_shape, plain_shape, write_header_unit, write_picture_unit,
+};
 use parse_info::Chain;
 use picture_codec::Picture;
 use sequence_header::SequenceHeader;
@@ -132,7 +134,8 @@ impl StreamWriter {
                 return Err(WriteStop::OutFault);
             }
         }
-        self.shapes.push(picture_shape(&self.params, self.chain.place()));
+        self.shapes
+            .push(picture_shape(&self.params, self.chain.place()));
         self.chain.step(size);
         self.number = self.number.wrapping_add(1);
         Ok(())

@@ -12,11 +12,13 @@ use Rattle.stream_units.proofs.writer.StreamWriter.end.Goals as goal
 
 pub invariant_of-self-2 : goal.invariant_of-self-2
 invariant_of-self-2 g c = (
-    sound_plain c.self.inside.first c.self.inside.number 13 c.self.inside.chain c.step.new.self c.self.inside.shapes c.push.new.self c.self.inside.stop c.self.inside.ended true c.self.invariant.0
-    (c.push.ensures.units ∙ ap (λ l. l ++ c.plain_shape.result ∷ []) c.reserve.ensures.units ∙ ap (λ u. c.self.inside.shapes.units ++ u ∷ []) c.plain_shape.ensures ∙ ap (λ n. c.self.inside.shapes.units ++ plain_shape n 13 ∷ []) (c.place.ensures.value ∙ c.self.invariant.0.place))
-    (omega (arith, c.push.ensures.total, c.reserve.ensures.total, ap (λ u. shapes.unit_length u) c.plain_shape.ensures))
-    c.step.ensures
-    (λ e. absurd cc), c.self.invariant.1)
+  sound_plain c.self.inside.first c.self.inside.number 13 c.self.inside.chain c.step.new.self c.self.inside.shapes c.push.new.self c.self.inside.stop c.self.inside.ended true c.self.invariant.0
+      (c.push.ensures.units ∙ ap (λ l. l ++ c.plain_shape.result ∷ []) c.reserve.ensures.units ∙ ap (λ u. c.self.inside.shapes.units ++ u ∷ []) c.plain_shape.ensures ∙ ap (λ n. c.self.inside.shapes.units ++ plain_shape n 13 ∷ []) (c.place.ensures.value ∙ c.self.invariant.0.place))
+      (omega (arith, c.push.ensures.total, c.reserve.ensures.total, ap (λ u. shapes.unit_length u) c.plain_shape.ensures))
+      c.step.ensures
+      (λ e. absurd cc),
+  c.self.invariant.1,
+)
 
 pub returns-clause-end : goal.returns-clause-end
 returns-clause-end g c no_stop =
