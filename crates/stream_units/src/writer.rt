@@ -54,7 +54,8 @@ impl Model for StreamWriter {
 }
 
 impl StreamWriter {
-    /// Writes the sequence header unit.
+    /// Writes the sequence header unit. Where pictures are fields, the number of the first one is even. The pictures will
+    /// have these parameters.
     pub fn start<K: Sink>(
         alloc: Global,
         header: &SequenceHeader,
@@ -70,13 +71,13 @@ impl StreamWriter {
         if shapes.reserve(1).is_err() {
             return Err(WriteStop::NoMemory);
         }
-        let buffer_of_units = match Vec::from_elem(alloc, 0u8, params.unit_len() as usize) {
+        let buffer = match Vec::from_elem(alloc, 0u8, params.unit_len() as usize) {
             Ok(made) => made,
             Err(_) => return Err(WriteStop::NoMemory),
         };
         let size = 13 + header.byte_len();
-        let mut buffer = [0; FIRST_UNIT];
-        let unit = &mut buffer[..size];
+        let mut first_unit = [0; FIRST_UNIT];
+        let unit = &mut first_unit[..size];
         write_header_unit(header, unit);
         match write_whole(sink, unit) {
             Ok(()) => {}
@@ -92,14 +93,14 @@ impl StreamWriter {
             chain,
             number: first,
             shapes,
-            buffer: buffer_of_units,
+            buffer,
             stop: None,
             ended: false,
         })
     }
 
-    /// Writes the unit of a picture of the encoder's shape. It goes into the buffer first, so nothing is written where
-    /// memory or room is wanting.
+    /// Writes the unit of a picture of the encoder's shape, whose number is the next one. Where the unit and the end don't
+    /// fit into 2^40 bytes or memory is wanting, nothing is written.
     pub fn picture<E: PayloadEncoder, K: Sink>(
         &mut self,
         encoder: &mut E,
@@ -109,6 +110,7 @@ impl StreamWriter {
         requires open { self.old.ended ≡ false }
         requires shape { picture.now.shape ≡ E.shape encoder.old }
         requires params { E.params encoder.old ≡ self.old.settings.params }
+        ensures same_encoder { (E.shape encoder.new ≡ E.shape encoder.old) × (E.params encoder.new ≡ E.params encoder.old) × (E.slices encoder.new ≡ E.slices encoder.old) }
         ensures picture { self.old.stop ≡ None → WritesPicture self.old self.new (E.slices encoder.old picture.now.samples) (K.written sink.old) (K.written sink.new) result }
         ensures cause { self.old.stop ≡ None → WriteCause (K.faults sink.old) (K.faults sink.new) result }
         ensures kept { IfSome self.old.stop (λ stop. (result ≡ Err stop) × (self.new ≡ self.old) × (K.written sink.new ≡ K.written sink.old) × (K.faults sink.new ≡ K.faults sink.old)) }
@@ -134,14 +136,14 @@ impl StreamWriter {
                 return Err(WriteStop::OutFault);
             }
         }
-        self.shapes
-            .push(picture_shape(&self.params, self.chain.place()));
+        let shape = picture_shape(&self.params, self.chain.place());
+        self.shapes.push(shape);
         self.chain.step(size);
         self.number = self.number.wrapping_add(1);
         Ok(())
     }
 
-    /// Writes the end of the sequence.
+    /// Writes the end of the sequence. There is room for it. Only `shapes` may be called behind it.
     pub fn end<K: Sink>(&mut self, sink: &mut K) -> Result<(), WriteStop>
         requires { self.old.ended ≡ false }
         ensures end { self.old.stop ≡ None → WritesEnd self.old self.new (K.written sink.old) (K.written sink.new) result }

@@ -43,6 +43,7 @@ pub(crate) fn write_picture_unit<E: PayloadEncoder>(
     requires long { length unit.old ≡ unit_length (E.params encoder.old) }
     requires small { length unit.old < 2 ^ 32 }
     ensures unit { unit.new ≡ picture_unit (E.params encoder.old) previous number (E.slices encoder.old picture.now.samples) }
+    ensures same_encoder { (E.shape encoder.new ≡ E.shape encoder.old) × (E.params encoder.new ≡ E.params encoder.old) × (E.slices encoder.new ≡ E.slices encoder.old) }
 {
     let mut head = [0; 13];
     let info = ParseInfo {
