@@ -23,3 +23,10 @@ pub mod UnitTurns
 pub mod Taking
 pub mod ReaderTurns
 pub mod Judges
+pub mod EncodedPieces
+pub mod EncodedParts
+pub mod EncodedUnits
+pub mod EncodedStreams
+pub mod WorkedEncoding
+pub mod WrittenShapes
+pub mod WriterCalls
