@@ -25,6 +25,8 @@ mod raw_pictures;
 #[cfg(test)]
 mod same;
 #[cfg(test)]
+mod schedules;
+#[cfg(test)]
 mod sequence_headers;
 #[cfg(test)]
 mod slices;
