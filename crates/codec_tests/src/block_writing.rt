@@ -1,6 +1,6 @@
 //! Values written into blocks, and how many bits they need.
 
-ghost use Rattle.std.specs.Prelude.{◌+◌, ◌≤◌, length};
+ghost use Rattle.std.specs.Prelude.{◌≤◌, length};
 ghost use Rattle.std.specs.List.{All};
 ghost use Rattle.bounded_blocks.specs.Parts.{IsSmall};
 
@@ -72,19 +72,29 @@ fn worked_needs(rt: HostRuntime) {
     }
 }
 
-/// The need of values from -3 to 3, by the code of each: its length, and how many ones end it.
-fn small_need(values: &[i64]) -> u64 {
+/// The code of a value from -3 to 3: its length, and how many ones end it.
+const fn code(value: i64) -> (u64, u64)
+    ensures short { result.0 ≤ 6 }
+    ensures ones { result.1 ≤ result.0 }
+{
+    match value {
+        0 => (1, 1),
+        -1 => (4, 2),
+        -2 => (4, 3),
+        -3 => (6, 2),
+        1 | 2 => (4, 0),
+        _ => (6, 0),
+    }
+}
+
+/// The need of at most four values from -3 to 3.
+fn small_need(values: &[i64]) -> u64
+    requires { length values.now ≤ 4 }
+{
     let mut length = 0;
     let mut need = 0;
     for value in values {
-        let (code, ones) = match *value {
-            0 => (1, 1),
-            -1 => (4, 2),
-            -2 => (4, 3),
-            -3 => (6, 2),
-            1 | 2 => (4, 0),
-            _ => (6, 0),
-        };
+        let (code, ones) = code(*value);
         length += code;
         if *value != 0 {
             need = length - ones;
