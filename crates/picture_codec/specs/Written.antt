@@ -63,8 +63,8 @@ quantiser_at j indices c level orient y x =
     let n = slice_number j.slicing (holding j.slicing.slices_x band.w x) (holding j.slicing.slices_y band.h y) in
     band_quantiser j.matrix (slice_index indices n) level orient
 
--- A decoder has in the lowest subbands the values that the encoder restored, and elsewhere the coefficients, quantised and dequantised. Where the
--- quantisers are 0 it has the coefficients themselves.
+-- A decoder has in the lowest subbands the values that the encoder restored, and elsewhere the coefficients, quantised and dequantised. At a place
+-- whose quantiser is 0 it has the coefficient itself.
 pub record RestoresWhatWasWritten (j : CodedPicture) (indices : List ℕ) (slices : List (List ℕ)) (wavelet : Wavelet) (c : Component) : Type 0 where
   pub lowest : (y x : ℕ) → y < (band_size j.slicing.depth 0 (size_of (frame_of j) c)).h → x < (band_size j.slicing.depth 0 (size_of (frame_of j) c)).w
       → restored (coefficient (frame_of j) (params_of wavelet j) slices c 0 0) y x ≡ restored_after (component_of j c) indices y x
@@ -72,8 +72,9 @@ pub record RestoresWhatWasWritten (j : CodedPicture) (indices : List ℕ) (slice
       → y < (band_size j.slicing.depth level (size_of (frame_of j) c)).h → x < (band_size j.slicing.depth level (size_of (frame_of j) c)).w
       → (let q = quantiser_at j indices c level orient y x in
       coefficient (frame_of j) (params_of wavelet j) slices c level orient y x ≡ inverse_of (forward_of (trials.coefficient (component_of j c) level orient y x) q) q)
-  pub lowest_lossless : ((y x : ℕ) → quantiser_at j indices c 0 0 y x ≡ 0) → (y x : ℕ)
+  pub lowest_lossless : (y x : ℕ)
       → y < (band_size j.slicing.depth 0 (size_of (frame_of j) c)).h → x < (band_size j.slicing.depth 0 (size_of (frame_of j) c)).w
+      → quantiser_at j indices c 0 0 y x ≡ 0
       → restored (coefficient (frame_of j) (params_of wavelet j) slices c 0 0) y x ≡ trials.coefficient (component_of j c) 0 0 y x
   pub others_lossless : (level orient y x : ℕ) → BandExists j.slicing.depth level orient → 1 ≤ level
       → y < (band_size j.slicing.depth level (size_of (frame_of j) c)).h → x < (band_size j.slicing.depth level (size_of (frame_of j) c)).w

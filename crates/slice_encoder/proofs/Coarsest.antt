@@ -61,7 +61,7 @@ pub all_joined : {X Y : Type 0} (P : Y → Type 0) (f : X → List Y) → (xs : 
 all_joined P f [] h = All-nil P
 all_joined P f (x ∷ xs) h = All-append P (f x) (flat_map f xs) (All-head (λ x. All P (f x)) x xs h) (all_joined P f xs (All-tail (λ x. All P (f x)) x xs h))
 
-all_rect : (P : Place → Type 0) (level orient : ℕ) (r : Rect) → ((y x : ℕ) → P (record { level = level; orient = orient; y = y; x = x })) → All P (rect_places level orient r)
+pub all_rect : (P : Place → Type 0) (level orient : ℕ) (r : Rect) → ((y x : ℕ) → P (record { level = level; orient = orient; y = y; x = x })) → All P (rect_places level orient r)
 all_rect P level orient r h =
     all_joined P (row_places level orient r) (range_with_len r.y0 (r.y1 - r.y0))
     (all_all (λ y. All P (row_places level orient r y))
