@@ -1,6 +1,7 @@
 //! Whole pictures: their samples, and the decoder that makes them of slices.
 #![tactic(auto)]
 
+pub mod closed_loop;
 mod decoder;
 pub mod laws;
 mod picture;
