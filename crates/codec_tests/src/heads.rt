@@ -49,3 +49,51 @@ fn heads_are_read(rt: HostRuntime) {
         assert_same(&rt, ParseInfo::read(bytes), *head);
     }
 }
+
+/// A head of each code, as it is written.
+const WRITTEN: [(Code, u32, u32, &[u8; 13]); 5] = [
+    (
+        Code::SequenceHeader,
+        17,
+        0,
+        b"BBCD\x00\x00\x00\x00\x11\x00\x00\x00\x00",
+    ),
+    (
+        Code::EndOfSequence,
+        0,
+        21,
+        b"BBCD\x10\x00\x00\x00\x00\x00\x00\x00\x15",
+    ),
+    (
+        Code::Auxiliary,
+        0x0102_0304,
+        0xFFFF_FFFF,
+        b"BBCD\x20\x01\x02\x03\x04\xFF\xFF\xFF\xFF",
+    ),
+    (
+        Code::Padding,
+        13,
+        271,
+        b"BBCD\x30\x00\x00\x00\x0D\x00\x00\x01\x0F",
+    ),
+    (
+        Code::LowDelayPicture,
+        21,
+        17,
+        b"BBCD\xC8\x00\x00\x00\x15\x00\x00\x00\x11",
+    ),
+];
+
+#[test]
+fn heads_are_written(rt: HostRuntime) {
+    for (code, next, previous, bytes) in &WRITTEN {
+        let mut head = [0; 13];
+        let info = ParseInfo {
+            code: *code,
+            next: *next,
+            previous: *previous,
+        };
+        info.write(&mut head);
+        assert_same(&rt, &head, *bytes);
+    }
+}

@@ -1,2 +1,3 @@
 pub mod HeadSteps
 pub mod Told
+pub mod WrittenHeads

@@ -18,3 +18,11 @@ is_supported byte = is_some (code_of byte)
 -- the code of a byte that is supported
 abbrev pub code_in : ℕ → Code
 code_in byte = unwrap_or (code_of byte) Padding
+
+-- the byte of a code
+abbrev pub code_byte : Code → ℕ
+code_byte SequenceHeader = 0x00
+code_byte EndOfSequence = 0x10
+code_byte Auxiliary = 0x20
+code_byte Padding = 0x30
+code_byte LowDelayPicture = 0xC8

@@ -1,13 +1,13 @@
 -- The head of a unit: the standard's parse info header (SMPTE ST 2042-1:2017, 10.5.1).
-use Rattle.std.specs.Prelude.{ℕ, List, [], ◌∷◌, take, drop, slice_index, ◌==◌, if◌then◌else◌, Result, Ok, Err, Bool, true, false}
-use Rattle.std.specs.Int.{w32, from_be_bytes}
+use Rattle.std.specs.Prelude.{ℕ, List, [], ◌∷◌, ◌++◌, take, drop, slice_index, ◌==◌, if◌then◌else◌, Result, Ok, Err, Bool, true, false}
+use Rattle.std.specs.Int.{w32, from_be_bytes, to_be_bytes}
 use Rattle.bit_codes.specs.Bits.{Cursor, cursor_at}
 use Rattle.field_rows.specs.Rows.{Rule, ◌or_else◌, Rows, done, ◌>>=◌, word_under, byte_under, Fault, read}
 use Rattle.parse_info.specs.declared.ParseInfo.{ParseInfo}
 use Rattle.parse_info.specs.declared.Code.{Code}
 use Rattle.parse_info.specs.declared.InfoFault.{InfoFault}
 use Rattle.parse_info.specs.declared.InfoFault.TheVariants.{PrefixShort, BadPrefix, CodeShort, UnsupportedCode, NextShort, PreviousShort}
-use Rattle.parse_info.specs.Code.{is_supported, code_in}
+use Rattle.parse_info.specs.Code.{is_supported, code_in, code_byte}
 
 -- The rows of a head, for every reader of units. Each has its own names for a bad prefix and for a code outside the
 -- profile, and its own further rules: on the code, on the next offset behind the code, and on the previous offset behind
@@ -61,3 +61,8 @@ abbrev pub is_short : InfoFault → Bool
 is_short BadPrefix = false
 is_short (UnsupportedCode code) = false
 is_short other = true
+
+-- ---- a head as it is written: "BBCD", the code, and the two offsets
+
+abbrev pub head_bytes : ParseInfo → List ℕ
+head_bytes info = (0x42 ∷ 0x42 ∷ 0x43 ∷ 0x44 ∷ []) ++ ((code_byte info.code ∷ []) ++ (to_be_bytes w32 info.next ++ to_be_bytes w32 info.previous))

@@ -9,3 +9,4 @@ pub mod Sums
 pub mod Indices
 pub mod WroteText
 pub mod Shapes
+pub mod Bounds

@@ -5,11 +5,12 @@ use Rattle.bit_codes.specs.Bits.{bits_of, bits_before}
 use Rattle.bit_codes.proofs.BitLemmas.{length-bits}
 use Rattle.field_rows.specs.Given.{AreOfKind}
 use Rattle.field_rows.proofs.Passing.{kinds-bind, Pass-read_bytes}
+use Rattle.field_rows.proofs.Filled.{bits_of-filled}
 use Rattle.sequence_header.specs.declared.parts.HeaderParts.{HeaderParts}
 use Rattle.sequence_header.specs.Header.{reason_of, version_rows, size_rows, sampling_rows, scan_rows, rate_rows, aspect_rows, clean_rows, signal_rows, colour_rows, coding_rows, header_fields, header_rows}
 use Rattle.sequence_header.specs.Fields.{version_fields, size_fields, sampling_fields, scan_fields, rate_fields, aspect_fields, clean_fields, signal_fields, colour_fields, coding_fields, version_of, frame_size, fields_of}
-use Rattle.sequence_header.specs.Checking.{Passes}
-use Rattle.sequence_header.specs.Bytes.{header_bits, header_text, IsReadBack}
+use Rattle.sequence_header.specs.Checking.{Passes, IsLawful}
+use Rattle.sequence_header.specs.Bytes.{header_bits, header_bytes, IsReadBack}
 use Rattle.sequence_header.proofs.Whole.{header_pass}
 
 -- the fields of all groups are of their rows' kinds
@@ -31,10 +32,10 @@ header_kinds p q k =
     kinds-bind _ _ _ _ _ q.version k.version (kinds-bind _ _ _ _ _ q.size k.size (kinds-bind _ _ _ _ _ q.sampling k.sampling (kinds-bind _ _ _ _ _ q.scan k.scan (kinds-bind _ _ _ _ _ q.rate k.rate
     (kinds-bind _ _ _ _ _ q.aspect k.aspect (kinds-bind _ _ _ _ _ q.clean k.clean (kinds-bind _ _ _ _ _ q.signal k.signal (kinds-bind _ _ _ _ _ q.colour k.colour (kinds-bind _ _ _ [] _ q.coding k.coding refl)))))))))
 
--- bits that are the header's text are read back
-pub read_back : (p : HeaderParts) (bytes : List ℕ) → Passes p → HaveKinds p → bits_of bytes ≡ header_text p → IsReadBack bytes p
+-- a header that is written is read back
+pub header_back : (p : HeaderParts) → IsLawful p → IsReadBack (header_bytes p) p
 unfolding header_rows header_bits
-read_back p bytes q k e = λ more. Pass-read_bytes reason_of header_fields (fields_of p) p bytes more (header_pass p q) (header_kinds p q k) e
+header_back p f = λ more. Pass-read_bytes reason_of header_fields (fields_of p) p (header_bytes p) more (header_pass p f.passes) f.kinds (bits_of-filled (header_bits p))
 
 -- groups that were appended one after the other
 pub joined : (t0 t1 t2 t3 t4 t5 t6 t7 t8 t9 t10 t11 w1 w2 w3 w4 w5 w6 w7 w8 w9 w10 z : List Bool) → t0 ≡ [] → t1 ≡ t0 ++ w1 → t2 ≡ t1 ++ w2 → t3 ≡ t2 ++ w3 → t4 ≡ t3 ++ w4 → t5 ≡ t4 ++ w5 → t6 ≡ t5 ++ w6 → t7 ≡ t6 ++ w7 → t8 ≡ t7 ++ w8 → t9 ≡ t8 ++ w9 → t10 ≡ t9 ++ w10 → t11 ≡ t10 ++ z → t11 ≡ (w1 ++ (w2 ++ (w3 ++ (w4 ++ (w5 ++ (w6 ++ (w7 ++ (w8 ++ (w9 ++ w10))))))))) ++ z

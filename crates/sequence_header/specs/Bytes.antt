@@ -1,6 +1,6 @@
 -- A header as bytes: its fields, and zeros up to the byte's end.
 use Rattle.std.specs.Prelude.{◌≡◌, ℕ, ◌+◌, ◌*◌, ◌/◌, Bool, List, ◌++◌, length, Ok}
-use Rattle.bit_codes.specs.Bits.{cursor_at, zeros_to_byte_end}
+use Rattle.bit_codes.specs.Bits.{bytes_of, cursor_at, zeros_to_byte_end}
 use Rattle.field_rows.specs.Rows.{read}
 use Rattle.field_rows.specs.Given.{written}
 use Rattle.sequence_header.specs.declared.parts.HeaderParts.{HeaderParts}
@@ -15,9 +15,12 @@ header_bits p = written (fields_of p)
 abbrev pub header_len : HeaderParts → ℕ
 header_len p = (length (header_bits p) + 7) / 8
 
--- the bits of a header's bytes
+-- its bits, with zeros to the last byte's end, and the bytes that they make
 abbrev pub header_text : HeaderParts → List Bool
 header_text p = header_bits p ++ zeros_to_byte_end (length (header_bits p))
+
+abbrev pub header_bytes : HeaderParts → List ℕ
+header_bytes p = bytes_of (header_text p)
 
 -- The bytes are read whole, as this header, whatever bytes follow.
 abbrev pub IsReadBack : List ℕ → HeaderParts → Type 0

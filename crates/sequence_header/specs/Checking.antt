@@ -1,7 +1,7 @@
 -- When the parts of a header pass the rules of its rows.
 use Rattle.std.specs.Prelude.{◌≡◌, ◌≤◌, List, [], Result, Ok, Err}
 use Rattle.field_rows.specs.Rows.{Value, Rows}
-use Rattle.field_rows.specs.Given.{checked, Pass, Fail}
+use Rattle.field_rows.specs.Given.{checked, Pass, Fail, AreOfKind}
 use Rattle.sequence_header.specs.declared.parts.HeaderReason.{HeaderReason}
 use Rattle.sequence_header.specs.declared.parts.HeaderParts.{HeaderParts}
 use Rattle.sequence_header.specs.declared.parts.RateField.{RateField}
@@ -27,6 +27,11 @@ pub record Passes (p : HeaderParts) : Type 0 where
   pub signal : Pass signal_rows (signal_fields p.signal) p.signal
   pub colour : Pass colour_rows (colour_fields p.colour) p.colour
   pub coding : Pass (coding_rows (frame_size p) p.sampling) (coding_fields p.coding) p.coding
+
+-- Parts that are written as they are read: they pass every rule, and each number is one that a field holds.
+pub record IsLawful (p : HeaderParts) : Type 0 where
+  pub passes : Passes p
+  pub kinds : AreOfKind header_fields (fields_of p)
 
 -- an index of aspect or colour announces no numbers
 abbrev pub HasAspectIndex : AspectField → Type 0

@@ -46,8 +46,8 @@ impl SequenceHeader {
     ghost use Rattle.sequence_header.specs.Fields.{fields_of};
     ghost use Rattle.sequence_header.specs.Header.{reason_of, fault_of, header_fields, header_rows};
     ghost use Rattle.sequence_header.specs.Coding.{IsShapeOf};
-    ghost use Rattle.sequence_header.specs.Bytes.{header_len, header_text, IsReadBack};
-    ghost use Rattle.sequence_header.specs.Checking.{IsCheckOf, HasAspectIndex, HasColourIndex};
+    ghost use Rattle.sequence_header.specs.Bytes.{header_len, header_text, header_bytes, IsReadBack};
+    ghost use Rattle.sequence_header.specs.Checking.{IsCheckOf, IsLawful, HasAspectIndex, HasColourIndex};
 
     /// The header of these parts, or the first rule that they break, in field order.
     ///
@@ -82,11 +82,13 @@ impl SequenceHeader {
         Ok((SequenceHeader { parts }, length))
     }
 
-    /// What the header holds. These parts pass the check.
+    /// What the header holds. These parts pass the check, and are lawful.
     pub fn parts(&self) -> &HeaderParts
         ensures value { result.now ≡ self.now }
         ensures passes { checked header_fields (fields_of self.now) ≡ Ok (self.now, []) }
+        ensures lawful { IsLawful self.now }
     {
+        prove!(self.byte_len() <= 237);
         &self.parts
     }
 
@@ -108,6 +110,7 @@ impl SequenceHeader {
     pub fn byte_len(&self) -> usize
         ensures length { result ≡ header_len self.now }
         ensures most { result ≤ 237 }
+        ensures lawful { IsLawful self.now }
     {
         let parts = &self.parts;
         let bits = version_bits(parts.major, parts.minor, parts.level)
@@ -123,10 +126,11 @@ impl SequenceHeader {
         ((bits + 7) / 8) as usize
     }
 
-    /// Writes the fields in their order, and zeros up to the last byte's end.
+    /// Writes the fields in their order, and zeros up to the last byte's end, into exactly `byte_len` bytes. `read` takes
+    /// exactly these bytes and gives the same header, whatever follows.
     pub fn write(&self, bytes: &mut [u8])
         requires { length bytes.old ≡ header_len self.now }
-        ensures text { bits_of bytes.new ≡ header_text self.now }
+        ensures bytes { bytes.new ≡ header_bytes self.now }
         ensures read_back { IsReadBack bytes.new self.now }
     {
         let length = self.byte_len();
@@ -141,7 +145,6 @@ impl SequenceHeader {
         requires room { length w.old.bytes.now ≡ header_len self.now }
         ensures same_reference { w.new.bytes.ghost_name ≡ w.old.bytes.ghost_name }
         ensures text { bits_of w.new.bytes.now ≡ header_text self.now }
-        ensures read_back { IsReadBack w.new.bytes.now self.now }
     {
         let parts = &self.parts;
         put_version(w, parts.major, parts.minor, parts.level);

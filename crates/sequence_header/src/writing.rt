@@ -1,11 +1,10 @@
 //! Writes the parts of a header, a group at a time. Each function appends the bits of its fields.
 
-ghost use Rattle.std.specs.Prelude.{ℕ, ◌≡◌, ◌+◌, ◌*◌, ◌≤◌, ◌++◌, length};
+ghost use Rattle.std.specs.Prelude.{◌≡◌, ◌+◌, ◌*◌, ◌≤◌, ◌++◌, length};
 ghost use Rattle.bit_codes.specs.Bits.{bits_before};
-ghost use Rattle.field_rows.specs.Given.{written, AreOfKind};
-ghost use Rattle.sequence_header.specs.Header.{version_rows, size_rows, sampling_rows, scan_rows, rate_rows, aspect_rows, clean_rows, signal_rows, flagged_index, colour_rows, coding_rows};
+ghost use Rattle.field_rows.specs.Given.{written};
 ghost use Rattle.sequence_header.specs.Fields.{version_fields, size_fields, sampling_fields, scan_fields, rate_fields, aspect_fields, clean_fields, signal_fields, index_fields, colour_fields, coding_fields};
-ghost use Rattle.sequence_header.specs.Checking.{HasRateIndex, HasAspectIndex, HasSignalIndex, HasColourIndex};
+ghost use Rattle.sequence_header.specs.Checking.{HasRateIndex, HasSignalIndex};
 
 use crate::parts::*;
 use bit_codes::BitWriter;
@@ -19,7 +18,6 @@ pub fn put_version(w: &mut BitWriter<'_>, major: u32, minor: u32, level: u32)
     ensures place { w.new.place ≡ w.old.place + length (written (version_fields (record { major = major; minor = minor; level = level }))) }
     ensures written { bits_before w.new.place w.new.bytes.now ≡ bits_before w.old.place w.old.bytes.now ++ written (version_fields (record { major = major; minor = minor; level = level })) }
     ensures room { length w.new.bytes.now ≡ length w.old.bytes.now }
-    ensures kinds { AreOfKind version_rows (version_fields (record { major = major; minor = minor; level = level })) }
 {
     w.put_uint(major);
     w.put_uint(minor);
@@ -36,7 +34,6 @@ pub fn put_size(w: &mut BitWriter<'_>, width: u32, height: u32)
     ensures place { w.new.place ≡ w.old.place + length (written (size_fields (record { w = width; h = height }))) }
     ensures written { bits_before w.new.place w.new.bytes.now ≡ bits_before w.old.place w.old.bytes.now ++ written (size_fields (record { w = width; h = height })) }
     ensures room { length w.new.bytes.now ≡ length w.old.bytes.now }
-    ensures kinds { AreOfKind size_rows (size_fields (record { w = width; h = height })) }
 {
     w.put_flag(true);
     w.put_uint(width);
@@ -51,7 +48,6 @@ pub fn put_sampling(w: &mut BitWriter<'_>, index: u32)
     ensures place { w.new.place ≡ w.old.place + length (written (sampling_fields index)) }
     ensures written { bits_before w.new.place w.new.bytes.now ≡ bits_before w.old.place w.old.bytes.now ++ written (sampling_fields index) }
     ensures room { length w.new.bytes.now ≡ length w.old.bytes.now }
-    ensures kinds { (size : Size) → AreOfKind (sampling_rows size) (sampling_fields index) }
 {
     w.put_flag(true);
     w.put_uint(index);
@@ -65,7 +61,6 @@ pub fn put_scan(w: &mut BitWriter<'_>, scan: Option<u32>)
     ensures place { w.new.place ≡ w.old.place + length (written (scan_fields scan)) }
     ensures written { bits_before w.new.place w.new.bytes.now ≡ bits_before w.old.place w.old.bytes.now ++ written (scan_fields scan) }
     ensures room { length w.new.bytes.now ≡ length w.old.bytes.now }
-    ensures kinds { AreOfKind scan_rows (scan_fields scan) }
 {
     let Some(index) = scan else {
         w.put_flag(false);
@@ -84,7 +79,6 @@ pub fn put_rate(w: &mut BitWriter<'_>, rate: RateField)
     ensures place { w.new.place ≡ w.old.place + length (written (rate_fields rate)) }
     ensures written { bits_before w.new.place w.new.bytes.now ≡ bits_before w.old.place w.old.bytes.now ++ written (rate_fields rate) }
     ensures room { length w.new.bytes.now ≡ length w.old.bytes.now }
-    ensures kinds { AreOfKind rate_rows (rate_fields rate) }
 {
     w.put_flag(true);
     match rate {
@@ -100,13 +94,11 @@ pub fn put_rate(w: &mut BitWriter<'_>, rate: RateField)
 /// A pixel aspect ratio, or its default.
 #[tactic(auto, using(field_rows::proofs::Written::writing))]
 pub fn put_aspect(w: &mut BitWriter<'_>, aspect: AspectField)
-    requires index { HasAspectIndex aspect }
-    requires inside { w.old.place + length (written (aspect_fields aspect)) ≤ 8 * length w.old.bytes.now }
+    requires { w.old.place + length (written (aspect_fields aspect)) ≤ 8 * length w.old.bytes.now }
     ensures same_reference { w.new.bytes.ghost_name ≡ w.old.bytes.ghost_name }
     ensures place { w.new.place ≡ w.old.place + length (written (aspect_fields aspect)) }
     ensures written { bits_before w.new.place w.new.bytes.now ≡ bits_before w.old.place w.old.bytes.now ++ written (aspect_fields aspect) }
     ensures room { length w.new.bytes.now ≡ length w.old.bytes.now }
-    ensures kinds { AreOfKind aspect_rows (aspect_fields aspect) }
 {
     match aspect {
         AspectField::Default => w.put_flag(false),
@@ -131,7 +123,6 @@ pub fn put_clean(w: &mut BitWriter<'_>, clean: Option<CleanArea>)
     ensures place { w.new.place ≡ w.old.place + length (written (clean_fields clean)) }
     ensures written { bits_before w.new.place w.new.bytes.now ≡ bits_before w.old.place w.old.bytes.now ++ written (clean_fields clean) }
     ensures room { length w.new.bytes.now ≡ length w.old.bytes.now }
-    ensures kinds { AreOfKind clean_rows (clean_fields clean) }
 {
     let Some(area) = clean else {
         w.put_flag(false);
@@ -153,7 +144,6 @@ pub fn put_signal(w: &mut BitWriter<'_>, signal: SignalField)
     ensures place { w.new.place ≡ w.old.place + length (written (signal_fields signal)) }
     ensures written { bits_before w.new.place w.new.bytes.now ≡ bits_before w.old.place w.old.bytes.now ++ written (signal_fields signal) }
     ensures room { length w.new.bytes.now ≡ length w.old.bytes.now }
-    ensures kinds { AreOfKind signal_rows (signal_fields signal) }
 {
     w.put_flag(true);
     match signal {
@@ -176,7 +166,6 @@ fn put_index(w: &mut BitWriter<'_>, index: Option<u32>)
     ensures place { w.new.place ≡ w.old.place + length (written (index_fields index)) }
     ensures written { bits_before w.new.place w.new.bytes.now ≡ bits_before w.old.place w.old.bytes.now ++ written (index_fields index) }
     ensures room { length w.new.bytes.now ≡ length w.old.bytes.now }
-    ensures kinds { AreOfKind flagged_index (index_fields index) }
 {
     let Some(index) = index else {
         w.put_flag(false);
@@ -189,13 +178,11 @@ fn put_index(w: &mut BitWriter<'_>, index: Option<u32>)
 /// A colour specification, or its default.
 #[tactic(auto, using(field_rows::proofs::Written::writing))]
 pub fn put_colour(w: &mut BitWriter<'_>, colour: ColourField)
-    requires index { HasColourIndex colour }
-    requires inside { w.old.place + length (written (colour_fields colour)) ≤ 8 * length w.old.bytes.now }
+    requires { w.old.place + length (written (colour_fields colour)) ≤ 8 * length w.old.bytes.now }
     ensures same_reference { w.new.bytes.ghost_name ≡ w.old.bytes.ghost_name }
     ensures place { w.new.place ≡ w.old.place + length (written (colour_fields colour)) }
     ensures written { bits_before w.new.place w.new.bytes.now ≡ bits_before w.old.place w.old.bytes.now ++ written (colour_fields colour) }
     ensures room { length w.new.bytes.now ≡ length w.old.bytes.now }
-    ensures kinds { AreOfKind colour_rows (colour_fields colour) }
 {
     match colour {
         ColourField::Default => w.put_flag(false),
@@ -225,7 +212,6 @@ pub fn put_coding(w: &mut BitWriter<'_>, coding: u32)
     ensures place { w.new.place ≡ w.old.place + length (written (coding_fields coding)) }
     ensures written { bits_before w.new.place w.new.bytes.now ≡ bits_before w.old.place w.old.bytes.now ++ written (coding_fields coding) }
     ensures room { length w.new.bytes.now ≡ length w.old.bytes.now }
-    ensures kinds { (size : Size) (sampling : ℕ) → AreOfKind (coding_rows size sampling) (coding_fields coding) }
 {
     w.put_uint(coding);
 }

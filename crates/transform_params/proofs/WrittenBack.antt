@@ -1,11 +1,12 @@
 -- What is written of lawful parameters is read back, whatever follows.
-use Rattle.std.proofs.Common.{◌≡◌, ℕ, ◌+◌, ◌*◌, ◌^◌, ◌<◌, true, List, [], ◌∷◌, ◌++◌, length, Ok, refl, subst, arith, append-nil}
+use Rattle.std.proofs.Common.{◌≡◌, ℕ, ◌+◌, ◌*◌, ◌^◌, ◌<◌, true, List, [], ◌∷◌, ◌++◌, length, Result, Ok, refl, ap, subst, ◌∙◌, arith, append-nil}
 use Rattle.std.specs.List.{AllByRecursion}
 use Rattle.std.proofs.lemmas.Bool.Decides.{nat_tests}
-use Rattle.bit_codes.specs.Bits.{cursor_at}
-use Rattle.field_rows.specs.Rows.{Value, Number, Flag, Rows, done, ◌>>=◌, number, within, number_under, flag_set, numbers, read}
-use Rattle.field_rows.specs.Given.{checked, AreOfKind, Pass}
+use Rattle.bit_codes.specs.Bits.{Cursor, cursor_at}
+use Rattle.field_rows.specs.Rows.{Value, Number, Flag, Rows, done, ◌>>=◌, number, within, number_under, flag_set, numbers, Fault, read}
+use Rattle.field_rows.specs.Given.{checked, written, AreOfKind, Pass}
 use Rattle.field_rows.proofs.Passing.{Pass-bind, kinds-bind, Pass-read_bytes}
+use Rattle.field_rows.proofs.Filled.{bits_of-filled, length-filled}
 use Rattle.slice_geometry.specs.Slicing.{Slicing, IsAllowed}
 use Rattle.quant_factors.specs.Weights.{Weights}
 use Rattle.lifting.specs.declared.Wavelet.{Wavelet}
@@ -13,7 +14,7 @@ use Rattle.lifting.specs.declared.Wavelet.TheVariants.{LeGall, HaarFlat, HaarShi
 use Rattle.transform_params.specs.declared.faults.TransformReason.{TransformReason}
 use Rattle.transform_params.specs.declared.faults.TransformReason.TheVariants.{DefaultMatrix}
 use Rattle.transform_params.specs.Params.{Params, reason_of, wavelet_index_rows, wavelet_rows, slices_y_rows, denominator_rows, slicing_rows, matrix_rows, params_fields, params_rows}
-use Rattle.transform_params.specs.Fields.{wavelet_fields, slicing_fields, entry_fields, matrix_fields, fields_of, AreWritten, IsLawful}
+use Rattle.transform_params.specs.Fields.{wavelet_fields, slicing_fields, entry_fields, matrix_fields, fields_of, byte_length, params_bytes, IsLawful}
 
 -- fields that pass and are of their rows' kinds
 record Passes {R A : Type 0} (rows : Rows R A) (vs : List Value) (a : A) : Type 0 where
@@ -86,7 +87,13 @@ pass_params p f =
     (Passes-bind (matrix_rows p.slicing.depth) (λ matrix. done (record { wavelet = p.wavelet; slicing = p.slicing; matrix = matrix })) (matrix_fields p.matrix) [] p.matrix p
     (pass_matrix p.slicing.depth p.matrix f.deep f.count f.small) (pass_done p))))
 
+pub params_kinds : (p : Params) → IsLawful p → AreOfKind params_fields (fields_of p)
+params_kinds p f = let both = pass_params p f in both.kinds
+
 -- the law
-pub written_back : (p : Params) (bytes more : List ℕ) → IsLawful p → AreWritten p bytes → read reason_of params_rows (cursor_at (bytes ++ more) 0) ≡ Ok (p, cursor_at (bytes ++ more) (8 * length bytes))
+pub written_back : (p : Params) (more : List ℕ) → IsLawful p → read reason_of params_rows (cursor_at (params_bytes p ++ more) 0) ≡ Ok (p, cursor_at (params_bytes p ++ more) (8 * byte_length p))
 unfolding params_rows
-written_back p bytes more f e = let both = pass_params p f in Pass-read_bytes reason_of params_fields (fields_of p) p bytes more both.pass both.kinds e
+written_back p more f =
+    let both = pass_params p f in
+    Pass-read_bytes reason_of params_fields (fields_of p) p (params_bytes p) more both.pass both.kinds (bits_of-filled (written (fields_of p)))
+    ∙ ap (λ (n : ℕ). let r : Result (Params × Cursor) (Fault TransformReason) = Ok (p, cursor_at (params_bytes p ++ more) (8 * n)) in r) (length-filled (written (fields_of p)))

@@ -1,7 +1,7 @@
 -- The fields that transform parameters are written as.
 use Rattle.std.specs.Prelude.{◌≡◌, ℕ, ◌+◌, ◌*◌, ◌/◌, ◌<◌, ◌^◌, true, List, [], ◌∷◌, ◌++◌, length, map}
 use Rattle.std.specs.List.{AllByRecursion}
-use Rattle.bit_codes.specs.Bits.{bits_of, zeros_to_byte_end}
+use Rattle.bit_codes.specs.Bits.{bytes_of, zeros_to_byte_end}
 use Rattle.field_rows.specs.Rows.{Value, Number, Flag}
 use Rattle.field_rows.specs.Given.{written}
 use Rattle.slice_geometry.specs.Slicing.{Slicing, IsAllowed, total_bytes}
@@ -42,11 +42,11 @@ byte_length p = (bit_length p + 7) / 8
 abbrev pub unit_length : Params → ℕ
 unit_length p = 13 + 4 + byte_length p + total_bytes p.slicing
 
--- these bytes are the fields, and zeros up to the last byte's end
-abbrev pub AreWritten : Params → List ℕ → Type 0
-AreWritten p bytes = bits_of bytes ≡ written (fields_of p) ++ zeros_to_byte_end (bit_length p)
+-- parameters as bytes: the fields, and zeros up to the last byte's end
+abbrev pub params_bytes : Params → List ℕ
+params_bytes p = bytes_of (written (fields_of p) ++ zeros_to_byte_end (bit_length p))
 
--- parameters that are written as they are read: they break no rule
+-- Parameters that are written as they are read: they break no rule, and each number is one that a field holds.
 pub record IsLawful (p : Params) : Type 0 where
   pub allowed : IsAllowed p.slicing
   pub a : p.slicing.a < 2 ^ 32

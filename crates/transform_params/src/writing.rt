@@ -2,12 +2,11 @@
 
 ghost use Rattle.std.specs.Prelude.{◌≡◌, ◌≤◌, ◌<◌, ◌+◌, ◌*◌, ◌^◌, ◌++◌, List, ℕ, length, Ok};
 ghost use Rattle.std.specs.List.{AllByRecursion};
-ghost use Rattle.slice_geometry.specs.Slicing.{IsAllowed};
 ghost use Rattle.bit_codes.specs.Bits.{bits_before, cursor_at};
 ghost use Rattle.field_rows.specs.Rows.{read};
 ghost use Rattle.field_rows.specs.Given.{written};
 ghost use Rattle.transform_params.specs.Params.{reason_of, params_rows};
-ghost use Rattle.transform_params.specs.Fields.{wavelet_index, slicing_fields, matrix_fields, entry_fields, bit_length, byte_length, unit_length, AreWritten};
+ghost use Rattle.transform_params.specs.Fields.{wavelet_index, slicing_fields, matrix_fields, entry_fields, bit_length, byte_length, unit_length, params_bytes, IsLawful};
 ghost use Rattle.transform_params.specs.Views.{params_of};
 
 use crate::TransformParams;
@@ -33,6 +32,7 @@ fn entries_len(entries: &[u32]) -> u32
     requires { length entries.now ≤ 13 }
     ensures value { result ≡ length (written (entry_fields entries.now)) }
     ensures most { result ≤ 845 }
+    ensures small { AllByRecursion (λ n. n < 2 ^ 32) entries.now }
 {
     let mut bits = 0;
     for entry in entries {
@@ -47,7 +47,7 @@ impl TransformParams {
     fn bit_len(&self) -> u32
         ensures value { result ≡ bit_length (params_of self.now) }
         ensures most { result ≤ 1240 }
-        ensures allowed { IsAllowed self.now.layout }
+        ensures lawful { IsLawful (params_of self.now) }
     {
         let layout = self.layout;
         1 + uint_len(wavelet_index(self.wavelet))
@@ -63,7 +63,7 @@ impl TransformParams {
     pub fn byte_len(&self) -> usize
         ensures value { result ≡ byte_length (params_of self.now) }
         ensures most { result ≤ 155 }
-        ensures allowed { IsAllowed self.now.layout }
+        ensures lawful { IsLawful (params_of self.now) }
     {
         ((self.bit_len() + 7) / 8) as usize
     }
@@ -71,7 +71,8 @@ impl TransformParams {
     /// How many bytes the unit of a picture with these parameters has: the head, the picture number, the parameters and
     /// the slices.
     pub fn unit_len(&self) -> u32
-        ensures { result ≡ unit_length (params_of self.now) }
+        ensures value { result ≡ unit_length (params_of self.now) }
+        ensures lawful { IsLawful (params_of self.now) }
     {
         17 + self.byte_len() as u32 + self.layout.total_bytes()
     }
@@ -80,7 +81,7 @@ impl TransformParams {
     /// exactly these bytes and gives the same parameters, whatever follows.
     pub fn write(&self, bytes: &mut [u8])
         requires { length bytes.old ≡ byte_length (params_of self.now) }
-        ensures written { AreWritten (params_of self.now) bytes.new }
+        ensures bytes { bytes.new ≡ params_bytes (params_of self.now) }
         ensures read_back { (more : List ℕ) → read reason_of params_rows (cursor_at (bytes.new ++ more) 0) ≡ Ok (params_of self.now, cursor_at (bytes.new ++ more) (8 * length bytes.new)) }
     {
         prove!(self.byte_len() <= 155);
@@ -99,7 +100,6 @@ fn put_layout(w: &mut BitWriter<'_>, layout: &Layout)
     ensures place { w.new.place ≡ w.old.place + length (written (slicing_fields layout.now)) }
     ensures written { bits_before w.new.place w.new.bytes.now ≡ bits_before w.old.place w.old.bytes.now ++ written (slicing_fields layout.now) }
     ensures room { length w.new.bytes.now ≡ length w.old.bytes.now }
-    ensures allowed { IsAllowed layout.now × (layout.now.a < 2 ^ 32) × (layout.now.b < 2 ^ 32) }
 {
     w.put_uint(layout.depth());
     w.put_uint(layout.slices_x());
@@ -115,8 +115,6 @@ fn put_matrix(w: &mut BitWriter<'_>, matrix: &Matrix)
     ensures place { w.new.place ≡ w.old.place + length (written (matrix_fields matrix.now)) }
     ensures written { bits_before w.new.place w.new.bytes.now ≡ bits_before w.old.place w.old.bytes.now ++ written (matrix_fields matrix.now) }
     ensures room { length w.new.bytes.now ≡ length w.old.bytes.now }
-    ensures count { length matrix.now.entries ≡ 1 + 3 * matrix.now.depth }
-    ensures small { AllByRecursion (λ n. n < 2 ^ 32) matrix.now.entries }
 {
     w.put_flag(true);
     for entry in matrix.entries() {

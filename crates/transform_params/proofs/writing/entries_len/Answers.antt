@@ -4,7 +4,7 @@ use Rattle.bit_codes.specs.Codes.{code_of}
 use Rattle.field_rows.specs.Given.{written}
 use Rattle.field_rows.proofs.CodeLengths.{code_short}
 use Rattle.transform_params.specs.Fields.{entry_fields}
-use Rattle.transform_params.proofs.Entries.{entry_next, entries_done}
+use Rattle.transform_params.proofs.Entries.{entry_next, entries_done, all_small}
 use Rattle.transform_params.proofs.writing.entries_len.Goals as goal
 
 pub loop-entry-preserved : goal.loop-entry-preserved
@@ -22,3 +22,6 @@ pub returns-clause-value : goal.returns-clause-value
 returns-clause-value c =
     let l = c.loop-entry in
     omega (arith, l.invariant.so_far, ap (λ (t : List Bool). length t) (entries_done l.entry-index c.args.entries.now (omega (arith, c.loop-entry-test.false))))
+
+pub returns-clause-small : goal.returns-clause-small
+returns-clause-small c = all_small c.args.entries.now (λ i. omega (arith, c.type_inv.entries i))

@@ -1,18 +1,16 @@
-use Rattle.std.proofs.Common.{◌+◌, ◌++◌, ◌<◌, ◌^◌, Bool, List, length, drop, get_or, sym, ap, subst, ◌∙◌, arith, append-nil}
-use Rattle.std.specs.List.{AllByRecursion}
+use Rattle.std.proofs.Common.{◌+◌, ◌++◌, Bool, List, length, drop, get_or, sym, ap, ◌∙◌, arith, append-nil}
 use Rattle.std.proofs.lemmas.List.{length-append}
 use Rattle.bit_codes.specs.Codes.{code_of}
 use Rattle.bit_codes.specs.Bits.{bits_before}
 use Rattle.field_rows.specs.Given.{written}
 use Rattle.transform_params.specs.Fields.{entry_fields}
-use Rattle.transform_params.proofs.Entries.{entry_next, entry_first, entry_put, entries_done, all_small}
+use Rattle.transform_params.proofs.Entries.{entry_next, entry_first, entry_put, entries_done}
 use Rattle.transform_params.proofs.writing.put_matrix.Goals as goal
 
 pub loop-entry-init : goal.loop-entry-init
 loop-entry-init c =
     let same = ap (λ l. written (entry_fields l)) c.entries-entry-items.ensures.value in
     record {
-      small = λ i. omega (arith, c.type_inv.entry-items i);
       items = c.entries-entry-items.ensures.value;
       same = c.put_flag.ensures.same_reference;
       room = c.put_flag.ensures.room;
@@ -33,7 +31,6 @@ loop-entry-preserved c =
     let items = c.entries-entry-items.result.now in
     let next = entry_next l.entry-index items c.loop-entry-test.true in
     record {
-      small = l.invariant.small;
       items = l.invariant.items;
       same = c.put_uint.ensures.same_reference ∙ l.invariant.same;
       room = c.put_uint.ensures.room ∙ l.invariant.room;
@@ -50,6 +47,3 @@ pub returns-clause-written : goal.returns-clause-written
 returns-clause-written c =
     let l = c.loop-entry in
     sym (append-nil (bits_before l.w.place l.w.bytes.now)) ∙ ap (λ t. bits_before l.w.place l.w.bytes.now ++ t) (sym (entries_done l.entry-index c.entries-entry-items.result.now (omega (arith, c.loop-entry-test.false)))) ∙ l.invariant.written
-
-pub returns-clause-small : goal.returns-clause-small
-returns-clause-small c = subst (λ l. AllByRecursion (λ n. n < 2 ^ 32) l) c.entries-entry-items.ensures.value (all_small c.entries-entry-items.result.now c.loop-entry.invariant.small)

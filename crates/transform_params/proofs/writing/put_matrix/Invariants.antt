@@ -1,4 +1,4 @@
-use Rattle.std.proofs.Common.{◌≡◌, ◌+◌, ◌++◌, ◌<◌, ◌^◌, ℕ, get_or, length, drop}
+use Rattle.std.proofs.Common.{◌≡◌, ◌+◌, ◌++◌, length, drop}
 use Rattle.bit_codes.specs.Bits.{bits_before}
 use Rattle.field_rows.specs.Given.{written}
 use Rattle.transform_params.specs.Fields.{entry_fields, matrix_fields}
@@ -6,7 +6,6 @@ use Rattle.transform_params.proofs.writing.put_matrix.Given as goal
 
 abbrev pub invariant-loop-entry : goal.invariant-loop-entry
 invariant-loop-entry l = record {
-  small : (i : ℕ) → get_or l.entry-items i 0 < 2 ^ 32;
   items : l.entry-items ≡ l.matrix.entries;
   same : l.w.bytes.ghost_name ≡ l.fn.w.bytes.ghost_name;
   room : length l.w.bytes.now ≡ length l.fn.w.bytes.now;

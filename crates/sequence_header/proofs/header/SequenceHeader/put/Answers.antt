@@ -1,24 +1,18 @@
 use Rattle.std.proofs.Common.{◌≡◌, ℕ, ◌+◌, ◌*◌, ◌/◌, ◌++◌, List, Bool, length, ap, sym, subst, ◌∙◌, arith}
 use Rattle.bit_codes.specs.Bits.{bits_of, zeros_to_byte_end}
 use Rattle.sequence_header.specs.declared.parts.HeaderParts.{HeaderParts}
-use Rattle.sequence_header.specs.Bytes.{header_bits, header_len, header_text, IsReadBack}
-use Rattle.sequence_header.proofs.Indices.{rate_index, aspect_index, signal_index, colour_index}
+use Rattle.sequence_header.specs.Bytes.{header_bits, header_len, header_text}
+use Rattle.sequence_header.proofs.Indices.{rate_index, signal_index}
 use Rattle.sequence_header.proofs.Sums.{length-header_bits, header_bits-parts}
-use Rattle.sequence_header.proofs.WroteText.{HaveKinds, read_back, joined, all_bits, no_bits}
+use Rattle.sequence_header.proofs.WroteText.{joined, all_bits, no_bits}
 use Rattle.sequence_header.proofs.header.SequenceHeader.put.Goals as goal
 use Rattle.field_rows.proofs.Passing.{length-zeros}
 
 pub put_rate-requires-clause-index : goal.put_rate-requires-clause-index
 put_rate-requires-clause-index c = rate_index c.self.inside.parts.rate c.self.invariant.rate
 
-pub put_aspect-requires-clause-index : goal.put_aspect-requires-clause-index
-put_aspect-requires-clause-index c = aspect_index c.self.inside.parts.aspect c.self.invariant.aspect
-
 pub put_signal-requires-clause-index : goal.put_signal-requires-clause-index
 put_signal-requires-clause-index c = signal_index c.self.inside.parts.signal c.self.invariant.signal
-
-pub put_colour-requires-clause-index : goal.put_colour-requires-clause-index
-put_colour-requires-clause-index c = colour_index c.self.inside.parts.colour c.self.invariant.colour
 
 pub put_version-requires : goal.put_version-requires
 put_version-requires c =
@@ -50,8 +44,8 @@ put_rate-requires-clause-inside c =
     let len : length c.args.w.now.bytes.now ≡ (length (header_bits c.self.inside.parts) + 7) / 8 = c.requires.room ∙ ap header_len (sym c.self.view_is) in
     omega (arith, sum, len)
 
-pub put_aspect-requires-clause-inside : goal.put_aspect-requires-clause-inside
-put_aspect-requires-clause-inside c =
+pub put_aspect-requires : goal.put_aspect-requires
+put_aspect-requires c =
     let sum = length-header_bits c.self.inside.parts in
     let len : length c.args.w.now.bytes.now ≡ (length (header_bits c.self.inside.parts) + 7) / 8 = c.requires.room ∙ ap header_len (sym c.self.view_is) in
     omega (arith, sum, len)
@@ -68,8 +62,8 @@ put_signal-requires-clause-inside c =
     let len : length c.args.w.now.bytes.now ≡ (length (header_bits c.self.inside.parts) + 7) / 8 = c.requires.room ∙ ap header_len (sym c.self.view_is) in
     omega (arith, sum, len)
 
-pub put_colour-requires-clause-inside : goal.put_colour-requires-clause-inside
-put_colour-requires-clause-inside c =
+pub put_colour-requires : goal.put_colour-requires
+put_colour-requires c =
     let sum = length-header_bits c.self.inside.parts in
     let len : length c.args.w.now.bytes.now ≡ (length (header_bits c.self.inside.parts) + 7) / 8 = c.requires.room ∙ ap header_len (sym c.self.view_is) in
     omega (arith, sum, len)
@@ -96,22 +90,3 @@ returns-clause-text c =
     ∙ ap (λ (t : List Bool). t ++ zeros_to_byte_end c.put_coding.new.w.place) (sym (header_bits-parts p))
     ∙ ap (λ (n : ℕ). header_bits p ++ zeros_to_byte_end n) total in
     subst (λ (x : HeaderParts). bits_of new ≡ header_text x) c.self.view_is text
-
-pub returns-clause-read_back : goal.returns-clause-read_back
-returns-clause-read_back c =
-    let p = c.self.inside.parts in
-    let kinds : HaveKinds p = record {
-      version = c.put_version.ensures.kinds;
-      size = c.put_size.ensures.kinds;
-      sampling = c.put_sampling.ensures.kinds _;
-      scan = c.put_scan.ensures.kinds;
-      rate = c.put_rate.ensures.kinds;
-      aspect = c.put_aspect.ensures.kinds;
-      clean = c.put_clean.ensures.kinds;
-      signal = c.put_signal.ensures.kinds;
-      colour = c.put_colour.ensures.kinds;
-      coding = c.put_coding.ensures.kinds _ _;
-    } in
-    let text = returns-clause-text c in
-    let here : bits_of c.align.new.self.bytes.now ≡ header_text p = subst (λ (x : HeaderParts). bits_of c.align.new.self.bytes.now ≡ header_text x) (sym c.self.view_is) text in
-    subst (λ (x : HeaderParts). IsReadBack c.align.new.self.bytes.now x) c.self.view_is (read_back p c.align.new.self.bytes.now c.self.invariant kinds here)

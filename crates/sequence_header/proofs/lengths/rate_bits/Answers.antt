@@ -1,10 +1,10 @@
 use Rattle.std.proofs.Common.{◌≤◌, arith}
 use Rattle.sequence_header.proofs.FieldKinds.{rate_kinds, rate_kinds_pair}
-use Rattle.sequence_header.proofs.writing.put_rate.Goals as goal
+use Rattle.sequence_header.proofs.lengths.rate_bits.Goals as goal
 
 pub returns-in-Index-clause-kinds : goal.returns-in-Index-clause-kinds
 returns-in-Index-clause-kinds c =
-    let some : 1 ≤ c.in-Index.index = rw c.in-Index.is at c.requires.index in
+    let some : 1 ≤ c.in-Index.index = rw c.in-Index.is at c.requires in
     rw c.in-Index.is (rate_kinds c.in-Index.index some (omega arith))
 
 pub returns-in-Pair-clause-kinds : goal.returns-in-Pair-clause-kinds
