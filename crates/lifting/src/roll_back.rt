@@ -109,12 +109,7 @@ fn put_row(band: &mut Plane, y: u32, scratch: &Plane, r: u32, x0: u32, w: u32)
     ensures row { (x : ℕ) → x < w → at band.new y x ≡ at scratch.now r (x0 + x) }
     ensures others { (j x : ℕ) → j ≢ y → at band.new j x ≡ at band.old j x }
 {
-    copy_from(
-        band.row_mut(y),
-        scratch.row(r),
-        x0 as usize,
-        w as usize,
-    );
+    copy_from(band.row_mut(y), scratch.row(r), x0 as usize, w as usize);
 }
 
 fn deal_row(
