@@ -1,4 +1,4 @@
-use Rattle.std.proofs.Common.{◌≡◌, ℕ, ◌+◌, ◌*◌, ◌%◌, ◌<◌, ◌≤◌}
+use Rattle.std.proofs.Common.{◌≡◌, ℕ, ◌*◌, ◌%◌, ◌<◌, ◌≤◌}
 use Rattle.planes.specs.Raster.{height, at}
 use Rattle.lifting.specs.Lines.{before}
 use Rattle.lifting.specs.Places.{side_place}
