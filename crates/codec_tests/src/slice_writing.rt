@@ -141,7 +141,7 @@ fn bands(alloc: Global, layout: &Layout, size: Size) -> Result<Trio, NoMemory>
     Ok(Trio { luma, c1, c2 })
 }
 
-fn picture(
+fn new_picture(
     rt: &impl Abort,
     alloc: Global,
     depth: u32,
@@ -219,7 +219,7 @@ fn one_place(
     luma: i64,
     c1: i64,
 ) -> Result<Picture, NoMemory> {
-    let mut picture = picture(rt, alloc, 0, 1, 1, ONE, 0)?;
+    let mut picture = new_picture(rt, alloc, 0, 1, 1, ONE, 0)?;
     put(rt, &mut picture.coefficients.luma, 0, 0, 0, luma);
     put(rt, &mut picture.coefficients.c1, 0, 0, 0, c1);
     Ok(picture)
@@ -245,7 +245,7 @@ fn slices_of_one_byte(rt: HostRuntime) -> Result<(), Fail> {
 /// C1 is predicted in the second slice by what is restored in the first, which is -6 and not -7.
 #[test]
 fn prediction_by_restored_values(rt: HostRuntime) -> Result<(), Fail> {
-    let mut picture = picture(&rt, rt.alloc(), 0, 2, 1, Size { w: 2, h: 1 }, 0)?;
+    let mut picture = new_picture(&rt, rt.alloc(), 0, 2, 1, Size { w: 2, h: 1 }, 0)?;
     put(&rt, &mut picture.coefficients.c1, 0, 0, 0, -7);
     put(&rt, &mut picture.coefficients.c1, 0, 0, 1, -7);
     let mut bytes = [[0; 1]; 2];
@@ -260,7 +260,7 @@ fn prediction_by_restored_values(rt: HostRuntime) -> Result<(), Fail> {
 }
 
 fn one_level(rt: &impl Abort, alloc: Global, share: u32, bytes: &mut [u8]) -> Result<SliceHead, NoMemory> {
-    let mut picture = picture(rt, alloc, 1, 1, share, Size { w: 2, h: 2 }, 0)?;
+    let mut picture = new_picture(rt, alloc, 1, 1, share, Size { w: 2, h: 2 }, 0)?;
     for (level, orient, value) in [(0, 0, 21), (1, 1, 3), (1, 2, -5), (1, 3, 2)] {
         put(rt, &mut picture.coefficients.luma, level, orient, 0, value);
     }
@@ -333,7 +333,7 @@ fn assert_steepest(rt: &impl Abort, depth: u32, bits: u32, entry: u32) {
 /// Coefficients at the bound, by the steepest matrix, in one byte: nothing is left of them.
 #[test]
 fn coefficients_at_the_bound(rt: HostRuntime) -> Result<(), Fail> {
-    let mut picture = picture(&rt, rt.alloc(), 1, 1, 1, Size { w: 2, h: 2 }, 75)?;
+    let mut picture = new_picture(&rt, rt.alloc(), 1, 1, 1, Size { w: 2, h: 2 }, 75)?;
     for (level, orient, value) in [(0, 0, 1024), (1, 1, -1024), (1, 2, 1024), (1, 3, -1024)] {
         put(&rt, &mut picture.coefficients.luma, level, orient, 0, value);
         put(&rt, &mut picture.coefficients.c1, level, orient, 0, -value);
@@ -349,7 +349,7 @@ fn coefficients_at_the_bound(rt: HostRuntime) -> Result<(), Fail> {
 /// Where there are more slices than places, a slice without any has index 0 and ones behind its length.
 #[test]
 fn slices_without_places(rt: HostRuntime) -> Result<(), Fail> {
-    let mut picture = picture(&rt, rt.alloc(), 0, 3, 2, ONE, 0)?;
+    let mut picture = new_picture(&rt, rt.alloc(), 0, 3, 2, ONE, 0)?;
     put(&rt, &mut picture.coefficients.luma, 0, 0, 0, 127);
     let mut bytes = [0; 2];
     let head = encode(&rt, rt.alloc(), &mut picture, 0, &mut bytes)?;

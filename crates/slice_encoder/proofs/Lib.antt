@@ -16,3 +16,4 @@ pub mod Numbered
 pub mod Encoding
 pub mod Rooms
 pub mod Least
+pub mod WorkedSlices
