@@ -154,14 +154,14 @@ module _ (c : CodedComponent) (indices : List ℕ) (sx sy index : ℕ) (p : Rast
 
 -- ---- the values of a slice
 
-map_same : {X Y : Type 0} (f g : X → Y) → (xs : List X) → All (λ x. f x ≡ g x) xs → map f xs ≡ map g xs
+pub map_same : {X Y : Type 0} (f g : X → Y) → (xs : List X) → All (λ x. f x ≡ g x) xs → map f xs ≡ map g xs
 map_same f g [] h = refl
 map_same f g (x ∷ xs) h =
     let first : f x ≡ g x = All-head (λ x. f x ≡ g x) x xs h in
     let others = map_same f g xs (All-tail (λ x. f x ≡ g x) x xs h) in
     cc
 
-joined_same : {X Y : Type 0} (f g : X → List Y) → (xs : List X) → All (λ x. f x ≡ g x) xs → flat_map f xs ≡ flat_map g xs
+pub joined_same : {X Y : Type 0} (f g : X → List Y) → (xs : List X) → All (λ x. f x ≡ g x) xs → flat_map f xs ≡ flat_map g xs
 joined_same f g [] h = refl
 joined_same f g (x ∷ xs) h =
     ap (λ t. t ++ flat_map f xs) (All-head (λ x. f x ≡ g x) x xs h) ∙ ap (λ t. g x ++ t) (joined_same f g xs (All-tail (λ x. f x ≡ g x) x xs h))
@@ -174,7 +174,7 @@ all_range : (P : ℕ → Type 0) (a n : ℕ) → ((x : ℕ) → a ≤ x → x < 
 all_range P a zero h = All-nil P
 all_range P a (suc n) h = All-cons P a (range_with_len (a + 1) n) (h a (omega arith) (omega arith)) (all_range P (a + 1) n (λ x from to. h x (omega arith) (omega arith)))
 
-all_inside : (P : Place → Type 0) (level orient : ℕ) (r : Rect) → ((y x : ℕ) → IsInRect r y x → P (record { level = level; orient = orient; y = y; x = x })) → All P (rect_places level orient r)
+pub all_inside : (P : Place → Type 0) (level orient : ℕ) (r : Rect) → ((y x : ℕ) → IsInRect r y x → P (record { level = level; orient = orient; y = y; x = x })) → All P (rect_places level orient r)
 all_inside P level orient r h =
     all_joined P (row_places level orient r) (range_with_len r.y0 (r.y1 - r.y0))
     (all_range (λ y. All P (row_places level orient r y)) r.y0 (r.y1 - r.y0)

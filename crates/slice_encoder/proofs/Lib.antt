@@ -17,3 +17,4 @@ pub mod Encoding
 pub mod Rooms
 pub mod Least
 pub mod WorkedSlices
+pub mod SamePicture

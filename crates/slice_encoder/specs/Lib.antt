@@ -10,3 +10,4 @@ pub mod Ready
 pub mod Buffers
 pub mod Encoded
 pub mod Room
+pub mod Chosen
