@@ -9,3 +9,4 @@ pub mod ReadBack
 pub mod WrittenValues
 pub mod WrittenBands
 pub mod WrittenPictures
+pub mod AnalysedBands

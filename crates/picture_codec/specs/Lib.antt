@@ -3,3 +3,5 @@ pub mod Samples
 pub mod Taking
 pub mod Decoding
 pub mod Written
+pub mod Encoding
+pub mod EncoderInside
