@@ -3,6 +3,8 @@
 #![tactic(auto)]
 
 #[cfg(test)]
+mod analysis;
+#[cfg(test)]
 mod block_writing;
 #[cfg(test)]
 mod blocks;
