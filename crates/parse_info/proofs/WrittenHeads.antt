@@ -21,7 +21,8 @@ prefix = 0x42 ∷ 0x42 ∷ 0x43 ∷ 0x44 ∷ []
 abbrev head_fields : ParseInfo → List Value
 head_fields info = Bytes prefix ∷ Bytes (code_byte info.code ∷ []) ∷ Bytes (to_be_bytes w32 info.next) ∷ Bytes (to_be_bytes w32 info.previous) ∷ []
 
-word_fits : (n : ℕ) → AllByRecursion (λ b. b < 256) (to_be_bytes w32 n)
+-- all of a head are bytes
+pub word_fits : (n : ℕ) → AllByRecursion (λ b. b < 256) (to_be_bytes w32 n)
 word_fits n = (omega arith, (omega arith, (omega arith, (omega arith, tt))))
 
 code_fits : (code : Code) → code_byte code < 256
@@ -30,6 +31,9 @@ code_fits EndOfSequence = omega arith
 code_fits Auxiliary = omega arith
 code_fits Padding = omega arith
 code_fits LowDelayPicture = omega arith
+
+pub head_fits : (info : ParseInfo) → AllByRecursion (λ b. b < 256) (head_bytes info)
+head_fits info = (omega arith, (omega arith, (omega arith, (omega arith, (code_fits info.code, (omega arith, (omega arith, (omega arith, (omega arith, word_fits info.previous)))))))))
 
 head_pass : (code : Code) (next previous : ℕ) → next < 2 ^ 32 → previous < 2 ^ 32 → let info : ParseInfo = record { code = code; next = next; previous = previous } in Pass plain_rows (head_fields info) info
 unfolding plain_rows head_rows word_under byte_under ◌>>=◌ checked

@@ -1,5 +1,5 @@
 -- The first unit in front of bytes, and what follows them.
-use Rattle.std.proofs.Common.{◌≡◌, ◌≢◌, ℕ, ◌<◌, ◌≤◌, List, [], ◌∷◌, ◌++◌, length, drop, Result, Ok, Err, refl, sym, ap, ◌∙◌, arith, ⊎_elim}
+use Rattle.std.proofs.Common.{false, ◌≡◌, ◌≢◌, ℕ, ◌<◌, ◌≤◌, List, [], ◌∷◌, ◌++◌, length, drop, Result, Ok, Err, refl, sym, ap, ◌∙◌, arith, ⊎_elim}
 use Rattle.std.proofs.lemmas.Bool.{cases_lt}
 use Rattle.std.proofs.lemmas.List.{length-drop}
 use Rattle.bit_codes.specs.Bits.{bits_of}
@@ -10,7 +10,6 @@ use Rattle.sequence_header.specs.declared.parts.HeaderParts.{HeaderParts}
 use Rattle.unit_table.specs.Grammar.{bytes_at}
 use Rattle.unit_table.specs.Fronts.{Stands, Refuses, front_by, front_of}
 use Rattle.unit_table.proofs.GrammarLaws.{bytes_at-append}
-use Rattle.unit_table.proofs.FrontLaws.{front-unit}
 use Rattle.stream_units.specs.declared.reason.Reason.{Reason}
 use Rattle.stream_units.specs.declared.reason.Reason.TheVariants as reasons
 use Rattle.stream_units.specs.declared.reason.Refusal.{Refusal}
@@ -23,12 +22,12 @@ use Rattle.stream_units.proofs.Before.{read-before}
 -- it stands in front
 pub first_stands : (bytes : List ℕ) (x : HeaderParts × ℕ) → IsFirstUnit bytes (Ok x) → front_of units nothing_yet bytes ≡ Stands x.1 (Sequence x.0)
 first_stands bytes x h =
-    front-unit units nothing_yet bytes (Sequence x.0) (bytes_at x.1 (drop x.1 bytes)) h.1 refl
+    ap (front_by units (λ fault. fault) false bytes) h.1
     ∙ ap (λ n. Stands n (Sequence x.0)) (omega (arith, h.0, length-bits (drop x.1 bytes), length-drop x.1 bytes))
 
 -- it is refused
 pub first_refused : (bytes : List ℕ) (refusal : Refusal) → IsFirstUnit bytes (Err refusal) → (fault : Fault Reason) × (refusal ≡ refusal_of fault) × (front_of units nothing_yet bytes ≡ Refuses fault)
-first_refused bytes refusal h = (h.0, h.1, ap (front_by units bytes) h.2)
+first_refused bytes refusal h = (h.0, h.1, ap (front_by units (λ fault. fault) false bytes) h.2)
 
 -- and is refused the same whatever follows, where the bytes didn't end too soon
 pub first_stays_refused : (bytes more : List ℕ) (refusal : Refusal) → refusal.reason ≢ reasons.Truncated → IsFirstUnit bytes (Err refusal) → IsFirstUnit (bytes ++ more) (Err refusal)

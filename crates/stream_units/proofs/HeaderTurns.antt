@@ -16,7 +16,8 @@ use Rattle.stream_units.specs.declared.stop.ReadStop.{ReadStop}
 use Rattle.stream_units.specs.declared.stop.ReadStop.TheVariants as stops
 use Rattle.stream_units.specs.Units.{is_truncated, Past, First, DataUnit, Sequence, reason_of, header_reason, next_checked, first_payload, units}
 use Rattle.stream_units.specs.Streams.{limit}
-use Rattle.stream_units.specs.Turns.{StopsOver, Takes, IsFirst, ReadsHeader}
+use Rattle.stream_units.specs.Turns.{Takes, IsFirst, ReadsHeader}
+use Rattle.stream_units.specs.Stops.{StopsOver}
 use Rattle.stream_units.specs.Heads.{leads_behind}
 use Rattle.stream_units.proofs.Steady.{units_laws}
 use Rattle.stream_units.proofs.Groups.{group_moves, group_refused}
@@ -77,4 +78,4 @@ pub behind_takes : {z : Past} {held0 held1 : List ℕ} {rest0 rest1 : Option (Li
     → z.place + 13 + length held1 + room ≡ limit → len ≤ 8192 → first.payload ≡ take len held1 → Takes z held0 rest0 rest1 room still (IsFirst first)
 behind_takes {held1 = held1} next len still room first r left leads total few copy =
     let b = at_behind next first.parts len still r left in
-    checked_takes_gone room next (13 + len) (IsFirst first) (Sequence first.parts) b.0 leads refl (omega (arith, total, r.inside, length-drop len held1, ap (λ (l : List ℕ). length l) left)) (omega (arith, few)) (refl, copy ∙ sym b.1)
+    checked_takes_gone room next (13 + len) (IsFirst first) (Sequence first.parts) b.0 leads (omega (arith, total, r.inside, length-drop len held1, ap (λ (l : List ℕ). length l) left)) (omega (arith, few)) (refl, copy ∙ sym b.1)

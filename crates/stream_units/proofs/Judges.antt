@@ -6,8 +6,9 @@ use Rattle.vc2_io.proofs.Known.{Appends-none}
 use Rattle.vc2_run.specs.Walk.{Machine, answer_to}
 use Rattle.vc2_run.specs.Ran.{Ran}
 use Rattle.vc2_run.specs.Window.{Holds}
-use Rattle.vc2_run.proofs.Windows.{holds_none}
-use Rattle.unit_table.specs.Fronts.{machine_of}
+use Rattle.vc2_run.proofs.Windows.{holds_opened}
+use Rattle.unit_table.specs.Fronts.{Between}
+use Rattle.unit_table.proofs.FrontLaws.{machine_laws}
 use Rattle.unit_table.proofs.Turning.{turned_more, turned_ended}
 use Rattle.stream_units.specs.declared.stop.Item.{Item}
 use Rattle.stream_units.specs.declared.stop.Item.TheVariants as items
@@ -17,24 +18,31 @@ use Rattle.stream_units.specs.declared.judging.Verdict.{Verdict}
 use Rattle.stream_units.specs.declared.judging.Verdict.TheVariants as verdicts
 use Rattle.stream_units.specs.Units.{Past, nothing_yet, units}
 use Rattle.stream_units.specs.Streams.{limit, past_limit, refusal_of, HasOneAnswer}
-use Rattle.stream_units.specs.Turns.{LimitStops}
+use Rattle.stream_units.specs.Stops.{LimitStops}
 use Rattle.stream_units.specs.Reader.{ReaderState, new_reader, is_end_item, TakesItem, TakesEnd, NextOver}
 use Rattle.stream_units.specs.Judging.{IsVerdict, IsStopped, judging}
 use Rattle.stream_units.proofs.Steady.{units_laws}
 use Rattle.stream_units.proofs.OneAnswer.{one_answer}
-use Rattle.stream_units.proofs.Answering.{answer_stream, answer_refusal, after-place}
+use Rattle.stream_units.proofs.Answering.{machine, IsPlain, answer_stream, answer_refusal, after-place}
 
-abbrev pub judge_machine : Machine Past Verdict
-judge_machine = machine_of limit past_limit units judging
+abbrev pub judge_machine : Machine (Between Past Unit) Verdict
+judge_machine = machine judging
+
+judge_plain : IsPlain judging
+judge_plain = record { text = λ unit. []; is_text = λ z own unit bytes. refl; step = λ own unit. tt; is_step = λ z own unit bytes. refl }
+
+abbrev at_past : Past → Between Past Unit
+at_past z = record { past = z; own = tt }
 
 -- the reader goes on behind the units so far
-pub record Between (rest0 rest1 : Option (List ℕ)) (r : ReaderState) : Type 0 where
-  pub holds : Holds judge_machine nothing_yet rest0 rest1 None None r.held r.past
+pub record GoesOn (rest0 rest1 : Option (List ℕ)) (r : ReaderState) : Type 0 where
+  pub holds : Holds judge_machine rest0 rest1 None None r.held (at_past r.past)
   pub no_stop : r.stop ≡ None
   pub no_end : r.ended ≡ false
 
-pub between_none : (rest : Option (List ℕ)) (r : ReaderState) → r ≡ new_reader → Between rest rest r
-between_none rest r new = subst (Between rest rest) (sym new) (record { holds = holds_none judge_machine nothing_yet rest None; no_stop = refl; no_end = refl })
+pub goes_first : (rest : Option (List ℕ)) (r : ReaderState) → r ≡ new_reader → GoesOn rest rest r
+goes_first rest r new =
+    subst (GoesOn rest rest) (sym new) (record { holds = holds_opened (machine_laws limit past_limit units nothing_yet judging units_laws) rest None None (Appends-none None None refl); no_stop = refl; no_end = refl })
 
 pub ends_by : (old new : ReaderState) (rest0 rest1 : Option (List ℕ)) (item : Item) → NextOver old new rest0 rest1 (Ok item) → is_end_item item ≡ true → TakesEnd old new rest0 rest1
 ends_by old new rest0 rest1 items.Sequence n e = absurd cc
@@ -50,9 +58,9 @@ takes_by old new rest0 rest1 (items.Picture number) n e = n
 takes_by old new rest0 rest1 items.Skipped n e = n
 takes_by old new rest0 rest1 items.End n e = absurd cc
 
-pub between_more : (rest0 rest1 rest2 : Option (List ℕ)) (old new : ReaderState) (item : Item) → Between rest0 rest1 old → TakesItem old new rest1 rest2 item → Between rest0 rest2 new
-between_more rest0 rest1 rest2 old new item b n = record {
-  holds = subst (λ (z : Past). Holds judge_machine nothing_yet rest0 rest2 None None new.held z) (sym n.past) (turned_more judging units_laws nothing_yet rest0 None None None b.holds n.takes (Appends-none None None refl));
+pub goes_more : (rest0 rest1 rest2 : Option (List ℕ)) (old new : ReaderState) (item : Item) → GoesOn rest0 rest1 old → TakesItem old new rest1 rest2 item → GoesOn rest0 rest2 new
+goes_more rest0 rest1 rest2 old new item b n = record {
+  holds = subst (λ (z : Past). Holds judge_machine rest0 rest2 None None new.held (at_past z)) (sym n.past) (turned_more nothing_yet judging units_laws rest0 None None None b.holds n.takes (Appends-none None None refl));
   no_stop = n.going.0;
   no_end = n.going.1;
 }
@@ -65,30 +73,31 @@ place_more rest1 rest2 old new item n =
     (omega (arith, place, t.some), omega (arith, place, t.most, parts, length-append n.bytes new.held))
 
 -- the verdict of a run over bytes that are told
-verdict_of : (bytes left : List ℕ) (verdict : Verdict) → Ran judge_machine nothing_yet (Some bytes) (Some left) None None (Ok verdict) → (answer_to judge_machine nothing_yet bytes).ending ≡ verdict
-verdict_of bytes left verdict r = ap (λ l. (answer_to judge_machine nothing_yet l).ending) r.1 ∙ (r.2.2 left refl).1
+verdict_of : (bytes left : List ℕ) (verdict : Verdict) → Ran judge_machine (Some bytes) (Some left) None None (Ok verdict) → (answer_to judge_machine bytes).ending ≡ verdict
+verdict_of bytes left verdict r = ap (λ l. (answer_to judge_machine l).ending) r.1 ∙ (r.2.2 left refl).1
 
 -- it is that of the definitions
-pub is_verdict : (bytes : List ℕ) (verdict : Verdict) → AllByRecursion (λ b. b < 256) bytes → (answer_to judge_machine nothing_yet bytes).ending ≡ verdict → IsVerdict bytes verdict
+pub is_verdict : (bytes : List ℕ) (verdict : Verdict) → AllByRecursion (λ b. b < 256) bytes → (answer_to judge_machine bytes).ending ≡ verdict → IsVerdict bytes verdict
 is_verdict bytes verdict fits e = by (one_answer bytes)
   where
     by : HasOneAnswer bytes → IsVerdict bytes verdict
     by (inl s) =
-        let same : verdicts.Stream ≡ verdict = sym (ap (λ a. a.ending) (answer_stream judging (λ unit. []) (λ z unit. refl) bytes s.0 s.1 fits s.2)) ∙ e in
+        let same : verdicts.Stream ≡ verdict = sym (ap (λ a. a.ending) (answer_stream judging judge_plain bytes s.0 s.1 fits s.2).2) ∙ e in
         subst (IsVerdict bytes) same (s.0, s.1, s.2)
     by (inr r) =
-        let same : verdicts.Refused r.0 ≡ verdict = sym (ap (λ a. a.ending) (answer_refusal judging (λ unit. []) (λ z unit. refl) bytes r.0 fits r.1) ∙ ap (λ x. verdicts.Refused x) (sym r.1.there)) ∙ e in
+        let same : verdicts.Refused r.0 ≡ verdict = sym (ap (λ a. a.ending) (answer_refusal judging judge_plain bytes r.0 fits r.1).1 ∙ ap (λ x. verdicts.Refused x) (sym r.1.there)) ∙ e in
         subst (IsVerdict bytes) same r.1
 
-pub judged_stream : (bytes left : List ℕ) (rest1 : Option (List ℕ)) (old new : ReaderState) → AllByRecursion (λ b. b < 256) bytes → Between (Some bytes) rest1 old → TakesEnd old new rest1 (Some left) → IsVerdict bytes verdicts.Stream
+pub judged_stream : (bytes left : List ℕ) (rest1 : Option (List ℕ)) (old new : ReaderState) → AllByRecursion (λ b. b < 256) bytes → GoesOn (Some bytes) rest1 old → TakesEnd old new rest1 (Some left) → IsVerdict bytes verdicts.Stream
 judged_stream bytes left rest1 old new fits b n =
-    is_verdict bytes verdicts.Stream fits (verdict_of bytes left verdicts.Stream (turned_ended judging units_laws nothing_yet (Some bytes) None None None verdicts.Stream [] b.holds n.meets (λ bytes. refl) (Appends-none None None refl)))
+    is_verdict bytes verdicts.Stream fits (verdict_of bytes left verdicts.Stream (turned_ended nothing_yet judging units_laws (Some bytes) None None None verdicts.Stream b.holds n.meets (λ more told. refl) (Appends-none None None refl)))
 
-pub judged_stop : (bytes left : List ℕ) (rest1 : Option (List ℕ)) (old : ReaderState) (stop : ReadStop) (verdict : Verdict) → AllByRecursion (λ b. b < 256) bytes → Between (Some bytes) rest1 old → LimitStops units old.past old.held rest1 (Some left) stop → IsStopped stop verdict → IsVerdict bytes verdict
+pub judged_stop : (bytes left : List ℕ) (rest1 : Option (List ℕ)) (old : ReaderState) (stop : ReadStop) (verdict : Verdict) → AllByRecursion (λ b. b < 256) bytes → GoesOn (Some bytes) rest1 old → LimitStops units old.past old.held rest1 (Some left) stop → IsStopped stop verdict → IsVerdict bytes verdict
 judged_stop bytes left rest1 old (stops.Refused refusal) verdict fits b n e =
     let told : verdicts.Refused (refusal_of n.fault) ≡ verdict = ap (λ x. verdicts.Refused x) (sym n.there) ∙ sym e in
     subst (IsVerdict bytes) told
-    (is_verdict bytes (verdicts.Refused (refusal_of n.fault)) fits (verdict_of bytes left (verdicts.Refused (refusal_of n.fault)) (turned_ended judging units_laws nothing_yet (Some bytes) None None None (verdicts.Refused (refusal_of n.fault)) [] b.holds n.meets (λ bytes. refl) (Appends-none None None refl))))
+    (is_verdict bytes (verdicts.Refused (refusal_of n.fault)) fits
+    (verdict_of bytes left (verdicts.Refused (refusal_of n.fault)) (turned_ended nothing_yet judging units_laws (Some bytes) None None None (verdicts.Refused (refusal_of n.fault)) b.holds n.meets (λ more told. refl) (Appends-none None None refl))))
 judged_stop bytes left rest1 old stops.ReadFault verdict fits b n e = absurd e
 judged_stop bytes left rest1 old stops.NoMemory verdict fits b n e = absurd e
 

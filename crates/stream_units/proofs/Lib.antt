@@ -20,6 +20,13 @@ pub mod HeaderTurns
 pub mod PictureTurns
 pub mod Ready
 pub mod UnitTurns
-pub mod InLimit
+pub mod Taking
 pub mod ReaderTurns
 pub mod Judges
+pub mod EncodedPieces
+pub mod EncodedParts
+pub mod EncodedUnits
+pub mod EncodedStreams
+pub mod WorkedEncoding
+pub mod WrittenShapes
+pub mod WriterCalls

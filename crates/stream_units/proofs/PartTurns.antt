@@ -8,10 +8,9 @@ use Rattle.field_rows.specs.Rows.{done, read, ◌>>=◌, bytes_under, first_brok
 use Rattle.field_rows.proofs.Reading.{read-done}
 use Rattle.vc2_run.specs.Ran.{within}
 use Rattle.unit_table.specs.Grammar.{bytes_at}
-use Rattle.unit_table.specs.Fronts.{Finishes}
-use Rattle.unit_table.specs.Begun.{Begun, Needs, Moves, Got, Over}
-use Rattle.unit_table.proofs.Begins.{begun_more, begun_held, begun_use, begun_taken, begun_taken-bytes, begun_use-gone, begun_end, begun_trailing, got_back}
-use Rattle.unit_table.proofs.Fields.{needs_row, needs_end, moves_row, moves_blind, short_row, broken_row, all_fit}
+use Rattle.unit_table.specs.Begun.{Begun, Needs, Moves, Got}
+use Rattle.unit_table.proofs.Begins.{begun_more, begun_held, begun_use, begun_use-gone, got_back}
+use Rattle.unit_table.proofs.Fields.{needs_row, moves_row, moves_blind, short_row, broken_row, all_fit}
 use Rattle.stream_units.specs.declared.window.Halt.{Halt}
 use Rattle.stream_units.specs.declared.reason.Reason.TheVariants as reasons
 use Rattle.stream_units.specs.declared.reason.Refusal.{Refusal}
@@ -20,62 +19,23 @@ use Rattle.stream_units.specs.declared.stop.ReadStop.TheVariants as stops
 use Rattle.stream_units.specs.Asking.{WindowSeen, Dropped}
 use Rattle.stream_units.specs.Units.{Past, First, DataUnit, Repeated, Skipped, End, reason_of, next_checked, repeated_payload, skipped_payload, units}
 use Rattle.stream_units.specs.Streams.{limit}
-use Rattle.stream_units.specs.Turns.{stop_of, StopsOver, Ends, Takes}
+use Rattle.stream_units.specs.Turns.{Takes}
+use Rattle.stream_units.specs.Stops.{stop_of, StopsOver}
 use Rattle.stream_units.specs.Heads.{leads_behind}
 use Rattle.stream_units.proofs.Steady.{units_laws}
 use Rattle.stream_units.proofs.HeadRows.{read-checked_unit}
 use Rattle.stream_units.proofs.Stopping.{units_table, stops_lost, stops_short, stops_refused}
 
--- ---- a unit that was taken
+-- ---- a unit that was read
 
-pub takes : {z : Past} {held0 held1 : List ℕ} {rest0 rest1 : Option (List ℕ)} {at : ℕ} (room : ℕ) (IsSuch : DataUnit → List ℕ → Type 0) (unit : DataUnit) → Begun units z held0 rest0 rest1 at held1 (done unit) → units.is_end unit ≡ false → at + length held1 + room ≡ limit → at < z.place + 2 ^ 32
+pub takes : {z : Past} {held0 held1 : List ℕ} {rest0 rest1 : Option (List ℕ)} {at : ℕ} (room : ℕ) (IsSuch : DataUnit → List ℕ → Type 0) (unit : DataUnit) → Begun units z held0 rest0 rest1 at held1 (done unit) → at + length held1 + room ≡ limit → at < z.place + 2 ^ 32
     → ((bytes : List ℕ) → at ≡ z.place + length bytes → IsSuch unit bytes) → Takes z held0 rest0 rest1 room held1 IsSuch
-takes {z} {held0} {held1} {rest0} {rest1} {at} room IsSuch unit b no_end total short such =
-    let t = begun_taken units_laws unit b no_end in
-    record { unit = unit; bytes = t.0; such = such t.0 t.1; total = omega (arith, total, t.1); short = omega (arith, short, t.1); taken = t.2 }
+takes {at = at} room IsSuch unit b total short such = record { unit = unit; at = at; begun = b; such = (such b.gone b.partway.at_is, omega (arith, short, b.partway.at_is)); total = total }
 
 -- the same, of the bytes that are gone
-pub takes_gone : {z : Past} {held0 held1 : List ℕ} {rest0 rest1 : Option (List ℕ)} {at : ℕ} (room : ℕ) (IsSuch : DataUnit → List ℕ → Type 0) (unit : DataUnit) (b : Begun units z held0 rest0 rest1 at held1 (done unit)) → units.is_end unit ≡ false → at + length held1 + room ≡ limit → at < z.place + 2 ^ 32
+pub takes_gone : {z : Past} {held0 held1 : List ℕ} {rest0 rest1 : Option (List ℕ)} {at : ℕ} (room : ℕ) (IsSuch : DataUnit → List ℕ → Type 0) (unit : DataUnit) (b : Begun units z held0 rest0 rest1 at held1 (done unit)) → at + length held1 + room ≡ limit → at < z.place + 2 ^ 32
     → IsSuch unit b.gone → Takes z held0 rest0 rest1 room held1 IsSuch
-takes_gone {z} {held0} {held1} {rest0} {rest1} {at} room IsSuch unit b no_end total short such =
-    let t = begun_taken units_laws unit b no_end in
-    record { unit = unit; bytes = t.0; such = subst (IsSuch unit) (sym (begun_taken-bytes units_laws unit b no_end)) such; total = omega (arith, total, t.1); short = omega (arith, short, t.1); taken = t.2 }
-
--- ---- behind an end of sequence
-
-end_needs : Needs units (done End) 1
-end_needs = needs_end units End refl
-
-pub end_trailing : {z : Past} {held0 held1 : List ℕ} {rest0 rest1 : Option (List ℕ)} {place : ℕ} (held2 : List ℕ) (rest2 : Option (List ℕ)) (room : ℕ) (stop : ReadStop) → Begun units z held0 rest0 rest1 place held1 (done End) → Got 1 held1 held2 rest1 rest2 [] → 1 ≤ length held2 → place + length held2 + room ≡ limit
-    → stop ≡ stops.Refused (record { place = place; reason = reasons.TrailingBytes }) → StopsOver units z held0 rest0 rest2 room stop
-end_trailing {z} {held0} {held1} {rest0} {rest1} {place} held2 rest2 room stop b got some total e =
-    subst (StopsOver units z held0 rest0 rest2 room) (sym e) (record {
-      fault = record { place = 8 * place; reason = reasons.TrailingBytes };
-      there = ap (λ (p : ℕ). let r : Refusal = record { place = p; reason = reasons.TrailingBytes } in r) (omega arith);
-      top = place + length held2;
-      total = total;
-      at_end = λ e. absurd cc;
-      over = begun_trailing units_laws (within room rest2) End (begun_held units_laws 1 rest2 held2 b end_needs got) refl (omega (arith, some));
-    })
-
-pub end_over : {z : Past} {held0 held1 : List ℕ} {rest0 rest1 : Option (List ℕ)} {place : ℕ} (held2 : List ℕ) (rest2 : Option (List ℕ)) (room : ℕ) → Begun units z held0 rest0 rest1 place held1 (done End) → Got 1 held1 held2 rest1 rest2 [] → length held2 < 1 → place + length held2 + room ≡ limit → place ≡ z.place + 13
-    → IsAtEnd (within room rest2) → Ends z held0 rest0 rest2 room held2
-end_over {z} {held0} {held1} {rest0} {rest1} {place} held2 rest2 room b got none total behind at_end =
-    let empty : held2 ≡ [] = nil_from_length held2 (omega (arith, none)) in
-    let e = begun_end units_laws (within room rest2) End (subst (λ l. Begun units z held0 rest0 rest2 place l (done End)) empty (begun_held units_laws 1 rest2 held2 b end_needs got)) refl at_end in
-    record {
-      bytes = e.0;
-      none = empty;
-      last = at_end;
-      some = omega (arith, e.1, behind);
-      total = omega (arith, total, none, e.1);
-      short = omega (arith, e.1, behind);
-      over = subst (λ n. Over units z held0 rest0 rest2 (within room rest2) n (Finishes (length e.0) End)) e.1 e.2;
-    }
-
-pub end_lost : {z : Past} {held0 held1 : List ℕ} {rest0 rest1 : Option (List ℕ)} {place : ℕ} (held2 : List ℕ) (rest2 : Option (List ℕ)) (room : ℕ) (halt : Halt) (stop : ReadStop) → Begun units z held0 rest0 rest1 place held1 (done End) → Got 1 held1 held2 rest1 rest2 [] → length held2 < 1 → place + length held2 + room ≡ limit
-    → stop ≡ stop_of halt → StopsOver units z held0 rest0 rest2 room stop
-end_lost held2 rest2 room halt stop b got none total e = stops_lost units_table 1 room halt stop (begun_held units_laws 1 rest2 held2 b end_needs got) end_needs none total e
+takes_gone {at = at} room IsSuch unit b total short such = record { unit = unit; at = at; begun = b; such = (such, omega (arith, short, b.partway.at_is)); total = total }
 
 -- ---- a payload that is skipped
 
@@ -90,7 +50,7 @@ skipped_whole {z} {held0} {rest0} {rest1} {place} {old} {new} next rest2 d b beh
     let long = d.enough refl in
     takes new.room (λ unit bytes. unit ≡ Skipped) Skipped
     (begun_more units_laws (next - 13) rest2 new.held d.gone (done Skipped) b (skipped_needs next) d.got (moves_blind units (next - 13) _ _ place d.gone (done Skipped) long (λ v. refl) (λ v. refl)))
-    refl (omega (arith, d.room, total)) (omega (arith, behind, long, few)) (λ bytes at. refl)
+    (omega (arith, d.room, total)) (omega (arith, behind, long, few)) (λ bytes at. refl)
 
 pub skipped_short : {z : Past} {held0 : List ℕ} {rest0 rest1 : Option (List ℕ)} {place : ℕ} {old new : WindowSeen} (next : ℕ) (rest2 : Option (List ℕ)) (stop : ReadStop) (d : Dropped (next - 13) old new rest1 rest2 (Ok false)) → Begun units z held0 rest0 rest1 place old.held (skipped_payload next)
     → place + length old.held + old.room ≡ limit → stop ≡ stops.Refused (record { place = place; reason = reasons.Truncated }) → StopsOver units z held0 rest0 rest2 new.room stop
@@ -119,20 +79,20 @@ checked_moves z next n unit leads = record {
       ∙ sym (read-done reason_of unit (bytes_at (z.place + n) more)) ∙ ap (λ p. read reason_of (done unit) (bytes_at p more)) (omega arith);
 }
 
-pub checked_takes : {z : Past} {held0 held1 : List ℕ} {rest0 rest1 : Option (List ℕ)} (room next n : ℕ) (IsSuch : DataUnit → List ℕ → Type 0) (unit : DataUnit) → Begun units z held0 rest0 rest1 (z.place + n) held1 (next_checked z next >>= λ length. done unit) → leads_behind next n ≡ true → units.is_end unit ≡ false
+pub checked_takes : {z : Past} {held0 held1 : List ℕ} {rest0 rest1 : Option (List ℕ)} (room next n : ℕ) (IsSuch : DataUnit → List ℕ → Type 0) (unit : DataUnit) → Begun units z held0 rest0 rest1 (z.place + n) held1 (next_checked z next >>= λ length. done unit) → leads_behind next n ≡ true
     → z.place + n + length held1 + room ≡ limit → n < 2 ^ 32 → ((bytes : List ℕ) → n ≡ length bytes → IsSuch unit bytes) → Takes z held0 rest0 rest1 room held1 IsSuch
-checked_takes {z} {held0} {held1} {rest0} {rest1} room next n IsSuch unit b leads no_end total short such =
+checked_takes {z} {held0} {held1} {rest0} {rest1} room next n IsSuch unit b leads total short such =
     takes room IsSuch unit
     (begun_use units_laws [] held1 (done unit) b refl (checked_moves z next n unit leads))
-    no_end (omega (arith, total)) (omega (arith, short)) (λ bytes at. such bytes (omega (arith, at)))
+    (omega (arith, total)) (omega (arith, short)) (λ bytes at. such bytes (omega (arith, at)))
 
 -- the same, of the bytes that are gone
-pub checked_takes_gone : {z : Past} {held0 held1 : List ℕ} {rest0 rest1 : Option (List ℕ)} (room next n : ℕ) (IsSuch : DataUnit → List ℕ → Type 0) (unit : DataUnit) (b : Begun units z held0 rest0 rest1 (z.place + n) held1 (next_checked z next >>= λ length. done unit)) → leads_behind next n ≡ true → units.is_end unit ≡ false
+pub checked_takes_gone : {z : Past} {held0 held1 : List ℕ} {rest0 rest1 : Option (List ℕ)} (room next n : ℕ) (IsSuch : DataUnit → List ℕ → Type 0) (unit : DataUnit) (b : Begun units z held0 rest0 rest1 (z.place + n) held1 (next_checked z next >>= λ length. done unit)) → leads_behind next n ≡ true
     → z.place + n + length held1 + room ≡ limit → n < 2 ^ 32 → IsSuch unit b.gone → Takes z held0 rest0 rest1 room held1 IsSuch
-checked_takes_gone {z} {held0} {held1} {rest0} {rest1} room next n IsSuch unit b leads no_end total short such =
+checked_takes_gone {z} {held0} {held1} {rest0} {rest1} room next n IsSuch unit b leads total short such =
     takes_gone room IsSuch unit
     (begun_use units_laws [] held1 (done unit) b refl (checked_moves z next n unit leads))
-    no_end (omega (arith, total)) (omega (arith, short)) (subst (IsSuch unit) (sym (begun_use-gone units_laws [] held1 (done unit) b refl (checked_moves z next n unit leads) ∙ append-nil b.gone)) such)
+    (omega (arith, total)) (omega (arith, short)) (subst (IsSuch unit) (sym (begun_use-gone units_laws [] held1 (done unit) b refl (checked_moves z next n unit leads) ∙ append-nil b.gone)) such)
 
 pub checked_refused : {z : Past} {held0 held1 : List ℕ} {rest0 rest1 : Option (List ℕ)} (room next n : ℕ) (unit : DataUnit) (stop : ReadStop) → Begun units z held0 rest0 rest1 (z.place + n) held1 (next_checked z next >>= λ length. done unit) → leads_behind next n ≡ false
     → z.place + n + length held1 + room ≡ limit → stop ≡ stops.Refused (record { place = z.place + 5; reason = reasons.OffsetWrong }) → StopsOver units z held0 rest0 rest1 room stop

@@ -33,7 +33,7 @@ use Rattle.picture_codec.proofs.Taking.{took_none, took_more}
 use Rattle.picture_codec.proofs.Steps.{column_in, number_is}
 use Rattle.unit_table.specs.Grammar.{bytes_at}
 use Rattle.unit_table.specs.Begun.{Begun, Needs, Moves, Got}
-use Rattle.unit_table.proofs.Begins.{begun_held, begun_use, begun_same, begun_taken}
+use Rattle.unit_table.proofs.Begins.{begun_held, begun_use, begun_same}
 use Rattle.unit_table.proofs.Fields.{needs_row, moves_row, short_row, broken_row, all_fit}
 use Rattle.stream_units.specs.declared.reason.Reason.{Reason}
 use Rattle.stream_units.specs.declared.reason.Reason.TheVariants as reasons
@@ -44,7 +44,8 @@ use Rattle.stream_units.specs.Units.{is_truncated, Past, DataUnit, units, reason
 use Rattle.stream_units.specs.Streams.{limit, frame_under}
 use Rattle.stream_units.specs.Heads.{leads_behind}
 use Rattle.stream_units.specs.declared.pictures.Shown.{Shown}
-use Rattle.stream_units.specs.Turns.{stop_of, StopsOver, Takes, IsShown, Shows}
+use Rattle.stream_units.specs.Turns.{Takes, IsShown, Shows}
+use Rattle.stream_units.specs.Stops.{stop_of, StopsOver}
 use Rattle.stream_units.specs.Parts.{IsReady, TookSlices, slice_reason}
 use Rattle.stream_units.proofs.Steady.{units_laws}
 use Rattle.stream_units.proofs.Stopping.{units_table, stops_lost, stops_short, stops_refused}
@@ -400,13 +401,10 @@ next_right {z} {held0} {held1} {rest0} {rest1} {at} others next span b there rig
 -- the unit is taken
 pub picture_taken : {z : Past} {held0 held1 : List ℕ} {rest0 rest1 : Option (List ℕ)} {at : ℕ} (parts : HeaderParts) (shown : Shown) (p : Params) (slices : List (List ℕ)) (room : ℕ) → Begun units z held0 rest0 rest1 at held1 (done (Picture parts shown.number p slices))
     → at ≡ z.place + (shown.head + total_bytes p.slicing) → shown.head + total_bytes p.slicing < 2 ^ 32 → at + length held1 + room ≡ limit → shown.layout ≡ p.slicing → Shows parts p slices shown.decoder → Takes z held0 rest0 rest1 room held1 (IsShown parts shown)
-picture_taken {z} parts shown p slices room b there few total layout shows =
-    let t = begun_taken units_laws (Picture parts shown.number p slices) b refl in
-    record {
-      unit = Picture parts shown.number p slices;
-      bytes = t.0;
-      such = record { params = p; slices = slices; is_picture = refl; layout = layout; head = omega (arith, there, t.1); shows = shows };
-      total = omega (arith, total, t.1);
-      short = omega (arith, few, there, t.1);
-      taken = t.2;
-    }
+picture_taken {z} {at = at} parts shown p slices room b there few total layout shows = record {
+  unit = Picture parts shown.number p slices;
+  at = at;
+  begun = b;
+  such = (record { params = p; slices = slices; is_picture = refl; layout = layout; head = omega (arith, there, b.partway.at_is); shows = shows }, omega (arith, few, there, b.partway.at_is));
+  total = total;
+}

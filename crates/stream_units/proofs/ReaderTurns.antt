@@ -2,10 +2,12 @@
 use Rattle.std.proofs.Common.{◌≡◌, ℕ, ◌+◌, ◌-◌, ◌*◌, ◌^◌, ◌<◌, ◌≤◌, Bool, true, false, List, [], ◌∷◌, ◌++◌, length, Option, Some, None, Result, Ok, refl, sym, ap, subst, ◌∙◌, arith}
 use Rattle.std.specs.Option.{option_map}
 use Rattle.std.proofs.lemmas.Nat.{le-div}
-use Rattle.slice_geometry.specs.Slicing.{Slicing, IsAllowed, slice_count, total_bytes}
+use Rattle.slice_geometry.specs.declared.unit_list.UnitShape.{UnitShape}
+use Rattle.slice_geometry.specs.Units.{IsUnitAllowed, unit_length}
 use Rattle.picture_codec.specs.Samples.{PictureSeen}
 use Rattle.picture_codec.specs.Decoding.{Decoding}
-use Rattle.unit_table.specs.Turn.{TakesUnit}
+use Rattle.unit_table.specs.Fronts.{Finishes}
+use Rattle.unit_table.specs.Turn.{TakesUnit, MeetsFront}
 use Rattle.unit_table.proofs.Begins.{begun_start, begun_due}
 use Rattle.stream_units.specs.declared.stop.Item.{Item}
 use Rattle.stream_units.specs.declared.stop.Item.TheVariants as items
@@ -15,36 +17,60 @@ use Rattle.stream_units.specs.declared.pictures.Shown.{Shown}
 use Rattle.stream_units.specs.declared.parts.Found.{Found}
 use Rattle.stream_units.specs.declared.parts.Found.TheVariants as founds
 use Rattle.stream_units.specs.Asking.{WindowSeen}
-use Rattle.stream_units.specs.Units.{Past, DataUnit, Sequence, Repeated, Picture, Skipped, End, units}
+use Rattle.stream_units.specs.Units.{Past, DataUnit, Sequence, Repeated, Picture, Skipped, End, unit_behind, units}
 use Rattle.stream_units.specs.Streams.{limit, past_limit}
-use Rattle.stream_units.specs.Turns.{IsFound, LimitTakes, LimitOver, LimitStops, shape_of}
+use Rattle.stream_units.specs.Turns.{IsFound, is_end_found, IsRead, LimitOver, shape_of}
+use Rattle.stream_units.specs.Taking.{TakesSuch, EndsSuch}
+use Rattle.stream_units.specs.declared.reason.Reason.TheVariants as reasons
+use Rattle.stream_units.proofs.Stopping.{units_table}
+use Rattle.stream_units.proofs.Taking.{takes_inner}
+use Rattle.unit_table.specs.Grammar.{Final}
+use Rattle.stream_units.specs.Stops.{LimitStops, ReadsRows}
 use Rattle.stream_units.specs.Reader.{ReaderState, item_of, is_end_item, IsPictureOf, IsDecoderOf, Steps, TakesItem, KeepsStop, NextOver}
 use Rattle.stream_units.specs.ReaderInside.{picture_in, ShowsOne, Keeps}
 
+-- ---- what may come behind a unit that was found
+
+-- a unit inside a stream is taken
+pub limit_inner : (z : Past) (held0 : List ℕ) (rest0 rest1 : Option (List ℕ)) (window : WindowSeen) (found : Found) → ReadsRows units z held0 rest0 rest1 window (IsRead z found) → is_end_found found ≡ false → LimitOver z held0 rest0 rest1 window (Ok found)
+limit_inner z held0 rest0 rest1 window (founds.Sequence first) r e = takes_inner units_table r (ap unit_behind r.such.0.0)
+limit_inner z held0 rest0 rest1 window founds.Repeated r e = takes_inner units_table r (ap unit_behind r.such.0)
+limit_inner z held0 rest0 rest1 window (founds.Picture shown) r e = takes_inner units_table r (ap unit_behind r.such.0.2.is_picture)
+limit_inner z held0 rest0 rest1 window founds.Skipped r e = takes_inner units_table r (ap unit_behind r.such.0)
+limit_inner z held0 rest0 rest1 window founds.End r e = absurd cc
+
+-- the stream ends with an end of sequence
+pub final_of : (z : Past) (found : Found) (unit : DataUnit) (bytes : List ℕ) → is_end_found found ≡ true → IsFound z found unit bytes → unit_behind unit ≡ Final (Some reasons.TrailingBytes)
+final_of z (founds.Sequence first) unit bytes e h = absurd cc
+final_of z founds.Repeated unit bytes e h = absurd cc
+final_of z (founds.Picture shown) unit bytes e h = absurd cc
+final_of z founds.Skipped unit bytes e h = absurd cc
+final_of z founds.End unit bytes e h = ap unit_behind h
+
+pub limit_ends : (z : Past) (held0 : List ℕ) (rest0 rest1 : Option (List ℕ)) (window : WindowSeen) (found : Found) → is_end_found found ≡ true → EndsSuch units z held0 rest0 rest1 window (IsRead z found) → LimitOver z held0 rest0 rest1 window (Ok found)
+limit_ends z held0 rest0 rest1 window (founds.Sequence first) e x = absurd cc
+limit_ends z held0 rest0 rest1 window founds.Repeated e x = absurd cc
+limit_ends z held0 rest0 rest1 window (founds.Picture shown) e x = absurd cc
+limit_ends z held0 rest0 rest1 window founds.Skipped e x = absurd cc
+limit_ends z held0 rest0 rest1 window founds.End e x = x
+
 -- ---- the step behind a unit
 
--- each slice has a byte
-count_most : (s : Slicing) → IsAllowed s → slice_count s ≤ total_bytes s
-count_most s allowed = le-div (slice_count s) (slice_count s * s.a) s.b (omega (arith, allowed.share.some)) (grind (arith, allowed.share.byte))
-
-pub picture_slices : (z : Past) (shown : Shown) (found : Found) (size : ℕ) → found ≡ founds.Picture shown → IsAllowed shown.layout → (unit : DataUnit) × (bytes : List ℕ) × (length bytes ≡ size) × IsFound z found unit bytes → slice_count shown.layout ≤ size
-picture_slices z shown found size e allowed h =
-    let is = subst (λ f. IsFound z f h.0 h.1) e h.3 in
-    let few = count_most shown.layout allowed in
-    omega (arith, few, is.2.head, h.2, ap total_bytes is.2.layout)
-
-pub picture_steps : (z new : Past) (shown : Shown) (found : Found) (size slices : ℕ) → found ≡ founds.Picture shown → slices ≡ slice_count shown.layout → new ≡ record z { place = z.place + size; previous = size; pictures = z.pictures + 1; slices = z.slices + slices; last = shown.number }
+pub picture_steps : (z new : Past) (shown : Shown) (found : Found) (size : ℕ) → found ≡ founds.Picture shown → new ≡ record z { place = z.place + size; previous = size; pictures = z.pictures + 1; last = shown.number }
     → (unit : DataUnit) (bytes : List ℕ) → length bytes ≡ size → IsFound z found unit bytes → Steps z new unit bytes (items.Picture shown.number) (Some shown.decoder)
-picture_steps z new shown found size slices e count is unit bytes long h =
+picture_steps z new shown found size e is unit bytes long h =
     let p = subst (λ f. IsFound z f unit bytes) e h in
     let s = p.2 in
-    let made = Picture p.0.parts shown.number s.params s.slices in
     subst (λ u. Steps z new u bytes (items.Picture shown.number) (Some shown.decoder)) (sym s.is_picture) (record {
-      past = is ∙ ap (λ n. record z { place = z.place + n; previous = n; pictures = z.pictures + 1; slices = z.slices + slices; last = shown.number }) (sym long)
-          ∙ ap (λ n. record z { place = z.place + length bytes; previous = length bytes; pictures = z.pictures + 1; slices = z.slices + n; last = shown.number }) (count ∙ ap slice_count s.layout);
+      past = is ∙ ap (λ n. record z { place = z.place + n; previous = n; pictures = z.pictures + 1; last = shown.number }) (sym long);
       is_item = refl;
       decoder = (shown.decoder, refl, s.shows);
     })
+
+-- each slice has a byte
+pub few_slices : (shape told : UnitShape) (bytes : List ℕ) → IsUnitAllowed shape → unit_length shape ≡ length bytes → shape ≡ told → told.slices ≤ length bytes
+few_slices shape told bytes allowed size same =
+    omega (arith, size, le-div shape.slices (shape.slices * shape.a) shape.b (omega (arith, allowed.some)) (grind (arith, allowed.byte)), ap (λ (u : UnitShape). u.slices) same)
 
 -- ---- what was found, whichever it is
 
@@ -60,8 +86,8 @@ pub record IsBehind (z : Past) (window : WindowSeen) (found : Found) (size : ℕ
 size_of : (z : Past) (window : WindowSeen) → ℕ
 size_of z window = limit - window.room - length window.held - z.place
 
-by_takes : {z : Past} {held0 : List ℕ} {rest0 rest1 : Option (List ℕ)} {window : WindowSeen} {found : Found} (size : ℕ) → LimitTakes z held0 rest0 rest1 window.room window.held (IsFound z found) → size ≡ limit - window.room - length window.held - z.place → IsBehind z window found size
-by_takes size t e = record { unit = t.unit; bytes = t.bytes; such = t.such; long = omega (arith, t.total, e); some = omega (arith, t.total, e, t.takes.some); short = omega (arith, t.total, e, t.short); total = omega (arith, t.total, e) }
+by_takes : {z : Past} {held0 : List ℕ} {rest0 rest1 : Option (List ℕ)} {window : WindowSeen} {found : Found} (size : ℕ) → TakesSuch units z held0 rest0 rest1 window (IsRead z found) → size ≡ limit - window.room - length window.held - z.place → IsBehind z window found size
+by_takes size t e = record { unit = t.unit; bytes = t.bytes; such = t.such.0; long = omega (arith, t.total, e); some = omega (arith, t.total, e, t.takes.some); short = omega (arith, t.total, e, t.such.1); total = omega (arith, t.total, e) }
 
 pub behind : (z : Past) (held0 : List ℕ) (rest0 rest1 : Option (List ℕ)) (window : WindowSeen) (found : Found) (size : ℕ) → LimitOver z held0 rest0 rest1 window (Ok found) → size ≡ limit - window.room - length window.held - z.place → IsBehind z window found size
 behind z held0 rest0 rest1 window (founds.Sequence first) size t e = by_takes size t e
@@ -70,7 +96,7 @@ behind z held0 rest0 rest1 window (founds.Picture shown) size t e = by_takes siz
 behind z held0 rest0 rest1 window founds.Skipped size t e = by_takes size t e
 behind z held0 rest0 rest1 window founds.End size t e =
     let none = ap (λ (l : List ℕ). length l) t.none in
-    record { unit = End; bytes = t.bytes; such = refl; long = omega (arith, t.total, e, none); some = omega (arith, t.total, e, t.some, none); short = omega (arith, t.total, e, t.short, none); total = omega (arith, t.total, e, none) }
+    record { unit = End; bytes = t.bytes; such = refl; long = omega (arith, t.total, e, none); some = omega (arith, t.total, e, t.some, none); short = omega (arith, t.total, e, t.such.1, none); total = omega (arith, t.total, e, none) }
 
 -- few bytes are held while the stream goes on
 pub held_few : (z : Past) (held0 : List ℕ) (rest0 rest1 : Option (List ℕ)) (window : WindowSeen) (found : Found) → LimitOver z held0 rest0 rest1 window (Ok found) → length window.held ≤ 4096
@@ -118,50 +144,54 @@ is_picture End made old new shows d k = shown_none made old new shows d k
 pub record Leaves (old new : ReaderState) (window : WindowSeen) (found : Found) (size : ℕ) (item : Item) : Type 0 where
   pub steps : (unit : DataUnit) (bytes : List ℕ) → length bytes ≡ size → IsFound old.past found unit bytes → (made : Option Decoding) × Steps old.past new.past unit bytes item made
   pub shapes : (unit : DataUnit) (bytes : List ℕ) → length bytes ≡ size → IsFound old.past found unit bytes → new.shapes ≡ old.shapes ++ shape_of old.past unit bytes ∷ []
+  pub few : (unit : DataUnit) (bytes : List ℕ) → length bytes ≡ size → IsFound old.past found unit bytes → (shape_of old.past unit bytes).slices ≤ length bytes
   pub picture : (unit : DataUnit) (bytes : List ℕ) → length bytes ≡ size → IsFound old.past found unit bytes → IsPictureOf unit new.picture
   pub held : new.held ≡ window.held
   pub stop : new.stop ≡ None
   pub ended : new.ended ≡ is_end_item item
 
-taken : {old new : ReaderState} {rest0 rest1 : Option (List ℕ)} {window : WindowSeen} {found : Found} {size : ℕ} {item : Item} (t : LimitTakes old.past old.held rest0 rest1 window.room window.held (IsFound old.past found)) → Leaves old new window found size item → size ≡ limit - window.room - length window.held - old.past.place → is_end_item item ≡ false → TakesItem old new rest0 rest1 item
+taken : {old new : ReaderState} {rest0 rest1 : Option (List ℕ)} {window : WindowSeen} {found : Found} {size : ℕ} {item : Item} (t : TakesSuch units old.past old.held rest0 rest1 window (IsRead old.past found)) → Leaves old new window found size item → size ≡ limit - window.room - length window.held - old.past.place → is_end_item item ≡ false → TakesItem old new rest0 rest1 item
 taken {old} {new} {rest0} {rest1} {size = size} t l e going =
     let long : length t.bytes ≡ size = omega (arith, t.total, e) in
-    let s = (l.steps t.unit t.bytes long t.such).1 in
+    let s = (l.steps t.unit t.bytes long t.such.0).1 in
     record {
       unit = t.unit;
       bytes = t.bytes;
       is_item = s.is_item;
       takes = subst (λ h. TakesUnit limit past_limit units old.past old.held rest0 rest1 t.unit t.bytes h) (sym l.held) t.takes;
       past = s.past;
-      shapes = l.shapes t.unit t.bytes long t.such;
-      picture = l.picture t.unit t.bytes long t.such;
+      shapes = l.shapes t.unit t.bytes long t.such.0;
+      few = l.few t.unit t.bytes long t.such.0;
+      picture = l.picture t.unit t.bytes long t.such.0;
       going = (l.stop, l.ended ∙ going);
     }
 
 -- the item of a unit that was taken
-item_is : {old new : ReaderState} {rest0 rest1 : Option (List ℕ)} {window : WindowSeen} {found : Found} {size : ℕ} {item : Item} (t : LimitTakes old.past old.held rest0 rest1 window.room window.held (IsFound old.past found)) → Leaves old new window found size item → size ≡ limit - window.room - length window.held - old.past.place → item ≡ item_of t.unit
-item_is t l e = (l.steps t.unit t.bytes (omega (arith, t.total, e)) t.such).1.is_item
+item_is : {old new : ReaderState} {rest0 rest1 : Option (List ℕ)} {window : WindowSeen} {found : Found} {size : ℕ} {item : Item} (t : TakesSuch units old.past old.held rest0 rest1 window (IsRead old.past found)) → Leaves old new window found size item → size ≡ limit - window.room - length window.held - old.past.place → item ≡ item_of t.unit
+item_is t l e = (l.steps t.unit t.bytes (omega (arith, t.total, e)) t.such.0).1.is_item
 
 pub next_over : (old new : ReaderState) (rest0 rest1 : Option (List ℕ)) (window : WindowSeen) (found : Found) (size : ℕ) (item : Item) → LimitOver old.past old.held rest0 rest1 window (Ok found) → size ≡ limit - window.room - length window.held - old.past.place → Leaves old new window found size item → NextOver old new rest0 rest1 (Ok item)
 next_over old new rest0 rest1 window (founds.Sequence first) size item t e l =
-    let i : item ≡ items.Sequence = item_is t l e ∙ ap item_of t.such.0 in
+    let i : item ≡ items.Sequence = item_is t l e ∙ ap item_of t.such.0.0 in
     subst (λ (x : Item). NextOver old new rest0 rest1 (Ok x)) (sym i) (subst (TakesItem old new rest0 rest1) i (taken t l e (ap is_end_item i)))
 next_over old new rest0 rest1 window founds.Repeated size item t e l =
-    let i : item ≡ items.Repeated = item_is t l e ∙ ap item_of t.such in
+    let i : item ≡ items.Repeated = item_is t l e ∙ ap item_of t.such.0 in
     subst (λ (x : Item). NextOver old new rest0 rest1 (Ok x)) (sym i) (subst (TakesItem old new rest0 rest1) i (taken t l e (ap is_end_item i)))
 next_over old new rest0 rest1 window (founds.Picture shown) size item t e l =
-    let i : item ≡ items.Picture shown.number = item_is t l e ∙ ap item_of t.such.2.is_picture in
+    let i : item ≡ items.Picture shown.number = item_is t l e ∙ ap item_of t.such.0.2.is_picture in
     subst (λ (x : Item). NextOver old new rest0 rest1 (Ok x)) (sym i) (subst (TakesItem old new rest0 rest1) i (taken t l e (ap is_end_item i)))
 next_over old new rest0 rest1 window founds.Skipped size item t e l =
-    let i : item ≡ items.Skipped = item_is t l e ∙ ap item_of t.such in
+    let i : item ≡ items.Skipped = item_is t l e ∙ ap item_of t.such.0 in
     subst (λ (x : Item). NextOver old new rest0 rest1 (Ok x)) (sym i) (subst (TakesItem old new rest0 rest1) i (taken t l e (ap is_end_item i)))
 next_over old new rest0 rest1 window founds.End size item t e l =
     let long : length t.bytes ≡ size = omega (arith, t.total, e, ap (λ (h : List ℕ). length h) t.none) in
     let s = (l.steps End t.bytes long refl).1 in
     let i : item ≡ items.End = s.is_item in
+    let m = subst (λ u. (m : MeetsFront limit past_limit units old.past old.held rest0 rest1 (Finishes (length t.bytes) u)) × ((more : List ℕ) → rest1 ≡ Some more → old.held ++ m.read ++ more ≡ t.bytes)) t.such.0 (t.meets, t.whole) in
     subst (λ (x : Item). NextOver old new rest0 rest1 (Ok x)) (sym i) (record {
       bytes = t.bytes;
-      meets = t.meets;
+      meets = m.0;
+      whole = m.1;
       last = t.last;
       past = s.past;
       shapes = l.shapes End t.bytes long refl;

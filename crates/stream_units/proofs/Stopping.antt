@@ -17,7 +17,7 @@ use Rattle.stream_units.specs.declared.window.Halt.{Halt}
 use Rattle.stream_units.specs.declared.window.Halt.TheVariants as halts
 use Rattle.stream_units.specs.Units.{units, reason_of, is_truncated}
 use Rattle.stream_units.specs.Streams.{limit, refusal_of}
-use Rattle.stream_units.specs.Turns.{stop_of, StopsOver, StopCause}
+use Rattle.stream_units.specs.Stops.{stop_of, StopsOver, StopCause}
 use Rattle.stream_units.proofs.Steady.{units_laws}
 use Rattle.stream_units.proofs.Gets.{got_nothing}
 

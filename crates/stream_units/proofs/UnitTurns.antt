@@ -55,4 +55,4 @@ unit_begun z held rest few = begun_start units z held rest few
 
 -- what was taken, by another word
 pub takes_such : {z : Past} {held0 held1 : List ℕ} {rest0 rest1 : Option (List ℕ)} {room : ℕ} (A B : DataUnit → List ℕ → Type 0) → ((unit : DataUnit) (bytes : List ℕ) → A unit bytes → B unit bytes) → Takes z held0 rest0 rest1 room held1 A → Takes z held0 rest0 rest1 room held1 B
-takes_such A B f t = record { unit = t.unit; bytes = t.bytes; such = f t.unit t.bytes t.such; total = t.total; short = t.short; taken = t.taken }
+takes_such A B f t = record { unit = t.unit; at = t.at; begun = t.begun; such = (f t.unit t.begun.gone t.such.0, t.such.1); total = t.total }

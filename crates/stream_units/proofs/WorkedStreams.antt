@@ -13,7 +13,8 @@ use Rattle.quant_factors.specs.Factors.{inverse_of, restored_of}
 use Rattle.lifting.specs.declared.Wavelet.TheVariants.{HaarFlat}
 use Rattle.parse_info.specs.Head.{head_rows}
 use Rattle.transform_params.specs.Params.{wavelet_index_rows, wavelet_rows, slices_y_rows, denominator_rows, slicing_rows, matrix_rows, params_fields, params_rows}
-use Rattle.stream_units.specs.Units.{Sequence, Picture, End, unit_rows, unit_head, payload_of, payload_rows, first_payload, repeated_payload, picture_payload, skipped_payload, tail_rows, body_rows, next_checked, slice_rows}
+use Rattle.stream_units.specs.Units.{Sequence, Picture, End, unit_rows, unit_head, payload_of, payload_rows, first_payload, repeated_payload, picture_payload, skipped_payload, body_rows, next_checked, slice_rows}
+use Rattle.unit_table.specs.Grammar.{tail_rows}
 use Rattle.stream_units.specs.Streams.{stream_of}
 
 abbrev parts : HeaderParts

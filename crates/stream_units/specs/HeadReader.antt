@@ -1,16 +1,12 @@
 -- The reader of units by their heads alone, over any source.
-use Rattle.std.specs.Prelude.{◌≡◌, ◌≤◌, ◌<◌, ℕ, ◌+◌, Bool, true, false, List, [], ◌++◌, length, Option, Some, None, Result, Ok, Err}
-use Rattle.std.specs.Io.KnownBytes.{Consumes, IsAtEnd}
+use Rattle.std.specs.Prelude.{◌≡◌, ◌≤◌, ℕ, ◌+◌, Bool, true, false, List, [], length, Option, Some, None, Result, Ok, Err}
 use Rattle.parse_info.specs.declared.ParseInfo.{ParseInfo}
-use Rattle.field_rows.specs.Rows.{Fault}
-use Rattle.unit_table.specs.Fronts.{Refuses}
-use Rattle.unit_table.specs.Turn.{TakesUnit, MeetsFront}
-use Rattle.stream_units.specs.declared.reason.Reason.{Reason}
+use Rattle.unit_table.specs.Turn.{TakesUnit, RestsHere}
 use Rattle.stream_units.specs.declared.stop.ReadStop.{ReadStop}
-use Rattle.stream_units.specs.declared.stop.ReadStop.TheVariants as stops
 use Rattle.stream_units.specs.Asking.{WindowSeen}
-use Rattle.stream_units.specs.Streams.{limit, past_limit, refusal_of}
-use Rattle.stream_units.specs.Turns.{LimitStops}
+use Rattle.stream_units.specs.Streams.{limit, past_limit}
+use Rattle.stream_units.specs.Stops.{LimitStops}
+use Rattle.stream_units.specs.Taking.{TakesSuch}
 use Rattle.stream_units.specs.HeadUnits.{heads}
 
 -- What is seen of it: the place of the next unit, the bytes that it holds, the stop that it keeps, and whether the input is over.
@@ -32,27 +28,20 @@ pub record TakesHead (old new : HeadReaderState) (rest0 rest1 : Option (List ℕ
 
 -- The input is over before a unit.
 pub record RestsOver (old new : HeadReaderState) (rest0 rest1 : Option (List ℕ)) : Type 0 where
-  pub none : (old.held ≡ []) × (new.held ≡ [])
-  pub took : Consumes rest0 rest1 []
-  pub at_end : IsAtEnd rest1
-  pub over : (new.place ≡ old.place) × (new.stop ≡ None) × (new.ended ≡ true)
-
--- The unit in front is refused, of which a byte came; or something outside failed.
-abbrev pub HeadStops : ℕ → List ℕ → Option (List ℕ) → Option (List ℕ) → ReadStop → Type 0
-HeadStops place held rest0 rest1 (stops.Refused refusal) = (fault : Fault Reason) × (refusal ≡ refusal_of fault) × (m : MeetsFront limit past_limit heads place held rest0 rest1 (Refuses fault)) × (0 < length (held ++ m.read))
-HeadStops place held rest0 rest1 stop = LimitStops heads place held rest0 rest1 stop
+  pub rests : RestsHere heads old.place old.held rest0 rest1
+  pub over : (new.held ≡ []) × (new.place ≡ old.place) × (new.stop ≡ None) × (new.ended ≡ true)
 
 -- By how the call came out, of a reader that keeps no stop and whose input isn't over.
 abbrev pub NextHeadOver : HeadReaderState → HeadReaderState → Option (List ℕ) → Option (List ℕ) → Result (Option ParseInfo) ReadStop → Type 0
 NextHeadOver old new rest0 rest1 (Ok (Some info)) = TakesHead old new rest0 rest1 info
 NextHeadOver old new rest0 rest1 (Ok None) = RestsOver old new rest0 rest1
-NextHeadOver old new rest0 rest1 (Err stop) = HeadStops old.place old.held rest0 rest1 stop × (new.place ≡ old.place) × (new.stop ≡ Some stop) × (new.ended ≡ false)
+NextHeadOver old new rest0 rest1 (Err stop) = LimitStops heads old.place old.held rest0 rest1 stop × (new.place ≡ old.place) × (new.stop ≡ Some stop) × (new.ended ≡ false)
 
 -- the same, of the window alone
 abbrev pub LimitAlone : ℕ → List ℕ → Option (List ℕ) → Option (List ℕ) → WindowSeen → Result (Option ParseInfo) ReadStop → Type 0
-LimitAlone place held0 rest0 rest1 window (Ok (Some info)) = (bytes : List ℕ) × (place + length bytes + length window.held + window.room ≡ limit) × (length window.held ≤ 4096) × TakesUnit limit past_limit heads place held0 rest0 rest1 info bytes window.held
-LimitAlone place held0 rest0 rest1 window (Ok None) = (held0 ≡ []) × (window.held ≡ []) × Consumes rest0 rest1 [] × IsAtEnd rest1
-LimitAlone place held0 rest0 rest1 window (Err stop) = HeadStops place held0 rest0 rest1 stop
+LimitAlone place held0 rest0 rest1 window (Ok (Some info)) = TakesSuch heads place held0 rest0 rest1 window (λ unit bytes. unit ≡ info)
+LimitAlone place held0 rest0 rest1 window (Ok None) = RestsHere heads place held0 rest0 rest1 × (window.held ≡ [])
+LimitAlone place held0 rest0 rest1 window (Err stop) = LimitStops heads place held0 rest0 rest1 stop
 
 -- while the reader goes on, the bytes so far and those that may still come are the limit, and few are held
 pub record IsHeadReader (place : ℕ) (window : WindowSeen) (stop : Option ReadStop) (ended : Bool) : Type 0 where

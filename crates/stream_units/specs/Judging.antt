@@ -15,12 +15,16 @@ IsVerdict bytes verdicts.Stream = (es : List Entry) × (last : Entry) × IsStrea
 IsVerdict bytes (verdicts.Refused refusal) = IsRefusal bytes refusal
 
 -- a judge goes through the units and writes nothing
-abbrev pub judging : Command Past Reason DataUnit Verdict
+abbrev pub judging : Command Past Reason DataUnit Unit Verdict
 judging = record {
-  text = λ z unit. [];
-  finished = λ z size unit. verdicts.Stream;
-  refused = λ fault. verdicts.Refused (refusal_of fault);
-  last = λ verdict. [];
+  opening = [];
+  start = tt;
+  next = λ z own unit bytes. tt;
+  text = λ z own unit bytes. [];
+  finished = λ z own unit bytes. verdicts.Stream;
+  rested = λ z own. verdicts.Stream;
+  refused = λ z own fault. verdicts.Refused (refusal_of fault);
+  last = λ z own verdict. [];
   endless = verdicts.Stream;
 }
 

@@ -10,3 +10,8 @@ pub mod Judging
 pub mod Laws
 pub mod HeadUnits
 pub mod HeadReader
+pub mod Encoded
+pub mod Writer
+pub mod WriterInside
+pub mod Stops
+pub mod Taking

@@ -18,7 +18,7 @@ use Rattle.stream_units.specs.Asking.{WindowSeen}
 use Rattle.stream_units.specs.declared.reason.Refusal.{Refusal}
 use Rattle.stream_units.specs.Units.{Past, DataUnit, units, slice_rows, is_truncated}
 use Rattle.stream_units.specs.Streams.{limit, refusal_of}
-use Rattle.stream_units.specs.Turns.{StopsOver}
+use Rattle.stream_units.specs.Stops.{StopsOver}
 
 -- A part of a unit, from a place on: its rows make a value and the rows after them are left behind its bytes, or the unit stops in it.
 abbrev pub PartOver : {Z U A X : Type 0} → Grammar Z Reason U → Rows Reason A → (X → A) → Z → Option (List ℕ) → Option (List ℕ) → ℕ → (X → ℕ) → WindowSeen → WindowSeen → Result X ReadStop → Type 0

@@ -1,5 +1,5 @@
 -- The reader of a stream, over any source.
-use Rattle.std.specs.Prelude.{◌≡◌, ℕ, Bool, true, false, List, [], ◌∷◌, ◌++◌, length, Option, Some, None, Result, Ok, Err}
+use Rattle.std.specs.Prelude.{◌≡◌, ◌≤◌, ℕ, Bool, true, false, List, [], ◌∷◌, ◌++◌, length, Option, Some, None, Result, Ok, Err}
 use Rattle.std.specs.Io.KnownBytes.{IsAtEnd}
 use Rattle.slice_geometry.specs.declared.unit_list.UnitShape.{UnitShape}
 use Rattle.picture_codec.specs.Samples.{PictureSeen, frame_of, picture_of}
@@ -11,7 +11,8 @@ use Rattle.stream_units.specs.declared.stop.Item.TheVariants as items
 use Rattle.stream_units.specs.Units.{Past, DataUnit, Sequence, Repeated, Picture, Skipped, End, units, after, nothing_yet}
 use Rattle.stream_units.specs.Streams.{limit, past_limit, frame_under}
 use Rattle.picture_codec.specs.Decoding.{Decoding}
-use Rattle.stream_units.specs.Turns.{Shows, shape_of, LimitStops}
+use Rattle.stream_units.specs.Turns.{Shows, shape_of}
+use Rattle.stream_units.specs.Stops.{LimitStops}
 
 -- What is seen of a reader: what the units so far leave, the bytes that it holds, the shapes of the units, the picture of the last one, the stop that it keeps, and whether the stream is over.
 pub record ReaderState : Type 0 where
@@ -62,6 +63,8 @@ pub record TakesItem (old new : ReaderState) (rest0 rest1 : Option (List ℕ)) (
   pub takes : TakesUnit limit past_limit units old.past old.held rest0 rest1 unit bytes new.held
   pub past : new.past ≡ after old.past unit bytes
   pub shapes : new.shapes ≡ old.shapes ++ shape_of old.past unit bytes ∷ []
+  -- each slice has a byte
+  pub few : (shape_of old.past unit bytes).slices ≤ length bytes
   pub picture : IsPictureOf unit new.picture
   pub going : (new.stop ≡ None) × (new.ended ≡ false)
 
@@ -69,6 +72,7 @@ pub record TakesItem (old new : ReaderState) (rest0 rest1 : Option (List ℕ)) (
 pub record TakesEnd (old new : ReaderState) (rest0 rest1 : Option (List ℕ)) : Type 0 where
   pub bytes : List ℕ
   pub meets : MeetsFront limit past_limit units old.past old.held rest0 rest1 (Finishes (length bytes) End)
+  pub whole : (more : List ℕ) → rest1 ≡ Some more → old.held ++ meets.read ++ more ≡ bytes
   pub last : IsAtEnd rest1
   pub past : new.past ≡ after old.past End bytes
   pub shapes : new.shapes ≡ old.shapes ++ shape_of old.past End bytes ∷ []

@@ -1,8 +1,9 @@
 -- Streams and refusals, as relations: a stream is units one after another, of which the last, and only it, is an end of sequence.
 use Rattle.std.specs.Prelude.{◌≡◌, ℕ, zero, suc, ◌+◌, ◌-◌, ◌*◌, ◌/◌, ◌^◌, ◌<◌, ◌≤◌, Bool, true, false, List, [], ◌∷◌, length, take, Result, Ok, Err, ◌⊎◌, if◌then◌else◌}
 use Rattle.bit_codes.specs.Bits.{Cursor, bytes_of, cursor_at}
-use Rattle.field_rows.specs.Rows.{Value, Fault, read, and_then}
+use Rattle.field_rows.specs.Rows.{Value, Fault, read, and_then, is_nil}
 use Rattle.field_rows.specs.Standing.{Stand, IsRefused}
+use Rattle.unit_table.specs.Grammar.{ends_by}
 use Rattle.stream_units.specs.declared.reason.Reason.{Reason}
 use Rattle.stream_units.specs.declared.reason.Reason.TheVariants as reasons
 use Rattle.stream_units.specs.declared.reason.Refusal.{Refusal}
@@ -10,15 +11,15 @@ use Rattle.sequence_header.specs.declared.parts.HeaderParts.{HeaderParts}
 use Rattle.sequence_header.specs.Coding.{luma_size, colour_size, luma_depth, colour_depth}
 use Rattle.picture_codec.specs.Pictures.{Frame}
 use Rattle.picture_codec.specs.Samples.{PictureSamples, picture_of}
-use Rattle.stream_units.specs.Units.{Past, nothing_yet, DataUnit, Picture, is_end, is_truncated, reason_of, unit_rows, after}
+use Rattle.stream_units.specs.Units.{Past, nothing_yet, DataUnit, Picture, unit_behind, is_truncated, reason_of, unit_rows, after}
 
 -- the bytes between two cursors
 abbrev pub bytes_between : Cursor → Cursor → List ℕ
 bytes_between c behind = bytes_of (take (behind.place - c.place) c.rest)
 
--- The stream ends behind this unit.
+-- The stream ends behind this unit: it may, and nothing is left.
 abbrev pub ends : DataUnit → Cursor → Bool
-ends unit behind = is_end unit
+ends unit behind = ends_by (unit_behind unit) (is_nil behind.rest)
 
 -- a unit by its fields, and what it is
 pub record Entry : Type 0 where

@@ -1,79 +1,27 @@
 -- How the unit in front of a stream is read from a source: what each answer says of the bytes that were held at entry
 -- and then those that were read.
-use Rattle.std.specs.Prelude.{◌≡◌, ◌≤◌, ◌<◌, ℕ, ◌+◌, ◌-◌, ◌^◌, List, [], length, take, drop, Option, Some, None, Result, Ok, Err, MatchResult, if◌then◌else◌}
-use Rattle.std.specs.Io.KnownBytes.{IsAtEnd}
-use Rattle.vc2_io.specs.Outside.{Rose}
-use Rattle.vc2_run.specs.Ran.{within}
-use Rattle.field_rows.specs.Rows.{Fault, done, ◌>>=◌}
+use Rattle.std.specs.Prelude.{◌≡◌, ◌≤◌, ◌<◌, ℕ, ◌+◌, ◌-◌, ◌^◌, List, length, take, drop, Option, Some, Result, Ok, Err, MatchResult, Bool, true, false}
+use Rattle.field_rows.specs.Rows.{done, ◌>>=◌}
 use Rattle.slice_geometry.specs.declared.unit_list.UnitShape.{UnitShape}
 use Rattle.slice_geometry.specs.Slicing.{slice_count, total_bytes}
 use Rattle.sequence_header.specs.declared.parts.HeaderParts.{HeaderParts}
 use Rattle.transform_params.specs.Params.{Params}
 use Rattle.picture_codec.specs.Samples.{frame_of, picture_of}
 use Rattle.picture_codec.specs.Decoding.{Decoding}
-use Rattle.unit_table.specs.Grammar.{Grammar}
-use Rattle.unit_table.specs.Fronts.{Finishes, Refuses}
-use Rattle.unit_table.specs.Begun.{Begun, Lost, Due, Taken, Over}
-use Rattle.unit_table.specs.Turn.{TakesUnit, MeetsFront}
-use Rattle.stream_units.specs.declared.reason.Reason.{Reason}
-use Rattle.stream_units.specs.declared.reason.Reason.TheVariants as reasons
-use Rattle.stream_units.specs.declared.reason.Refusal.{Refusal}
+use Rattle.unit_table.specs.Begun.{Begun}
 use Rattle.stream_units.specs.declared.stop.ReadStop.{ReadStop}
-use Rattle.stream_units.specs.declared.stop.ReadStop.TheVariants as stops
-use Rattle.stream_units.specs.declared.window.Halt.{Halt}
-use Rattle.stream_units.specs.declared.window.Halt.TheVariants as halts
 use Rattle.stream_units.specs.declared.pictures.Shown.{Shown}
 use Rattle.stream_units.specs.declared.parts.Found.{Found}
 use Rattle.stream_units.specs.declared.parts.Found.TheVariants as founds
 use Rattle.stream_units.specs.Asking.{WindowSeen}
-use Rattle.stream_units.specs.Units.{Past, First, DataUnit, Sequence, Repeated, Picture, Skipped, End, units, next_checked, is_truncated}
-use Rattle.stream_units.specs.Streams.{limit, past_limit, refusal_of, frame_under}
+use Rattle.stream_units.specs.Units.{Past, First, DataUnit, Sequence, Repeated, Picture, Skipped, End, units, next_checked}
+use Rattle.stream_units.specs.Streams.{frame_under}
+use Rattle.stream_units.specs.Stops.{ReadsRows, StopsOver, LimitStops}
+use Rattle.stream_units.specs.Taking.{TakesSuch, EndsSuch}
 
-abbrev pub stop_of : Halt → ReadStop
-stop_of halts.ReadFault = stops.ReadFault
-stop_of halts.NoMemory = stops.NoMemory
-
--- ---- one unit, of an input that ends where the room does
-
--- a unit of which this is true was taken; the bytes behind it are held
-pub record Takes (z : Past) (held0 : List ℕ) (rest0 rest1 : Option (List ℕ)) (room : ℕ) (held1 : List ℕ) (IsSuch : DataUnit → List ℕ → Type 0) : Type 0 where
-  pub unit : DataUnit
-  pub bytes : List ℕ
-  pub such : IsSuch unit bytes
-  pub total : z.place + length bytes + length held1 + room ≡ limit
-  pub short : length bytes < 2 ^ 32
-  pub taken : Taken units z held0 rest0 rest1 bytes held1 unit
-
--- the stream ends with this unit, and nothing is behind it
-pub record Ends (z : Past) (held0 : List ℕ) (rest0 rest1 : Option (List ℕ)) (room : ℕ) (held1 : List ℕ) : Type 0 where
-  pub bytes : List ℕ
-  pub none : held1 ≡ []
-  pub last : IsAtEnd (within room rest1)
-  pub some : 0 < length bytes
-  pub total : z.place + length bytes + room ≡ limit
-  pub short : length bytes < 2 ^ 32
-  pub over : Over units z held0 rest0 rest1 (within room rest1) (z.place + length bytes) (Finishes (length bytes) End)
-
--- the unit is refused; where the input ends inside it, nothing more comes
-pub record Refused {Z U : Type 0} (g : Grammar Z Reason U) (z : Z) (held0 : List ℕ) (rest0 rest1 : Option (List ℕ)) (room : ℕ) (refusal : Refusal) : Type 0 where
-  pub fault : Fault Reason
-  pub there : refusal ≡ refusal_of fault
-  pub top : ℕ
-  pub total : top + room ≡ limit
-  pub at_end : refusal.reason ≡ reasons.Truncated → IsAtEnd (within room rest1)
-  pub over : Over g z held0 rest0 rest1 (within room rest1) top (Refuses fault)
-
--- the unit of a table stops
-abbrev pub StopsOver : {Z U : Type 0} → Grammar Z Reason U → Z → List ℕ → Option (List ℕ) → Option (List ℕ) → ℕ → ReadStop → Type 0
-StopsOver g z held0 rest0 rest1 room (stops.Refused refusal) = Refused g z held0 rest0 rest1 room refusal
-StopsOver g z held0 rest0 rest1 room stops.ReadFault = (top : ℕ) × (top ≤ limit) × Lost g z held0 rest0 rest1 top
-StopsOver g z held0 rest0 rest1 room stops.NoMemory = (top : ℕ) × (top ≤ limit) × Due g z held0 rest0 rest1 top
-
--- a failed read has its cause, and without one the count stands still
-abbrev pub StopCause : {X : Type 0} → ℕ → ℕ → Result X ReadStop → Type 0
-StopCause before now (Ok x) = now ≡ before
-StopCause before now (Err stops.ReadFault) = (before ≤ now) × Rose before now
-StopCause before now (Err other) = now ≡ before
+-- a unit of which this is true was read; the bytes behind it are held
+abbrev pub Takes : Past → List ℕ → Option (List ℕ) → Option (List ℕ) → ℕ → List ℕ → (DataUnit → List ℕ → Type 0) → Type 0
+Takes z held0 rest0 rest1 room held1 IsSuch = ReadsRows units z held0 rest0 rest1 (record { held = held1; room = room }) (λ unit bytes. IsSuch unit bytes × (length bytes < 2 ^ 32))
 
 -- ---- what units are
 
@@ -116,13 +64,9 @@ PictureOver z held0 rest0 rest1 window parts result = MatchResult result (λ sho
 
 -- ---- a unit, whichever it is
 
--- how a unit that doesn't end the stream comes out
+-- how a unit comes out
 abbrev pub TakesOver : {X : Type 0} → Past → List ℕ → Option (List ℕ) → Option (List ℕ) → WindowSeen → (X → DataUnit → List ℕ → Type 0) → Result X ReadStop → Type 0
 TakesOver z held0 rest0 rest1 window IsSuch result = MatchResult result (λ x. Takes z held0 rest0 rest1 window.room window.held (IsSuch x)) (λ stop. StopsOver units z held0 rest0 rest1 window.room stop)
-
--- how the end comes out
-abbrev pub EndOver : {X : Type 0} → Past → List ℕ → Option (List ℕ) → Option (List ℕ) → WindowSeen → Result X ReadStop → Type 0
-EndOver z held0 rest0 rest1 window result = MatchResult result (λ x. Ends z held0 rest0 rest1 window.room window.held) (λ stop. StopsOver units z held0 rest0 rest1 window.room stop)
 
 -- what was found is this unit of these bytes
 abbrev pub IsFound : Past → Found → DataUnit → List ℕ → Type 0
@@ -132,54 +76,21 @@ IsFound z (founds.Picture shown) unit bytes = (first : First) × (z.first ≡ So
 IsFound z founds.Skipped unit bytes = unit ≡ Skipped
 IsFound z founds.End unit bytes = unit ≡ End
 
--- by how the unit came out
+-- it is an end of sequence
+abbrev pub is_end_found : Found → Bool
+is_end_found founds.End = true
+is_end_found other = false
+
+-- and it is as long as a unit may be
+abbrev pub IsRead : Past → Found → DataUnit → List ℕ → Type 0
+IsRead z found unit bytes = IsFound z found unit bytes × (length bytes < 2 ^ 32)
+
+-- by how the unit came out, of an input that ends where the room does
 abbrev pub UnitOver : Past → List ℕ → Option (List ℕ) → Option (List ℕ) → WindowSeen → Result Found ReadStop → Type 0
-UnitOver z held0 rest0 rest1 window (Ok founds.End) = Ends z held0 rest0 rest1 window.room window.held
-UnitOver z held0 rest0 rest1 window (Ok found) = Takes z held0 rest0 rest1 window.room window.held (IsFound z found)
-UnitOver z held0 rest0 rest1 window (Err stop) = StopsOver units z held0 rest0 rest1 window.room stop
+UnitOver z held0 rest0 rest1 window result = TakesOver z held0 rest0 rest1 window (IsFound z) result
 
--- ---- the same, of an input that counts up to the limit
-
--- a unit of which this is true was taken
-pub record LimitTakes (z : Past) (held0 : List ℕ) (rest0 rest1 : Option (List ℕ)) (room : ℕ) (held1 : List ℕ) (IsSuch : DataUnit → List ℕ → Type 0) : Type 0 where
-  pub unit : DataUnit
-  pub bytes : List ℕ
-  pub such : IsSuch unit bytes
-  pub total : z.place + length bytes + length held1 + room ≡ limit
-  pub short : length bytes < 2 ^ 32
-  pub few : length held1 ≤ 4096
-  pub takes : TakesUnit limit past_limit units z held0 rest0 rest1 unit bytes held1
-
--- the stream ends with this unit, and nothing is behind it
-pub record LimitEnds (z : Past) (held0 : List ℕ) (rest0 rest1 : Option (List ℕ)) (room : ℕ) (held1 : List ℕ) : Type 0 where
-  pub bytes : List ℕ
-  pub none : held1 ≡ []
-  pub last : IsAtEnd rest1
-  pub some : 0 < length bytes
-  pub total : z.place + length bytes + room ≡ limit
-  pub short : length bytes < 2 ^ 32
-  pub meets : MeetsFront limit past_limit units z held0 rest0 rest1 (Finishes (length bytes) End)
-
--- the unit is refused
-pub record LimitRefused {Z U : Type 0} (g : Grammar Z Reason U) (z : Z) (held0 : List ℕ) (rest0 rest1 : Option (List ℕ)) (refusal : Refusal) : Type 0 where
-  pub fault : Fault Reason
-  pub there : refusal ≡ refusal_of fault
-  pub meets : MeetsFront limit past_limit g z held0 rest0 rest1 (Refuses fault)
-
--- the unit of a table stops
-abbrev pub LimitStops : {Z U : Type 0} → Grammar Z Reason U → Z → List ℕ → Option (List ℕ) → Option (List ℕ) → ReadStop → Type 0
-LimitStops g z held0 rest0 rest1 (stops.Refused refusal) = LimitRefused g z held0 rest0 rest1 refusal
-LimitStops g z held0 rest0 rest1 stops.ReadFault = (top : ℕ) × (top ≤ limit) × Lost g z held0 rest0 rest1 top
-LimitStops g z held0 rest0 rest1 stops.NoMemory = (top : ℕ) × (top ≤ limit) × Due g z held0 rest0 rest1 top
-
+-- the same, of an input that counts up to the limit
 abbrev pub LimitOver : Past → List ℕ → Option (List ℕ) → Option (List ℕ) → WindowSeen → Result Found ReadStop → Type 0
-LimitOver z held0 rest0 rest1 window (Ok founds.End) = LimitEnds z held0 rest0 rest1 window.room window.held
-LimitOver z held0 rest0 rest1 window (Ok found) = LimitTakes z held0 rest0 rest1 window.room window.held (IsFound z found)
+LimitOver z held0 rest0 rest1 window (Ok founds.End) = EndsSuch units z held0 rest0 rest1 window (IsRead z founds.End)
+LimitOver z held0 rest0 rest1 window (Ok found) = TakesSuch units z held0 rest0 rest1 window (IsRead z found)
 LimitOver z held0 rest0 rest1 window (Err stop) = LimitStops units z held0 rest0 rest1 stop
-
--- the reason where a byte lies past the limit, of an end or a refusal that the limit may have made
-abbrev pub too_long : Result Found ReadStop → Option Reason
-too_long (Ok founds.End) = Some reasons.TrailingBytes
-too_long (Ok found) = None
-too_long (Err (stops.Refused refusal)) = if is_truncated refusal.reason then Some reasons.StreamTooLong else None
-too_long (Err stop) = None

@@ -3,7 +3,7 @@ use Rattle.std.specs.Prelude.{ℕ, zero, suc, ◌+◌, ◌-◌, ◌*◌, ◌/◌
 use Rattle.std.specs.List.{starts_with}
 use Rattle.bit_codes.specs.declared.CodeFault.{CodeFault}
 use Rattle.bit_codes.specs.declared.CodeFault.TheVariants as codes
-use Rattle.field_rows.specs.Rows.{Rule, ◌or_else◌, Rows, done, ◌>>=◌, bytes_under, word_under, check_at, no_more, renamed}
+use Rattle.field_rows.specs.Rows.{Rule, ◌or_else◌, Rows, done, ◌>>=◌, bytes_under, word_under, check_at, renamed}
 use Rattle.sequence_header.specs.declared.parts.HeaderParts.{HeaderParts}
 use Rattle.sequence_header.specs.declared.parts.HeaderReason.{HeaderReason}
 use Rattle.sequence_header.specs.declared.parts.HeaderReason.TheVariants as headers
@@ -20,24 +20,23 @@ use Rattle.slice_geometry.specs.Slicing.{slice_count, slice_bytes}
 use Rattle.slice_decoder.specs.Slice.{slice_at, is_small}
 use Rattle.stream_units.specs.declared.reason.Reason.{Reason}
 use Rattle.stream_units.specs.declared.reason.Reason.TheVariants as reasons
-use Rattle.unit_table.specs.Grammar.{Grammar}
+use Rattle.unit_table.specs.Grammar.{Grammar, Behind, Inner, Final, tail_rows}
 
 -- The first sequence header, with the bytes of its payload.
 pub record First : Type 0 where
   pub parts : HeaderParts
   pub payload : List ℕ
 
--- What earlier units leave: the place in bytes, the length of the unit before, the first header, how many pictures and slices there were, and the last picture's number.
+-- What earlier units leave: the place in bytes, the length of the unit before, the first header, how many pictures there were, and the last picture's number.
 pub record Past : Type 0 where
   pub place : ℕ
   pub previous : ℕ
   pub first : Option First
   pub pictures : ℕ
-  pub slices : ℕ
   pub last : ℕ
 
 abbrev pub nothing_yet : Past
-nothing_yet = record { place = 0; previous = 0; first = None; pictures = 0; slices = 0; last = 0 }
+nothing_yet = record { place = 0; previous = 0; first = None; pictures = 0; last = 0 }
 
 -- What the rows of a unit make.
 pub data DataUnit : Type 0 where
@@ -52,12 +51,13 @@ pub data DataUnit : Type 0 where
   -- the end of the sequence
   End : DataUnit
 
-abbrev pub is_end : DataUnit → Bool
-is_end End = true
-is_end (Sequence parts) = false
-is_end Repeated = false
-is_end (Picture parts number params slices) = false
-is_end Skipped = false
+-- behind the end of the sequence no byte may be left
+abbrev pub unit_behind : DataUnit → Behind Reason
+unit_behind End = Final (Some reasons.TrailingBytes)
+unit_behind (Sequence parts) = Inner
+unit_behind Repeated = Inner
+unit_behind (Picture parts number params slices) = Inner
+unit_behind Skipped = Inner
 
 -- the reason of a field that is short
 abbrev pub is_truncated : Reason → Bool
@@ -207,26 +207,19 @@ body_rows z = do
   head ← unit_head z
   payload_rows z z.first head
 
--- behind an end of sequence no byte may be left
-unfoldable pub tail_rows : DataUnit → Rows Reason DataUnit
-tail_rows unit = if is_end unit then (do
-  is_last ← no_more reasons.TrailingBytes
-  done unit)
-    else done unit
-
 -- all rows of a unit
 unfoldable pub unit_rows : Past → Rows Reason DataUnit
 unit_rows z = do
   unit ← body_rows z
-  tail_rows unit
+  tail_rows (unit_behind unit) unit
 
 -- what a unit of these bytes leaves
 abbrev pub after : Past → DataUnit → List ℕ → Past
-after z (Sequence parts) bytes = record { place = z.place + length bytes; previous = length bytes; first = Some (record { parts = parts; payload = drop 13 bytes }); pictures = z.pictures; slices = z.slices; last = z.last }
-after z (Picture parts number params slices) bytes = record { place = z.place + length bytes; previous = length bytes; first = z.first; pictures = z.pictures + 1; slices = z.slices + slice_count params.slicing; last = number }
-after z Repeated bytes = record { place = z.place + length bytes; previous = length bytes; first = z.first; pictures = z.pictures; slices = z.slices; last = z.last }
-after z Skipped bytes = record { place = z.place + length bytes; previous = length bytes; first = z.first; pictures = z.pictures; slices = z.slices; last = z.last }
-after z End bytes = record { place = z.place + length bytes; previous = length bytes; first = z.first; pictures = z.pictures; slices = z.slices; last = z.last }
+after z (Sequence parts) bytes = record { place = z.place + length bytes; previous = length bytes; first = Some (record { parts = parts; payload = drop 13 bytes }); pictures = z.pictures; last = z.last }
+after z (Picture parts number params slices) bytes = record { place = z.place + length bytes; previous = length bytes; first = z.first; pictures = z.pictures + 1; last = number }
+after z Repeated bytes = record { place = z.place + length bytes; previous = length bytes; first = z.first; pictures = z.pictures; last = z.last }
+after z Skipped bytes = record { place = z.place + length bytes; previous = length bytes; first = z.first; pictures = z.pictures; last = z.last }
+after z End bytes = record { place = z.place + length bytes; previous = length bytes; first = z.first; pictures = z.pictures; last = z.last }
 
 -- The units of a stream.
 abbrev pub units : Grammar Past Reason DataUnit
@@ -236,6 +229,6 @@ units = record {
   rows = body_rows;
   place = λ z. z.place;
   after = after;
-  is_end = is_end;
-  trailing = reasons.TrailingBytes;
+  behind = unit_behind;
+  rests = λ z. false;
 }

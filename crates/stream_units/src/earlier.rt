@@ -50,13 +50,12 @@ impl First {
 }
 
 /// What earlier units leave: where the next one begins and the length of the one before, the first sequence header, how
-/// many pictures and slices there were, and the number of the last picture.
+/// many pictures there were, and the number of the last picture.
 #[derive(Drop)]
 pub(crate) struct Earlier {
     chain: Chain,
     first: Option<First>,
     pictures: u64,
-    slices: u64,
     last: u32,
 }
 
@@ -66,9 +65,9 @@ impl Model for Earlier {
 
     ghost Value = { Past };
 
-    ghost view = { λ a. record { place = a.chain.place; previous = a.chain.previous; first = a.first; pictures = a.pictures; slices = a.slices; last = a.last } };
+    ghost view = { λ a. record { place = a.chain.place; previous = a.chain.previous; first = a.first; pictures = a.pictures; last = a.last } };
 
-    ghost invariant = { λ a. (a.pictures ≤ a.chain.place) × (a.slices ≤ a.chain.place) };
+    ghost invariant = { λ a. a.pictures ≤ a.chain.place };
 }
 
 impl Earlier {
@@ -83,7 +82,6 @@ impl Earlier {
             chain: Chain::new(),
             first: None,
             pictures: 0,
-            slices: 0,
             last: 0,
         }
     }
@@ -118,13 +116,6 @@ impl Earlier {
         self.pictures
     }
 
-    /// How many slices they had.
-    pub fn slices(&self) -> u64
-        ensures { result ≡ self.now.slices }
-    {
-        self.slices
-    }
-
     /// The number of the last picture, and 0 before the first.
     pub fn last(&self) -> u32
         ensures { result ≡ self.now.last }
@@ -149,15 +140,13 @@ impl Earlier {
         self.chain.step(length);
     }
 
-    /// Goes on behind the unit of a picture of so many slices, each of which has a byte at least.
-    pub fn step_picture(&mut self, number: u32, slices: u32, length: u32)
+    /// Goes on behind the unit of a picture.
+    pub fn step_picture(&mut self, number: u32, length: u32)
         requires some { 0 < length }
-        requires bytes { slices ≤ length }
         requires most { self.old.place + length ≤ 2 ^ 40 }
-        ensures { self.new ≡ record self.old { place = self.old.place + length; previous = length; pictures = self.old.pictures + 1; slices = self.old.slices + slices; last = number } }
+        ensures { self.new ≡ record self.old { place = self.old.place + length; previous = length; pictures = self.old.pictures + 1; last = number } }
     {
         self.pictures += 1;
-        self.slices += u64::from(slices);
         self.last = number;
         self.chain.step(length);
     }

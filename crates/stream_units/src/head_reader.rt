@@ -1,7 +1,7 @@
 //! The reader of units by their heads alone.
 
 ghost use Rattle.std.specs.Prelude.{◌≡◌, ◌≤◌, ◌^◌, Ok, Err, None, true, false, IfSome};
-ghost use Rattle.stream_units.specs.Turns.{StopCause};
+ghost use Rattle.stream_units.specs.Stops.{StopCause};
 ghost use Rattle.stream_units.specs.HeadReader.{NextHeadOver, new_head_reader};
 
 use crate::head_units::next_unit_alone;

@@ -1,19 +1,22 @@
 //! Units by their heads alone, taken from a source.
 
-ghost use Rattle.std.specs.Prelude.{◌≡◌, ◌+◌, ◌^◌, ◌≤◌, length, OnOk};
-ghost use Rattle.stream_units.specs.Turns.{StopCause};
-ghost use Rattle.stream_units.specs.HeadUnits.{leads_on, payload_length, head_alone, heads, is_cut, AloneOver};
+ghost use Rattle.std.specs.Prelude.{◌≡◌, ◌+◌, ◌^◌, ◌≤◌, List, ℕ, Option, length, OnOk};
+ghost use Rattle.unit_table.specs.Begun.{Begun};
+ghost use Rattle.stream_units.specs.Stops.{StopCause};
+ghost use Rattle.stream_units.specs.HeadUnits.{leads_on, payload_length, head_alone, unit_alone, heads, AloneOver};
+ghost use Rattle.stream_units.specs.Taking.{FirstOver};
 ghost use Rattle.stream_units.specs.Parts.{PartOver};
 ghost use Rattle.stream_units.specs.HeadReader.{LimitAlone};
 ghost use Rattle.stream_units.specs.Heads.{HeadAt, judged_alone};
 
 use crate::heads::refuse;
+use crate::limits::{limited, past_limit};
 use crate::reason::{Reason, Refusal};
 use crate::short::read_on;
 use crate::stop::{ReadStop, refused, stop_of};
 use crate::window::Window;
 use parse_info::{Code, InfoFault, ParseInfo};
-use vc2_io::{Source, fill};
+use vc2_io::Source;
 use vc2_run::LIMIT;
 
 fn leads_on(code: Code, next: u32) -> bool
@@ -93,41 +96,42 @@ fn head<S: Source>(window: &mut Window, src: &mut S, place: u64) -> Result<Parse
     }
 }
 
-// Takes the unit, of an input that ends where the window's room does; none where it is over before the unit.
-fn unit<S: Source>(
-    window: &mut Window,
-    src: &mut S,
-    place: u64,
-) -> Result<Option<ParseInfo>, ReadStop>
+// Asks for the first byte of a unit, and says whether there is one.
+fn first<S: Source>(window: &mut Window, src: &mut S, place: u64) -> Result<bool, ReadStop>
     requires place { place + length window.old.held + window.old.room ≡ 2 ^ 40 }
     requires few { length window.old.held ≤ 4096 }
-    ensures unit { AloneOver place window.old.held (S.rest src.old) (S.rest src.new) window.new result }
+    ensures first { FirstOver heads place window.old (S.rest src.old) (S.rest src.new) window.new result }
     ensures cause { StopCause (S.faults src.old) (S.faults src.new) result }
 {
     match window.hold(src, 1) {
-        Ok(true) => {}
-        Ok(false) => return Ok(None),
+        Ok(true) => return Ok(true),
+        Ok(false) => {}
         Err(halt) => return Err(stop_of(halt)),
     }
+    match past_limit(window, src) {
+        Ok(false) => Ok(false),
+        Ok(true) => Err(refused(LIMIT, Reason::StreamTooLong)),
+        Err(stop) => Err(stop),
+    }
+}
+
+// Reads the rows of the unit, of an input that ends where the window's room does.
+fn unit<S: Source>(window: &mut Window, src: &mut S, place: u64) -> Result<ParseInfo, ReadStop>
+    requires place { place + length window.old.held + window.old.room ≡ 2 ^ 40 }
+    requires few { length window.old.held ≤ 4096 }
+    ensures unit { (held0 : List ℕ) (rest0 : Option (List ℕ)) → Begun heads place held0 rest0 (S.rest src.old) place window.old.held unit_alone
+        → AloneOver place held0 rest0 (S.rest src.new) window.new result }
+    ensures room { window.new.room ≤ window.old.room }
+    ensures cause { StopCause (S.faults src.old) (S.faults src.new) result }
+{
     let info = match head(window, src, place) {
         Ok(info) => info,
         Err(stop) => return Err(stop),
     };
     match window.skip(src, payload_length(&info) as u64) {
-        Ok(true) => Ok(Some(info)),
+        Ok(true) => Ok(info),
         Ok(false) => Err(refused(place + 13, Reason::Truncated)),
         Err(halt) => Err(stop_of(halt)),
-    }
-}
-
-// What the limit may have cut off.
-fn is_cut(found: &Result<Option<ParseInfo>, ReadStop>) -> bool
-    ensures { result ≡ is_cut found.now }
-{
-    match found {
-        Ok(found) => found.is_none(),
-        Err(ReadStop::Refused(refusal)) => refusal.reason.is_truncated(),
-        Err(_) => false,
     }
 }
 
@@ -142,17 +146,18 @@ pub(crate) fn next_unit_alone<S: Source>(
     ensures limit { LimitAlone place window.old.held (S.rest src.old) (S.rest src.new) window.new result }
     ensures cause { StopCause (S.faults src.old) (S.faults src.new) result }
 {
-    let found = unit(window, src, place);
-    if !is_cut(&found) {
-        return found;
+    match first(window, src, place) {
+        Ok(true) => {}
+        Ok(false) => return Ok(None),
+        Err(stop) => return Err(stop),
     }
-    if window.room() > 0 {
-        return found;
-    }
-    let mut byte = [0; 1];
-    match fill(src, &mut byte) {
-        Ok(0) => found,
-        Ok(_) => Err(refused(LIMIT, Reason::StreamTooLong)),
-        Err(_) => Err(ReadStop::ReadFault),
+    let stop = match unit(window, src, place) {
+        Ok(info) => return Ok(Some(info)),
+        Err(stop) => stop,
+    };
+    match stop {
+        ReadStop::Refused(refusal) => Err(limited(window, src, refusal)),
+        ReadStop::ReadFault => Err(ReadStop::ReadFault),
+        ReadStop::NoMemory => Err(ReadStop::NoMemory),
     }
 }

@@ -2,6 +2,7 @@
 #![tactic(auto)]
 
 mod earlier;
+pub mod encoding;
 mod head_reader;
 mod head_units;
 mod heads;
@@ -9,6 +10,7 @@ mod judging;
 mod laws;
 mod limits;
 mod parts;
+mod payload_encoder;
 mod pictures;
 mod reader;
 pub mod reason;
@@ -17,6 +19,9 @@ mod steps;
 mod stop;
 mod units;
 mod window;
+mod write_stop;
+mod writer;
+mod written_units;
 
 pub use head_reader::HeadReader;
 pub use heads::first_unit;
@@ -24,6 +29,9 @@ pub use judging::{Verdict, judge};
 pub use laws::{
     no_more_units_than_bytes, one_answer, reading_is_the_relations, units_stand_whatever_follows,
 };
+pub use payload_encoder::PayloadEncoder;
 pub use reader::StreamReader;
 pub use reason::{Reason, Refusal};
 pub use stop::{Item, ReadStop};
+pub use write_stop::WriteStop;
+pub use writer::StreamWriter;

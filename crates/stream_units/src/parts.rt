@@ -1,10 +1,10 @@
 //! The parts of units: what stands behind their heads.
 
 ghost use Rattle.std.specs.Prelude.{◌≡◌, ◌+◌, ◌^◌, ◌≤◌, List, ℕ, Option, length, IfOk, IfErr};
-ghost use Rattle.field_rows.specs.Rows.{done};
 ghost use Rattle.unit_table.specs.Begun.{Begun};
-ghost use Rattle.stream_units.specs.Units.{Skipped, Repeated, End, Past, units, first_payload, skipped_payload, repeated_payload};
-ghost use Rattle.stream_units.specs.Turns.{TakesOver, EndOver, HeaderOver, IsFirst, StopCause};
+ghost use Rattle.stream_units.specs.Units.{Skipped, Repeated, Past, units, first_payload, skipped_payload, repeated_payload};
+ghost use Rattle.stream_units.specs.Turns.{is_end_found, TakesOver, HeaderOver, IsFirst};
+ghost use Rattle.stream_units.specs.Stops.{StopCause};
 ghost use Rattle.stream_units.specs.declared.stop.ReadStop.TheVariants as stops;
 
 use crate::earlier::{Earlier, First};
@@ -28,21 +28,12 @@ pub(crate) enum Found {
     End,
 }
 
-// Behind an end of sequence, where nothing may be left.
-pub(crate) fn end<S: Source>(
-    window: &mut Window,
-    src: &mut S,
-    earlier: &Earlier,
-) -> Result<(), ReadStop>
-    requires place { earlier.now.place + 13 + length window.old.held + window.old.room ≡ 2 ^ 40 }
-    ensures unit { (held0 : List ℕ) (rest0 : Option (List ℕ)) → Begun units earlier.now held0 rest0 (S.rest src.old) (earlier.now.place + 13) window.old.held (done End)
-        → EndOver earlier.now held0 rest0 (S.rest src.new) window.new result }
-    ensures cause { StopCause (S.faults src.old) (S.faults src.new) result }
-{
-    match window.hold(src, 1) {
-        Ok(true) => Err(refused(earlier.place() + 13, Reason::TrailingBytes)),
-        Ok(false) => Ok(()),
-        Err(halt) => Err(stop_of(halt)),
+impl Found {
+    /// The sequence ends with the unit.
+    pub fn is_end(&self) -> bool
+        ensures { result ≡ is_end_found self.now }
+    {
+        matches!(self, Found::End)
     }
 }
 

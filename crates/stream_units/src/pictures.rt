@@ -12,7 +12,8 @@ ghost use Rattle.unit_table.specs.Begun.{Begun};
 ghost use Rattle.stream_units.specs.declared.stop.ReadStop.TheVariants as stops;
 ghost use Rattle.stream_units.specs.Streams.{frame_under};
 ghost use Rattle.stream_units.specs.Units.{Past, units, transform_reason, number_rules, picture_payload};
-ghost use Rattle.stream_units.specs.Turns.{PictureOver, StopCause};
+ghost use Rattle.stream_units.specs.Turns.{PictureOver};
+ghost use Rattle.stream_units.specs.Stops.{StopCause};
 ghost use Rattle.stream_units.specs.Parts.{PartOver, SlicesOver, IsReady, slice_reason};
 
 use crate::earlier::{Earlier, First};

@@ -1,7 +1,7 @@
 //! The reader of a stream.
 
 ghost use Rattle.std.specs.Prelude.{◌≡◌, ◌≤◌, ◌^◌, Ok, Err, Some, None, true, false, length, IfOk, IfSome, IsNone, ◌↔◌, option_map};
-ghost use Rattle.stream_units.specs.Turns.{StopCause};
+ghost use Rattle.stream_units.specs.Stops.{StopCause};
 ghost use Rattle.stream_units.specs.Reader.{NextOver, new_reader};
 ghost use Rattle.stream_units.specs.declared.stop.Item.TheVariants as items;
 
@@ -147,13 +147,6 @@ impl StreamReader {
         ensures { result ≡ self.now.past.pictures }
     {
         self.earlier.pictures()
-    }
-
-    /// How many slices these pictures have.
-    pub fn slices(&self) -> u64
-        ensures { result ≡ self.now.past.slices }
-    {
-        self.earlier.slices()
     }
 
     /// How many bytes are held.

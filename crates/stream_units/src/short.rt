@@ -6,7 +6,7 @@ ghost use Rattle.stream_units.specs.declared.reason.Refusal.{Refusal};
 ghost use Rattle.stream_units.specs.declared.stop.ReadStop.TheVariants as stops;
 ghost use Rattle.stream_units.specs.Units.{units};
 ghost use Rattle.stream_units.specs.HeadUnits.{heads};
-ghost use Rattle.stream_units.specs.Turns.{StopCause};
+ghost use Rattle.stream_units.specs.Stops.{StopCause};
 ghost use Rattle.stream_units.specs.Parts.{MoreOver};
 
 use crate::reason::Refusal;

@@ -55,7 +55,7 @@ pub(crate) fn step(earlier: &mut Earlier, found: Found, size: u32) -> (Item, Opt
             (Item::Repeated, None)
         }
         Found::Picture(shown) => {
-            earlier.step_picture(shown.number, shown.layout.count(), size);
+            earlier.step_picture(shown.number, size);
             (Item::Picture(shown.number), Some(shown.decoder))
         }
         Found::Skipped => {

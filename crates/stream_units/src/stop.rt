@@ -2,7 +2,7 @@
 
 ghost use Rattle.std.specs.Prelude.{◌≡◌};
 ghost use Rattle.stream_units.specs.declared.stop.ReadStop.TheVariants as stops;
-ghost use Rattle.stream_units.specs.Turns.{stop_of};
+ghost use Rattle.stream_units.specs.Stops.{stop_of};
 ghost use Rattle.stream_units.specs.Reader.{is_end_item};
 
 use crate::reason::{Reason, Refusal};

@@ -3,12 +3,13 @@
 ghost use Rattle.std.specs.Prelude.{◌≡◌, ◌+◌, ◌^◌, ◌≤◌, List, ℕ, Option, length, OnOk};
 ghost use Rattle.unit_table.specs.Begun.{Begun};
 ghost use Rattle.stream_units.specs.Units.{units, unit_head, payload_rows};
-ghost use Rattle.stream_units.specs.Turns.{UnitOver, StopCause};
+ghost use Rattle.stream_units.specs.Turns.{UnitOver};
+ghost use Rattle.stream_units.specs.Stops.{StopCause};
 ghost use Rattle.stream_units.specs.Parts.{PartOver};
 
 use crate::earlier::Earlier;
 use crate::heads::read_head;
-use crate::parts::{Found, end, first_header, repeated, skipped};
+use crate::parts::{Found, first_header, repeated, skipped};
 use crate::pictures::picture;
 use crate::short::read_on;
 use crate::stop::ReadStop;
@@ -86,10 +87,7 @@ fn payload<S: Source>(
             Ok(()) => Ok(Found::Skipped),
             Err(stop) => Err(stop),
         },
-        Code::EndOfSequence => match end(window, src, earlier) {
-            Ok(()) => Ok(Found::End),
-            Err(stop) => Err(stop),
-        },
+        Code::EndOfSequence => Ok(Found::End),
     }
 }
 

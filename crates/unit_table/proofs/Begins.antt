@@ -1,21 +1,19 @@
 -- A reader in the middle of a unit: how it begins, goes on and ends.
-use Rattle.std.proofs.Common.{◌≡◌, ◌≢◌, ℕ, ◌+◌, ◌-◌, ◌*◌, ◌<◌, ◌≤◌, Bool, true, false, List, [], ◌∷◌, ◌++◌, length, take, drop, Option, Some, None, Ok, Err, inl, inr, refl, sym, ap, subst, ◌∙◌, arith, append_assoc, append-nil}
+use Rattle.std.proofs.Common.{◌≡◌, ◌≢◌, ℕ, ◌+◌, ◌-◌, ◌<◌, ◌≤◌, Bool, true, false, not, List, [], ◌∷◌, ◌++◌, length, take, drop, Option, Some, None, Err, inl, inr, refl, sym, ap, subst, ◌∙◌, arith, append_assoc, append-nil}
 use Rattle.std.proofs.lemmas.Bool.{cases_lt}
 use Rattle.std.proofs.lemmas.List.{length-append, length-take, take-append-le, take-append-drop}
 use Rattle.std.proofs.Math.Seq.{take-append-add}
 use Rattle.std.specs.Io.KnownBytes.{IsAtEnd}
 use Rattle.vc2_io.proofs.Known.{Consumes-then, Consumes-none}
 use Rattle.bit_codes.specs.declared.CodeFault.TheVariants as codes
-use Rattle.bit_codes.specs.Bits.{Cursor, bits_of}
+use Rattle.bit_codes.specs.Bits.{bits_of}
 use Rattle.bit_codes.proofs.BitLemmas.{length-bits}
 use Rattle.field_rows.specs.Rows.{Rows, done, Fault, read, is_nil}
-use Rattle.field_rows.specs.Pieces.{with_more}
 use Rattle.field_rows.proofs.Reading.{read-done}
-use Rattle.unit_table.specs.Grammar.{Grammar, bytes_at, unit_at, is_settled_by, Waits}
-use Rattle.unit_table.specs.Fronts.{Stands, Finishes, Refuses, size_to, front_behind, front_of}
-use Rattle.unit_table.specs.Begun.{Partway, Prompt, Begun, Needs, Lacks, Moves, Got, Lost, Due, Taken, Over}
-use Rattle.unit_table.proofs.GrammarLaws.{IsGrammar, unit-more, unit-refused, waits_front}
-use Rattle.unit_table.proofs.FrontLaws.{front_laws, front-unit, whole_clash}
+use Rattle.unit_table.specs.Grammar.{Grammar, Behind, Inner, Final, ends_by, bytes_at, unit_at, is_settled_by, Waits}
+use Rattle.unit_table.specs.Begun.{Partway, Prompt, Begun, Needs, Lacks, Moves, Got, Lost, Due, Faults}
+use Rattle.unit_table.proofs.GrammarLaws.{IsGrammar, unit-refused, waits_front}
+use Rattle.unit_table.proofs.FrontLaws.{nil_by}
 
 pub prompt_few : {Z R U : Type 0} (g : Grammar Z R U) (z : Z) (bytes : List ℕ) → length bytes ≤ 4096 → Prompt g z bytes
 prompt_few g z bytes few = record { prompt = λ long. absurd (omega arith) }
@@ -91,61 +89,37 @@ begun_lost {g = g} {z = z} {held1 = held1} {at = at} {left = left} laws n b need
   prompt = subst (Prompt g z) (sym b.parts) b.prompt;
 }
 
-begun_unit : {Z R U : Type 0} (g : Grammar Z R U) (z : Z) (gone : List ℕ) (at : ℕ) (unit : U) → Partway g z gone at (done unit) → unit_at g z gone ≡ Ok (unit, bytes_at at [])
-begun_unit g z gone at unit way = ap (unit_at g z) (sym (append-nil gone)) ∙ way.same [] ∙ read-done g.reason_of unit (bytes_at at [])
-
-pub begun_taken : {Z R U : Type 0} {g : Grammar Z R U} {z : Z} {held0 held1 : List ℕ} {rest0 rest1 : Option (List ℕ)} {at : ℕ} (laws : IsGrammar g) (unit : U) → Begun g z held0 rest0 rest1 at held1 (done unit) → g.is_end unit ≡ false
-    → (bytes : List ℕ) × (at ≡ g.place z + length bytes) × Taken g z held0 rest0 rest1 bytes held1 unit
-begun_taken {g = g} {z = z} {held1 = held1} {at = at} laws unit b no_end =
-    let here = begun_unit g z b.gone at unit b.partway in
-    let all : size_to b.gone (bytes_at at []) ≡ length b.gone = omega arith in
-    let stands = front-unit g z b.gone unit (bytes_at at []) here no_end ∙ ap (λ n. Stands n unit) all in (
-      b.gone,
-      b.partway.at_is,
-      record {
-        read = b.read;
-        took = b.took;
-        parts = b.parts;
-        some = (front_laws g laws).some z b.gone (length b.gone) unit stands;
-        stands = stands;
-        prompt = subst (Prompt g z) (sym b.parts) b.prompt;
-        few = elim (cases_lt 4096 (length held1)) [
-          | inr le ↦ le
-          | inl lt ↦ absurd (
-              let v = b.gone ++ held1 in
-              let k = length v - 4096 in
-              let total : length v ≡ length b.gone + length held1 = length-append b.gone held1 in
-              let j = k - length b.gone in
-              let cut : take k v ≡ b.gone ++ take j held1 = ap (λ n. take n v) (omega arith) ∙ take-append-add b.gone held1 j in
-              let none = subst (Waits g z) cut (b.prompt.prompt (omega arith)) in
-              let far : is_settled_by g (unit_at g z (b.gone ++ take j held1)) ≡ true = ap (is_settled_by g) (unit-more g laws z b.gone (take j held1) unit (bytes_at at []) here) ∙ whole_clash g unit (with_more (bytes_at at []) (bits_of (take j held1))) no_end in
-              let clash : true ≡ false = sym far ∙ none.waits in
-              cc)
-        ];
-      },
-    )
-
--- its bytes are those that are gone
-pub begun_taken-bytes : {Z R U : Type 0} {g : Grammar Z R U} {z : Z} {held0 held1 : List ℕ} {rest0 rest1 : Option (List ℕ)} {at : ℕ} (laws : IsGrammar g) (unit : U) (b : Begun g z held0 rest0 rest1 at held1 (done unit)) (no_end : g.is_end unit ≡ false) → (begun_taken laws unit b no_end).0 ≡ b.gone
-unfolding begun_taken
-begun_taken-bytes laws unit b no_end = refl
-
-front_refused : {Z R U : Type 0} (g : Grammar Z R U) (z : Z) (bytes : List ℕ) (fault : Fault R) → unit_at g z bytes ≡ Err fault → front_of g z bytes ≡ Refuses fault
-front_refused g z bytes fault e = rw e refl
+-- Few bytes are held where the rows of a unit are read: it would have been settled before the last read.
+pub begun_few : {Z R U : Type 0} {g : Grammar Z R U} {z : Z} {held0 held1 : List ℕ} {rest0 rest1 : Option (List ℕ)} {at : ℕ} (laws : IsGrammar g) (unit : U) → Begun g z held0 rest0 rest1 at held1 (done unit) → length held1 ≤ 4096
+begun_few {R = R} {g = g} {z = z} {held1 = held1} {at = at} laws unit b = elim (cases_lt 4096 (length held1)) [
+  | inr le ↦ le
+  | inl lt ↦ absurd (
+      let v = b.gone ++ held1 in
+      let k = length v - 4096 in
+      let total : length v ≡ length b.gone + length held1 = length-append b.gone held1 in
+      let j = k - length b.gone in
+      let cut : take k v ≡ b.gone ++ take j held1 = ap (λ n. take n v) (omega arith) ∙ take-append-add b.gone held1 j in
+      let none = subst (Waits g z) cut (b.prompt.prompt (omega arith)) in
+      let far : is_settled_by g (unit_at g z (b.gone ++ take j held1)) ≡ true = ap (is_settled_by g) (b.partway.same (take j held1) ∙ read-done g.reason_of unit (bytes_at at (take j held1)))
+      ∙ settled (g.behind unit) (bits_of (take j held1)) (omega (arith, length-bits (take j held1), length-take j held1)) in
+      let clash : true ≡ false = sym far ∙ none.waits in
+      cc)
+]
+  where
+    settled : (b : Behind R) (rest : List Bool) → 0 < length rest → not (ends_by b (is_nil rest)) ≡ true
+    settled Inner rest some = refl
+    settled (Final other) rest some = ap not (nil_by rest some)
 
 -- for a reason that is not shortness
 pub begun_refused : {Z R U : Type 0} {g : Grammar Z R U} {z : Z} {held0 held1 : List ℕ} {rest0 rest1 : Option (List ℕ)} {at : ℕ} {left : Rows R U} (laws : IsGrammar g) (seen : Option (List ℕ)) (fault : Fault R) → Begun g z held0 rest0 rest1 at held1 left
-    → read g.reason_of left (bytes_at at held1) ≡ Err fault → fault.reason ≢ g.reason_of codes.Short → Over g z held0 rest0 rest1 seen (at + length held1) (Refuses fault)
+    → read g.reason_of left (bytes_at at held1) ≡ Err fault → fault.reason ≢ g.reason_of codes.Short → Faults g z held0 rest0 rest1 seen (at + length held1) fault
 begun_refused {g = g} {z = z} {held0 = held0} {held1 = held1} {at = at} laws seen fault b e other = record {
   read = b.read;
   took = b.took;
   top_is = omega (arith, b.partway.at_is, ap (λ (l : List ℕ). length l) b.parts, length-append b.gone held1);
   prompt = subst (Prompt g z) (sym b.parts) b.prompt;
-  here = front_refused g z (held0 ++ b.read) fault (ap (unit_at g z) b.parts ∙ b.partway.same held1 ∙ e);
-  ends = λ more told.
-      let here : unit_at g z (held0 ++ b.read) ≡ Err fault = ap (unit_at g z) b.parts ∙ b.partway.same held1 ∙ e in
-      front_refused g z ((held0 ++ b.read) ++ more) fault
-      (unit-refused g laws z (held0 ++ b.read) more fault other here);
+  here = ap (unit_at g z) b.parts ∙ b.partway.same held1 ∙ e;
+  ends = λ more told. unit-refused g laws z (held0 ++ b.read) more fault other (ap (unit_at g z) b.parts ∙ b.partway.same held1 ∙ e);
 }
 
 pub nothing_more : (rest : Option (List ℕ)) (more : List ℕ) → IsAtEnd rest → rest ≡ Some more → more ≡ []
@@ -154,62 +128,17 @@ nothing_more (Some xs) more h e = cc
 
 -- for any reason, where nothing follows
 pub begun_short : {Z R U : Type 0} {g : Grammar Z R U} {z : Z} {held0 held1 : List ℕ} {rest0 rest1 : Option (List ℕ)} {at : ℕ} {left : Rows R U} (laws : IsGrammar g) (seen : Option (List ℕ)) (fault : Fault R) → Begun g z held0 rest0 rest1 at held1 left
-    → read g.reason_of left (bytes_at at held1) ≡ Err fault → IsAtEnd seen → Over g z held0 rest0 rest1 seen (at + length held1) (Refuses fault)
+    → read g.reason_of left (bytes_at at held1) ≡ Err fault → IsAtEnd seen → Faults g z held0 rest0 rest1 seen (at + length held1) fault
 begun_short {g = g} {z = z} {held0 = held0} {held1 = held1} {rest1 = rest1} laws seen fault b e at_end = record {
   read = b.read;
   took = b.took;
   top_is = omega (arith, b.partway.at_is, ap (λ (l : List ℕ). length l) b.parts, length-append b.gone held1);
   prompt = subst (Prompt g z) (sym b.parts) b.prompt;
-  here = front_refused g z (held0 ++ b.read) fault (ap (unit_at g z) b.parts ∙ b.partway.same held1 ∙ e);
+  here = ap (unit_at g z) b.parts ∙ b.partway.same held1 ∙ e;
   ends = λ more told.
       let none : (held0 ++ b.read) ++ more ≡ b.gone ++ held1 = ap (λ l. (held0 ++ b.read) ++ l) (nothing_more seen more at_end told) ∙ append-nil (held0 ++ b.read) ∙ b.parts in
-      ap (front_of g z) none ∙ front_refused g z (b.gone ++ held1) fault (b.partway.same held1 ∙ e);
+      ap (unit_at g z) none ∙ b.partway.same held1 ∙ e;
 }
-
-front_end : {Z R U : Type 0} (g : Grammar Z R U) (z : Z) (bytes : List ℕ) (unit : U) (behind : Cursor) → unit_at g z bytes ≡ Ok (unit, behind) → g.is_end unit ≡ true → front_of g z bytes ≡ front_behind g bytes unit behind true (is_nil behind.rest)
-front_end g z bytes unit behind e h = rw (e, h) refl
-
--- the end of the stream, and nothing behind it
-pub begun_end : {Z R U : Type 0} {g : Grammar Z R U} {z : Z} {held0 : List ℕ} {rest0 rest1 : Option (List ℕ)} {at : ℕ} (laws : IsGrammar g) (seen : Option (List ℕ)) (unit : U) → Begun g z held0 rest0 rest1 at [] (done unit) → g.is_end unit ≡ true → IsAtEnd seen
-    → (bytes : List ℕ) × (at ≡ g.place z + length bytes) × Over g z held0 rest0 rest1 seen at (Finishes (length bytes) unit)
-begun_end {g = g} {z = z} {held0 = held0} {rest1 = rest1} {at = at} laws seen unit b ends at_end =
-    let size : size_to b.gone (bytes_at at []) ≡ length b.gone = omega arith in
-    let over : front_of g z b.gone ≡ Finishes (length b.gone) unit = front_end g z b.gone unit (bytes_at at []) (begun_unit g z b.gone at unit b.partway) ends ∙ ap (λ n. Finishes n unit) size in (
-      b.gone,
-      b.partway.at_is,
-      record {
-        read = b.read;
-        took = b.took;
-        top_is = omega (arith, b.partway.at_is, ap (λ (l : List ℕ). length l) b.parts, length-append b.gone []);
-        prompt = subst (Prompt g z) (sym b.parts) b.prompt;
-        here = ap (front_of g z) (b.parts ∙ append-nil b.gone) ∙ over;
-        ends = λ more told.
-            let none : (held0 ++ b.read) ++ more ≡ b.gone = ap (λ l. (held0 ++ b.read) ++ l) (nothing_more seen more at_end told) ∙ append-nil (held0 ++ b.read) ∙ b.parts ∙ append-nil b.gone in
-            ap (front_of g z) none ∙ over;
-      },
-    )
-
--- the end of the stream, and a byte behind it
-pub begun_trailing : {Z R U : Type 0} {g : Grammar Z R U} {z : Z} {held0 held1 : List ℕ} {rest0 rest1 : Option (List ℕ)} {at : ℕ} (laws : IsGrammar g) (seen : Option (List ℕ)) (unit : U) → Begun g z held0 rest0 rest1 at held1 (done unit) → g.is_end unit ≡ true → 0 < length held1
-    → Over g z held0 rest0 rest1 seen (at + length held1) (Refuses (record { place = 8 * at; reason = g.trailing }))
-begun_trailing {g = g} {z = z} {held0 = held0} {held1 = held1} {at = at} laws seen unit b ends some = record {
-  read = b.read;
-  took = b.took;
-  top_is = omega (arith, b.partway.at_is, ap (λ (l : List ℕ). length l) b.parts, length-append b.gone held1);
-  prompt = subst (Prompt g z) (sym b.parts) b.prompt;
-  here = ap (front_of g z) b.parts
-      ∙ front_end g z (b.gone ++ held1) unit (bytes_at at held1) (b.partway.same held1 ∙ read-done g.reason_of unit (bytes_at at held1)) ends
-      ∙ by_length (b.gone ++ held1) (bits_of held1) (omega (arith, some, length-bits held1));
-  ends = λ more told.
-      let v : (held0 ++ b.read) ++ more ≡ b.gone ++ (held1 ++ more) = ap (λ l. l ++ more) b.parts ∙ append_assoc b.gone held1 more in
-      ap (front_of g z) v
-      ∙ front_end g z (b.gone ++ (held1 ++ more)) unit (bytes_at at (held1 ++ more)) (b.partway.same (held1 ++ more) ∙ read-done g.reason_of unit (bytes_at at (held1 ++ more))) ends
-      ∙ by_length (b.gone ++ (held1 ++ more)) (bits_of (held1 ++ more)) (omega (arith, length-bits (held1 ++ more), length-append held1 more));
-}
-  where
-    by_length : (bytes : List ℕ) (rest : List Bool) → 0 < length rest → front_behind g bytes unit (record { place = 8 * at; rest = rest }) true (is_nil rest) ≡ Refuses (record { place = 8 * at; reason = g.trailing })
-    by_length bytes [] h = absurd (omega arith)
-    by_length bytes (b ∷ rest) h = refl
 
 -- ---- bytes that were dropped, seen as held
 

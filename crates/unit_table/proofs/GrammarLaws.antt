@@ -1,6 +1,5 @@
 -- Laws of the units of a grammar.
 use Rattle.std.proofs.Common.{◌≡◌, ◌≢◌, ℕ, ◌*◌, ◌<◌, Bool, true, false, not, List, [], ◌∷◌, ◌++◌, length, Result, Ok, Err, refl, sym, ap, ◌∙◌, arith}
-use Rattle.std.specs.Prelude.{◌||◌}
 use Rattle.bit_codes.specs.declared.CodeFault.TheVariants as codes
 use Rattle.bit_codes.specs.Bits.{Cursor, bits_of}
 use Rattle.bit_codes.proofs.BitLemmas.{length-bits}
@@ -9,7 +8,7 @@ use Rattle.field_rows.specs.Pieces.{with_more, IsWhole, IsSteady}
 use Rattle.field_rows.proofs.Pieces.{read-more, read-more_refused}
 use Rattle.field_rows.proofs.Answers.{found_fields}
 use Rattle.field_rows.proofs.Shorter.{BeginsWithBytes, Stand-shorter}
-use Rattle.unit_table.specs.Grammar.{Grammar, bytes_at, unit_at, is_settled_by, Waits}
+use Rattle.unit_table.specs.Grammar.{Grammar, Behind, Inner, Final, ends_by, bytes_at, unit_at, is_settled_by, Waits}
 use Rattle.bit_codes.proofs.Numbers.{bits_of-append}
 
 -- what is asked of a grammar: its rows ask nothing of what follows, and begin with bytes; and a short field is told by its reason
@@ -53,14 +52,14 @@ refused_more g laws z bytes more fault false e h k = ap (is_settled_by g) (sym (
 settled_more : {Z R U : Type 0} (g : Grammar Z R U) → IsGrammar g → (z : Z) (bytes more : List ℕ) (r : Result (U × Cursor) (Fault R)) (whole : Bool) → unit_at g z bytes ≡ r → is_settled_by g r ≡ whole → is_settled_by g (unit_at g z (bytes ++ more)) ≡ false → is_settled_by g r ≡ false
 settled_more g laws z bytes more (Err fault) whole e h k = refused_more g laws z bytes more fault (g.is_short fault.reason) refl e k
 settled_more g laws z bytes more (Ok x) false e h k = h
-settled_more g laws z bytes more (Ok x) true e h k =
+settled_more {R = R} g laws z bytes more (Ok x) true e h k =
     let far : is_settled_by g (Ok (x.0, with_more x.1 (bits_of more))) ≡ false = ap (is_settled_by g) (sym (unit-more g laws z bytes more x.0 x.1 e)) ∙ k in
-    grow (g.is_end x.0) x.1.rest (bits_of more) h far
+    grow (g.behind x.0) x.1.rest (bits_of more) h far
   where
-    grow : (ends : Bool) (rest tail : List Bool) → (not ends || not (is_nil rest)) ≡ true → (not ends || not (is_nil (rest ++ tail))) ≡ false → (not ends || not (is_nil rest)) ≡ false
-    grow false rest tail h k = k
-    grow true [] tail h k = refl
-    grow true (b ∷ rest) tail h k = k
+    grow : (b : Behind R) (rest tail : List Bool) → not (ends_by b (is_nil rest)) ≡ true → not (ends_by b (is_nil (rest ++ tail))) ≡ false → not (ends_by b (is_nil rest)) ≡ false
+    grow Inner rest tail h k = k
+    grow (Final other) [] tail h k = refl
+    grow (Final other) (b ∷ rest) tail h k = k
 
 pub waits_front : {Z R U : Type 0} (g : Grammar Z R U) → IsGrammar g → (z : Z) (bytes more : List ℕ) → Waits g z (bytes ++ more) → Waits g z bytes
 waits_front g laws z bytes more f = record { waits = settled_more g laws z bytes more (unit_at g z bytes) _ refl refl f.waits }

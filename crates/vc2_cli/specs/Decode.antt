@@ -1,5 +1,7 @@
 -- The commands over the units of a stream: `decode` writes their pictures, and `check` counts them.
-use Rattle.std.specs.Prelude.{◌≡◌, ℕ, ◌+◌, List, [], Option, Some, None, Result, Ok, Err}
+use Rattle.std.specs.Prelude.{◌≡◌, ℕ, ◌+◌, List, [], length, ◌++◌, ◌∷◌, Option, Some, None, Result, Ok, Err}
+use Rattle.slice_geometry.specs.Slicing.{slice_count}
+use Rattle.slice_geometry.specs.declared.unit_list.UnitShape.{UnitShape}
 use Rattle.picture_codec.specs.Samples.{PictureSeen, frame_of, picture_of}
 use Rattle.std.specs.Io.KnownBytes.{Appends}
 use Rattle.vc2_io.specs.Outside.{GrewShort}
@@ -7,11 +9,11 @@ use Rattle.raw_video.specs.RawText.{raw_text}
 use Rattle.vc2_run.specs.Walk.{Machine}
 use Rattle.vc2_run.specs.declared.Halt.{Halt}
 use Rattle.vc2_run.specs.declared.Halt.TheVariants as halts
-use Rattle.unit_table.specs.Fronts.{Command, machine_of}
+use Rattle.unit_table.specs.Fronts.{Between, Command, machine_of}
 use Rattle.stream_units.specs.declared.reason.Reason.{Reason}
 use Rattle.stream_units.specs.declared.stop.ReadStop.{ReadStop}
 use Rattle.stream_units.specs.declared.stop.ReadStop.TheVariants as stops
-use Rattle.stream_units.specs.Units.{Past, DataUnit, Sequence, Repeated, Picture, Skipped, End, units}
+use Rattle.stream_units.specs.Units.{Past, nothing_yet, DataUnit, Sequence, Repeated, Picture, Skipped, End, units}
 use Rattle.stream_units.specs.Streams.{limit, past_limit, refusal_of, frame_under}
 use Rattle.vc2_cli.specs.Texts.{accepted_line}
 use Rattle.vc2_cli.specs.declared.status.Ending.{Ending}
@@ -26,12 +28,16 @@ unit_text Skipped = []
 unit_text End = []
 
 -- `decode`: each picture's raw text, and at the end the number of pictures and of bytes
-abbrev pub decoding : Command Past Reason DataUnit Ending
+abbrev pub decoding : Command Past Reason DataUnit Unit Ending
 decoding = record {
-  text = λ z unit. unit_text unit;
-  finished = λ z size unit. Decoded z.pictures (z.place + size);
-  refused = λ fault. Refused (refusal_of fault);
-  last = λ ending. [];
+  opening = [];
+  start = tt;
+  next = λ z own unit bytes. tt;
+  text = λ z own unit bytes. unit_text unit;
+  finished = λ z own unit bytes. Decoded z.pictures (z.place + length bytes);
+  rested = λ z own. Done;
+  refused = λ z own fault. Refused (refusal_of fault);
+  last = λ z own ending. [];
   endless = Done;
 }
 
@@ -40,21 +46,33 @@ abbrev pub last_line : Ending → List ℕ
 last_line (Accepted pictures slices bytes) = accepted_line pictures slices bytes
 last_line other = []
 
--- `check`: nothing before the end, and there the number of pictures, slices and bytes
-abbrev pub checking : Command Past Reason DataUnit Ending
+-- the slices of a unit
+abbrev pub slices_in : DataUnit → ℕ
+slices_in (Picture parts number params slices) = slice_count params.slicing
+slices_in (Sequence parts) = 0
+slices_in Repeated = 0
+slices_in Skipped = 0
+slices_in End = 0
+
+-- `check`, which counts the slices: nothing before the end, and there the number of pictures, slices and bytes
+abbrev pub checking : Command Past Reason DataUnit ℕ Ending
 checking = record {
-  text = λ z unit. [];
-  finished = λ z size unit. Accepted z.pictures z.slices (z.place + size);
-  refused = λ fault. Refused (refusal_of fault);
-  last = last_line;
+  opening = [];
+  start = 0;
+  next = λ z slices unit bytes. slices + slices_in unit;
+  text = λ z slices unit bytes. [];
+  finished = λ z slices unit bytes. Accepted z.pictures slices (z.place + length bytes);
+  rested = λ z slices. Done;
+  refused = λ z slices fault. Refused (refusal_of fault);
+  last = λ z slices ending. last_line ending;
   endless = Done;
 }
 
-abbrev pub decode_machine : Machine Past Ending
-decode_machine = machine_of limit past_limit units decoding
+abbrev pub decode_machine : Machine (Between Past Unit) Ending
+decode_machine = machine_of limit past_limit units nothing_yet decoding
 
-abbrev pub check_machine : Machine Past Ending
-check_machine = machine_of limit past_limit units checking
+abbrev pub check_machine : Machine (Between Past ℕ) Ending
+check_machine = machine_of limit past_limit units nothing_yet checking
 
 -- ---- for the code
 
@@ -68,6 +86,10 @@ stopped stops.NoMemory = Err halts.NoMemory
 abbrev pub shown_text : Option PictureSeen → List ℕ
 shown_text None = []
 shown_text (Some seen) = raw_text (frame_of seen.shape) seen.samples
+
+-- so many slices has the last of these units
+abbrev pub IsLastCount : List UnitShape → ℕ → Type 0
+IsLastCount shapes count = (before : List UnitShape) (last : UnitShape) → shapes ≡ before ++ last ∷ [] → count ≡ last.slices
 
 -- how the last text of an ending is written
 abbrev pub WritesLast : Ending → Option (List ℕ) → Option (List ℕ) → Result Ending Halt → Type 0

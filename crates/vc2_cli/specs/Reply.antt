@@ -2,7 +2,7 @@
 use Rattle.std.specs.Prelude.{◌≡◌, ◌≤◌, ℕ, List, [], Option, Some, Result, Ok, Err}
 use Rattle.std.specs.Io.KnownBytes.{Appends, Consumes, Keeps}
 use Rattle.vc2_io.specs.Outside.{Rose, GrewShort}
-use Rattle.vc2_run.specs.Walk.{Answer, answer_to, out_of, due, IsFront, IsShort, IsPrompt}
+use Rattle.vc2_run.specs.Walk.{Answer, answer_to, out_of, due, IsPrefix, IsProperPrefix, IsPrompt}
 use Rattle.vc2_cli.specs.declared.words.Command.{Command}
 use Rattle.vc2_cli.specs.declared.words.Command.TheVariants.{Chain, Header, Decode, Check}
 use Rattle.vc2_cli.specs.declared.status.WordFault.{WordFault}
@@ -15,7 +15,6 @@ use Rattle.vc2_cli.specs.Words.{command_of}
 use Rattle.vc2_cli.specs.Chain.{chain_machine}
 use Rattle.vc2_cli.specs.First.{header_machine, behind_first}
 use Rattle.vc2_cli.specs.Decode.{decode_machine, check_machine}
-use Rattle.stream_units.specs.Units.{nothing_yet}
 
 -- a status with its texts for `out` and `note`, and what is left of the input where the status is `Done`
 pub record Reply : Type 0 where
@@ -43,18 +42,18 @@ reply_of left answer = record { status = status_of answer.ending; rest = left; o
 -- the reply to a command, or to words that are refused
 abbrev pub command_reply : Result Command WordFault → List ℕ → Reply
 command_reply (Err fault) input = record { status = status.Usage fault; rest = input; out = []; note = usage_line fault }
-command_reply (Ok Chain) input = reply_of [] (answer_to chain_machine 0 input)
-command_reply (Ok Header) input = reply_of (behind_first input) (answer_to header_machine 0 input)
-command_reply (Ok Decode) input = reply_of [] (answer_to decode_machine nothing_yet input)
-command_reply (Ok Check) input = reply_of [] (answer_to check_machine nothing_yet input)
+command_reply (Ok Chain) input = reply_of [] (answer_to chain_machine input)
+command_reply (Ok Header) input = reply_of (behind_first input) (answer_to header_machine input)
+command_reply (Ok Decode) input = reply_of [] (answer_to decode_machine input)
+command_reply (Ok Check) input = reply_of [] (answer_to check_machine input)
 
 -- the text for `out` that is due once these bytes were taken
 abbrev pub command_due : Result Command WordFault → List ℕ → List ℕ
 command_due (Err fault) taken = []
-command_due (Ok Chain) taken = due chain_machine 0 taken
-command_due (Ok Header) taken = due header_machine 0 taken
-command_due (Ok Decode) taken = due decode_machine nothing_yet taken
-command_due (Ok Check) taken = due check_machine nothing_yet taken
+command_due (Ok Chain) taken = due chain_machine taken
+command_due (Ok Header) taken = due header_machine taken
+command_due (Ok Decode) taken = due decode_machine taken
+command_due (Ok Check) taken = due check_machine taken
 
 -- the same by the words
 abbrev pub reply_to : List (List ℕ) → List ℕ → Reply
@@ -74,12 +73,12 @@ IsStatusOf reply other = other ≡ reply.status
 -- A write of the reply's text failed: a part of it went out, and not all.
 abbrev pub StopsShort : Reply → (List ℕ → List ℕ) → List ℕ → Option (List ℕ) → Option (List ℕ) → Option (List ℕ) → Type 0
 StopsShort reply due input rest out0 out1 = (taken : List ℕ) × Consumes (Some input) rest taken
-    × (text : List ℕ) × Appends out0 out1 text × IsShort text reply.out × IsPrompt due taken text
+    × (text : List ℕ) × Appends out0 out1 text × IsProperPrefix text reply.out × IsPrompt due taken text
 
 -- No memory was found: a part of the reply's text went out, or all.
 abbrev pub Stops : Reply → (List ℕ → List ℕ) → List ℕ → Option (List ℕ) → Option (List ℕ) → Option (List ℕ) → Type 0
 Stops reply due input rest out0 out1 = (taken : List ℕ) × Consumes (Some input) rest taken
-    × (text : List ℕ) × Appends out0 out1 text × IsFront text reply.out × IsPrompt due taken text
+    × (text : List ℕ) × Appends out0 out1 text × IsPrefix text reply.out × IsPrompt due taken text
 
 -- A read failed: all that was due went out.
 abbrev pub Breaks : (List ℕ → List ℕ) → List ℕ → Option (List ℕ) → Option (List ℕ) → Option (List ℕ) → Type 0

@@ -1,7 +1,6 @@
 -- What `decode` and `check` reply to a stream, and to an input that is refused.
 use Rattle.std.specs.Prelude.{◌≡◌, ◌<◌, ℕ, List, [], length, map, Ok}
 use Rattle.std.specs.List.{AllByRecursion, flat_map}
-use Rattle.slice_geometry.specs.Slicing.{slice_count}
 use Rattle.picture_codec.specs.Pictures.{Frame}
 use Rattle.picture_codec.specs.Samples.{PictureSamples}
 use Rattle.raw_video.specs.RawText.{raw_text}
@@ -11,6 +10,7 @@ use Rattle.stream_units.specs.Streams.{Entry, total, pictures_of, IsStream, IsRe
 use Rattle.vc2_cli.specs.declared.words.Command.TheVariants.{Decode, Check}
 use Rattle.vc2_cli.specs.declared.status.Status.TheVariants as status
 use Rattle.vc2_cli.specs.Texts.{refusal_line, decoded_line, accepted_line}
+use Rattle.vc2_cli.specs.Decode.{slices_in}
 use Rattle.vc2_cli.specs.Reply.{Reply, command_reply}
 
 -- numbers below 256
@@ -31,13 +31,6 @@ pictures_in (Sequence parts) = 0
 pictures_in Repeated = 0
 pictures_in Skipped = 0
 pictures_in End = 0
-
-abbrev pub slices_in : DataUnit → ℕ
-slices_in (Picture parts number params slices) = slice_count params.slicing
-slices_in (Sequence parts) = 0
-slices_in Repeated = 0
-slices_in Skipped = 0
-slices_in End = 0
 
 -- a stream of these units and the last one: all their pictures, and how many pictures and bytes there were
 abbrev pub decoded_reply : List ℕ → List Entry → Reply

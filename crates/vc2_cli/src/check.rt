@@ -2,12 +2,11 @@
 ghost use Rattle.std.specs.Prelude.{◌≡◌, ◌+◌, ◌^◌, IfOk};
 ghost use Rattle.std.specs.Io.KnownBytes.{IsAtEnd};
 ghost use Rattle.vc2_run.specs.Ran.{Ran, TakesAtMost, HaltHasCause};
-ghost use Rattle.stream_units.specs.Units.{nothing_yet};
 ghost use Rattle.stream_units.specs.Reader.{new_reader};
 ghost use Rattle.vc2_cli.specs.declared.status.Status.TheVariants as status;
 ghost use Rattle.vc2_cli.specs.declared.status.Ending.TheVariants as ending;
 ghost use Rattle.vc2_cli.specs.Reply.{status_of};
-ghost use Rattle.vc2_cli.specs.Decode.{check_machine, WritesLast};
+ghost use Rattle.vc2_cli.specs.Decode.{check_machine, IsLastCount, WritesLast};
 
 use crate::decode::stopped;
 use crate::status::Ending;
@@ -42,7 +41,18 @@ fn accept<K: Sink>(
     }
 }
 
-// Goes through the units of a new reader.
+// The number of slices of the last unit.
+fn last_count(reader: &StreamReader) -> u32
+    ensures { IsLastCount reader.now.shapes result }
+{
+    let shapes = reader.shapes();
+    match shapes.len() {
+        0 => 0,
+        count => shapes.get(count - 1).slices,
+    }
+}
+
+// Goes through the units of a new reader, and counts their slices.
 fn check_units<S: Source, K: Sink>(
     alloc: Global,
     reader: &mut StreamReader,
@@ -52,23 +62,19 @@ fn check_units<S: Source, K: Sink>(
     requires { reader.old ≡ new_reader }
     ensures end { IfOk result (λ ending. status_of ending ≡ status.Done → IsAtEnd (S.rest src.new)) }
     ensures limit { TakesAtMost (2 ^ 40 + 1) (S.rest src.old) (S.rest src.new) }
-    ensures ran { Ran check_machine nothing_yet (S.rest src.old) (S.rest src.new) (K.written out.old) (K.written out.new) result }
+    ensures ran { Ran check_machine (S.rest src.old) (S.rest src.new) (K.written out.old) (K.written out.new) result }
     ensures cause { HaltHasCause (S.faults src.old) (S.faults src.new) (K.faults out.old) (K.faults out.new) result }
 {
+    let mut slices = 0;
     loop {
         let item = match reader.next(src) {
             Ok(item) => item,
             Err(stop) => return stopped(stop),
         };
         if item.is_end() {
-            return accept(
-                alloc,
-                out,
-                reader.pictures(),
-                reader.slices(),
-                reader.taken(),
-            );
+            return accept(alloc, out, reader.pictures(), slices, reader.taken());
         }
+        slices += u64::from(last_count(reader));
     }
 }
 
@@ -80,7 +86,7 @@ pub(crate) fn check<S: Source, K: Sink>(
 ) -> Result<Ending, Halt>
     ensures end { IfOk result (λ ending. status_of ending ≡ status.Done → IsAtEnd (S.rest src.new)) }
     ensures limit { TakesAtMost (2 ^ 40 + 1) (S.rest src.old) (S.rest src.new) }
-    ensures ran { Ran check_machine nothing_yet (S.rest src.old) (S.rest src.new) (K.written out.old) (K.written out.new) result }
+    ensures ran { Ran check_machine (S.rest src.old) (S.rest src.new) (K.written out.old) (K.written out.new) result }
     ensures cause { HaltHasCause (S.faults src.old) (S.faults src.new) (K.faults out.old) (K.faults out.new) result }
 {
     match StreamReader::new(alloc) {

@@ -3,7 +3,6 @@ ghost use Rattle.std.specs.Prelude.{◌≡◌, ◌+◌, ◌^◌, OnOk, OnErr, If
 ghost use Rattle.std.specs.Io.KnownBytes.{Appends, IsAtEnd};
 ghost use Rattle.vc2_io.specs.Outside.{HasCause, GrewShort};
 ghost use Rattle.vc2_run.specs.Ran.{Ran, TakesAtMost, HaltHasCause};
-ghost use Rattle.stream_units.specs.Units.{nothing_yet};
 ghost use Rattle.stream_units.specs.Reader.{new_reader};
 ghost use Rattle.vc2_cli.specs.declared.status.Status.TheVariants as status;
 ghost use Rattle.vc2_cli.specs.Reply.{status_of};
@@ -48,7 +47,7 @@ fn decode_units<S: Source, K: Sink>(
     requires { reader.old ≡ new_reader }
     ensures end { IfOk result (λ ending. status_of ending ≡ status.Done → IsAtEnd (S.rest src.new)) }
     ensures limit { TakesAtMost (2 ^ 40 + 1) (S.rest src.old) (S.rest src.new) }
-    ensures ran { Ran decode_machine nothing_yet (S.rest src.old) (S.rest src.new) (K.written out.old) (K.written out.new) result }
+    ensures ran { Ran decode_machine (S.rest src.old) (S.rest src.new) (K.written out.old) (K.written out.new) result }
     ensures cause { HaltHasCause (S.faults src.old) (S.faults src.new) (K.faults out.old) (K.faults out.new) result }
 {
     loop {
@@ -77,7 +76,7 @@ pub(crate) fn decode<S: Source, K: Sink>(
 ) -> Result<Ending, Halt>
     ensures end { IfOk result (λ ending. status_of ending ≡ status.Done → IsAtEnd (S.rest src.new)) }
     ensures limit { TakesAtMost (2 ^ 40 + 1) (S.rest src.old) (S.rest src.new) }
-    ensures ran { Ran decode_machine nothing_yet (S.rest src.old) (S.rest src.new) (K.written out.old) (K.written out.new) result }
+    ensures ran { Ran decode_machine (S.rest src.old) (S.rest src.new) (K.written out.old) (K.written out.new) result }
     ensures cause { HaltHasCause (S.faults src.old) (S.faults src.new) (K.faults out.old) (K.faults out.new) result }
 {
     match StreamReader::new(alloc) {

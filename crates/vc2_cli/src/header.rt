@@ -64,7 +64,7 @@ pub(crate) fn header<S: Source, K: Sink>(
 ) -> Result<Ending, Halt>
     ensures left { (input : List ℕ) → S.rest src.old ≡ Some input → IfOk result (λ ending. status_of ending ≡ status.Done → (more : List ℕ) → S.rest src.new ≡ Some more → more ≡ behind_first input) }
     ensures limit { TakesAtMost 250 (S.rest src.old) (S.rest src.new) }
-    ensures ran { Ran header_machine 0 (S.rest src.old) (S.rest src.new) (K.written out.old) (K.written out.new) result }
+    ensures ran { Ran header_machine (S.rest src.old) (S.rest src.new) (K.written out.old) (K.written out.new) result }
     ensures cause { HaltHasCause (S.faults src.old) (S.faults src.new) (K.faults out.old) (K.faults out.new) result }
 {
     let first = match take_first(alloc, src) {

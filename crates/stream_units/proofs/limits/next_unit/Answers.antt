@@ -1,23 +1,41 @@
-use Rattle.std.proofs.Common.{◌∙◌, sym, take, arith}
-use Rattle.std.proofs.lemmas.List.{length-take}
-use Rattle.stream_units.proofs.InLimit.{limit_stays, limit_near, limit_end, limit_past, limit_fault}
+use Rattle.std.proofs.Common.{◌≡◌, ◌∙◌, ◌-◌, true, false, sym, arith}
+use Rattle.stream_units.specs.Turns.{is_end_found, IsRead}
+use Rattle.stream_units.proofs.Taking.{read_at, ends_found}
+use Rattle.stream_units.proofs.ReaderTurns.{limit_inner, final_of, limit_ends}
 use Rattle.stream_units.proofs.limits.next_unit.Goals as goal
 
-pub returns-in-None-clause-limit : goal.returns-in-None-clause-limit
-returns-in-None-clause-limit g c = limit_stays c.args.earlier.now c.args.window.now.held (g.S.Source.rest c.args.src.now) (g.S.Source.rest c.unit-found.new.src) c.unit-found.new.window c.unit-found.result c.unit-found.ensures.unit (sym c.too_long.ensures ∙ c.in-None.is)
+pub returns-then-not-is_end-clause-limit : goal.returns-then-not-is_end-clause-limit
+returns-then-not-is_end-clause-limit g c =
+    limit_inner c.args.earlier.now c.args.window.now.held (g.S.Source.rest c.args.src.now) (g.S.Source.rest c.whole.new.src) c.whole.new.window c.in-Ok.found c.in-Ok.ensures.unit (sym c.is_end.ensures ∙ c.if-not-is_end.true)
 
-pub returns-then-room-gt0-clause-limit : goal.returns-then-room-gt0-clause-limit
-returns-then-room-gt0-clause-limit g c = limit_near c.args.earlier.now c.args.window.now.held (g.S.Source.rest c.args.src.now) (g.S.Source.rest c.unit-found.new.src) c.unit-found.new.window c.unit-found.result c.in-Some.reason c.unit-found.ensures.unit (sym c.too_long.ensures ∙ c.in-Some.is) (omega (arith, c.if-room-gt0.true, c.room.ensures))
+pub overflow_sub-place : goal.overflow_sub-place
+overflow_sub-place g c = omega (arith, c.in-Ok.ensures.unit.total, c.room.ensures)
 
-pub returns-in-Ok-eq0-clause-limit : goal.returns-in-Ok-eq0-clause-limit
-returns-in-Ok-eq0-clause-limit g c = limit_end c.args.earlier.now c.args.window.now.held (g.S.Source.rest c.args.src.now) (g.S.Source.rest c.unit-found.new.src) (g.S.Source.rest c.fill.new.src) c.unit-found.new.window c.unit-found.result c.in-Some.reason (take c.in-Ok-eq0.field-0 c.fill.new.buf) c.unit-found.ensures.unit (sym c.too_long.ensures ∙ c.in-Some.is)
-    c.in-Ok-eq0.ensures.ok (omega (arith, length-take c.in-Ok-eq0.field-0 c.fill.new.buf, c.in-Ok-eq0.field-0-is)) (c.in-Ok-eq0.ensures.end (omega (arith, c.in-Ok-eq0.field-0-is, c.fill.auto.buf)))
+pub overflow_sub-place-2 : goal.overflow_sub-place-2
+overflow_sub-place-2 g c = omega (arith, c.in-Ok.ensures.unit.total, c.room.ensures, c.len.ensures)
 
-pub returns-in-Ok-clause-limit : goal.returns-in-Ok-clause-limit
-returns-in-Ok-clause-limit g c = limit_past c.args.earlier.now c.args.window.now.held (g.S.Source.rest c.args.src.now) (g.S.Source.rest c.unit-found.new.src) (g.S.Source.rest c.fill.new.src) c.unit-found.new.window c.unit-found.result c.in-Some.reason (take c.in-Ok.field-0 c.fill.new.buf) c.refused.result c.unit-found.ensures.unit (sym c.too_long.ensures ∙ c.in-Some.is)
-    (omega (arith, c.if-room-gt0.false, c.room.ensures)) c.in-Ok.ensures.ok (omega (arith, length-take c.in-Ok.field-0 c.fill.new.buf, c.in-Ok.ensures.bound, c.in-Ok.field-0-test, c.fill.auto.buf)) c.refused.ensures
+pub last-requires : goal.last-requires
+last-requires g c = omega (arith, c.in-Ok.ensures.unit.total, c.room.ensures, c.len.ensures)
 
-pub returns-in-Err-clause-limit : goal.returns-in-Err-clause-limit
-returns-in-Err-clause-limit g c =
-    let lost = c.in-Err.ensures.err in
-    limit_fault c.args.earlier.now c.args.window.now.held (g.S.Source.rest c.args.src.now) (g.S.Source.rest c.unit-found.new.src) (g.S.Source.rest c.fill.new.src) c.unit-found.new.window c.unit-found.result c.in-Some.reason lost.0 c.unit-found.ensures.unit (sym c.too_long.ensures ∙ c.in-Some.is) lost.2 (omega (arith, lost.1, c.fill.auto.buf))
+pub returns-in-Ok-last-clause-limit : goal.returns-in-Ok-last-clause-limit
+returns-in-Ok-last-clause-limit g c =
+    let z = c.args.earlier.now in
+    let rest = g.S.Source.rest in
+    let held = c.args.window.now.held in
+    let r = c.in-Ok.ensures.unit in
+    let ended : is_end_found c.in-Ok.found ≡ true = sym c.is_end.ensures ∙ c.if-not-is_end.false in
+    let such = IsRead z c.in-Ok.found in
+    let d = read_at such r (1099511627776 - c.room.result - c.len.result) (omega (arith, r.total, c.room.ensures, c.len.ensures)) in
+    limit_ends z held (rest c.args.src.now) (rest c.last.new.src) c.last.new.window c.in-Ok.found ended
+    (ends_found such r.unit d.0.gone (c.in-Ok-last.ensures.last z held (rest c.args.src.now) r.unit d.0 (final_of z c.in-Ok.found r.unit r.begun.gone ended r.such.0)) d.1)
+
+pub returns-in-Err-last-clause-limit : goal.returns-in-Err-last-clause-limit
+returns-in-Err-last-clause-limit g c =
+    let z = c.args.earlier.now in
+    let rest = g.S.Source.rest in
+    let held = c.args.window.now.held in
+    let r = c.in-Ok.ensures.unit in
+    let ended : is_end_found c.in-Ok.found ≡ true = sym c.is_end.ensures ∙ c.if-not-is_end.false in
+    let such = IsRead z c.in-Ok.found in
+    let d = read_at such r (1099511627776 - c.room.result - c.len.result) (omega (arith, r.total, c.room.ensures, c.len.ensures)) in
+    c.in-Err-last.ensures.last z held (rest c.args.src.now) r.unit d.0 (final_of z c.in-Ok.found r.unit r.begun.gone ended r.such.0)

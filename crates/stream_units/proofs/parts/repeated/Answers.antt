@@ -54,6 +54,6 @@ returns-clause-unit g c = λ held0 rest0 b.
     (ap (λ (l : List ℕ). starts_with nat_eq c.front.result.now l) (sym c.payload-payload.ensures.value) ∙ sym c.starts_with.ensures.value ∙ cc) in
     checked_takes c.advance.new.self.room c.args.next (13 + length c.args.first.now.payload) (λ unit bytes. unit ≡ Repeated) Repeated
     (subst (λ p. Begun units c.args.earlier.now held0 rest0 (g.S.Source.rest c.hold.new.src) p c.advance.new.self.held (next_checked c.args.earlier.now c.args.next >>= λ length. done Repeated)) (omega arith) used)
-    (ap (leads_behind c.args.next) (omega (arith, n)) ∙ sym c.leads_behind.ensures ∙ cc) refl
+    (ap (leads_behind c.args.next) (omega (arith, n)) ∙ sym c.leads_behind.ensures ∙ cc)
     (omega (arith, c.hold.ensures.room, c.requires, c.advance.ensures.room, n, c.hold.ensures.enough (c.in-Ok-true.is ∙ cc), ap (λ (l : List ℕ). length l) c.advance.ensures.held, length-drop (length c.payload-payload.result.now) c.hold.new.self.held))
     (omega (arith, n, c.payload-payload.ensures.most)) (λ bytes at. refl)

@@ -1,4 +1,6 @@
-use Rattle.std.proofs.Common.{refl}
+use Rattle.std.proofs.Common.{refl, arith}
+use Rattle.stream_units.specs.Units.{End}
+use Rattle.stream_units.proofs.PartTurns.{takes}
 use Rattle.stream_units.specs.Turns.{IsFound, IsShown}
 use Rattle.stream_units.specs.declared.parts.Found.TheVariants as founds
 use Rattle.stream_units.proofs.UnitTurns.{along, takes_such, rows_first, rows_repeated, rows_picture, rows_skipped, rows_end}
@@ -30,8 +32,6 @@ returns-in-Ok-skipped-clause-unit g c = λ held0 rest0 b. c.in-Ok-skipped.ensure
 pub returns-in-Err-skipped-clause-unit : goal.returns-in-Err-skipped-clause-unit
 returns-in-Err-skipped-clause-unit g c = λ held0 rest0 b. c.in-Err-skipped.ensures.unit held0 rest0 (along _ _ (rows_skipped c.args.earlier.now c.args.earlier.now.first c.in-Some.first.now c.args.info c.in-Some.ensures.some c.in-Auxiliary.is) b)
 
-pub returns-in-Ok-end-clause-unit : goal.returns-in-Ok-end-clause-unit
-returns-in-Ok-end-clause-unit g c = λ held0 rest0 b. c.in-Ok-end.ensures.unit held0 rest0 (along _ _ (rows_end c.args.earlier.now c.args.earlier.now.first c.in-Some.first.now c.args.info c.in-Some.ensures.some c.in-EndOfSequence.is) b)
-
-pub returns-in-Err-end-clause-unit : goal.returns-in-Err-end-clause-unit
-returns-in-Err-end-clause-unit g c = λ held0 rest0 b. c.in-Err-end.ensures.unit held0 rest0 (along _ _ (rows_end c.args.earlier.now c.args.earlier.now.first c.in-Some.first.now c.args.info c.in-Some.ensures.some c.in-EndOfSequence.is) b)
+pub returns-in-EndOfSequence-clause-unit : goal.returns-in-EndOfSequence-clause-unit
+returns-in-EndOfSequence-clause-unit g c = λ held0 rest0 b.
+    takes c.args.window.now.room (IsFound c.args.earlier.now founds.End) End (along _ _ (rows_end c.args.earlier.now c.args.earlier.now.first c.in-Some.first.now c.args.info c.in-Some.ensures.some c.in-EndOfSequence.is) b) (omega (arith, c.requires.place)) (omega arith) (λ bytes at. refl)

@@ -20,7 +20,7 @@ returns-in-Chain-clause-settled g c = λ input e.
     let note = g.N.Sink.written in
     subst (λ (r : Result Command WordFault). Settles (command_reply r input) (command_due r) input (rest c.chain.new.src) (out c.args.out.now) (out c.chain.new.out) (note c.args.note.now) (note c.conclude.new.note) c.conclude.result)
     (sym (c.in-Ok.is ∙ ap Ok c.in-Chain.is))
-    (settled chain_machine chain_laws 0 [] (rest c.args.src.now) (rest c.chain.new.src) (out c.args.out.now) (out c.chain.new.out) (note c.args.note.now) (note c.conclude.new.note) input c.chain.result c.conclude.result e
+    (settled chain_machine chain_laws [] (rest c.args.src.now) (rest c.chain.new.src) (out c.args.out.now) (out c.chain.new.out) (note c.args.note.now) (note c.conclude.new.note) input c.chain.result c.conclude.result e
     (at_end (rest c.chain.new.src) c.chain.result c.chain.ensures.end) c.chain.ensures.ran c.conclude.ensures.told)
 
 pub returns-in-Header-clause-settled : goal.returns-in-Header-clause-settled
@@ -30,7 +30,7 @@ returns-in-Header-clause-settled g c = λ input e.
     let note = g.N.Sink.written in
     subst (λ (r : Result Command WordFault). Settles (command_reply r input) (command_due r) input (rest c.header.new.src) (out c.args.out.now) (out c.header.new.out) (note c.args.note.now) (note c.conclude-in-Header.new.note) c.conclude-in-Header.result)
     (sym (c.in-Ok.is ∙ ap Ok c.in-Header.is))
-    (settled header_machine header_laws 0 (behind_first input) (rest c.args.src.now) (rest c.header.new.src) (out c.args.out.now) (out c.header.new.out) (note c.args.note.now) (note c.conclude-in-Header.new.note) input c.header.result c.conclude-in-Header.result e
+    (settled header_machine header_laws (behind_first input) (rest c.args.src.now) (rest c.header.new.src) (out c.args.out.now) (out c.header.new.out) (note c.args.note.now) (note c.conclude-in-Header.new.note) input c.header.result c.conclude-in-Header.result e
     (c.header.ensures.left input e) c.header.ensures.ran c.conclude-in-Header.ensures.told)
 
 pub returns-in-Decode-clause-settled : goal.returns-in-Decode-clause-settled
@@ -40,7 +40,7 @@ returns-in-Decode-clause-settled g c = λ input e.
     let note = g.N.Sink.written in
     subst (λ (r : Result Command WordFault). Settles (command_reply r input) (command_due r) input (rest c.decode.new.src) (out c.args.out.now) (out c.decode.new.out) (note c.args.note.now) (note c.conclude-in-Decode.new.note) c.conclude-in-Decode.result)
     (sym (c.in-Ok.is ∙ ap Ok c.in-Decode.is))
-    (settled decode_machine decode_laws nothing_yet [] (rest c.args.src.now) (rest c.decode.new.src) (out c.args.out.now) (out c.decode.new.out) (note c.args.note.now) (note c.conclude-in-Decode.new.note) input c.decode.result c.conclude-in-Decode.result e
+    (settled decode_machine decode_laws [] (rest c.args.src.now) (rest c.decode.new.src) (out c.args.out.now) (out c.decode.new.out) (note c.args.note.now) (note c.conclude-in-Decode.new.note) input c.decode.result c.conclude-in-Decode.result e
     (at_end (rest c.decode.new.src) c.decode.result c.decode.ensures.end) c.decode.ensures.ran c.conclude-in-Decode.ensures.told)
 
 pub returns-in-Check-clause-settled : goal.returns-in-Check-clause-settled
@@ -50,7 +50,7 @@ returns-in-Check-clause-settled g c = λ input e.
     let note = g.N.Sink.written in
     subst (λ (r : Result Command WordFault). Settles (command_reply r input) (command_due r) input (rest c.check.new.src) (out c.args.out.now) (out c.check.new.out) (note c.args.note.now) (note c.conclude-in-Check.new.note) c.conclude-in-Check.result)
     (sym (c.in-Ok.is ∙ ap Ok c.in-Check.is))
-    (settled check_machine check_laws nothing_yet [] (rest c.args.src.now) (rest c.check.new.src) (out c.args.out.now) (out c.check.new.out) (note c.args.note.now) (note c.conclude-in-Check.new.note) input c.check.result c.conclude-in-Check.result e
+    (settled check_machine check_laws [] (rest c.args.src.now) (rest c.check.new.src) (out c.args.out.now) (out c.check.new.out) (note c.args.note.now) (note c.conclude-in-Check.new.note) input c.check.result c.conclude-in-Check.result e
     (at_end (rest c.check.new.src) c.check.result c.check.ensures.end) c.check.ensures.ran c.conclude-in-Check.ensures.told)
 
 pub returns-in-Header-clause-limit : goal.returns-in-Header-clause-limit

@@ -3,7 +3,7 @@ use Rattle.slice_geometry.specs.declared.unit_list.UnitShape.{UnitShape}
 use Rattle.stream_units.specs.declared.stop.ReadStop.TheVariants as stops
 use Rattle.stream_units.specs.ReaderInside.{picture_in}
 use Rattle.stream_units.proofs.Answering.{after-place}
-use Rattle.stream_units.proofs.ReaderTurns.{behind, held_few, shows_one, over_none, is_picture, next_over, nothing_due, along, stopped}
+use Rattle.stream_units.proofs.ReaderTurns.{few_slices, behind, held_few, shows_one, over_none, is_picture, next_over, nothing_due, along, stopped}
 use Rattle.stream_units.proofs.reader.StreamReader.next.Goals as goal
 
 pub returns-then-is_err-clause-next : goal.returns-then-is_err-clause-next
@@ -51,6 +51,7 @@ returns-clause-next g c =
     (record {
       steps = λ unit bytes long such. (c.step-item.result.1, c.step-item.ensures unit bytes long such);
       shapes = λ unit bytes long such. c.push.ensures.units ∙ ap (λ (l : List UnitShape). l ++ c.shape_of.result ∷ []) c.reserve.ensures.units ∙ ap (λ (u : UnitShape). c.self.inside.shapes.units ++ u ∷ []) (c.shape_of.ensures.shape c.self.inside.earlier unit bytes (sym c.place-start.ensures.value) long such);
+      few = λ unit bytes long such. few_slices c.shape_of.result _ bytes c.shape_of.ensures.allowed (c.shape_of.ensures.size c.self.inside.earlier unit bytes long such ∙ sym long) (c.shape_of.ensures.shape c.self.inside.earlier unit bytes (sym c.place-start.ensures.value) long such);
       picture = λ unit bytes long such. is_picture unit c.step-item.result.1 c.next_unit.new.kept c.keep-self-inside.new.decoder c.keep-self-inside.result (c.step-item.ensures unit bytes long such).decoder c.keep-self-inside.ensures;
       held = refl;
       stop = no_stop;

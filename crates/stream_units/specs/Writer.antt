@@ -1,0 +1,139 @@
+-- A writer of a stream to any sink.
+use Rattle.std.specs.Prelude.{◌≡◌, ◌≤◌, ◌<◌, ℕ, ◌+◌, ◌%◌, ◌^◌, Bool, true, false, nat_lt, if◌then◌else◌, List, [], ◌∷◌, ◌++◌, length, Option, Some, None, Result, Ok, Err}
+use Rattle.std.specs.Io.KnownBytes.{Appends}
+use Rattle.vc2_io.specs.Outside.{Rose, GrewShort}
+use Rattle.sequence_header.specs.declared.parts.HeaderParts.{HeaderParts}
+use Rattle.sequence_header.specs.Bytes.{header_len}
+use Rattle.slice_geometry.specs.declared.unit_list.UnitShape.{UnitShape}
+use Rattle.slice_geometry.specs.Units as shapes
+use Rattle.slice_geometry.specs.Slicing.{slice_count}
+use Rattle.transform_params.specs.Params.{Params}
+use Rattle.transform_params.specs.Fields.{byte_length, unit_length}
+use Rattle.stream_units.specs.declared.write_stop.WriteStop.{WriteStop}
+use Rattle.stream_units.specs.declared.write_stop.WriteStop.TheVariants as stops
+use Rattle.stream_units.specs.Streams.{limit}
+use Rattle.stream_units.specs.Encoded.{Settings, header_unit, picture_unit, end_unit}
+
+-- What is seen of a writer: what it writes under, the units so far by their lengths, whether the stream was ended, and the stop that it keeps.
+pub record WriterState : Type 0 where
+  pub settings : Settings
+  pub shapes : List UnitShape
+  pub ended : Bool
+  pub stop : Option WriteStop
+
+-- ---- the units so far
+
+-- their bytes
+abbrev pub total_length : List UnitShape → ℕ
+total_length [] = 0
+total_length (u ∷ units) = shapes.unit_length u + total_length units
+
+-- how many of them have slices
+abbrev pub pictures_among : List UnitShape → ℕ
+pictures_among [] = 0
+pictures_among (u ∷ units) = (if nat_lt 0 u.slices then 1 else 0) + pictures_among units
+
+-- the length of the last one, and 0 before the first
+abbrev pub last_length : ℕ → List UnitShape → ℕ
+last_length before [] = before
+last_length before (u ∷ units) = last_length (shapes.unit_length u) units
+
+-- the number of the next picture
+abbrev pub next_number : WriterState → ℕ
+next_number w = (w.settings.first + pictures_among w.shapes) % 2 ^ 32
+
+abbrev pub next_place : WriterState → ℕ
+next_place w = total_length w.shapes
+
+abbrev pub next_previous : WriterState → ℕ
+next_previous w = last_length 0 w.shapes
+
+-- ---- the shapes of units
+
+abbrev pub plain_shape : ℕ → ℕ → UnitShape
+plain_shape start size = record { start = start; head = size; slices = 0; a = 1; b = 1 }
+
+abbrev pub picture_shape : Params → ℕ → UnitShape
+picture_shape p start = record { start = start; head = 17 + byte_length p; slices = slice_count p.slicing; a = p.slicing.a; b = p.slicing.b }
+
+-- ---- what the calls leave
+
+-- a writer that wrote the sequence header
+abbrev pub started : Settings → WriterState
+started s = record { settings = s; shapes = plain_shape 0 (13 + header_len s.parts) ∷ []; ended = false; stop = None }
+
+abbrev pub after_picture : WriterState → WriterState
+after_picture w = record w { shapes = w.shapes ++ picture_shape w.settings.params (next_place w) ∷ [] }
+
+abbrev pub after_end : WriterState → WriterState
+after_end w = record w { shapes = w.shapes ++ plain_shape (next_place w) 13 ∷ []; ended = true }
+
+abbrev pub stopped : WriterState → WriteStop → WriterState
+stopped w stop = record w { stop = Some stop }
+
+-- a unit was written whole, or a proper front of it went out, or nothing
+abbrev pub Wrote : List ℕ → Option (List ℕ) → Option (List ℕ) → Result (Unit {0}) WriteStop → Type 0
+Wrote unit out0 out1 (Ok x) = Appends out0 out1 unit
+Wrote unit out0 out1 (Err stops.OutFault) = GrewShort out0 out1 unit
+Wrote unit out0 out1 (Err other) = out1 ≡ out0
+
+-- what is left of a writer that keeps no stop
+abbrev pub leaves : WriterState → WriterState → Result (Unit {0}) WriteStop → WriterState
+leaves old next (Ok x) = next
+leaves old next (Err stop) = stopped old stop
+
+-- the next picture and the end fit before the limit
+abbrev pub HasRoom : WriterState → Type 0
+HasRoom w = next_place w + unit_length w.settings.params + 13 ≤ limit
+
+-- why a picture isn't written; want of memory alone is free
+abbrev pub PictureStops : WriterState → Result (Unit {0}) WriteStop → Type 0
+PictureStops w (Ok x) = HasRoom w
+PictureStops w (Err stops.OutFault) = HasRoom w
+PictureStops w (Err stops.StreamTooLong) = HasRoom w → ⊥
+PictureStops w (Err stops.MatrixTooSteep) = ⊥
+PictureStops w (Err stops.NoMemory) = Unit {0}
+
+-- the end always fits
+abbrev pub EndStops : Result (Unit {0}) WriteStop → Type 0
+EndStops (Err stops.StreamTooLong) = ⊥
+EndStops (Err stops.MatrixTooSteep) = ⊥
+EndStops other = Unit {0}
+
+-- How a picture whose slices are these came out, of a writer that keeps no stop.
+pub record WritesPicture (old new : WriterState) (slices : List (List ℕ)) (out0 out1 : Option (List ℕ)) (result : Result (Unit {0}) WriteStop) : Type 0 where
+  pub wrote : Wrote (picture_unit old.settings.params (next_previous old) (next_number old) slices) out0 out1 result
+  pub after : new ≡ leaves old (after_picture old) result
+  pub why : PictureStops old result
+
+-- How the end came out.
+pub record WritesEnd (old new : WriterState) (out0 out1 : Option (List ℕ)) (result : Result (Unit {0}) WriteStop) : Type 0 where
+  pub wrote : Wrote (end_unit (next_previous old)) out0 out1 result
+  pub after : new ≡ leaves old (after_end old) result
+  pub why : EndStops result
+
+-- How a start came out.
+abbrev pub Starts : Settings → Option (List ℕ) → Option (List ℕ) → Result WriterState WriteStop → Type 0
+Starts s out0 out1 (Ok w) = (w ≡ started s) × Appends out0 out1 (header_unit s.parts)
+Starts s out0 out1 (Err stops.OutFault) = GrewShort out0 out1 (header_unit s.parts)
+Starts s out0 out1 (Err stops.NoMemory) = out1 ≡ out0
+Starts s out0 out1 (Err stops.StreamTooLong) = ⊥
+Starts s out0 out1 (Err stops.MatrixTooSteep) = ⊥
+
+-- a failed write has its cause, and without one the count stands still
+abbrev pub WriteCause : {X : Type 0} → ℕ → ℕ → Result X WriteStop → Type 0
+WriteCause before now (Ok x) = now ≡ before
+WriteCause before now (Err stops.OutFault) = (before ≤ now) × Rose before now
+WriteCause before now (Err other) = now ≡ before
+
+-- ---- all calls of a writer
+
+-- what is written by a call for each of these pictures and then the end
+abbrev pub texts_from : WriterState → List (List (List ℕ)) → List ℕ
+texts_from w [] = end_unit (next_previous w)
+texts_from w (slices ∷ pictures) = picture_unit w.settings.params (next_previous w) (next_number w) slices ++ texts_from (after_picture w) pictures
+
+-- each of them has room when its turn comes, as it has where its call answers Ok
+abbrev pub HaveRoom : WriterState → List (List (List ℕ)) → Type 0
+HaveRoom w [] = Unit {0}
+HaveRoom w (slices ∷ pictures) = HasRoom w × HaveRoom (after_picture w) pictures
