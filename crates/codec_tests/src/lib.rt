@@ -29,6 +29,8 @@ mod same;
 #[cfg(test)]
 mod sequence_headers;
 #[cfg(test)]
+mod slice_writing;
+#[cfg(test)]
 mod slices;
 #[cfg(test)]
 mod synthesis;
