@@ -1,5 +1,5 @@
 -- What is filled is read.
-use Rattle.std.proofs.Common.{◌≡◌, ◌∙◌, sym, ap, ℕ, ◌+◌, ◌-◌, ◌≤◌, Bool, true, List, ◌++◌, length, take, drop, replicate, append_assoc, arith, ℤ}
+use Rattle.std.proofs.Common.{◌≡◌, ◌∙◌, sym, ap, ℕ, ◌-◌, ◌≤◌, Bool, true, List, ◌++◌, length, take, drop, replicate, append_assoc, arith, ℤ}
 use Rattle.std.specs.List.{All}
 use Rattle.std.proofs.lemmas.List.{length-take}
 use Rattle.std.proofs.Math.Seq.{take-append_seam, drop-append_seam}

@@ -33,6 +33,8 @@ mod schedules;
 #[cfg(test)]
 mod sequence_headers;
 #[cfg(test)]
+mod slice_writing;
+#[cfg(test)]
 mod slices;
 #[cfg(test)]
 mod synthesis;

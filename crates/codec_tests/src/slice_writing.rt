@@ -7,6 +7,7 @@ ghost use Rattle.planes.specs.Numbers.{Within};
 ghost use Rattle.planes.specs.Raster.{height, at};
 ghost use Rattle.quant_factors.specs.Weights.{Weights};
 ghost use Rattle.slice_geometry.specs.Shape.{IsSize};
+ghost use Rattle.slice_geometry.specs.SliceOrder.{level_of, orient_of};
 ghost use Rattle.slice_encoder.specs.Laws.{IsSteepOk};
 ghost use Rattle.slice_encoder.specs.Ready.{coded_picture, IsReady, AreReady};
 ghost use Rattle.slice_encoder.specs.Buffers.{coded_component};
@@ -52,9 +53,20 @@ fn is_plane(plane: &Plane, size: Size, most: u32) -> bool
 
 // The greatest magnitude of a coefficient of 8 bits, at depth 0 or 1.
 fn most_of(depth: u32) -> u32
-    ensures { result ≤ 2 ^ (8 - 1 + 3 * depth) }
+    ensures most { result ≤ 2 ^ (8 - 1 + 3 * depth) }
+    ensures few { result ≤ 1024 }
 {
     if depth == 0 { 128 } else { 1024 }
+}
+
+// The level of band number k, and the number of its orientation.
+fn band_numbered(k: u32) -> (u32, u32)
+    requires { k ≤ 12 }
+    ensures level { result.0 ≡ level_of k }
+    ensures orient { result.1 ≡ orient_of k }
+{
+    let level = (k + 2) / 3;
+    (level, if k == 0 { 0 } else { k + 3 - 3 * level })
 }
 
 // Whether the subbands of a component of 8 bits and its kept values are ready for every slice.
@@ -68,8 +80,7 @@ fn is_ready(layout: &Layout, size: Size, bands: &Bands, kept: &Plane) -> bool
     }
     let most = most_of(depth);
     for k in 0..3 * depth + 1 {
-        let level = (k + 2) / 3;
-        let orient = if k == 0 { 0 } else { k + 3 - 3 * level };
+        let (level, orient) = band_numbered(k);
         let band = layout.band_size(size, level);
         if !is_plane(bands.band(level, orient), band, most) {
             return false;
@@ -90,14 +101,19 @@ fn can_try(
 ) -> bool
     ensures { result ≡ true → AreReady (coded_picture layout.now shape.now matrix.now coefficients.now) sx sy kept.now }
 {
-    shape.luma_depth == 8
-        && shape.colour_depth == 8
-        && sx < layout.slices_x()
-        && sy < layout.slices_y()
-        && matrix.depth() == layout.depth()
-        && is_ready(layout, shape.luma, &coefficients.luma, &kept.luma)
-        && is_ready(layout, shape.colour, &coefficients.c1, &kept.c1)
-        && is_ready(layout, shape.colour, &coefficients.c2, &kept.c2)
+    if shape.luma_depth != 8 || shape.colour_depth != 8 {
+        return false;
+    }
+    if sx >= layout.slices_x() || sy >= layout.slices_y() || matrix.depth() != layout.depth() {
+        return false;
+    }
+    if !is_ready(layout, shape.luma, &coefficients.luma, &kept.luma) {
+        return false;
+    }
+    if !is_ready(layout, shape.colour, &coefficients.c1, &kept.c1) {
+        return false;
+    }
+    is_ready(layout, shape.colour, &coefficients.c2, &kept.c2)
 }
 
 /// A picture of 8 bits in one row of slices, whose coefficients are zeros at first, and its encoder.
@@ -171,7 +187,10 @@ fn new_picture(
 
 /// Puts a coefficient at the first column or further right in the first row of a band.
 fn put(rt: &impl Abort, bands: &mut Bands, level: u32, orient: u32, x: u32, value: i64) {
-    assert!(rt; (level == 0 && orient == 0) || (level == 1 && bands.depth() == 1 && 1 <= orient && orient <= 3));
+    assert!(rt;
+        (level == 0 && orient == 0)
+            || (level == 1 && bands.depth() == 1 && 1 <= orient && orient <= 3)
+    );
     let band = bands.band_mut(level, orient);
     assert!(rt; band.h() > 0 && x < band.w());
     band.set(0, x, value);
@@ -187,8 +206,19 @@ fn encode(
 ) -> Result<SliceHead, NoMemory> {
     assert!(rt; 1 <= bytes.len() && bytes.len() <= 8);
     assert!(rt; picture.matrix.depth() == picture.layout.depth() && picture.layout.depth() <= 1);
-    assert!(rt; steep_ok(picture.layout.depth(), 8, &picture.matrix));
-    assert!(rt; can_try(&picture.layout, &picture.shape, &picture.matrix, sx, 0, &picture.coefficients, &picture.kept));
+    let bits = picture.shape.luma_depth.max(picture.shape.colour_depth);
+    assert!(rt; steep_ok(picture.layout.depth(), bits, &picture.matrix));
+    assert!(rt;
+        can_try(
+            &picture.layout,
+            &picture.shape,
+            &picture.matrix,
+            sx,
+            0,
+            &picture.coefficients,
+            &picture.kept
+        )
+    );
     let mut encoder = SliceEncoder::new(alloc, &picture.layout, &picture.shape)?;
     let head = encoder.encode_slice(
         &picture.matrix,
@@ -213,19 +243,20 @@ const ONE_BYTE: [(i64, i64, u8); 5] = [
     (0, -3, 0x02),
 ];
 
-fn one_place(
-    rt: &impl Abort,
-    alloc: Global,
-    luma: i64,
-    c1: i64,
-) -> Result<Picture, NoMemory> {
+fn one_place(rt: &impl Abort, alloc: Global, luma: i64, c1: i64) -> Result<Picture, NoMemory> {
     let mut picture = new_picture(rt, alloc, 0, 1, 1, ONE, 0)?;
     put(rt, &mut picture.coefficients.luma, 0, 0, 0, luma);
     put(rt, &mut picture.coefficients.c1, 0, 0, 0, c1);
     Ok(picture)
 }
 
-fn assert_byte(rt: &impl Abort, alloc: Global, luma: i64, c1: i64, expected: u8) -> Result<(), Fail> {
+fn assert_byte(
+    rt: &impl Abort,
+    alloc: Global,
+    luma: i64,
+    c1: i64,
+    expected: u8,
+) -> Result<(), Fail> {
     let mut picture = one_place(rt, alloc, luma, c1)?;
     let mut bytes = [0xFF];
     encode(rt, alloc, &mut picture, 0, &mut bytes)?;
@@ -259,7 +290,12 @@ fn prediction_by_restored_values(rt: HostRuntime) -> Result<(), Fail> {
     Ok(())
 }
 
-fn one_level(rt: &impl Abort, alloc: Global, share: u32, bytes: &mut [u8]) -> Result<SliceHead, NoMemory> {
+fn one_level(
+    rt: &impl Abort,
+    alloc: Global,
+    share: u32,
+    bytes: &mut [u8],
+) -> Result<SliceHead, NoMemory> {
     let mut picture = new_picture(rt, alloc, 1, 1, share, Size { w: 2, h: 2 }, 0)?;
     for (level, orient, value) in [(0, 0, 21), (1, 1, 3), (1, 2, -5), (1, 3, 2)] {
         put(rt, &mut picture.coefficients.luma, level, orient, 0, value);
@@ -284,9 +320,24 @@ fn slices_of_one_level(rt: HostRuntime) -> Result<(), Fail> {
 }
 
 /// Tries the only slice of a picture at an index.
-fn tried(rt: &impl Abort, alloc: Global, picture: &mut Picture, qindex: u32) -> Result<Trial, NoMemory> {
+fn tried(
+    rt: &impl Abort,
+    alloc: Global,
+    picture: &mut Picture,
+    qindex: u32,
+) -> Result<Trial, NoMemory> {
     assert!(rt; qindex <= 127);
-    assert!(rt; can_try(&picture.layout, &picture.shape, &picture.matrix, 0, 0, &picture.coefficients, &picture.kept));
+    assert!(rt;
+        can_try(
+            &picture.layout,
+            &picture.shape,
+            &picture.matrix,
+            0,
+            0,
+            &picture.coefficients,
+            &picture.kept
+        )
+    );
     let mut encoder = SliceEncoder::new(alloc, &picture.layout, &picture.shape)?;
     let trial = encoder.trial(
         &picture.matrix,
@@ -342,7 +393,11 @@ fn coefficients_at_the_bound(rt: HostRuntime) -> Result<(), Fail> {
     let mut bytes = [0];
     let head = encode(&rt, rt.alloc(), &mut picture, 0, &mut bytes)?;
     drop(picture);
-    assert_eq!(&rt; (head.luma_bits, bytes[0]), (0, 2 * head.qindex as u8 + 1));
+    assert!(&rt; head.qindex <= 127);
+    assert_eq!(&rt;
+        (head.luma_bits, u32::from(bytes[0])),
+        (0, 2 * head.qindex + 1)
+    );
     Ok(())
 }
 

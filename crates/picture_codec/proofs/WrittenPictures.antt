@@ -1,10 +1,9 @@
 -- A decoder gets back what was written of a picture.
-use Rattle.std.proofs.Common.{◌≡◌, ◌∙◌, sym, ap, subst, refl, ℕ, ◌+◌, ◌*◌, ◌^◌, ◌<◌, ◌≤◌, Bool, true, false, List, [], length, get_or, take, cond, eqb, arith, inl, ℤ, pos, ◌-ℤ◌}
+use Rattle.std.proofs.Common.{◌≡◌, ◌∙◌, sym, ap, subst, refl, ℕ, ◌+◌, ◌*◌, ◌^◌, ◌<◌, ◌≤◌, Bool, true, false, List, [], get_or, take, cond, eqb, arith, inl, ℤ, pos, ◌-ℤ◌}
 use Rattle.std.specs.Prelude.{unsigned_abs}
 use Rattle.std.specs.List.{All}
 use Rattle.std.proofs.lemmas.List.{get_or-take}
 use Rattle.std.proofs.lemmas.List.Elements.{All-map, All-take, All-weaker}
-use Rattle.planes.specs.Raster.{Grid}
 use Rattle.planes.specs.Rect.{IsInRect}
 use Rattle.planes.specs.Subbands.{BandExists}
 use Rattle.bounded_blocks.specs.Writing.{need}
@@ -12,10 +11,9 @@ use Rattle.dc_prediction.specs.Prediction.{prediction}
 use Rattle.quant_factors.specs.Factors.{inverse_of}
 use Rattle.quant_factors.specs.Weights.{band_quantiser}
 use Rattle.lifting.specs.declared.Wavelet.{Wavelet}
-use Rattle.slice_geometry.specs.declared.Component.{Component}
 use Rattle.slice_geometry.specs.declared.Component.TheVariants.{Luma, C1, C2}
 use Rattle.slice_geometry.specs.Slicing.{IsAllowed, slice_number}
-use Rattle.slice_geometry.specs.Geometry.{band_size, holding}
+use Rattle.slice_geometry.specs.Geometry.{band_size}
 use Rattle.slice_geometry.specs.SliceOrder.{level_rect, place_count, place_number}
 use Rattle.slice_geometry.proofs.Places.{held}
 use Rattle.slice_decoder.specs.Slice.{Slice, slice_of, slice_at, quantisers, dequantised}
@@ -30,7 +28,7 @@ use Rattle.slice_encoder.proofs.PlaceByPlace.{forward_small}
 use Rattle.slice_encoder.proofs.Tried.{coefficient_most}
 use Rattle.slice_encoder.proofs.WholeTrial.{length_luma, length_colour, colour_small}
 use Rattle.picture_codec.specs.Pictures.{slice_value, coefficient}
-use Rattle.picture_codec.specs.Written.{IsWritten, AreWritten, frame_of, params_of, component_of, WrittenIsRestored}
+use Rattle.picture_codec.specs.Written.{IsWritten, AreWritten, frame_of, params_of, WrittenIsRestored}
 use Rattle.picture_codec.proofs.ReadBack.{written_is_read}
 use Rattle.picture_codec.proofs.WrittenValues.{place, value_once, value_first, value_second}
 use Rattle.picture_codec.proofs.WrittenBands.{AreDequantised, higher_is, higher_lossless, lowest_is, lowest_lossless}

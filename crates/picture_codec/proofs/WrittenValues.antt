@@ -1,5 +1,5 @@
 -- The dequantised values of a slice's lists, by its places.
-use Rattle.std.proofs.Common.{◌≡◌, ◌∙◌, sym, ap, subst, refl, ℕ, zero, suc, ◌+◌, ◌-◌, ◌*◌, ◌<◌, ◌≤◌, List, [], ◌∷◌, ◌++◌, length, get_or, map, replicate, arith, inl, inr, ℤ, pos}
+use Rattle.std.proofs.Common.{◌≡◌, ◌∙◌, sym, ap, subst, refl, ℕ, zero, suc, ◌+◌, ◌-◌, ◌*◌, ◌<◌, List, [], ◌∷◌, ◌++◌, length, get_or, map, replicate, arith, inl, inr, ℤ, pos}
 use Rattle.std.specs.List.{All, flat_map}
 use Rattle.std.proofs.lemmas.Bool.{cases_lt}
 use Rattle.std.proofs.lemmas.Grind.{flat_map-append}
@@ -27,9 +27,6 @@ constant_map f q (x ∷ xs) h =
     let first : f x ≡ q = All-head (λ x. f x ≡ q) x xs h in
     let others = constant_map f q xs (All-tail (λ x. f x ≡ q) x xs h) in
     cc
-
-pairs_of : {X : Type 0} (f : X → ℕ) → X → List ℕ
-pairs_of f x = f x ∷ f x ∷ []
 
 twice : (n q : ℕ) → replicate (2 * suc n) q ≡ q ∷ q ∷ replicate (2 * n) q
 twice n q = let more : 2 * suc n ≡ suc (suc (2 * n)) = omega arith in ap (λ (k : ℕ). replicate k q) more

@@ -1,7 +1,6 @@
 -- What a decoder makes of slices that were written: it gets back all that the encoder kept.
 use Rattle.std.specs.Prelude.{◌≡◌, ℕ, ◌+◌, ◌*◌, ◌<◌, ◌≤◌, true, false, List, [], length, take, slice_index, slice_index_or}
 use Rattle.std.specs.List.{All}
-use Rattle.planes.specs.Raster.{Grid}
 use Rattle.planes.specs.Subbands.{BandExists}
 use Rattle.bit_codes.specs.Bits.{bits_of}
 use Rattle.bounded_blocks.specs.Writing.{need}

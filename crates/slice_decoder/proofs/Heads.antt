@@ -1,13 +1,12 @@
 -- The bits of a slice's head.
-use Rattle.std.proofs.Common.{◌≡◌, ℕ, zero, suc, ◌+◌, ◌-◌, ◌*◌, ◌/◌, ◌^◌, ◌<◌, ◌≤◌, Bool, true, false, List, length, take, Ok, Err, Result, sym, ap, subst, arith, cond}
-use Rattle.std.specs.Prelude.{nat_le, nat_lt}
-use Rattle.std.proofs.Math.Nat.{pow-le-pow_right, pow-suc}
+use Rattle.std.proofs.Common.{◌≡◌, ℕ, ◌^◌, ◌<◌, ◌≤◌, Bool, true, false, List, length, take, Ok, Err, Result, sym, ap, subst, arith, cond}
+use Rattle.std.specs.Prelude.{nat_lt}
+use Rattle.std.proofs.Math.Nat.{pow-le-pow_right}
 use Rattle.std.proofs.lemmas.List.{length-take}
 use Rattle.bit_codes.specs.declared.Short.{Short}
 use Rattle.bit_codes.specs.Bits.{binary_after, Cursor}
-use Rattle.bit_codes.specs.Codes.{bits_at, digits_of, intlog2}
+use Rattle.bit_codes.specs.Codes.{bits_at}
 use Rattle.bit_codes.proofs.Numbers.{binary_after-below}
-use Rattle.slice_geometry.specs.Slicing.{length_bits}
 
 abbrev number_in_ok : Result (ℕ × Cursor) Short → ℕ
 number_in_ok (Ok p) = p.0

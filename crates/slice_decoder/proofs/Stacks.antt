@@ -1,18 +1,11 @@
 -- One more band of a component.
-use Rattle.std.proofs.Common.{◌≡◌, ◌≢◌, ℕ, zero, suc, ◌+◌, ◌-◌, ◌*◌, ◌<◌, ◌≤◌, List, [], ◌++◌, Bool, true, false, ◌&&◌, length, replicate, get_or, set, ℤ, refl, sym, ap, subst, ◌∙◌, inl, inr, arith, add-one, append_assoc, append-nil}
-use Rattle.std.proofs.Math.Nat.{mul-le-mul_left, div-le_of_le-mul}
+use Rattle.std.proofs.Common.{◌≡◌, ℕ, zero, suc, ◌+◌, ◌-◌, ◌*◌, ◌<◌, ◌≤◌, List, [], ◌++◌, Bool, true, false, ◌&&◌, length, replicate, ℤ, sym, ap, subst, ◌∙◌, inl, inr, arith, add-one, append_assoc, append-nil}
 use Rattle.std.proofs.lemmas.Bool.{cases_eq}
-use Rattle.std.proofs.lemmas.Bool.Decides.{nat_tests}
-use Rattle.std.proofs.lemmas.List.{get_or-set_same, get_or-set_other}
 use Rattle.planes.specs.declared.Rect.{Rect}
-use Rattle.planes.specs.Raster.{Raster, height}
-use Rattle.planes.specs.Subbands.{BandStack, BandExists, band_index, band_of, with_band, no_band, subband_length, HaveSizes}
-use Rattle.slice_geometry.specs.declared.Size.{Size}
-use Rattle.slice_geometry.specs.Geometry.{padded_length, band_size, slice_start, slice_end, slice_rect}
-use Rattle.slice_geometry.proofs.Quotients.{div-rises}
-use Rattle.quant_factors.specs.Weights.{entry_of, quantiser_of}
+use Rattle.planes.specs.Raster.{Raster}
+use Rattle.planes.specs.Subbands.{BandStack, band_index, with_band}
 use Rattle.slice_decoder.specs.Slice.{are_small}
-use Rattle.slice_geometry.specs.SliceOrder.{area, level_of, orient_of, numbered}
+use Rattle.slice_geometry.specs.SliceOrder.{area, numbered}
 use Rattle.slice_decoder.specs.Dealing.{dealt, behind, HoldsRect, KeepsOutside}
 use Rattle.slice_decoder.specs.Components.{Part, rect_of, index_of, quantisers_of, quantisers_before, BandsHold, BandsKeep}
 use Rattle.slice_geometry.proofs.NumberedBands.{numbered-same, numbered-other}

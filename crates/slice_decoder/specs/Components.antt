@@ -1,8 +1,7 @@
 -- What reading a component's part of a slice leaves in its subbands, which are numbered in the slice's order.
-use Rattle.std.specs.Prelude.{◌≡◌, ℕ, zero, suc, ◌+◌, ◌-◌, ◌*◌, ◌/◌, ◌<◌, ◌==◌, Bool, List, [], ◌++◌, replicate, slice_index_or, if◌then◌else◌, ℤ}
+use Rattle.std.specs.Prelude.{◌≡◌, ℕ, zero, suc, ◌*◌, ◌<◌, Bool, List, [], ◌++◌, replicate}
 use Rattle.planes.specs.declared.Rect.{Rect}
-use Rattle.planes.specs.Raster.{Raster}
-use Rattle.planes.specs.Subbands.{BandStack, no_band}
+use Rattle.planes.specs.Subbands.{BandStack}
 use Rattle.slice_geometry.specs.declared.Size.{Size}
 use Rattle.slice_geometry.specs.Slicing.{Slicing}
 use Rattle.quant_factors.specs.Weights.{Weights, band_quantiser}

@@ -21,7 +21,7 @@ use Rattle.slice_encoder.specs.Order.{Place, places_of}
 use Rattle.slice_encoder.specs.Choice.{fits}
 use Rattle.slice_encoder.specs.Laws.{most_coefficient, IsIndex, IsSteepOk}
 use Rattle.slice_encoder.specs.Ready.{IsReady, AreReady, KeepsOthers, AllKeepOthers}
-use Rattle.slice_encoder.proofs.Near.{near_within, within_abs, difference_within}
+use Rattle.slice_encoder.proofs.Near.{restored_value-within, within_abs, difference_within}
 use Rattle.slice_encoder.proofs.Coarsest.{gone, needs_none, need-zeros, two_zeros, all_joined, places_exist}
 use Rattle.slice_encoder.proofs.Continues.{in_rect-yes, tried-inside, tried-outside, lowest_inside}
 use Rattle.slice_encoder.proofs.PlaceByPlace.{prediction_looked}
@@ -118,7 +118,7 @@ module _ (c : CodedComponent) (d sx sy index : ℕ) (kept : Raster ℤ) (le : in
       let around = looked y x here (λ k i less inside. small_so_far n k i (omega arith) inside) in
       let p = prediction_looked (3 * most_coefficient c.slicing.depth d + 2) (tried c sx sy index (at kept)) y x around in
       subst (λ v. Within (3 * most_coefficient c.slicing.depth d + 2) v) (sym (tried-inside c sx sy index (at kept) y x here))
-      (near_within (most_coefficient c.slicing.depth d) (coefficient c 0 0 y x) (prediction (tried c sx sy index (at kept)) y x) (band_quantiser c.matrix index 0 0) (omega (arith, le)) (ready.small 0 0 y x (inl (refl, refl))) p)
+      (restored_value-within (most_coefficient c.slicing.depth d) (coefficient c 0 0 y x) (prediction (tried c sx sy index (at kept)) y x) (band_quantiser c.matrix index 0 0) (omega (arith, le)) (ready.small 0 0 y x (inl (refl, refl))) p)
 
   pub predicted_small : (y x : ℕ) → IsInRect rect y x → Within (3 * most_coefficient c.slicing.depth d + 2) (prediction (tried c sx sy index (at kept)) y x)
   predicted_small y x here =

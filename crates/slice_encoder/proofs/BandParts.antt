@@ -130,9 +130,6 @@ module _ (c : CodedComponent) (kept : Raster ℤ) (index sx sy : ℕ) where
 
 -- ---- two components in turn
 
-joined_append : {X Y : Type 0} (f : X → List Y) (xs ys : List X) → flat_map f (xs ++ ys) ≡ flat_map f xs ++ flat_map f ys
-joined_append f xs ys = flat_map-append f xs ys
-
 joined_joined : {X Y Z : Type 0} (f : Y → List Z) (g : X → List Y) (h : X → List Z) → ((x : X) → flat_map f (g x) ≡ h x) → (xs : List X) → flat_map f (flat_map g xs) ≡ flat_map h xs
 joined_joined f g h same [] = refl
 joined_joined f g h same (x ∷ xs) = flat_map-append f (g x) (flat_map g xs) ∙ ap (λ t. t ++ flat_map f (flat_map g xs)) (same x) ∙ ap (λ t. h x ++ t) (joined_joined f g h same xs)

@@ -8,10 +8,10 @@ use Rattle.std.proofs.lemmas.List.Elements.{All-nil, All-cons, All-head, All-tai
 use Rattle.std.proofs.Math.Nat.{pow-le-pow_right}
 use Rattle.planes.specs.declared.Rect.{Rect}
 use Rattle.planes.specs.Subbands.{BandExists}
-use Rattle.bit_codes.specs.Codes.{code_of, signed_code_of}
+use Rattle.bit_codes.specs.Codes.{signed_code_of}
 use Rattle.bounded_blocks.specs.Blocks.{AreOnes}
 use Rattle.bounded_blocks.specs.Writing.{codes_of, need}
-use Rattle.bounded_blocks.proofs.Needs.{need-ones}
+use Rattle.bounded_blocks.proofs.Needs.{code-zero, need-ones}
 use Rattle.quant_factors.specs.Factors.{factor_of, signed, forward_of}
 use Rattle.quant_factors.proofs.QuantLemmas.{coarser}
 use Rattle.slice_geometry.specs.declared.Size.{Size}
@@ -22,6 +22,7 @@ use Rattle.slice_encoder.specs.Order.{Place, row_places, rect_places, places_of}
 use Rattle.slice_encoder.specs.Trials.{CodedComponent, restored_after, value_of, luma_list, colour_list, luma_of, c1_of, c2_of}
 use Rattle.slice_encoder.specs.Laws.{IsIndex, IsSteepOk, most_coefficient, AreCoefficients, CoarsestFits}
 use Rattle.slice_encoder.proofs.Near.{within_abs, stays_near}
+use Rattle.slice_encoder.proofs.SliceBits.{two_least}
 
 -- ---- a number that a quantiser makes 0
 
@@ -83,10 +84,6 @@ places_exist s size sx sy depth (suc level) le =
 
 -- ---- zeros need nothing
 
-code-zero : signed_code_of (pos 0) ≡ true ∷ []
-unfolding code_of
-code-zero = refl
-
 codes_of-zeros : (vs : List ℤ) → All (λ v. v ≡ pos 0) vs → AreOnes (codes_of vs)
 codes_of-zeros [] h = tt
 codes_of-zeros (v ∷ vs) h =
@@ -98,11 +95,8 @@ need-zeros vs h = need-ones (codes_of vs) (codes_of-zeros vs h)
 
 -- ---- a picture at the coarsest index
 
-least-two : (k : ℕ) → 1 ≤ 2 ^ k
-least-two k = let two : 0 < 2 = omega arith in omega (arith, pow-le-pow_right {n = 2} two {i = 0} {j = k} (omega arith))
-
 eightfold : (e k : ℕ) → k ≡ suc (suc (suc e)) → 4 * 2 ^ e + 2 < 2 ^ k
-eightfold e k is = rw is (omega (arith, least-two e, pow-suc 2 e, pow-suc 2 (suc e), pow-suc 2 (suc (suc e))))
+eightfold e k is = rw is (omega (arith, two_least e, pow-suc 2 e, pow-suc 2 (suc e), pow-suc 2 (suc (suc e))))
 
 either : (b : Bool) (x y v : ℤ) → x ≡ v → y ≡ v → cond b x y ≡ v
 either true x y v h k = h

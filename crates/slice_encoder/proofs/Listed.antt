@@ -1,17 +1,8 @@
 -- Values that are listed, row by row and place by place.
-use Rattle.std.proofs.Common.{◌≡◌, ◌∙◌, sym, ap, ℕ, zero, suc, ◌+◌, ◌*◌, ◌^◌, ◌<◌, ◌≤◌, Bool, true, false, List, [], ◌∷◌, ◌++◌, length, take, get_or, set, map, append_assoc, arith, inl, inr, ℤ, pos, negsuc}
-use Rattle.std.specs.Prelude.{unsigned_abs}
-use Rattle.std.specs.List.{All, flat_map, range_with_len}
-use Rattle.std.proofs.lemmas.Bool.{cases_lt}
-use Rattle.std.proofs.lemmas.List.{append-nil, length-append, length-take, take_more, take_more_set, length-set}
-use Rattle.std.proofs.lemmas.List.Elements.{All-head, All-tail, All-take}
+use Rattle.std.proofs.Common.{◌≡◌, ◌∙◌, sym, ap, ℕ, zero, suc, ◌+◌, ◌*◌, ◌<◌, List, [], ◌∷◌, ◌++◌, length, take, set, map, append_assoc, arith, ℤ}
+use Rattle.std.specs.List.{flat_map, range_with_len}
+use Rattle.std.proofs.lemmas.List.{append-nil, take_more_set, length-set}
 use Rattle.std.proofs.lemmas.List.FromFn.{map-range_with_len_more}
-use Rattle.std.proofs.Math.Nat.{pow-le-pow_right}
-use Rattle.bit_codes.specs.Codes.{code_of, signed_code_of}
-use Rattle.bit_codes.proofs.CodeOf.{code_of-is_code, length-interleaved}
-use Rattle.bounded_blocks.specs.Writing.{codes_of}
-use Rattle.bounded_blocks.proofs.OneText.{binary-low}
-use Rattle.bounded_blocks.proofs.Needs.{codes-more}
 
 pub flat_more : {A : Type 0} (f : ℕ → List A) (a n j : ℕ) → a + n ≡ j → flat_map f (range_with_len a (n + 1)) ≡ flat_map f (range_with_len a n) ++ f j
 flat_more f a zero j e = ap (λ (k : ℕ). f k ++ []) (let k : a ≡ j = omega arith in k) ∙ append-nil (f j)

@@ -36,8 +36,8 @@ is_zero_or_not (negsuc n) = inr (λ e. absurd (omega (arith, ap unsigned_abs e))
 pub difference_within : (m : ℕ) (c p : ℤ) → Within m c → Within (3 * m + 2) p → Within (4 * m + 2) (c -ℤ p)
 difference_within m c p hc hp = record { low = omega (arith, ints); high = omega (arith, ints) }
 
-pub near_within : (m : ℕ) (c p : ℤ) (q : ℕ) → q ≤ 127 → Within m c → Within (3 * m + 2) p → Within (3 * m + 2) (restored_value c q p)
-near_within m c p q le hc hp = elim (is_zero_or_not (forward_of (c -ℤ p) q)) [
+pub restored_value-within : (m : ℕ) (c p : ℤ) (q : ℕ) → q ≤ 127 → Within m c → Within (3 * m + 2) p → Within (3 * m + 2) (restored_value c q p)
+restored_value-within m c p q le hc hp = elim (is_zero_or_not (forward_of (c -ℤ p) q)) [
   | inl none ↦
       let same : restored_value c q p ≡ p = ap (λ v. p +ℤ inverse_of v q) none ∙ ap (λ v. p +ℤ v) (inverse-zero q) ∙ omega (arith, ints) in
       subst (λ v. Within (3 * m + 2) v) (sym same) hp
@@ -59,7 +59,7 @@ unfolding restored_after
 stays_near c m indices all small y x =
     let quantiser = λ (j i : ℕ). band_quantiser c.matrix (get_or indices (slice_holding c.slicing c.size j i) 0) 0 0 in
     let near_all = λ (j i : ℕ) (p : ℤ) (h : Within (3 * m + 2) p).
-    near_within m (coefficient c 0 0 j i) p (quantiser j i) (omega (arith, index_most indices (slice_holding c.slicing c.size j i) all)) (small j i) h
+    restored_value-within m (coefficient c 0 0 j i) p (quantiser j i) (omega (arith, index_most indices (slice_holding c.slicing c.size j i) all)) (small j i) h
     in
     let band = made_within (3 * m + 2) (λ j i p. restored_value (coefficient c 0 0 j i) (quantiser j i) p) near_all in
     (band y x, difference_within m (coefficient c 0 0 y x) (prediction (restored_after c indices) y x) (small y x) (prediction_within (3 * m + 2) (restored_after c indices) band y x))

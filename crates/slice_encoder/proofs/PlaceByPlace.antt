@@ -14,7 +14,7 @@ use Rattle.dc_prediction.proofs.Rectangles.{in_rect_or_not}
 use Rattle.quant_factors.specs.Factors.{forward_of}
 use Rattle.quant_factors.proofs.QuantLemmas.{coarser, abs-forward}
 use Rattle.slice_encoder.specs.Loop.{restored_value}
-use Rattle.slice_encoder.specs.RectTrials.{CanTryRect, Before, TriedSoFar, TriesRect}
+use Rattle.slice_encoder.specs.RectTrials.{CanTryRect, Before, TriedSoFar}
 use Rattle.slice_encoder.proofs.Coarsest.{factor-fourth}
 use Rattle.slice_encoder.proofs.Made.{zero_within}
 
@@ -84,18 +84,6 @@ looked_wider m n g y x le l = record {
   corner = λ some more. wider m n _ le (l.corner some more);
 }
 
-pub near_start : (g : Grid) (q : ℕ) (r : Rect) (old : Raster ℤ) → TriedSoFar g q r r.y0 r.x0 old old
-near_start g q r old = record {
-  same_width = refl;
-  same_height = refl;
-  done = λ j i h before. absurd (none j i h before);
-  small = λ j i h before. absurd (none j i h before);
-  stays = λ j i not. refl;
-}
-  where
-    none : (j i : ℕ) → IsInRect r j i → Before r.y0 r.x0 j i → ⊥
-    none j i h before = elim before [ inl lt ↦ omega (arith, h.top) | inr e ↦ omega (arith, e.1, h.left) ]
-
 module _ (g : Grid) (q : ℕ) (r : Rect) (y x : ℕ) (old new : Raster ℤ) (v : ℤ) (s : TriedSoFar g q r y x old new) (here : IsInRect r y x) (lt : y < height new)
     (is : v ≡ restored_value (g y x) q (prediction (at new) y x)) (small : Within (3 * 2 ^ 27 + 2) v) (written : at (with_place new y x v) y x ≡ v) where
   abbrev next : Raster ℤ
@@ -141,8 +129,8 @@ module _ (g : Grid) (q : ℕ) (r : Rect) (y x : ℕ) (old new : Raster ℤ) (v :
         ]
       ]
 
-  pub near_next : TriedSoFar g q r y (x + 1) old next
-  near_next = record {
+  pub tried_next : TriedSoFar g q r y (x + 1) old next
+  tried_next = record {
     same_width = s.same_width;
     same_height = height-with_place new y x v lt ∙ s.same_height;
     done = done_at;
@@ -159,25 +147,3 @@ row_on r y j i h before = elim before [
 
 row_back : (r : Rect) (y x j i : ℕ) → IsInRect r j i → Before y x j i → Before (y + 1) r.x0 j i
 row_back r y x j i h before = elim before [ inl less ↦ inl (omega arith) | inr row ↦ inl (omega (arith, row.0)) ]
-
--- where no place of the row is left
-pub near_row : (g : Grid) (q : ℕ) (r : Rect) (y x : ℕ) (old new : Raster ℤ) → r.x1 ≤ x → TriedSoFar g q r y x old new → TriedSoFar g q r (y + 1) r.x0 old new
-near_row g q r y x old new le s = record {
-  same_width = s.same_width;
-  same_height = s.same_height;
-  done = λ j i h before. s.done j i h (on j i h before);
-  small = λ j i h before. s.small j i h (on j i h before);
-  stays = λ j i not. s.stays j i (λ h before. not h (row_back r y x j i h before));
-}
-  where
-    on : (j i : ℕ) → IsInRect r j i → Before (y + 1) r.x0 j i → Before y x j i
-    on j i h before = elim (row_on r y j i h before) [ inl less ↦ inl less | inr row ↦ inr (row.0, omega (arith, row.1)) ]
-
-pub near_end : (g : Grid) (q : ℕ) (r : Rect) (y x : ℕ) (old new : Raster ℤ) → r.y1 ≤ y → TriedSoFar g q r y x old new → TriesRect g q r old new
-near_end g q r y x old new le s = record {
-  same_width = s.same_width;
-  same_height = s.same_height;
-  done = λ j i h. s.done j i h (inl (omega (arith, h.bottom)));
-  small = λ j i h. s.small j i h (inl (omega (arith, h.bottom)));
-  stays = λ j i not. s.stays j i (λ h _. not h);
-}

@@ -24,10 +24,10 @@ use Rattle.slice_encoder.proofs.Continues.{in_rect-yes, in_rect-no}
 pub coefficient_most : (depth d : ℕ) → depth ≤ 4 → d ≤ 16 → most_coefficient depth d ≤ 2 ^ 27
 coefficient_most depth d le small = pow-le-pow_right {n = 2} (omega arith) {i = d - 1 + 3 * depth} {j = 27} (omega arith)
 
-pub near_tried : (c : CodedComponent) (sx sy index q : ℕ) (rect : Rect) (old new : Raster ℤ) → rect ≡ level_rect c.slicing c.size sx sy 0 → q ≡ band_quantiser c.matrix index 0 0
+pub rect_is_tried : (c : CodedComponent) (sx sy index q : ℕ) (rect : Rect) (old new : Raster ℤ) → rect ≡ level_rect c.slicing c.size sx sy 0 → q ≡ band_quantiser c.matrix index 0 0
     → TriesRect (coefficient c 0 0) q rect old new → IsTried c sx sy index old new
 unfolding tried
-near_tried c sx sy index q rect old new rect_is q_is n0 =
+rect_is_tried c sx sy index q rect old new rect_is q_is n0 =
     let n1 = subst (λ (r : Rect). TriesRect (coefficient c 0 0) q r old new) rect_is n0 in
     let n = subst (λ (k : ℕ). TriesRect (coefficient c 0 0) k (level_rect c.slicing c.size sx sy 0) old new) q_is n1 in
     let r = level_rect c.slicing c.size sx sy 0 in
@@ -43,9 +43,9 @@ near_tried c sx sy index q rect old new rect_is q_is n0 =
           ]);
     }
 
-pub can_near : (c : CodedComponent) (d sx sy : ℕ) (rect : Rect) (coefficients kept : Raster ℤ) → c.slicing.depth ≤ 4 → d ≤ 16 → sx < c.slicing.slices_x → sy < c.slicing.slices_y
+pub can_try_rect : (c : CodedComponent) (d sx sy : ℕ) (rect : Rect) (coefficients kept : Raster ℤ) → c.slicing.depth ≤ 4 → d ≤ 16 → sx < c.slicing.slices_x → sy < c.slicing.slices_y
     → rect ≡ level_rect c.slicing c.size sx sy 0 → coefficients ≡ band_of c.bands 0 0 → IsReady c d sx sy kept → CanTryRect rect coefficients kept
-can_near c d sx sy rect coefficients kept shallow few across down rect_is band_is ready =
+can_try_rect c d sx sy rect coefficients kept shallow few across down rect_is band_is ready =
     let band = band_size c.slicing.depth 0 c.size in
     let r = level_rect c.slicing c.size sx sy 0 in
     let most = coefficient_most c.slicing.depth d shallow few in

@@ -1,5 +1,5 @@
 -- The laws of trials.
-use Rattle.std.specs.Prelude.{◌≡◌, ℕ, ◌+◌, ◌-◌, ◌*◌, ◌^◌, ◌<◌, ◌≤◌, true, false, unsigned_abs, List, ◌++◌, ◌∷◌, [], length, take, max, ℤ, ◌-ℤ◌}
+use Rattle.std.specs.Prelude.{◌≡◌, ℕ, ◌+◌, ◌-◌, ◌*◌, ◌^◌, ◌<◌, ◌≤◌, true, List, ◌++◌, ◌∷◌, [], length, take, max, ℤ, ◌-ℤ◌}
 use Rattle.std.specs.List.{All}
 use Rattle.planes.specs.Numbers.{Within}
 use Rattle.planes.specs.Subbands.{BandExists}

@@ -1,4 +1,5 @@
--- The lowest subband of a slice as the code restores it, place by place.
+-- The lowest subband of a slice as a trial restores it, place by place. A coefficient of any picture is within 2 ^ 27, and so a restored value within
+-- 3 * 2 ^ 27 + 2.
 use Rattle.std.specs.Prelude.{◌≡◌, ℕ, ◌+◌, ◌*◌, ◌^◌, ◌<◌, ◌≤◌, ◌⊎◌, ℤ}
 use Rattle.planes.specs.declared.Rect.{Rect}
 use Rattle.planes.specs.Numbers.{Within}
@@ -8,14 +9,7 @@ use Rattle.dc_prediction.specs.Prediction.{prediction}
 use Rattle.dc_prediction.specs.Restoring.{AllLookedAtOutside}
 use Rattle.slice_encoder.specs.Loop.{restored_value}
 
--- the greatest magnitude of a coefficient of any picture, and that of a restored value
-abbrev pub most : ℕ
-most = 2 ^ 27
-
-abbrev pub most_restored : ℕ
-most_restored = 3 * 2 ^ 27 + 2
-
--- What rect_trials a rectangle asks for.
+-- What trying a rectangle asks for.
 pub record CanTryRect (r : Rect) (coefficients kept : Raster ℤ) : Type 0 where
   pub x_inside : r.x1 ≤ kept.w
   pub y_inside : r.y1 ≤ height kept

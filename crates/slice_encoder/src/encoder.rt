@@ -20,8 +20,11 @@ use std::marker::Model;
 /// What a trial of an index finds: what the slice's values need, and whether they fit into the slice's bytes.
 #[derive(Clone, Copy, Debug, PartialEq, Eq)]
 pub struct Trial {
+    /// The need of the luma values, in bits.
     pub luma_need: u64,
+    /// The need of the colour values, in bits.
     pub colour_need: u64,
+    /// Whether both fit into the slice's share of bytes.
     pub fits: bool,
 }
 
@@ -46,7 +49,7 @@ impl Model for SliceEncoder {
 }
 
 impl SliceEncoder {
-    /// An encoder with room for the values of the greatest slice.
+    /// An encoder with room for the values of the greatest slice. It is the only call that takes memory.
     pub fn new(
         alloc: Global,
         layout: &Layout,
@@ -64,8 +67,8 @@ impl SliceEncoder {
         })
     }
 
-    /// Tries the slice in column sx and row sy at an index, and leaves in the kept planes what a reader would restore of
-    /// it.
+    /// Tries the slice in column sx and row sy at a quantisation index from 0 to 127. The kept planes hold restored
+    /// values of the lowest subbands; the slice's places of them are left as a decoder would restore them.
     pub fn trial(
         &mut self,
         matrix: &Matrix,
@@ -106,8 +109,8 @@ impl SliceEncoder {
         }
     }
 
-    /// Writes the slice in column sx and row sy at the least index at which it fits, and leaves in the kept planes what
-    /// a reader will restore of it.
+    /// Writes the slice in column sx and row sy, in exactly as many bytes as it is given, at the least quantisation index
+    /// at which it fits. The slice's places of the kept planes are left as a decoder will restore them.
     pub fn encode_slice(
         &mut self,
         matrix: &Matrix,

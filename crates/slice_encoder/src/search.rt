@@ -15,7 +15,7 @@ use planes::{ThreePlanes, Trio};
 use quant_factors::Matrix;
 use slice_geometry::{Layout, PictureShape, length_bits};
 
-/// How many values a trial listed, what they need, and whether they fit.
+/// How many values of luma and of colour a trial listed, what they need, and whether they fit.
 #[derive(Clone, Copy)]
 pub struct Trying {
     pub luma: usize,

@@ -17,11 +17,12 @@ use planes::{Bands, Orient, Plane};
 use quant_factors::Matrix;
 use slice_geometry::{Layout, Size};
 
-// Restores the slice's places of one component at an index. The coefficients are those of d bits.
+// Restores the slice's places of one component at an index. The depth of its samples bounds the coefficients, in the
+// contract alone.
 pub fn try_lowest(
     layout: &Layout,
     size: Size,
-    d: u32,
+    sample_depth: u32,
     matrix: &Matrix,
     sx: u32,
     sy: u32,
@@ -31,14 +32,14 @@ pub fn try_lowest(
 )
     requires index { index ≤ 127 }
     requires size { IsSize size.w size.h }
-    requires bits { IsDepth d }
+    requires bits { IsDepth sample_depth }
     requires across { sx < layout.now.slices_x }
     requires down { sy < layout.now.slices_y }
     requires entries { matrix.now.depth ≡ layout.now.depth }
-    requires ready { IsReady (coded_component layout.now size matrix.now coefficients.now) d sx sy kept.old }
+    requires ready { IsReady (coded_component layout.now size matrix.now coefficients.now) sample_depth sx sy kept.old }
     ensures { IsTried (coded_component layout.now size matrix.now coefficients.now) sx sy index kept.old kept.new }
 {
-    let _ = d;
+    let _ = sample_depth;
     let _depth = layout.depth();
     let rect = layout.band_rect(size, 0, sx, sy);
     let quantiser = matrix.quantiser(index, 0, Orient::Ll);

@@ -5,7 +5,7 @@ use Rattle.planes.specs.Numbers.{Within}
 use Rattle.quant_factors.specs.Factors.{inverse_of, forward_of}
 use Rattle.dc_prediction.proofs.PredictionLemmas.{fits}
 use Rattle.slice_encoder.specs.Loop.{residual_of, restored_value}
-use Rattle.slice_encoder.proofs.Near.{near_within, within_abs, abs_within, inverse_small}
+use Rattle.slice_encoder.proofs.Near.{restored_value-within, within_abs, abs_within, inverse_small}
 use Rattle.slice_encoder.proofs.rect_trials.restored.Goals as goal
 
 -- what comes out of the conversions
@@ -21,7 +21,7 @@ value_is c p r v i le hc hp is small iv =
     let off = inverse_small (c -ℤ p) (4 * 2 ^ 27 + 2) i le difference in
     let vs : to_z w64 (of_z w64 v) ≡ v = fits (2 ^ 36) v (omega arith) (abs_within (2 ^ 36) v (omega (arith, off, ap unsigned_abs restored))) in
     let sum : to_z w64 (of_z w64 p) +ℤ to_z w64 (of_z w64 v) ≡ restored_value c i p = rw (ps, vs) (ap (λ t. p +ℤ t) restored) in
-    rw sum (fits (3 * 2 ^ 27 + 2) (restored_value c i p) (omega arith) (near_within (2 ^ 27) c p i le hc hp))
+    rw sum (fits (3 * 2 ^ 27 + 2) (restored_value c i p) (omega arith) (restored_value-within (2 ^ 27) c p i le hc hp))
 
 -- no residual is restored to a number that is too large
 never : (c p r : ℤ) (i : ℕ) → i ≤ 127 → Within (2 ^ 27) c → Within (3 * 2 ^ 27 + 2) p → r ≡ residual_of (to_z w64 (of_z w64 c)) i (to_z w64 (of_z w64 p)) → unsigned_abs r ≤ 2 ^ 36
@@ -39,7 +39,7 @@ pub returns-in-Is-clause-small : goal.returns-in-Is-clause-small
 returns-in-Is-clause-small c =
     let a = c.args in
     subst (λ v. Within (3 * 2 ^ 27 + 2) v) (sym (value_is a.coefficient a.prediction c.residual.result c.in-Is.value a.index c.requires.index c.requires.coefficient_small c.requires.prediction_small c.residual.ensures.value c.residual.ensures.small c.in-Is.ensures.0))
-    (near_within (2 ^ 27) a.coefficient a.prediction a.index c.requires.index c.requires.coefficient_small c.requires.prediction_small)
+    (restored_value-within (2 ^ 27) a.coefficient a.prediction a.index c.requires.index c.requires.coefficient_small c.requires.prediction_small)
 
 pub returns-in-TooLarge-clause-value : goal.returns-in-TooLarge-clause-value
 returns-in-TooLarge-clause-value c =

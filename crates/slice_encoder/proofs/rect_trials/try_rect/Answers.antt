@@ -6,7 +6,7 @@ use Rattle.dc_prediction.specs.Prediction.{prediction}
 use Rattle.dc_prediction.proofs.PredictionLemmas.{fits}
 use Rattle.slice_encoder.specs.Loop.{restored_value}
 use Rattle.slice_encoder.specs.RectTrials.{TriedSoFar}
-use Rattle.slice_encoder.proofs.PlaceByPlace.{looked_small, looked_wider, prediction_looked, near_next}
+use Rattle.slice_encoder.proofs.PlaceByPlace.{looked_small, looked_wider, prediction_looked, tried_next}
 use Rattle.slice_encoder.proofs.rect_trials.try_rect.Goals as goal
 
 pub predict-prediction-requires-clause-small : goal.predict-prediction-requires-clause-small
@@ -40,5 +40,5 @@ loop-x-preserved c =
     let is : v ≡ restored_value (at c.args.coefficients.now y x) c.args.index (prediction (at kept) y x) = v_is ∙ c.restored-value.ensures.value ∙ rw (g_is, p_is) refl in
     let written : at (with_place kept y x v) y x ≡ v = subst (λ (p : Raster ℤ). at p y x ≡ v) c.set.ensures.whole c.set.ensures.here in
     subst (λ (p : Raster ℤ). TriedSoFar (at c.args.coefficients.now) c.args.index c.args.rect y (x + 1) c.args.kept.now p) (sym c.set.ensures.whole)
-    (near_next (at c.args.coefficients.now) c.args.index c.args.rect y x c.args.kept.now kept v c.loop-x.invariant here lt is
+    (tried_next (at c.args.coefficients.now) c.args.index c.args.rect y x c.args.kept.now kept v c.loop-x.invariant here lt is
     (subst (λ t. Within (3 * 2 ^ 27 + 2) t) (sym v_is) c.restored-value.ensures.small) written)
