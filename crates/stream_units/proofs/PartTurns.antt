@@ -2,7 +2,7 @@
 use Rattle.std.proofs.Common.{◌≡◌, ℕ, ◌+◌, ◌-◌, ◌*◌, ◌^◌, ◌<◌, ◌≤◌, true, false, List, [], ◌∷◌, ◌++◌, length, take, drop, get_or, Option, None, Ok, Err, refl, sym, ap, subst, ◌∙◌, arith, append-nil}
 use Rattle.std.specs.Prelude.{nat_eq}
 use Rattle.std.specs.List.{starts_with}
-use Rattle.std.proofs.lemmas.List.{length-append, length-take, nil_from_length, take-append-drop}
+use Rattle.std.proofs.lemmas.List.{length-append, length-take, take-append-drop}
 use Rattle.std.specs.Io.KnownBytes.{IsAtEnd}
 use Rattle.field_rows.specs.Rows.{done, read, ◌>>=◌, bytes_under, first_broken, judged, ◌or_else◌}
 use Rattle.field_rows.proofs.Reading.{read-done}
@@ -13,11 +13,10 @@ use Rattle.unit_table.proofs.Begins.{begun_more, begun_held, begun_use, begun_us
 use Rattle.unit_table.proofs.Fields.{needs_row, moves_row, moves_blind, short_row, broken_row, all_fit}
 use Rattle.stream_units.specs.declared.window.Halt.{Halt}
 use Rattle.stream_units.specs.declared.reason.Reason.TheVariants as reasons
-use Rattle.stream_units.specs.declared.reason.Refusal.{Refusal}
 use Rattle.stream_units.specs.declared.stop.ReadStop.{ReadStop}
 use Rattle.stream_units.specs.declared.stop.ReadStop.TheVariants as stops
 use Rattle.stream_units.specs.Asking.{WindowSeen, Dropped}
-use Rattle.stream_units.specs.Units.{Past, First, DataUnit, Repeated, Skipped, End, reason_of, next_checked, repeated_payload, skipped_payload, units}
+use Rattle.stream_units.specs.Units.{Past, First, DataUnit, Repeated, Skipped, reason_of, next_checked, repeated_payload, skipped_payload, units}
 use Rattle.stream_units.specs.Streams.{limit}
 use Rattle.stream_units.specs.Turns.{Takes}
 use Rattle.stream_units.specs.Stops.{stop_of, StopsOver}

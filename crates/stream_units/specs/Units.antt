@@ -1,5 +1,5 @@
 -- The rows of a unit, after what earlier units leave.
-use Rattle.std.specs.Prelude.{ℕ, zero, suc, ◌+◌, ◌-◌, ◌*◌, ◌/◌, ◌%◌, ◌^◌, ◌&&◌, ◌||◌, not, Bool, true, false, List, [], ◌∷◌, ◌++◌, length, drop, Option, Some, None, is_some, nat_lt, nat_eq, ◌==◌, if◌then◌else◌}
+use Rattle.std.specs.Prelude.{ℕ, zero, suc, ◌+◌, ◌-◌, ◌*◌, ◌/◌, ◌%◌, ◌^◌, ◌&&◌, ◌||◌, not, Bool, true, false, List, [], ◌∷◌, ◌++◌, length, drop, Option, Some, None, is_some, nat_lt, nat_eq, ◌==◌}
 use Rattle.std.specs.List.{starts_with}
 use Rattle.bit_codes.specs.declared.CodeFault.{CodeFault}
 use Rattle.bit_codes.specs.declared.CodeFault.TheVariants as codes

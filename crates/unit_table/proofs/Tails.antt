@@ -1,5 +1,5 @@
 -- What follows a unit's own bytes.
-use Rattle.std.proofs.Common.{◌≡◌, Bool, true, false, [], ◌∷◌, Some, None, Result, Ok, Err, refl, ◌∙◌}
+use Rattle.std.proofs.Common.{◌≡◌, Bool, true, false, [], ◌∷◌, Some, None, Result, Ok, Err, refl}
 use Rattle.bit_codes.specs.declared.CodeFault.{CodeFault}
 use Rattle.bit_codes.specs.Bits.{Cursor}
 use Rattle.field_rows.specs.Rows.{◌or_else◌, done, ◌>>=◌, Fault, read, judged, no_more, first_broken, field_at, spelled, is_nil}

@@ -1,5 +1,5 @@
 -- A stream of units, each read by rows.
-use Rattle.std.specs.Prelude.{◌≡◌, ℕ, ◌*◌, Bool, true, false, not, List, Option, Some, None, Result, Ok, Err}
+use Rattle.std.specs.Prelude.{◌≡◌, ℕ, ◌*◌, Bool, false, not, List, Option, Some, None, Result, Ok, Err}
 use Rattle.bit_codes.specs.declared.CodeFault.{CodeFault}
 use Rattle.bit_codes.specs.Bits.{Cursor, bits_of}
 use Rattle.field_rows.specs.Rows.{Rows, done, ◌>>=◌, no_more, Fault, read, is_nil}

@@ -1,4 +1,4 @@
-use Rattle.std.proofs.Common.{◌≡◌, ◌∙◌, true, false, Ok, sym, subst, arith}
+use Rattle.std.proofs.Common.{◌≡◌, ◌∙◌, true, Ok, sym, subst, arith}
 use Rattle.stream_units.specs.HeadUnits.{heads}
 use Rattle.stream_units.proofs.AloneRows.{heads_table}
 use Rattle.stream_units.specs.Stops.{LimitStops}

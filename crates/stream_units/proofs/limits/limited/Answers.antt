@@ -1,4 +1,4 @@
-use Rattle.std.proofs.Common.{◌≡◌, ◌∙◌, true, false, Ok, sym, subst, arith}
+use Rattle.std.proofs.Common.{◌≡◌, ◌∙◌, true, false, Ok, sym, subst}
 use Rattle.stream_units.specs.Units.{units}
 use Rattle.stream_units.specs.HeadUnits.{heads}
 use Rattle.stream_units.specs.Stops.{LimitStops}

@@ -1,4 +1,4 @@
-use Rattle.std.proofs.Common.{◌≡◌, ◌∙◌, ◌-◌, true, false, sym, arith}
+use Rattle.std.proofs.Common.{◌≡◌, ◌∙◌, ◌-◌, true, sym, arith}
 use Rattle.stream_units.specs.Turns.{is_end_found, IsRead}
 use Rattle.stream_units.proofs.Taking.{read_at, ends_found}
 use Rattle.stream_units.proofs.ReaderTurns.{limit_inner, final_of, limit_ends}

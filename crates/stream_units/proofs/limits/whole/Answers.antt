@@ -1,4 +1,4 @@
-use Rattle.std.proofs.Common.{◌∙◌, subst}
+use Rattle.std.proofs.Common.{subst}
 use Rattle.stream_units.specs.Units.{units}
 use Rattle.stream_units.specs.Stops.{StopsOver}
 use Rattle.stream_units.proofs.Stopping.{truncated}

@@ -7,7 +7,6 @@ use Rattle.vc2_cli.specs.Chain.{chain_machine}
 use Rattle.vc2_cli.specs.First.{header_machine, behind_first}
 use Rattle.vc2_cli.proofs.HeaderRuns.{header_laws}
 use Rattle.vc2_cli.proofs.Chaining.{chain_laws}
-use Rattle.stream_units.specs.Units.{nothing_yet}
 use Rattle.vc2_cli.specs.Decode.{decode_machine, check_machine}
 use Rattle.vc2_cli.proofs.Decoding.{decode_laws, check_laws}
 use Rattle.vc2_cli.proofs.Settling.{at_end, settled, settled_usage}
