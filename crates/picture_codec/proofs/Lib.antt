@@ -10,3 +10,4 @@ pub mod WrittenValues
 pub mod WrittenBands
 pub mod WrittenPictures
 pub mod AnalysedBands
+pub mod ChosenSlices
