@@ -88,11 +88,11 @@ module _ (s : Slicing) (size : Size) (matrix : Weights) (a b : BandStack) (same 
       (residual_of (coefficient one 0 0 p.y p.x) q (prediction (restored_after one indices) p.y p.x)) (residual_of (coefficient other 0 0 p.y p.x) q (prediction (restored_after other indices) p.y p.x))
       (forward_of (coefficient one p.level p.orient p.y p.x) q) (forward_of (coefficient other p.level p.orient p.y p.x) q)
       (λ is_lowest.
-        let zero_level : p.level ≡ 0 = eqb-true p.level 0 is_lowest in
-        let y_in : p.y < band.h = omega (arith, hy, ap (λ n. (band_size s.depth n size).h) zero_level) in
-        let x_in : p.x < band.w = omega (arith, hx, ap (λ n. (band_size s.depth n size).w) zero_level) in
-        ap (λ v. residual_of v q (prediction (restored_after one indices) p.y p.x)) (same 0 0 p.y p.x (inl (refl, refl)) y_in x_in)
-        ∙ ap (λ v. residual_of (coefficient other 0 0 p.y p.x) q v) (predicted_inside indices p.y p.x y_in x_in))
+      let zero_level : p.level ≡ 0 = eqb-true p.level 0 is_lowest in
+      let y_in : p.y < band.h = omega (arith, hy, ap (λ n. (band_size s.depth n size).h) zero_level) in
+      let x_in : p.x < band.w = omega (arith, hx, ap (λ n. (band_size s.depth n size).w) zero_level) in
+      ap (λ v. residual_of v q (prediction (restored_after one indices) p.y p.x)) (same 0 0 p.y p.x (inl (refl, refl)) y_in x_in)
+      ∙ ap (λ v. residual_of (coefficient other 0 0 p.y p.x) q v) (predicted_inside indices p.y p.x y_in x_in))
       (λ is_higher. ap (λ v. forward_of v q) (same p.level p.orient p.y p.x inside.exists hy hx))
 
   pub values_inside : (indices : List ℕ) (index sx sy : ℕ) → sx < s.slices_x → sy < s.slices_y
@@ -125,9 +125,9 @@ module _ (s : Slicing) (shape : PictureShape) (matrix : Weights) (a b : Trio) (s
       let two = λ (p : Place). value_of (c2_of j) (restored_after (c2_of j) indices) index p in
       let two_same = λ (p : Place). value_of (c2_of k) (restored_after (c2_of k) indices) index p in
       let luma = map_same (value_of (luma_of j) (restored_after (luma_of j) indices) index) (value_of (luma_of k) (restored_after (luma_of k) indices) index) (places_of s shape.luma sx sy s.depth)
-          (values_inside s shape.luma matrix a.luma b.luma same.luma indices index sx sy across down) in
+      (values_inside s shape.luma matrix a.luma b.luma same.luma indices index sx sy across down) in
       let colour = joined_same (λ p. one p ∷ two p ∷ []) (λ p. one_same p ∷ two_same p ∷ []) places
-          (both one one_same two two_same places (values_inside s shape.colour matrix a.c1 b.c1 same.c1 indices index sx sy across down) (values_inside s shape.colour matrix a.c2 b.c2 same.c2 indices index sx sy across down)) in
+      (both one one_same two two_same places (values_inside s shape.colour matrix a.c1 b.c1 same.c1 indices index sx sy across down) (values_inside s shape.colour matrix a.c2 b.c2 same.c2 indices index sx sy across down)) in
       rw (luma, colour) refl
     where
       both : (f f' g g' : Place → ℤ) (ps : List Place) → All (λ p. f p ≡ f' p) ps → All (λ p. g p ≡ g' p) ps → All (λ p. f p ∷ g p ∷ [] ≡ f' p ∷ g' p ∷ []) ps
