@@ -3,6 +3,10 @@
 #![tactic(auto)]
 
 #[cfg(test)]
+mod analysis;
+#[cfg(test)]
+mod block_writing;
+#[cfg(test)]
 mod blocks;
 #[cfg(test)]
 mod codes;
@@ -25,7 +29,11 @@ mod raw_pictures;
 #[cfg(test)]
 mod same;
 #[cfg(test)]
+mod schedules;
+#[cfg(test)]
 mod sequence_headers;
+#[cfg(test)]
+mod slice_writing;
 #[cfg(test)]
 mod slices;
 #[cfg(test)]

@@ -5,3 +5,9 @@ pub mod Sizes
 pub mod Steps
 pub mod Whole
 pub mod WorkedPictures
+pub mod ReadBack
+pub mod WrittenValues
+pub mod WrittenBands
+pub mod WrittenPictures
+pub mod AnalysedBands
+pub mod ChosenSlices

@@ -1,6 +1,6 @@
 //! A picture.
 
-ghost use Rattle.std.specs.Prelude.{◌≡◌, ◌*◌, ◌^◌, ◌<◌, ◌≤◌, length, IfOk};
+ghost use Rattle.std.specs.Prelude.{◌≡◌, ℕ, ◌*◌, ◌^◌, ◌<◌, ◌≤◌, length, slice_index_or, IfOk};
 ghost use Rattle.planes.specs.Raster.{height, at};
 ghost use Rattle.picture_codec.specs.Samples.{PictureSeen, blank_picture, shown, width_of, height_of, bits_of, sample_at, with_sample, with_component, with_shown};
 
@@ -55,6 +55,7 @@ impl Picture {
         ensures value { result.now ≡ shown self.now c }
         ensures width { result.now.w ≡ width_of self.now c }
         ensures height { result.now.h ≡ height_of self.now c }
+        ensures small { (k : ℕ) → slice_index_or result.now.cells k 0 < 2 ^ bits_of self.now c }
     {
         match c {
             Component::Luma => &self.luma,
@@ -76,6 +77,8 @@ impl Picture {
     pub fn samples(&self, c: Component) -> &[u16]
         ensures value { result.now ≡ (shown self.now c).cells }
         ensures count { length result.now ≡ height_of self.now c * width_of self.now c }
+        ensures width { (shown self.now c).w ≡ width_of self.now c }
+        ensures small { (k : ℕ) → slice_index_or result.now k 0 < 2 ^ bits_of self.now c }
     {
         self.component(c).cells()
     }

@@ -60,7 +60,7 @@ fn offset(v: i64, half: i64) -> u16
 
 // Half of the numbers of so many bits.
 #[tactic(auto, using(crate::proofs::Halves::half_some, crate::proofs::Halves::half_most))]
-fn half_range(depth: u32) -> i64
+pub(crate) fn half_range(depth: u32) -> i64
     requires { IsDepth depth }
     ensures value { result ≡ pos (2 ^ (depth - 1)) }
     ensures some { pos 1 ≤ℤ result }
