@@ -11,3 +11,5 @@ pub mod WrittenBands
 pub mod WrittenPictures
 pub mod AnalysedBands
 pub mod ChosenSlices
+pub mod WrittenPasses
+pub mod WrittenChosen

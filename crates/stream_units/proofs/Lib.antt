@@ -30,3 +30,4 @@ pub mod EncodedStreams
 pub mod WorkedEncoding
 pub mod WrittenShapes
 pub mod WriterCalls
+pub mod WrittenSlices
