@@ -13,3 +13,4 @@ pub mod AnalysedBands
 pub mod ChosenSlices
 pub mod WrittenPasses
 pub mod WrittenChosen
+pub mod CodedBands

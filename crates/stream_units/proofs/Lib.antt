@@ -31,3 +31,4 @@ pub mod WorkedEncoding
 pub mod WrittenShapes
 pub mod WriterCalls
 pub mod WrittenSlices
+pub mod EncodedPictures

@@ -16,3 +16,4 @@ pub mod WriterInside
 pub mod Stops
 pub mod Taking
 pub mod WrittenSlices
+pub mod EncodedPictures

@@ -7,6 +7,7 @@ ghost use Rattle.stream_units.specs.Streams.{limit, frame_under, pictures_of};
 ghost use Rattle.stream_units.specs.Encoded.{Settings, header_unit, encoded, units_of, AreLawful, IsSliced, IsStreamOf};
 ghost use Rattle.stream_units.specs.Writer.{started, texts_from, HaveRoom};
 ghost use Rattle.stream_units.specs.WrittenSlices.{WrittenAreSliced, ChosenAreSliced};
+ghost use Rattle.stream_units.specs.EncodedPictures.{PicturesAreAStream};
 ghost use Rattle.transform_params.specs.Fields.{IsLawful};
 
 /// What is written under lawful settings, of pictures whose slices a reader takes, is a stream of exactly these pictures:
@@ -41,4 +42,10 @@ pub fn written_slices_are_taken()
 /// So are those that it chooses for a picture, whatever the picture is, where the matrix is not too steep.
 pub fn chosen_slices_are_taken()
     ensures { ChosenAreSliced }
+{}
+
+/// So what an encoder writes of pictures of the header's shape is a stream, whatever their samples are, where the matrix
+/// is not too steep.
+pub fn encoded_pictures_are_a_stream()
+    ensures { PicturesAreAStream }
 {}
