@@ -30,7 +30,7 @@ use Rattle.picture_codec.proofs.Sizes.{padded_whole}
 
 -- ---- bands that are tabulated
 
-raster_at : (w h : ℕ) (g : Grid) (y x : ℕ) → y < h → x < w → at (raster_from w h g) y x ≡ g y x
+pub raster_at : (w h : ℕ) (g : Grid) (y x : ℕ) → y < h → x < w → at (raster_from w h g) y x ≡ g y x
 raster_at w h g y x ly lx =
     ap (λ r. get_or r x (pos 0)) (get_or-map-range_with_len (λ j. map (g j) (range_with_len 0 w)) 0 h y y [] ly (omega arith))
     ∙ get_or-map-range_with_len (g y) 0 w x x (pos 0) lx (omega arith)
@@ -53,7 +53,7 @@ one_of_three f d three (suc n) a (suc m) k lt few =
     ∙ ap (λ i. get_or (f i) k d) next))
 
 module _ (depth : ℕ) (size : Size) (c : Coefficients) where
-  upper_band : (n orient : ℕ) → n < depth → 1 ≤ orient → orient ≤ 3 → band_of (bands_from depth size c) (suc n) orient ≡ get_or (level_bands depth size c (suc n)) (orient - 1) (record { w = 0; rows = [] })
+  pub upper_band : (n orient : ℕ) → n < depth → 1 ≤ orient → orient ≤ 3 → band_of (bands_from depth size c) (suc n) orient ≡ get_or (level_bands depth size c (suc n)) (orient - 1) (record { w = 0; rows = [] })
   upper_band n orient lt some most =
       let test : eqb (suc n) 0 ≡ false = grind arith in
       let at_place : band_index (suc n) orient ≡ suc (3 * n + (orient - 1)) = ap (λ b. cond b 0 (3 * suc n + orient - 3)) test ∙ omega arith in
@@ -63,16 +63,16 @@ module _ (depth : ℕ) (size : Size) (c : Coefficients) where
       ∙ (one_of_three (level_bands depth size c) (record { w = 0; rows = [] }) (λ i. refl) n 1 depth (orient - 1) lt (omega arith)
       ∙ ap (λ i. get_or (level_bands depth size c i) (orient - 1) (record { w = 0; rows = [] })) next)
 
-  lowest_at : (y x : ℕ) → y < (band_size depth 0 size).h → x < (band_size depth 0 size).w → at (band_of (bands_from depth size c) 0 0) y x ≡ c.ll y x
+  pub lowest_at : (y x : ℕ) → y < (band_size depth 0 size).h → x < (band_size depth 0 size).w → at (band_of (bands_from depth size c) 0 0) y x ≡ c.ll y x
   lowest_at y x ly lx = raster_at (band_size depth 0 size).w (band_size depth 0 size).h c.ll y x ly lx
 
-  hl_at : (n y x : ℕ) → n < depth → y < (band_size depth (suc n) size).h → x < (band_size depth (suc n) size).w → at (band_of (bands_from depth size c) (suc n) 1) y x ≡ c.hl (suc n) y x
+  pub hl_at : (n y x : ℕ) → n < depth → y < (band_size depth (suc n) size).h → x < (band_size depth (suc n) size).w → at (band_of (bands_from depth size c) (suc n) 1) y x ≡ c.hl (suc n) y x
   hl_at n y x lt ly lx = ap (λ r. at r y x) (upper_band n 1 lt (omega arith) (omega arith)) ∙ raster_at (band_size depth (suc n) size).w (band_size depth (suc n) size).h (c.hl (suc n)) y x ly lx
 
-  lh_at : (n y x : ℕ) → n < depth → y < (band_size depth (suc n) size).h → x < (band_size depth (suc n) size).w → at (band_of (bands_from depth size c) (suc n) 2) y x ≡ c.lh (suc n) y x
+  pub lh_at : (n y x : ℕ) → n < depth → y < (band_size depth (suc n) size).h → x < (band_size depth (suc n) size).w → at (band_of (bands_from depth size c) (suc n) 2) y x ≡ c.lh (suc n) y x
   lh_at n y x lt ly lx = ap (λ r. at r y x) (upper_band n 2 lt (omega arith) (omega arith)) ∙ raster_at (band_size depth (suc n) size).w (band_size depth (suc n) size).h (c.lh (suc n)) y x ly lx
 
-  hh_at : (n y x : ℕ) → n < depth → y < (band_size depth (suc n) size).h → x < (band_size depth (suc n) size).w → at (band_of (bands_from depth size c) (suc n) 3) y x ≡ c.hh (suc n) y x
+  pub hh_at : (n y x : ℕ) → n < depth → y < (band_size depth (suc n) size).h → x < (band_size depth (suc n) size).w → at (band_of (bands_from depth size c) (suc n) 3) y x ≡ c.hh (suc n) y x
   hh_at n y x lt ly lx = ap (λ r. at r y x) (upper_band n 3 lt (omega arith) (omega arith)) ∙ raster_at (band_size depth (suc n) size).w (band_size depth (suc n) size).h (c.hh (suc n)) y x ly lx
 
 -- the grid that a band holds
@@ -121,7 +121,7 @@ centred_within zero size s some small y x = absurd (omega arith)
 
 -- ---- a component
 
-bands_joined : (h w depth : ℕ) (a b c : Coefficients) → SameBands h w depth a b → SameBands h w depth b c → SameBands h w depth a c
+pub bands_joined : (h w depth : ℕ) (a b c : Coefficients) → SameBands h w depth a b → SameBands h w depth b c → SameBands h w depth a c
 bands_joined h w depth a b c first second = record {
   ll = λ y x ly lx. first.ll y x ly lx ∙ second.ll y x ly lx;
   hl = λ n lt y x ly lx. first.hl n lt y x ly lx ∙ second.hl n lt y x ly lx;

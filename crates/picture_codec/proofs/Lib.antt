@@ -11,3 +11,6 @@ pub mod WrittenBands
 pub mod WrittenPictures
 pub mod AnalysedBands
 pub mod ChosenSlices
+pub mod WrittenPasses
+pub mod WrittenChosen
+pub mod CodedBands

@@ -60,31 +60,31 @@ module _ (c : CodedComponent) (d : ℕ) (indices : List ℕ) (index : ℕ) (le :
 
 module _ (j : CodedPicture) (indices : List ℕ) (slices : List (List ℕ)) (allowed : IsAllowed j.slicing) (given : AreGiven j) (all : All IsIndex indices) (written : AreWritten j indices slices) where
   module _ (sx sy : ℕ) (across : sx < j.slicing.slices_x) (down : sy < j.slicing.slices_y) where
-    abbrev n : ℕ
+    abbrev pub n : ℕ
     n = slice_number j.slicing sx sy
 
-    abbrev front : List ℕ
+    abbrev pub front : List ℕ
     front = take (n + 1) indices
 
-    abbrev index : ℕ
+    abbrev pub index : ℕ
     index = get_or indices n 0
 
-    abbrev bytes : List ℕ
+    abbrev pub bytes : List ℕ
     bytes = get_or slices n []
 
-    abbrev l : Lists
+    abbrev pub l : Lists
     l = lists j (restored_after (luma_of j) front) (restored_after (c1_of j) front) (restored_after (c2_of j) front) index sx sy
 
-    here : IsWritten bytes index l
+    pub here : IsWritten bytes index l
     here =
         let last : get_or front n 0 ≡ index = get_or-take (n + 1) indices n 0 (omega arith) in
         let own : (i : ℕ) → Lists = λ i. lists j (restored_after (luma_of j) front) (restored_after (c1_of j) front) (restored_after (c2_of j) front) i sx sy in
         subst (λ (i : ℕ). IsWritten bytes index (own i)) last (written sx sy across down)
 
-    most : index ≤ 127
+    pub most : index ≤ 127
     most = index_most indices n all
 
-    front_all : All IsIndex front
+    pub front_all : All IsIndex front
     front_all = All-take IsIndex (n + 1) indices all
 
     luma_small : AreSmall l.luma
@@ -101,7 +101,8 @@ module _ (j : CodedPicture) (indices : List ℕ) (slices : List (List ℕ)) (all
     read : Slice
     read = record { qindex = index; luma_bits = need l.luma; too_long = false; luma = l.luma; colour = l.colour }
 
-    slice_is : slice_at j.slicing j.shape.luma j.shape.colour sx sy bytes ≡ record { qindex = index; luma_bits = need l.luma; too_long = false; luma = l.luma; colour = l.colour }
+    -- what a reader makes of it
+    pub slice_is : slice_at j.slicing j.shape.luma j.shape.colour sx sy bytes ≡ record { qindex = index; luma_bits = need l.luma; too_long = false; luma = l.luma; colour = l.colour }
     slice_is =
         ap (λ (k : ℕ). slice_of bytes k (place_count j.slicing j.shape.colour sx sy)) (sym (length_luma (luma_of j) (restored_after (luma_of j) front) index sx sy))
         ∙ written_is_read bytes index (place_count j.slicing j.shape.colour sx sy) l here.some most luma_small both_small
