@@ -5,3 +5,4 @@ pub mod Sizes
 pub mod Steps
 pub mod Whole
 pub mod WorkedPictures
+pub mod Runs
