@@ -185,7 +185,14 @@ fn smallest_planes(rt: HostRuntime) -> Result<(), Fail> {
     assert_analysed(&rt, Wavelet::LeGall, pair, bands, scratch, &rows)?;
     let one = plane_of(&rt, alloc, &[&[-5]], 1);
     let (bands, scratch) = (Bands::new(alloc, 0, 1, 1), Plane::new(alloc, 1, 1));
-    assert_analysed(&rt, Wavelet::LeGall, one, bands, scratch, &[(0, 0, 0, &[-5])])
+    assert_analysed(
+        &rt,
+        Wavelet::LeGall,
+        one,
+        bands,
+        scratch,
+        &[(0, 0, 0, &[-5])],
+    )
 }
 
 // Any samples of 16 bits about zero.

@@ -25,6 +25,8 @@ mod quantisers;
 #[cfg(test)]
 mod raw_pictures;
 #[cfg(test)]
+mod raw_reading;
+#[cfg(test)]
 mod same;
 #[cfg(test)]
 mod sequence_headers;
