@@ -14,3 +14,4 @@ pub mod ChosenSlices
 pub mod WrittenPasses
 pub mod WrittenChosen
 pub mod CodedBands
+pub mod Runs
