@@ -76,12 +76,6 @@ check_machine = machine_of limit past_limit units nothing_yet checking
 
 -- ---- for the code
 
--- how a command comes out where the reader stops
-abbrev pub stopped : ReadStop → Result Ending Halt
-stopped (stops.Refused refusal) = Ok (Refused refusal)
-stopped stops.ReadFault = Err halts.ReadFault
-stopped stops.NoMemory = Err halts.NoMemory
-
 -- the raw text of the picture that is shown, if one is
 abbrev pub shown_text : Option PictureSeen → List ℕ
 shown_text None = []
@@ -90,10 +84,3 @@ shown_text (Some seen) = raw_text (frame_of seen.shape) seen.samples
 -- so many slices has the last of these units
 abbrev pub IsLastCount : List UnitShape → ℕ → Type 0
 IsLastCount shapes count = (before : List UnitShape) (last : UnitShape) → shapes ≡ before ++ last ∷ [] → count ≡ last.slices
-
--- how the last text of an ending is written
-abbrev pub WritesLast : Ending → Option (List ℕ) → Option (List ℕ) → Result Ending Halt → Type 0
-WritesLast ending out0 out1 (Ok told) = (told ≡ ending) × Appends out0 out1 (last_line ending)
-WritesLast ending out0 out1 (Err halts.ReadFault) = ⊥
-WritesLast ending out0 out1 (Err halts.OutFault) = GrewShort out0 out1 (last_line ending)
-WritesLast ending out0 out1 (Err halts.NoMemory) = out1 ≡ out0
