@@ -1,18 +1,12 @@
 -- The commands over the units of a stream: `decode` writes their pictures, and `check` counts them.
-use Rattle.std.specs.Prelude.{◌≡◌, ℕ, ◌+◌, List, [], length, ◌++◌, ◌∷◌, Option, Some, None, Result, Ok, Err}
+use Rattle.std.specs.Prelude.{◌≡◌, ℕ, ◌+◌, List, [], length, ◌++◌, ◌∷◌, Option, Some, None}
 use Rattle.slice_geometry.specs.Slicing.{slice_count}
 use Rattle.slice_geometry.specs.declared.unit_list.UnitShape.{UnitShape}
 use Rattle.picture_codec.specs.Samples.{PictureSeen, frame_of, picture_of}
-use Rattle.std.specs.Io.KnownBytes.{Appends}
-use Rattle.vc2_io.specs.Outside.{GrewShort}
 use Rattle.raw_video.specs.RawText.{raw_text}
 use Rattle.vc2_run.specs.Walk.{Machine}
-use Rattle.vc2_run.specs.declared.Halt.{Halt}
-use Rattle.vc2_run.specs.declared.Halt.TheVariants as halts
 use Rattle.unit_table.specs.Fronts.{Between, Command, machine_of}
 use Rattle.stream_units.specs.declared.reason.Reason.{Reason}
-use Rattle.stream_units.specs.declared.stop.ReadStop.{ReadStop}
-use Rattle.stream_units.specs.declared.stop.ReadStop.TheVariants as stops
 use Rattle.stream_units.specs.Units.{Past, nothing_yet, DataUnit, Sequence, Repeated, Picture, Skipped, End, units}
 use Rattle.stream_units.specs.Streams.{limit, past_limit, refusal_of, frame_under}
 use Rattle.vc2_cli.specs.Texts.{accepted_line}

@@ -1,4 +1,4 @@
-use Rattle.std.proofs.Common.{◌∙◌, ◌≤◌, Some, refl, sym, arith}
+use Rattle.std.proofs.Common.{Some, refl, sym, arith}
 use Rattle.stream_units.specs.declared.reason.Reason.TheVariants.{TrailingBytes}
 use Rattle.stream_units.specs.Units.{End}
 use Rattle.stream_units.proofs.Judges.{ends_by, takes_by}
