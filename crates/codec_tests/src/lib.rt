@@ -27,6 +27,8 @@ mod quantisers;
 #[cfg(test)]
 mod raw_pictures;
 #[cfg(test)]
+mod raw_reading;
+#[cfg(test)]
 mod same;
 #[cfg(test)]
 mod schedules;

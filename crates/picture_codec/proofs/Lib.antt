@@ -15,3 +15,4 @@ pub mod WrittenPasses
 pub mod WrittenChosen
 pub mod CodedBands
 pub mod Lossless
+pub mod Runs

@@ -10,7 +10,7 @@ mod samples;
 mod workspace;
 
 pub use decoder::PictureDecoder;
-pub use encoder::EncoderFault;
+pub use encoder::{EncoderFault, PictureEncoder};
 pub use picture::Picture;
 pub use slice_decoder::SliceFault;
 pub use transform_params::{TransformFault, TransformParams, TransformReason};

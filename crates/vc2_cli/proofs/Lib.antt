@@ -5,3 +5,4 @@ pub mod HeaderRuns
 pub mod Decoding
 pub mod Chaining
 pub mod StreamReplies
+pub mod Exits

@@ -1,18 +1,12 @@
 -- The commands over the units of a stream: `decode` writes their pictures, and `check` counts them.
-use Rattle.std.specs.Prelude.{◌≡◌, ℕ, ◌+◌, List, [], length, ◌++◌, ◌∷◌, Option, Some, None, Result, Ok, Err}
+use Rattle.std.specs.Prelude.{◌≡◌, ℕ, ◌+◌, List, [], length, ◌++◌, ◌∷◌, Option, Some, None}
 use Rattle.slice_geometry.specs.Slicing.{slice_count}
 use Rattle.slice_geometry.specs.declared.unit_list.UnitShape.{UnitShape}
 use Rattle.picture_codec.specs.Samples.{PictureSeen, frame_of, picture_of}
-use Rattle.std.specs.Io.KnownBytes.{Appends}
-use Rattle.vc2_io.specs.Outside.{GrewShort}
 use Rattle.raw_video.specs.RawText.{raw_text}
 use Rattle.vc2_run.specs.Walk.{Machine}
-use Rattle.vc2_run.specs.declared.Halt.{Halt}
-use Rattle.vc2_run.specs.declared.Halt.TheVariants as halts
 use Rattle.unit_table.specs.Fronts.{Between, Command, machine_of}
 use Rattle.stream_units.specs.declared.reason.Reason.{Reason}
-use Rattle.stream_units.specs.declared.stop.ReadStop.{ReadStop}
-use Rattle.stream_units.specs.declared.stop.ReadStop.TheVariants as stops
 use Rattle.stream_units.specs.Units.{Past, nothing_yet, DataUnit, Sequence, Repeated, Picture, Skipped, End, units}
 use Rattle.stream_units.specs.Streams.{limit, past_limit, refusal_of, frame_under}
 use Rattle.vc2_cli.specs.Texts.{accepted_line}
@@ -76,12 +70,6 @@ check_machine = machine_of limit past_limit units nothing_yet checking
 
 -- ---- for the code
 
--- how a command comes out where the reader stops
-abbrev pub stopped : ReadStop → Result Ending Halt
-stopped (stops.Refused refusal) = Ok (Refused refusal)
-stopped stops.ReadFault = Err halts.ReadFault
-stopped stops.NoMemory = Err halts.NoMemory
-
 -- the raw text of the picture that is shown, if one is
 abbrev pub shown_text : Option PictureSeen → List ℕ
 shown_text None = []
@@ -90,10 +78,3 @@ shown_text (Some seen) = raw_text (frame_of seen.shape) seen.samples
 -- so many slices has the last of these units
 abbrev pub IsLastCount : List UnitShape → ℕ → Type 0
 IsLastCount shapes count = (before : List UnitShape) (last : UnitShape) → shapes ≡ before ++ last ∷ [] → count ≡ last.slices
-
--- how the last text of an ending is written
-abbrev pub WritesLast : Ending → Option (List ℕ) → Option (List ℕ) → Result Ending Halt → Type 0
-WritesLast ending out0 out1 (Ok told) = (told ≡ ending) × Appends out0 out1 (last_line ending)
-WritesLast ending out0 out1 (Err halts.ReadFault) = ⊥
-WritesLast ending out0 out1 (Err halts.OutFault) = GrewShort out0 out1 (last_line ending)
-WritesLast ending out0 out1 (Err halts.NoMemory) = out1 ≡ out0

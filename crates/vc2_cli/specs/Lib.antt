@@ -9,3 +9,5 @@ pub mod Exit
 pub mod HeaderTexts
 pub mod First
 pub mod FirstTurn
+pub mod Running
+pub mod Telling

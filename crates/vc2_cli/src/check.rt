@@ -1,18 +1,15 @@
 // The command `check`.
-ghost use Rattle.std.specs.Prelude.{◌≡◌, ◌+◌, ◌^◌, IfOk};
-ghost use Rattle.std.specs.Io.KnownBytes.{IsAtEnd};
-ghost use Rattle.vc2_run.specs.Ran.{Ran, TakesAtMost, HaltHasCause};
-ghost use Rattle.stream_units.specs.Reader.{new_reader};
-ghost use Rattle.vc2_cli.specs.declared.status.Status.TheVariants as status;
+ghost use Rattle.std.specs.Prelude.{ℕ, ◌≤◌};
+ghost use Rattle.vc2_run.specs.Ran.{HaltHasCause};
 ghost use Rattle.vc2_cli.specs.declared.status.Ending.TheVariants as ending;
-ghost use Rattle.vc2_cli.specs.Reply.{status_of};
-ghost use Rattle.vc2_cli.specs.Decode.{check_machine, IsLastCount, WritesLast};
+ghost use Rattle.vc2_cli.specs.Running.{IsDone, Runs, change, Closes};
+ghost use Rattle.vc2_cli.specs.Decode.{checking, check_machine, last_line, IsLastCount};
 
-use crate::decode::stopped;
+use crate::running::{UnitCommand, run_units};
 use crate::status::Ending;
 use crate::texts::accepted_text;
 use std::alloc::Global;
-use stream_units::StreamReader;
+use stream_units::{Item, Refusal, StreamReader};
 use vc2_io::{Sink, Source, write_whole};
 use vc2_run::Halt;
 
@@ -24,7 +21,7 @@ fn accept<K: Sink>(
     slices: u64,
     bytes: u64,
 ) -> Result<Ending, Halt>
-    ensures wrote { WritesLast (ending.Accepted pictures slices bytes) (K.written out.old) (K.written out.new) result }
+    ensures wrote { Closes (ending.Accepted pictures slices bytes) (last_line (ending.Accepted pictures slices bytes)) (K.written out.old) (K.written out.new) result }
     ensures cause { HaltHasCause 0 0 (K.faults out.old) (K.faults out.new) result }
 {
     let line = match accepted_text(alloc, pictures, slices, bytes) {
@@ -52,29 +49,66 @@ fn last_count(reader: &StreamReader) -> u32
     }
 }
 
-// Goes through the units of a new reader, and counts their slices.
-fn check_units<S: Source, K: Sink>(
+/// The slices of a stream so far.
+#[derive(Drop)]
+struct Checking {
     alloc: Global,
-    reader: &mut StreamReader,
-    src: &mut S,
-    out: &mut K,
-) -> Result<Ending, Halt>
-    requires { reader.old ≡ new_reader }
-    ensures end { IfOk result (λ ending. status_of ending ≡ status.Done → IsAtEnd (S.rest src.new)) }
-    ensures limit { TakesAtMost (2 ^ 40 + 1) (S.rest src.old) (S.rest src.new) }
-    ensures ran { Ran check_machine (S.rest src.old) (S.rest src.new) (K.written out.old) (K.written out.new) result }
-    ensures cause { HaltHasCause (S.faults src.old) (S.faults src.new) (K.faults out.old) (K.faults out.new) result }
-{
-    let mut slices = 0;
-    loop {
-        let item = match reader.next(src) {
-            Ok(item) => item,
-            Err(stop) => return stopped(stop),
-        };
-        if item.is_end() {
-            return accept(alloc, out, reader.pictures(), slices, reader.taken());
-        }
-        slices += u64::from(last_count(reader));
+    slices: u64,
+}
+
+impl UnitCommand<StreamReader> for Checking {
+    ghost Own = { ℕ };
+
+    ghost command = { checking };
+
+    ghost own = { λ c. c.slices };
+
+    ghost keeps = { λ c n. c.slices ≤ n };
+
+    ghost is_done = { IsDone };
+
+    ghost refused_is_no_end = { λ z w fault done. done };
+
+    fn open<K: Sink>(&mut self, _out: &mut K) -> Result<(), Halt> {
+        Ok(())
+    }
+
+    fn turn<K: Sink>(
+        &mut self,
+        reader: &StreamReader,
+        _item: Item,
+        _out: &mut K,
+    ) -> Result<(), Halt> {
+        self.slices += u64::from(last_count(reader));
+        Ok(())
+    }
+
+    fn finish<K: Sink>(
+        &mut self,
+        reader: &StreamReader,
+        _item: Item,
+        out: &mut K,
+    ) -> Result<Ending, Halt> {
+        accept(
+            self.alloc,
+            out,
+            reader.pictures(),
+            self.slices,
+            reader.taken(),
+        )
+    }
+
+    fn rest<K: Sink>(&mut self, _reader: &StreamReader, _out: &mut K) -> Result<Ending, Halt> {
+        Ok(Ending::Done)
+    }
+
+    fn refuse<K: Sink>(
+        &mut self,
+        _reader: &StreamReader,
+        refusal: Refusal,
+        _out: &mut K,
+    ) -> Result<Ending, Halt> {
+        Ok(Ending::Refused(refusal))
     }
 }
 
@@ -84,14 +118,12 @@ pub(crate) fn check<S: Source, K: Sink>(
     src: &mut S,
     out: &mut K,
 ) -> Result<Ending, Halt>
-    ensures end { IfOk result (λ ending. status_of ending ≡ status.Done → IsAtEnd (S.rest src.new)) }
-    ensures limit { TakesAtMost (2 ^ 40 + 1) (S.rest src.old) (S.rest src.new) }
-    ensures ran { Ran check_machine (S.rest src.old) (S.rest src.new) (K.written out.old) (K.written out.new) result }
-    ensures cause { HaltHasCause (S.faults src.old) (S.faults src.new) (K.faults out.old) (K.faults out.new) result }
+    ensures { Runs check_machine IsDone (change S.rest S.faults src.old src.new) (change K.written K.faults out.old out.new) result }
 {
     match StreamReader::new(alloc) {
         Ok(mut reader) => {
-            let result = check_units(alloc, &mut reader, src, out);
+            let mut command = Checking { alloc, slices: 0 };
+            let result = run_units(&mut reader, &mut command, src, out);
             drop(reader);
             result
         }

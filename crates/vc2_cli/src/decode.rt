@@ -1,30 +1,17 @@
 // The command `decode`.
-ghost use Rattle.std.specs.Prelude.{◌≡◌, ◌+◌, ◌^◌, OnOk, OnErr, IfOk};
-ghost use Rattle.std.specs.Io.KnownBytes.{Appends, IsAtEnd};
+ghost use Rattle.std.specs.Prelude.{OnOk, OnErr};
+ghost use Rattle.std.specs.Io.KnownBytes.{Appends};
 ghost use Rattle.vc2_io.specs.Outside.{HasCause, GrewShort};
-ghost use Rattle.vc2_run.specs.Ran.{Ran, TakesAtMost, HaltHasCause};
-ghost use Rattle.stream_units.specs.Reader.{new_reader};
-ghost use Rattle.vc2_cli.specs.declared.status.Status.TheVariants as status;
-ghost use Rattle.vc2_cli.specs.Reply.{status_of};
-ghost use Rattle.vc2_cli.specs.Decode.{decode_machine, stopped, shown_text};
+ghost use Rattle.vc2_cli.specs.Running.{IsDone, Runs, change};
+ghost use Rattle.vc2_cli.specs.Decode.{decoding, decode_machine, shown_text};
 
+use crate::running::{UnitCommand, run_units};
 use crate::status::Ending;
 use raw_video::write_picture;
 use std::alloc::Global;
-use stream_units::{ReadStop, StreamReader};
+use stream_units::{Item, Refusal, StreamReader};
 use vc2_io::{Failed, Sink, Source};
 use vc2_run::Halt;
-
-// How a command comes out where the reader stops.
-pub(crate) fn stopped(stop: ReadStop) -> Result<Ending, Halt>
-    ensures { result ≡ stopped stop }
-{
-    match stop {
-        ReadStop::Refused(refusal) => Ok(Ending::Refused(refusal)),
-        ReadStop::ReadFault => Err(Halt::ReadFault),
-        ReadStop::NoMemory => Err(Halt::NoMemory),
-    }
-}
 
 // Writes the raw text of the picture that the reader shows, if it shows one.
 fn write_shown<K: Sink>(out: &mut K, reader: &StreamReader) -> Result<(), Failed>
@@ -38,33 +25,62 @@ fn write_shown<K: Sink>(out: &mut K, reader: &StreamReader) -> Result<(), Failed
     }
 }
 
-// Goes through the units of a new reader.
-fn decode_units<S: Source, K: Sink>(
-    reader: &mut StreamReader,
-    src: &mut S,
-    out: &mut K,
-) -> Result<Ending, Halt>
-    requires { reader.old ≡ new_reader }
-    ensures end { IfOk result (λ ending. status_of ending ≡ status.Done → IsAtEnd (S.rest src.new)) }
-    ensures limit { TakesAtMost (2 ^ 40 + 1) (S.rest src.old) (S.rest src.new) }
-    ensures ran { Ran decode_machine (S.rest src.old) (S.rest src.new) (K.written out.old) (K.written out.new) result }
-    ensures cause { HaltHasCause (S.faults src.old) (S.faults src.new) (K.faults out.old) (K.faults out.new) result }
-{
-    loop {
-        let item = match reader.next(src) {
-            Ok(item) => item,
-            Err(stop) => return stopped(stop),
-        };
-        if item.is_end() {
-            return Ok(Ending::Decoded {
-                pictures: reader.pictures(),
-                bytes: reader.taken(),
-            });
-        }
+/// The pictures of a stream.
+#[derive(Drop)]
+struct Decoding {}
+
+impl UnitCommand<StreamReader> for Decoding {
+    ghost Own = { Unit {0} };
+
+    ghost command = { decoding };
+
+    ghost own = { λ c. tt };
+
+    ghost keeps = { λ c n. Unit {0} };
+
+    ghost is_done = { IsDone };
+
+    ghost refused_is_no_end = { λ z w fault done. done };
+
+    fn open<K: Sink>(&mut self, _out: &mut K) -> Result<(), Halt> {
+        Ok(())
+    }
+
+    fn turn<K: Sink>(
+        &mut self,
+        reader: &StreamReader,
+        _item: Item,
+        out: &mut K,
+    ) -> Result<(), Halt> {
         match write_shown(out, reader) {
-            Ok(()) => {}
-            Err(_) => return Err(Halt::OutFault),
+            Ok(()) => Ok(()),
+            Err(_) => Err(Halt::OutFault),
         }
+    }
+
+    fn finish<K: Sink>(
+        &mut self,
+        reader: &StreamReader,
+        _item: Item,
+        _out: &mut K,
+    ) -> Result<Ending, Halt> {
+        Ok(Ending::Decoded {
+            pictures: reader.pictures(),
+            bytes: reader.taken(),
+        })
+    }
+
+    fn rest<K: Sink>(&mut self, _reader: &StreamReader, _out: &mut K) -> Result<Ending, Halt> {
+        Ok(Ending::Done)
+    }
+
+    fn refuse<K: Sink>(
+        &mut self,
+        _reader: &StreamReader,
+        refusal: Refusal,
+        _out: &mut K,
+    ) -> Result<Ending, Halt> {
+        Ok(Ending::Refused(refusal))
     }
 }
 
@@ -74,14 +90,12 @@ pub(crate) fn decode<S: Source, K: Sink>(
     src: &mut S,
     out: &mut K,
 ) -> Result<Ending, Halt>
-    ensures end { IfOk result (λ ending. status_of ending ≡ status.Done → IsAtEnd (S.rest src.new)) }
-    ensures limit { TakesAtMost (2 ^ 40 + 1) (S.rest src.old) (S.rest src.new) }
-    ensures ran { Ran decode_machine (S.rest src.old) (S.rest src.new) (K.written out.old) (K.written out.new) result }
-    ensures cause { HaltHasCause (S.faults src.old) (S.faults src.new) (K.faults out.old) (K.faults out.new) result }
+    ensures { Runs decode_machine IsDone (change S.rest S.faults src.old src.new) (change K.written K.faults out.old out.new) result }
 {
     match StreamReader::new(alloc) {
         Ok(mut reader) => {
-            let result = decode_units(&mut reader, src, out);
+            let mut command = Decoding {};
+            let result = run_units(&mut reader, &mut command, src, out);
             drop(reader);
             result
         }

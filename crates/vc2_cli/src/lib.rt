@@ -7,6 +7,8 @@ mod decode;
 mod header;
 mod header_texts;
 mod laws;
+mod readers;
+mod running;
 mod status;
 mod texts;
 mod top;

@@ -10,6 +10,8 @@ use Rattle.picture_codec.specs.Samples.{SampleRows, frame_of, shown, bits_of}
 use Rattle.picture_codec.specs.Encoding.{centred}
 use Rattle.picture_codec.proofs.Sizes.{padded_whole}
 use Rattle.picture_codec.proofs.AnalysedBands.{centred_within, centred_cells, shift_small, sizes_stay, holds_component}
+use Rattle.picture_codec.proofs.Runs.{below-all}
+use Rattle.picture_codec.proofs.Tables.{positive}
 use Rattle.picture_codec.proofs.encoder.analyse_component.Goals as goal
 
 pub analyse-requires-clause-sizes : goal.analyse-requires-clause-sizes
@@ -34,7 +36,7 @@ analyse-requires-clause-small c y x ly lx =
     let same : c.size_of.result ≡ size = c.size_of.ensures.value ∙ ap (λ (sh : PictureShape). size_of (frame_of sh) c.args.c) c.shape-shape.ensures in
     let bits : c.depth_of-depth.result ≡ d = c.depth_of-depth.ensures.value ∙ ap (λ (sh : PictureShape). depth_of (frame_of sh) c.args.c) c.shape-shape.ensures in
     let is : at c.centre.new.plane y x ≡ centred d size (shown p c.args.c) y x = c.centre.ensures.values y x ly lx ∙ centred_cells d c.depth_of-depth.result size c.size_of.result c.samples.result.now (shown p c.args.c) bits same c.samples.ensures.width c.samples.ensures.value y x in
-    let within = centred_within d size (shown p c.args.c) (omega (arith, bits, c.depth_of-depth.ensures.allowed.some)) (λ k. rw c.samples.ensures.value at (c.samples.ensures.small k)) y x in
+    let within = centred_within d size (shown p c.args.c) (omega (arith, bits, c.depth_of-depth.ensures.allowed.some)) (below-all (2 ^ d) (shown p c.args.c).cells (positive d) (rw c.samples.ensures.value at c.samples.ensures.below)) y x in
     rw is (wider (2 ^ (d - 1)) (2 ^ 15) (centred d size (shown p c.args.c) y x) (shift_small d (omega (arith, bits, c.depth_of-depth.ensures.allowed.most))) within)
 
 pub returns-clause-bands : goal.returns-clause-bands
@@ -52,4 +54,4 @@ returns-clause-bands c =
     c.centre.ensures.values y x ly lx ∙ centred_cells d c.depth_of-depth.result size c.size_of.result c.samples.result.now (shown p c.args.c) bits same c.samples.ensures.width c.samples.ensures.value y x in
     holds_component _ size d (shown p c.args.c) c.analyse.new.bands c.centre.new.plane c.depth.ensures.allowed.depth some (sizes_stay s size c.args.bands.now c.analyse.new.bands c.requires.bands c.analyse.ensures.same_sizes)
     columns rows c.analyse.ensures.coefficients values
-    (λ y x ly lx. rw (values y x ly lx) (centred_within d size (shown p c.args.c) some (λ k. rw c.samples.ensures.value at (c.samples.ensures.small k)) y x)) c.are_whole.ensures
+    (λ y x ly lx. rw (values y x ly lx) (centred_within d size (shown p c.args.c) some (below-all (2 ^ d) (shown p c.args.c).cells (positive d) (rw c.samples.ensures.value at c.samples.ensures.below)) y x)) c.are_whole.ensures

@@ -1,0 +1,32 @@
+use Rattle.std.proofs.Common.{Some, refl, sym, arith}
+use Rattle.stream_units.specs.declared.reason.Reason.TheVariants.{TrailingBytes}
+use Rattle.stream_units.specs.Units.{End}
+use Rattle.stream_units.proofs.Judges.{ends_by, takes_by}
+use Rattle.vc2_cli.proofs.readers.StreamReaderUnitReader.next_turn.Goals as goal
+
+pub returns-then-is_end-clause-next : goal.returns-then-is_end-clause-next
+returns-then-is_end-clause-next g c = λ no_stop going.
+    let rest = g.S.Source.rest in
+    let n = ends_by c.args.self.now c.next.new.self (rest c.args.src.now) (rest c.next.new.src) c.in-Ok.item (c.in-Ok.ensures.next no_stop going) (sym c.if-is_end.ensures) in
+    record {
+      unit = End;
+      bytes = n.bytes;
+      tells = record { past = n.past; picture = n.over.1; before = c.args.self.now.shapes; shapes = n.shapes; few = omega arith };
+      meets = n.meets;
+      whole = n.whole;
+      last = n.last;
+      final = (Some TrailingBytes, refl);
+    }
+
+pub returns-clause-next : goal.returns-clause-next
+returns-clause-next g c = λ no_stop going.
+    let rest = g.S.Source.rest in
+    let n = takes_by c.args.self.now c.next.new.self (rest c.args.src.now) (rest c.next.new.src) c.in-Ok.item (c.in-Ok.ensures.next no_stop going) (sym c.if-is_end.ensures) in
+    record {
+      unit = n.unit;
+      bytes = n.bytes;
+      tells = record { past = n.past; picture = n.picture; before = c.args.self.now.shapes; shapes = n.shapes; few = n.few };
+      takes = n.takes;
+      past = n.past;
+      going = n.going;
+    }

@@ -1,0 +1,333 @@
+use Rattle.std.proofs.Common.{◌≤◌, ◌∙◌, Ok, Err, refl, sym, ap, subst, arith}
+use Rattle.vc2_io.specs.Outside.{Rose}
+use Rattle.stream_units.specs.Stops.{LimitStops, StopCause}
+use Rattle.vc2_cli.specs.Running.{NextOver, Closes}
+use Rattle.vc2_cli.proofs.Exits.{goes_first, holds_first, ran_unopened_by, goes_more, place_more, holds_turn, ran_unwritten, ran_finished, ran_refused, ran_rested, ran_lost, ran_no_memory, takes_at_most, takes_none, cause_then, cause_halt, closed_is}
+use Rattle.vc2_cli.specs.declared.status.Ending.{Ending}
+use Rattle.vc2_cli.proofs.running.run_units.Goals as goal
+
+pub returns-in-Err : goal.returns-in-Err
+returns-in-Err g c =
+    let G = g.R.UnitReader.grammar in
+    let seen = g.R.UnitReader.seen in
+    let Tells = g.R.UnitReader.tells in
+    let laws = g.R.UnitReader.laws in
+    let cmd = g.C.UnitCommand.command in
+    let own = g.C.UnitCommand.own in
+    let rest = g.S.Source.rest in
+    let written = g.K.Sink.written in
+    let first = g.R.UnitReader.first in
+    record {
+      ran = ran_unopened_by (Unit {0}) G first cmd (rest c.args.src.now) (written c.args.out.now) (written c.open.new.out) c.in-Err.halt c.in-Err.ensures.wrote;
+      limit = takes_none (rest c.args.src.now);
+      cause = cause_halt (Unit {0}) Ending (g.S.Source.faults c.args.src.now) (g.S.Source.faults c.args.src.now) (g.K.Sink.faults c.args.out.now) (g.K.Sink.faults c.args.out.now) (g.K.Sink.faults c.open.new.out) c.in-Err.halt refl refl c.in-Err.ensures.cause;
+      end = λ ending e done. absurd cc;
+    }
+
+pub loop-turn-init : goal.loop-turn-init
+loop-turn-init g c =
+    let G = g.R.UnitReader.grammar in
+    let seen = g.R.UnitReader.seen in
+    let Tells = g.R.UnitReader.tells in
+    let laws = g.R.UnitReader.laws in
+    let cmd = g.C.UnitCommand.command in
+    let own = g.C.UnitCommand.own in
+    let rest = g.S.Source.rest in
+    let written = g.K.Sink.written in
+    let first = g.R.UnitReader.first in
+    record {
+      goes = goes_first G first (rest c.args.src.now) (seen c.args.reader.now) c.requires.new g.R.UnitReader.begins;
+      holds = holds_first G laws first cmd (rest c.args.src.now) (written c.args.out.now) (written c.open.new.out) (seen c.args.reader.now) (own c.open.new.self) c.requires.new (ap own c.open.ensures.own ∙ c.requires.start) c.in-Ok.ensures.wrote;
+      keeps = subst (λ s. g.C.UnitCommand.keeps s (G.place (seen c.args.reader.now).past)) (sym c.open.ensures.own) (subst (λ n. g.C.UnitCommand.keeps c.args.command.now n) (sym (ap (λ x. G.place x.past) c.requires.new ∙ g.R.UnitReader.begins)) c.requires.keeps);
+      steady = refl;
+      steady_out = c.in-Ok.ensures.cause.1;
+    }
+
+pub returns-in-ReadFault : goal.returns-in-ReadFault
+returns-in-ReadFault g c =
+    let G = g.R.UnitReader.grammar in
+    let seen = g.R.UnitReader.seen in
+    let Tells = g.R.UnitReader.tells in
+    let laws = g.R.UnitReader.laws in
+    let cmd = g.C.UnitCommand.command in
+    let own = g.C.UnitCommand.own in
+    let rest = g.S.Source.rest in
+    let written = g.K.Sink.written in
+    let first = g.R.UnitReader.first in
+    let l = c.loop-turn in
+    let i = l.invariant in
+    let w = own l.command in
+    let old = seen l.reader in
+    let new = seen c.next_turn.new.self in
+    let z = old.past in
+    let r0 = rest c.args.src.now in
+    let r1 = rest l.src in
+    let r2 = rest c.next_turn.new.src in
+    let o0 = written c.args.out.now in
+    let o1 = written l.out in
+    let n = c.in-Err-next_turn.ensures.next i.goes.no_stop i.goes.no_end in
+    let k = c.in-Err-next_turn.ensures.cause i.goes.no_stop in
+    let most = takes_at_most G (Tells c.next_turn.new.self) old new r0 r1 r2 (Err c.in-Err-next_turn.stop) i.goes.most i.goes n in
+    let lost = subst (λ s. LimitStops G z old.held r1 r2 s) c.in-ReadFault.is n.0 in
+    let why = subst (λ s. StopCause {X = Unit {0}} (g.S.Source.faults l.src) (g.S.Source.faults c.next_turn.new.src) (Err s)) c.in-ReadFault.is k in
+    record {
+      ran = ran_lost laws first cmd r0 o0 o1 i.holds lost.2;
+      limit = most;
+      cause = (subst (λ m. m ≤ (g.S.Source.faults c.next_turn.new.src)) i.steady why.0, subst (λ m. Rose m (g.S.Source.faults c.next_turn.new.src)) i.steady why.1, i.steady_out);
+      end = λ ending e done. absurd cc;
+    }
+
+pub returns-in-NoMemory : goal.returns-in-NoMemory
+returns-in-NoMemory g c =
+    let G = g.R.UnitReader.grammar in
+    let seen = g.R.UnitReader.seen in
+    let Tells = g.R.UnitReader.tells in
+    let laws = g.R.UnitReader.laws in
+    let cmd = g.C.UnitCommand.command in
+    let own = g.C.UnitCommand.own in
+    let rest = g.S.Source.rest in
+    let written = g.K.Sink.written in
+    let first = g.R.UnitReader.first in
+    let l = c.loop-turn in
+    let i = l.invariant in
+    let w = own l.command in
+    let old = seen l.reader in
+    let new = seen c.next_turn.new.self in
+    let z = old.past in
+    let r0 = rest c.args.src.now in
+    let r1 = rest l.src in
+    let r2 = rest c.next_turn.new.src in
+    let o0 = written c.args.out.now in
+    let o1 = written l.out in
+    let n = c.in-Err-next_turn.ensures.next i.goes.no_stop i.goes.no_end in
+    let k = c.in-Err-next_turn.ensures.cause i.goes.no_stop in
+    let most = takes_at_most G (Tells c.next_turn.new.self) old new r0 r1 r2 (Err c.in-Err-next_turn.stop) i.goes.most i.goes n in
+    let due = subst (λ s. LimitStops G z old.held r1 r2 s) c.in-NoMemory.is n.0 in
+    let why = subst (λ s. StopCause {X = Unit {0}} (g.S.Source.faults l.src) (g.S.Source.faults c.next_turn.new.src) (Err s)) c.in-NoMemory.is k in
+    record {
+      ran = ran_no_memory laws first cmd r0 o0 o1 i.holds due.2;
+      limit = most;
+      cause = (why ∙ i.steady, i.steady_out);
+      end = λ ending e done. absurd cc;
+    }
+
+pub returns-in-Err-next_turn : goal.returns-in-Err-next_turn
+returns-in-Err-next_turn g c =
+    let G = g.R.UnitReader.grammar in
+    let seen = g.R.UnitReader.seen in
+    let Tells = g.R.UnitReader.tells in
+    let laws = g.R.UnitReader.laws in
+    let cmd = g.C.UnitCommand.command in
+    let own = g.C.UnitCommand.own in
+    let rest = g.S.Source.rest in
+    let written = g.K.Sink.written in
+    let first = g.R.UnitReader.first in
+    let l = c.loop-turn in
+    let i = l.invariant in
+    let w = own l.command in
+    let old = seen l.reader in
+    let new = seen c.next_turn.new.self in
+    let z = old.past in
+    let r0 = rest c.args.src.now in
+    let r1 = rest l.src in
+    let r2 = rest c.next_turn.new.src in
+    let o0 = written c.args.out.now in
+    let o1 = written l.out in
+    let n = c.in-Err-next_turn.ensures.next i.goes.no_stop i.goes.no_end in
+    let k = c.in-Err-next_turn.ensures.cause i.goes.no_stop in
+    let most = takes_at_most G (Tells c.next_turn.new.self) old new r0 r1 r2 (Err c.in-Err-next_turn.stop) i.goes.most i.goes n in
+    let o2 = written c.refuse.new.out in
+    let f = subst (λ s. LimitStops G z old.held r1 r2 s) c.in-Refused.is n.0 in
+    let why = subst (λ s. StopCause {X = Unit {0}} (g.S.Source.faults l.src) (g.S.Source.faults c.next_turn.new.src) (Err s)) c.in-Refused.is k in
+    let same = n.1 in
+    let closes = subst (λ y. Closes (cmd.refused y w f.fault) (cmd.last y w (cmd.refused y w f.fault)) o1 o2 c.refuse.result) same (c.refuse.ensures.wrote f.fault f.there) in
+    record {
+      ran = ran_refused laws first cmd r0 o0 o1 o2 f.fault c.refuse.result i.holds f.meets closes;
+      limit = most;
+      cause = cause_then (g.S.Source.faults c.args.src.now) (g.S.Source.faults c.next_turn.new.src) (g.K.Sink.faults c.args.out.now) (g.K.Sink.faults c.loop-turn.out) (g.K.Sink.faults c.refuse.new.out) c.refuse.result (why ∙ i.steady) i.steady_out c.refuse.ensures.cause;
+      end = λ ending e done. absurd (g.C.UnitCommand.refused_is_no_end z w f.fault (subst g.C.UnitCommand.is_done (closed_is (cmd.refused z w f.fault) ending (cmd.last z w (cmd.refused z w f.fault)) o1 o2 c.refuse.result closes e) done));
+    }
+
+pub returns-in-Last : goal.returns-in-Last
+returns-in-Last g c =
+    let G = g.R.UnitReader.grammar in
+    let seen = g.R.UnitReader.seen in
+    let Tells = g.R.UnitReader.tells in
+    let laws = g.R.UnitReader.laws in
+    let cmd = g.C.UnitCommand.command in
+    let own = g.C.UnitCommand.own in
+    let rest = g.S.Source.rest in
+    let written = g.K.Sink.written in
+    let first = g.R.UnitReader.first in
+    let l = c.loop-turn in
+    let i = l.invariant in
+    let w = own l.command in
+    let old = seen l.reader in
+    let new = seen c.next_turn.new.self in
+    let z = old.past in
+    let r0 = rest c.args.src.now in
+    let r1 = rest l.src in
+    let r2 = rest c.next_turn.new.src in
+    let o0 = written c.args.out.now in
+    let o1 = written l.out in
+    let a = c.in-Ok-next_turn.ensures.next i.goes.no_stop i.goes.no_end in
+    let n = subst (λ t. NextOver G (Tells c.next_turn.new.self) old new r1 r2 (Ok t)) c.in-Last.is a in
+    let steady = c.in-Ok-next_turn.ensures.cause i.goes.no_stop ∙ i.steady in
+    let most = takes_at_most G (Tells c.next_turn.new.self) old new r0 r1 r2 (Ok c.in-Ok-next_turn.turn) i.goes.most i.goes a in
+    let o2 = written c.finish.new.out in
+    let tells = n.tells in
+    record {
+      ran = ran_finished laws first cmd r0 o0 o1 o2 w c.finish.result i.holds n (c.finish.ensures.wrote z n.unit n.bytes n.final.0 tells n.final.1);
+      limit = most;
+      cause = cause_then (g.S.Source.faults c.args.src.now) (g.S.Source.faults c.next_turn.new.src) (g.K.Sink.faults c.args.out.now) (g.K.Sink.faults c.loop-turn.out) (g.K.Sink.faults c.finish.new.out) c.finish.result steady i.steady_out c.finish.ensures.cause;
+      end = λ ending e done. n.last;
+    }
+
+pub returns-in-Rest : goal.returns-in-Rest
+returns-in-Rest g c =
+    let G = g.R.UnitReader.grammar in
+    let seen = g.R.UnitReader.seen in
+    let Tells = g.R.UnitReader.tells in
+    let laws = g.R.UnitReader.laws in
+    let cmd = g.C.UnitCommand.command in
+    let own = g.C.UnitCommand.own in
+    let rest = g.S.Source.rest in
+    let written = g.K.Sink.written in
+    let first = g.R.UnitReader.first in
+    let l = c.loop-turn in
+    let i = l.invariant in
+    let w = own l.command in
+    let old = seen l.reader in
+    let new = seen c.next_turn.new.self in
+    let z = old.past in
+    let r0 = rest c.args.src.now in
+    let r1 = rest l.src in
+    let r2 = rest c.next_turn.new.src in
+    let o0 = written c.args.out.now in
+    let o1 = written l.out in
+    let a = c.in-Ok-next_turn.ensures.next i.goes.no_stop i.goes.no_end in
+    let n = subst (λ t. NextOver G (Tells c.next_turn.new.self) old new r1 r2 (Ok t)) c.in-Rest.is a in
+    let steady = c.in-Ok-next_turn.ensures.cause i.goes.no_stop ∙ i.steady in
+    let most = takes_at_most G (Tells c.next_turn.new.self) old new r0 r1 r2 (Ok c.in-Ok-next_turn.turn) i.goes.most i.goes a in
+    let o2 = written c.rest.new.out in
+    let same = n.1 in
+    let closes = subst (λ y. Closes (cmd.rested y w) (cmd.last y w (cmd.rested y w)) o1 o2 c.rest.result) same c.rest.ensures.wrote in
+    record {
+      ran = ran_rested laws first cmd r0 o0 o1 o2 c.rest.result i.holds n.0 closes;
+      limit = most;
+      cause = cause_then (g.S.Source.faults c.args.src.now) (g.S.Source.faults c.next_turn.new.src) (g.K.Sink.faults c.args.out.now) (g.K.Sink.faults c.loop-turn.out) (g.K.Sink.faults c.rest.new.out) c.rest.result steady i.steady_out c.rest.ensures.cause;
+      end = λ ending e done. n.0.at_end;
+    }
+
+pub loop-turn-smaller : goal.loop-turn-smaller
+loop-turn-smaller g c =
+    let G = g.R.UnitReader.grammar in
+    let seen = g.R.UnitReader.seen in
+    let Tells = g.R.UnitReader.tells in
+    let laws = g.R.UnitReader.laws in
+    let cmd = g.C.UnitCommand.command in
+    let own = g.C.UnitCommand.own in
+    let rest = g.S.Source.rest in
+    let written = g.K.Sink.written in
+    let first = g.R.UnitReader.first in
+    let l = c.loop-turn in
+    let i = l.invariant in
+    let w = own l.command in
+    let old = seen l.reader in
+    let new = seen c.next_turn.new.self in
+    let z = old.past in
+    let r0 = rest c.args.src.now in
+    let r1 = rest l.src in
+    let r2 = rest c.next_turn.new.src in
+    let o0 = written c.args.out.now in
+    let o1 = written l.out in
+    let a = c.in-Ok-next_turn.ensures.next i.goes.no_stop i.goes.no_end in
+    let n = subst (λ t. NextOver G (Tells c.next_turn.new.self) old new r1 r2 (Ok t)) c.in-Unit.is a in
+    let steady = c.in-Ok-next_turn.ensures.cause i.goes.no_stop ∙ i.steady in
+    let most = takes_at_most G (Tells c.next_turn.new.self) old new r0 r1 r2 (Ok c.in-Ok-next_turn.turn) i.goes.most i.goes a in
+    let p = place_more g.R.UnitReader.along n in
+    omega (arith, p.0, p.1)
+
+pub loop-turn-preserved : goal.loop-turn-preserved
+loop-turn-preserved g c =
+    let G = g.R.UnitReader.grammar in
+    let seen = g.R.UnitReader.seen in
+    let Tells = g.R.UnitReader.tells in
+    let laws = g.R.UnitReader.laws in
+    let cmd = g.C.UnitCommand.command in
+    let own = g.C.UnitCommand.own in
+    let rest = g.S.Source.rest in
+    let written = g.K.Sink.written in
+    let first = g.R.UnitReader.first in
+    let l = c.loop-turn in
+    let i = l.invariant in
+    let w = own l.command in
+    let old = seen l.reader in
+    let new = seen c.next_turn.new.self in
+    let z = old.past in
+    let r0 = rest c.args.src.now in
+    let r1 = rest l.src in
+    let r2 = rest c.next_turn.new.src in
+    let o0 = written c.args.out.now in
+    let o1 = written l.out in
+    let a = c.in-Ok-next_turn.ensures.next i.goes.no_stop i.goes.no_end in
+    let n = subst (λ t. NextOver G (Tells c.next_turn.new.self) old new r1 r2 (Ok t)) c.in-Unit.is a in
+    let steady = c.in-Ok-next_turn.ensures.cause i.goes.no_stop ∙ i.steady in
+    let most = takes_at_most G (Tells c.next_turn.new.self) old new r0 r1 r2 (Ok c.in-Ok-next_turn.turn) i.goes.most i.goes a in
+    let tells = n.tells in
+    record {
+      goes = goes_more g.R.UnitReader.along i.goes n;
+      holds = holds_turn laws first cmd r0 o0 o1 (written c.turn.new.out) w (own c.turn.new.self) i.holds n (c.in-Ok-turn.ensures.wrote z n.unit n.bytes tells);
+      keeps = subst (λ m. g.C.UnitCommand.keeps c.turn.new.self m) (sym (ap G.place n.past ∙ g.R.UnitReader.along z n.unit n.bytes)) (c.in-Ok-turn.ensures.keeps z n.unit n.bytes tells i.keeps);
+      steady = steady;
+      steady_out = c.in-Ok-turn.ensures.cause.1 ∙ i.steady_out;
+    }
+
+pub returns-in-Err-turn : goal.returns-in-Err-turn
+returns-in-Err-turn g c =
+    let G = g.R.UnitReader.grammar in
+    let seen = g.R.UnitReader.seen in
+    let Tells = g.R.UnitReader.tells in
+    let laws = g.R.UnitReader.laws in
+    let cmd = g.C.UnitCommand.command in
+    let own = g.C.UnitCommand.own in
+    let rest = g.S.Source.rest in
+    let written = g.K.Sink.written in
+    let first = g.R.UnitReader.first in
+    let l = c.loop-turn in
+    let i = l.invariant in
+    let w = own l.command in
+    let old = seen l.reader in
+    let new = seen c.next_turn.new.self in
+    let z = old.past in
+    let r0 = rest c.args.src.now in
+    let r1 = rest l.src in
+    let r2 = rest c.next_turn.new.src in
+    let o0 = written c.args.out.now in
+    let o1 = written l.out in
+    let a = c.in-Ok-next_turn.ensures.next i.goes.no_stop i.goes.no_end in
+    let n = subst (λ t. NextOver G (Tells c.next_turn.new.self) old new r1 r2 (Ok t)) c.in-Unit.is a in
+    let steady = c.in-Ok-next_turn.ensures.cause i.goes.no_stop ∙ i.steady in
+    let most = takes_at_most G (Tells c.next_turn.new.self) old new r0 r1 r2 (Ok c.in-Ok-next_turn.turn) i.goes.most i.goes a in
+    let tells = n.tells in
+    record {
+      ran = ran_unwritten (Unit {0}) laws first cmd r0 o0 o1 (written c.turn.new.out) w c.in-Err-turn.halt i.holds n (c.in-Err-turn.ensures.wrote z n.unit n.bytes tells);
+      limit = most;
+      cause = cause_halt (Unit {0}) Ending (g.S.Source.faults c.args.src.now) (g.S.Source.faults c.next_turn.new.src) (g.K.Sink.faults c.args.out.now) (g.K.Sink.faults c.loop-turn.out) (g.K.Sink.faults c.turn.new.out) c.in-Err-turn.halt steady i.steady_out c.in-Err-turn.ensures.cause;
+      end = λ ending e done. absurd cc;
+    }
+
+pub turn-requires : goal.turn-requires
+turn-requires g c =
+    let G = g.R.UnitReader.grammar in
+    let seen = g.R.UnitReader.seen in
+    let Tells = g.R.UnitReader.tells in
+    let rest = g.S.Source.rest in
+    let l = c.loop-turn in
+    let i = l.invariant in
+    let old = seen l.reader in
+    let new = seen c.next_turn.new.self in
+    let a = c.in-Ok-next_turn.ensures.next i.goes.no_stop i.goes.no_end in
+    let n = subst (λ t. NextOver G (Tells c.next_turn.new.self) old new (rest l.src) (rest c.next_turn.new.src) (Ok t)) c.in-Unit.is a in
+    let p = place_more g.R.UnitReader.along n in
+    (old.past, n.unit, n.bytes, n.tells, i.keeps, omega (arith, p.1, ap G.place n.past ∙ g.R.UnitReader.along old.past n.unit n.bytes))

@@ -1,0 +1,150 @@
+//! A command over the units that a reader takes, turn by turn.
+
+ghost use Rattle.std.specs.Prelude.{◌≡◌, ◌≤◌, ◌^◌, ◌+◌, ℕ, List, length, Option, None, false, OnOk};
+ghost use Rattle.field_rows.specs.Rows.{Fault};
+ghost use Rattle.vc2_run.specs.Ran.{HaltHasCause};
+ghost use Rattle.unit_table.specs.Grammar.{Grammar, Final};
+ghost use Rattle.unit_table.specs.Fronts.{Command, machine_of};
+ghost use Rattle.unit_table.proofs.GrammarLaws.{IsGrammar};
+ghost use Rattle.stream_units.specs.declared.reason.Reason.{Reason};
+ghost use Rattle.stream_units.specs.Streams.{limit, past_limit, refusal_of};
+ghost use Rattle.stream_units.specs.Stops.{StopCause};
+ghost use Rattle.vc2_cli.specs.declared.status.Ending.{Ending};
+ghost use Rattle.vc2_cli.specs.Running.{ReaderSeen, first_seen, NextOver, Runs, change, WritesText, Closes, Turns};
+
+use crate::status::Ending;
+use stream_units::{ReadStop, Refusal};
+use vc2_io::{Sink, Source};
+use vc2_run::Halt;
+
+/// What a turn of a reader gives.
+#[derive(Clone, Copy, Debug, PartialEq, Eq, Drop)]
+pub(crate) enum Turn<I> {
+    /// A unit.
+    Unit(I),
+    /// The last unit, and nothing behind it.
+    Last(I),
+    /// The input is over before a unit.
+    Rest,
+}
+
+/// A reader of the units of a table, as a loop over them sees it.
+pub(crate) trait UnitReader {
+    /// What the units so far leave.
+    type Past;
+    /// What the rows of a unit make.
+    type Made;
+    /// What is told of a unit.
+    type Item: Drop;
+
+    ghost grammar: { Grammar Self.Past Reason Self.Made };
+
+    ghost laws: { IsGrammar grammar };
+
+    /// A unit leaves the place behind its bytes.
+    ghost along: { (z : Self.Past) (unit : Self.Made) (bytes : List ℕ) → (grammar).place ((grammar).after z unit bytes) ≡ (grammar).place z + length bytes };
+
+    /// What there is before the first unit.
+    ghost first: { Self.Past };
+
+    ghost begins: { (grammar).place first ≡ 0 };
+
+    ghost seen: { Self → ReaderSeen Self.Past };
+
+    /// What is told behind the unit is this unit of these bytes.
+    ghost tells: { Self → Self.Past → Self.Made → List ℕ → Self.Item → Type 0 };
+
+    /// Takes the unit in front of the bytes that are held and then the source's.
+    fn next_turn<S: Source>(&mut self, src: &mut S) -> Result<Turn<Self::Item>, ReadStop>
+        ensures next { (seen self.old).stop ≡ None → (seen self.old).ended ≡ false → NextOver grammar (tells self.new) (seen self.old) (seen self.new) (S.rest src.old) (S.rest src.new) result }
+        ensures cause { (seen self.old).stop ≡ None → StopCause (S.faults src.old) (S.faults src.new) result };
+}
+
+/// A command, by what it writes for each unit and at the end.
+pub(crate) trait UnitCommand<R: UnitReader>: Drop {
+    ghost Own: { Type 0 };
+
+    ghost command: { Command R.Past Reason R.Made Own Ending };
+
+    /// What the units so far leave to the command.
+    ghost own: { Self → Own };
+
+    /// What is true of it behind units of so many bytes.
+    ghost keeps: { Self → ℕ → Type 0 };
+
+    /// All is done, and the input was read to its end.
+    ghost is_done: { Ending → Type 0 };
+
+    ghost refused_is_no_end: { (z : R.Past) (w : Own) (fault : Fault Reason) → is_done ((command).refused z w fault) → ⊥ };
+
+    /// Writes the text before any read.
+    fn open<K: Sink>(&mut self, out: &mut K) -> Result<(), Halt>
+        ensures wrote { WritesText (command).opening (K.written out.old) (K.written out.new) result }
+        ensures own { self.new ≡ self.old }
+        ensures cause { HaltHasCause 0 0 (K.faults out.old) (K.faults out.new) result };
+
+    /// Writes the text of a unit.
+    fn turn<K: Sink>(&mut self, reader: &R, item: R::Item, out: &mut K) -> Result<(), Halt>
+        requires { (z : R.Past) × (unit : R.Made) × (bytes : List ℕ) × R.tells reader.now z unit bytes item × keeps self.old ((R.grammar).place z) × ((R.grammar).place z + length bytes ≤ 2 ^ 40) }
+        ensures wrote { (z : R.Past) (unit : R.Made) (bytes : List ℕ) → R.tells reader.now z unit bytes item → Turns (command) z unit bytes (own self.old) (own self.new) (K.written out.old) (K.written out.new) result }
+        ensures keeps { (z : R.Past) (unit : R.Made) (bytes : List ℕ) → R.tells reader.now z unit bytes item → keeps self.old ((R.grammar).place z) → OnOk result (keeps self.new ((R.grammar).place z + length bytes)) }
+        ensures cause { HaltHasCause 0 0 (K.faults out.old) (K.faults out.new) result };
+
+    /// Ends behind the last unit.
+    fn finish<K: Sink>(&mut self, reader: &R, item: R::Item, out: &mut K) -> Result<Ending, Halt>
+        ensures wrote { (z : R.Past) (unit : R.Made) (bytes : List ℕ) (other : Option Reason) → R.tells reader.now z unit bytes item → (R.grammar).behind unit ≡ Final other → let ending = (command).finished z (own self.old) unit bytes in
+            Closes ending ((command).last z (own self.old) ending) (K.written out.old) (K.written out.new) result }
+        ensures cause { HaltHasCause 0 0 (K.faults out.old) (K.faults out.new) result };
+
+    /// Ends where the input is over before a unit.
+    fn rest<K: Sink>(&mut self, reader: &R, out: &mut K) -> Result<Ending, Halt>
+        ensures wrote { let z = (R.seen reader.now).past in let ending = (command).rested z (own self.old) in
+            Closes ending ((command).last z (own self.old) ending) (K.written out.old) (K.written out.new) result }
+        ensures cause { HaltHasCause 0 0 (K.faults out.old) (K.faults out.new) result };
+
+    /// Ends where the input is refused.
+    fn refuse<K: Sink>(&mut self, reader: &R, refusal: Refusal, out: &mut K) -> Result<Ending, Halt>
+        ensures wrote { (fault : Fault Reason) → refusal ≡ refusal_of fault → let z = (R.seen reader.now).past in let ending = (command).refused z (own self.old) fault in
+            Closes ending ((command).last z (own self.old) ending) (K.written out.old) (K.written out.new) result }
+        ensures cause { HaltHasCause 0 0 (K.faults out.old) (K.faults out.new) result };
+}
+
+/// Goes through the units of a new reader.
+pub(crate) fn run_units<R: UnitReader, C: UnitCommand<R>, S: Source, K: Sink>(
+    reader: &mut R,
+    command: &mut C,
+    src: &mut S,
+    out: &mut K,
+) -> Result<Ending, Halt>
+    requires new { R.seen reader.old ≡ first_seen R.first }
+    requires start { C.own command.old ≡ (C.command).start }
+    requires keeps { C.keeps command.old 0 }
+    ensures { Runs (machine_of limit past_limit R.grammar R.first C.command) C.is_done (change S.rest S.faults src.old src.new) (change K.written K.faults out.old out.new) result }
+{
+    match command.open(out) {
+        Ok(()) => {}
+        Err(halt) => return Err(halt),
+    }
+    loop {
+        let turn = match reader.next_turn(src) {
+            Ok(turn) => turn,
+            Err(stop) => {
+                let refusal = match stop {
+                    ReadStop::Refused(refusal) => refusal,
+                    ReadStop::ReadFault => return Err(Halt::ReadFault),
+                    ReadStop::NoMemory => return Err(Halt::NoMemory),
+                };
+                return command.refuse(reader, refusal, out);
+            }
+        };
+        let item = match turn {
+            Turn::Unit(item) => item,
+            Turn::Last(item) => return command.finish(reader, item, out),
+            Turn::Rest => return command.rest(reader, out),
+        };
+        match command.turn(reader, item, out) {
+            Ok(()) => {}
+            Err(halt) => return Err(halt),
+        }
+    }
+}
