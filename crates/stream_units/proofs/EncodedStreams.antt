@@ -32,7 +32,8 @@ use Rattle.stream_units.specs.declared.reason.Reason.TheVariants as reasons
 use Rattle.stream_units.specs.Units.{First, Past, nothing_yet, DataUnit, Sequence, Repeated, Picture, Skipped, End, unit_behind, reason_of, code_rules, number_rules, body_rows, unit_rows, after, units}
 use Rattle.stream_units.specs.Streams.{bytes_between, Entry, Units, IsStreamFrom, IsStream, limit, frame_under, pictures_of}
 use Rattle.picture_codec.specs.Samples.{picture_of}
-use Rattle.stream_units.specs.Encoded.{header_unit, picture_bytes, picture_unit, end_unit, number_after, units_behind, Settings, encoded, pictures_under, units_of, AreSlices, IsSliced, AreLawful, IsStreamOf}
+use Rattle.picture_codec.specs.Encoding.{picture_bytes}
+use Rattle.stream_units.specs.Encoded.{header_unit, picture_unit, end_unit, number_after, units_behind, Settings, encoded, pictures_under, units_of, AreSlices, IsSliced, AreLawful, IsStreamOf}
 use Rattle.transform_params.proofs.Bounds.{unit_small}
 use Rattle.stream_units.proofs.EncodedUnits.{length-header_unit, length-picture_unit, moves_header_unit, moves_picture_unit, moves_end_unit}
 

@@ -27,7 +27,8 @@ use Rattle.unit_table.specs.Begun.{Moves}
 use Rattle.stream_units.specs.declared.reason.Reason.{Reason}
 use Rattle.stream_units.specs.Units.{First, Past, nothing_yet, DataUnit, Sequence, Picture, End, reason_of, transform_reason, code_rules, next_rules, number_rules, slice_rows, next_checked, unit_head, first_payload, picture_payload, payload_of, payload_rows, body_rows, units}
 use Rattle.stream_units.specs.Streams.{bytes_between}
-use Rattle.stream_units.specs.Encoded.{header_unit, picture_bytes, picture_unit, end_unit, AreSlices, IsSliced}
+use Rattle.picture_codec.specs.Encoding.{picture_bytes}
+use Rattle.stream_units.specs.Encoded.{header_unit, picture_unit, end_unit, AreSlices, IsSliced}
 use Rattle.stream_units.proofs.EncodedPieces.{moves_then, moves_none, moves_word}
 use Rattle.stream_units.proofs.EncodedParts.{moves_head, moves_header, moves_checked, moves_params, moves_slices}
 

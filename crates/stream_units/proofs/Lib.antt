@@ -32,3 +32,4 @@ pub mod WrittenShapes
 pub mod WriterCalls
 pub mod WrittenSlices
 pub mod EncodedPictures
+pub mod SameShapes

@@ -1,8 +1,7 @@
 -- The stream that an encoder writes: a sequence header, a unit for each picture, and the end of the sequence. Next offsets
 -- are the units' lengths, that of the end is 0; previous offsets are true. The slices of a picture are given as bytes.
 use Rattle.std.specs.Prelude.{◌≡◌, ℕ, ◌+◌, ◌%◌, ◌^◌, ◌<◌, List, [], ◌∷◌, ◌++◌, length, map, None}
-use Rattle.std.specs.List.{AllByRecursion, concat}
-use Rattle.std.specs.Int.{w32, to_be_bytes}
+use Rattle.std.specs.List.{AllByRecursion}
 use Rattle.field_rows.specs.Rows.{first_broken}
 use Rattle.parse_info.specs.declared.Code.TheVariants.{SequenceHeader, EndOfSequence, LowDelayPicture}
 use Rattle.parse_info.specs.Head.{head_bytes}
@@ -11,7 +10,8 @@ use Rattle.sequence_header.specs.Bytes.{header_len, header_bytes}
 use Rattle.sequence_header.specs.Checking as checking
 use Rattle.slice_geometry.specs.Slicing.{slice_count}
 use Rattle.transform_params.specs.Params.{Params}
-use Rattle.transform_params.specs.Fields.{unit_length, params_bytes, IsLawful}
+use Rattle.transform_params.specs.Fields.{unit_length, IsLawful}
+use Rattle.picture_codec.specs.Encoding.{picture_bytes}
 use Rattle.stream_units.specs.Units.{DataUnit, Sequence, Picture, End, share, slice_rules}
 use Rattle.stream_units.specs.Streams.{Entry, IsStream}
 
@@ -20,10 +20,6 @@ use Rattle.stream_units.specs.Streams.{Entry, IsStream}
 -- the first unit: its next offset is its length
 abbrev pub header_unit : HeaderParts → List ℕ
 header_unit parts = head_bytes (record { code = SequenceHeader; next = 13 + header_len parts; previous = 0 }) ++ header_bytes parts
-
--- the payload of a picture: its number, the parameters, the slices
-abbrev pub picture_bytes : Params → ℕ → List (List ℕ) → List ℕ
-picture_bytes p number slices = to_be_bytes w32 number ++ (params_bytes p ++ concat slices)
 
 -- the unit of a picture, behind a unit of so many bytes
 abbrev pub picture_unit : Params → ℕ → ℕ → List (List ℕ) → List ℕ

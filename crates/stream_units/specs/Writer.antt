@@ -1,9 +1,11 @@
 -- A writer of a stream to any sink.
-use Rattle.std.specs.Prelude.{◌≡◌, ◌≤◌, ◌<◌, ℕ, ◌+◌, ◌%◌, ◌^◌, Bool, true, false, nat_lt, if◌then◌else◌, List, [], ◌∷◌, ◌++◌, length, Option, Some, None, Result, Ok, Err}
+use Rattle.std.specs.Prelude.{◌≡◌, ◌≤◌, ◌<◌, ℕ, ◌+◌, ◌%◌, ◌^◌, Bool, true, false, nat_lt, if◌then◌else◌, List, [], ◌∷◌, ◌++◌, length, max, Option, Some, None, Result, Ok, Err}
 use Rattle.std.specs.Io.KnownBytes.{Appends}
 use Rattle.vc2_io.specs.Outside.{Rose, GrewShort}
 use Rattle.sequence_header.specs.declared.parts.HeaderParts.{HeaderParts}
 use Rattle.sequence_header.specs.Bytes.{header_len}
+use Rattle.sequence_header.specs.Coding.{luma_depth, colour_depth}
+use Rattle.slice_encoder.specs.Laws.{IsSteepOk}
 use Rattle.slice_geometry.specs.declared.unit_list.UnitShape.{UnitShape}
 use Rattle.slice_geometry.specs.Units as shapes
 use Rattle.slice_geometry.specs.Slicing.{slice_count}
@@ -110,13 +112,17 @@ pub record WritesEnd (old new : WriterState) (out0 out1 : Option (List ℕ)) (re
   pub after : new ≡ leaves old (after_end old) result
   pub why : EndStops result
 
--- How a start came out.
+-- the matrix leaves index 127 coarse enough for every picture of the header's shape
+abbrev pub IsSteepUnder : Settings → Type 0
+IsSteepUnder s = IsSteepOk s.params.slicing.depth (max (luma_depth s.parts) (colour_depth s.parts)) s.params.matrix
+
+-- How a start came out; want of memory alone is free.
 abbrev pub Starts : Settings → Option (List ℕ) → Option (List ℕ) → Result WriterState WriteStop → Type 0
-Starts s out0 out1 (Ok w) = (w ≡ started s) × Appends out0 out1 (header_unit s.parts)
-Starts s out0 out1 (Err stops.OutFault) = GrewShort out0 out1 (header_unit s.parts)
+Starts s out0 out1 (Ok w) = (w ≡ started s) × IsSteepUnder s × Appends out0 out1 (header_unit s.parts)
+Starts s out0 out1 (Err stops.OutFault) = IsSteepUnder s × GrewShort out0 out1 (header_unit s.parts)
+Starts s out0 out1 (Err stops.MatrixTooSteep) = (IsSteepUnder s → ⊥) × (out1 ≡ out0)
 Starts s out0 out1 (Err stops.NoMemory) = out1 ≡ out0
 Starts s out0 out1 (Err stops.StreamTooLong) = ⊥
-Starts s out0 out1 (Err stops.MatrixTooSteep) = ⊥
 
 -- a failed write has its cause, and without one the count stands still
 abbrev pub WriteCause : {X : Type 0} → ℕ → ℕ → Result X WriteStop → Type 0

@@ -10,7 +10,6 @@ mod judging;
 mod laws;
 mod limits;
 mod parts;
-mod payload_encoder;
 mod pictures;
 mod reader;
 pub mod reason;
@@ -29,7 +28,6 @@ pub use judging::{Verdict, judge};
 pub use laws::{
     no_more_units_than_bytes, one_answer, reading_is_the_relations, units_stand_whatever_follows,
 };
-pub use payload_encoder::PayloadEncoder;
 pub use reader::StreamReader;
 pub use reason::{Reason, Refusal};
 pub use stop::{Item, ReadStop};

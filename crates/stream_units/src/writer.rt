@@ -2,15 +2,16 @@
 
 ghost use Rattle.std.specs.Prelude.{◌≡◌, ◌%◌, ◌≤◌, Err, Some, None, true, false, IfSome};
 ghost use Rattle.transform_params.specs.Views.{params_of};
+ghost use Rattle.sequence_header.specs.Coding.{IsShapeOf};
+ghost use Rattle.picture_codec.specs.Encoding.{slices_of};
 ghost use Rattle.stream_units.specs.Writer.{Starts, WritesPicture, WritesEnd, WriteCause};
 
-use crate::payload_encoder::PayloadEncoder;
 use crate::write_stop::WriteStop;
 use crate::written_units::{
     end_unit, picture_shape, plain_shape, write_header_unit, write_picture_unit,
 };
 use parse_info::Chain;
-use picture_codec::Picture;
+use picture_codec::{EncoderFault, Picture, PictureEncoder};
 use sequence_header::SequenceHeader;
 use slice_geometry::UnitShapes;
 use std::alloc::Global;
@@ -30,6 +31,7 @@ const FIRST_UNIT: usize = 13 + 237;
 pub struct StreamWriter {
     header: SequenceHeader,
     params: TransformParams,
+    encoder: PictureEncoder,
     first: u32,
     chain: Chain,
     number: u32,
@@ -44,18 +46,19 @@ impl Model for StreamWriter {
     ghost use Rattle.transform_params.specs.Views.{params_of};
     ghost use Rattle.transform_params.specs.Fields.{unit_length};
     ghost use Rattle.stream_units.specs.Writer.{WriterState};
-    ghost use Rattle.stream_units.specs.WriterInside.{IsSound};
+    ghost use Rattle.stream_units.specs.WriterInside.{IsSound, Encodes};
 
     ghost Value = { WriterState };
 
     ghost view = { λ w. record { settings = record { parts = w.header; params = params_of w.params; first = w.first }; shapes = w.shapes.units; ended = w.ended; stop = w.stop } };
 
-    ghost invariant = { λ w. IsSound w.first w.chain w.number w.shapes w.stop w.ended × (length w.buffer.items ≡ unit_length (params_of w.params)) };
+    ghost invariant = { λ w. IsSound w.first w.chain w.number w.shapes w.stop w.ended × (length w.buffer.items ≡ unit_length (params_of w.params)) × Encodes w.header (params_of w.params) w.encoder };
 }
 
 impl StreamWriter {
     /// Writes the sequence header unit. Where pictures are fields, the number of the first one is even. The pictures will
-    /// have these parameters.
+    /// have these parameters. `MatrixTooSteep` comes exactly where an entry of the quantisation matrix is too great for the
+    /// header's depths.
     pub fn start<K: Sink>(
         alloc: Global,
         header: &SequenceHeader,
@@ -67,6 +70,11 @@ impl StreamWriter {
         ensures starts { Starts (record { parts = header.now; params = params_of params.now; first = first }) (K.written sink.old) (K.written sink.new) result }
         ensures cause { WriteCause (K.faults sink.old) (K.faults sink.new) result }
     {
+        let encoder = match PictureEncoder::new(alloc, &header.picture_shape(), params) {
+            Ok(made) => made,
+            Err(EncoderFault::MatrixTooSteep) => return Err(WriteStop::MatrixTooSteep),
+            Err(EncoderFault::NoMemory) => return Err(WriteStop::NoMemory),
+        };
         let mut shapes = UnitShapes::new(alloc);
         if shapes.reserve(1).is_err() {
             return Err(WriteStop::NoMemory);
@@ -89,6 +97,7 @@ impl StreamWriter {
         Ok(StreamWriter {
             header: *header,
             params: *params,
+            encoder,
             first,
             chain,
             number: first,
@@ -99,19 +108,12 @@ impl StreamWriter {
         })
     }
 
-    /// Writes the unit of a picture of the encoder's shape, whose number is the next one. Where the unit and the end don't
+    /// Writes the unit of a picture of the header's shape, whose number is the next one. Where the unit and the end don't
     /// fit into 2^40 bytes or memory is wanting, nothing is written.
-    pub fn picture<E: PayloadEncoder, K: Sink>(
-        &mut self,
-        encoder: &mut E,
-        picture: &Picture,
-        sink: &mut K,
-    ) -> Result<(), WriteStop>
+    pub fn picture<K: Sink>(&mut self, picture: &Picture, sink: &mut K) -> Result<(), WriteStop>
         requires open { self.old.ended ≡ false }
-        requires shape { picture.now.shape ≡ E.shape encoder.old }
-        requires params { E.params encoder.old ≡ self.old.settings.params }
-        ensures same_encoder { (E.shape encoder.new ≡ E.shape encoder.old) × (E.params encoder.new ≡ E.params encoder.old) × (E.slices encoder.new ≡ E.slices encoder.old) }
-        ensures picture { self.old.stop ≡ None → WritesPicture self.old self.new (E.slices encoder.old picture.now.samples) (K.written sink.old) (K.written sink.new) result }
+        requires shape { IsShapeOf picture.now.shape self.old.settings.parts }
+        ensures picture { self.old.stop ≡ None → WritesPicture self.old self.new (slices_of picture.now.shape self.old.settings.params picture.now.samples) (K.written sink.old) (K.written sink.new) result }
         ensures cause { self.old.stop ≡ None → WriteCause (K.faults sink.old) (K.faults sink.new) result }
         ensures kept { IfSome self.old.stop (λ stop. (result ≡ Err stop) × (self.new ≡ self.old) × (K.written sink.new ≡ K.written sink.old) × (K.faults sink.new ≡ K.faults sink.old)) }
     {
@@ -128,7 +130,7 @@ impl StreamWriter {
             return Err(WriteStop::NoMemory);
         }
         let unit = self.buffer.as_mut_slice();
-        write_picture_unit(encoder, picture, self.chain.previous(), self.number, unit);
+        write_picture_unit(&mut self.encoder, picture, self.chain.previous(), self.number, unit);
         match write_whole(sink, unit) {
             Ok(()) => {}
             Err(_) => {

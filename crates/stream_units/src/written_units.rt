@@ -5,12 +5,12 @@ ghost use Rattle.sequence_header.specs.Bytes.{header_len};
 ghost use Rattle.slice_geometry.specs.Units.{IsUnitAllowed};
 ghost use Rattle.transform_params.specs.Fields.{unit_length};
 ghost use Rattle.transform_params.specs.Views.{params_of};
+ghost use Rattle.picture_codec.specs.Encoding.{slices_of};
 ghost use Rattle.stream_units.specs.Encoded.{header_unit, picture_unit, end_unit};
 ghost use Rattle.stream_units.specs.Writer.{picture_shape, plain_shape};
 
-use crate::payload_encoder::PayloadEncoder;
 use parse_info::{Code, ParseInfo};
-use picture_codec::Picture;
+use picture_codec::{Picture, PictureEncoder};
 use sequence_header::SequenceHeader;
 use slice_geometry::UnitShape;
 use transform_params::TransformParams;
@@ -32,18 +32,18 @@ pub(crate) fn write_header_unit(header: &SequenceHeader, unit: &mut [u8])
 }
 
 /// Puts the unit of a picture into a buffer of its length.
-pub(crate) fn write_picture_unit<E: PayloadEncoder>(
-    encoder: &mut E,
+pub(crate) fn write_picture_unit(
+    encoder: &mut PictureEncoder,
     picture: &Picture,
     previous: u32,
     number: u32,
     unit: &mut [u8],
 )
-    requires shape { picture.now.shape ≡ E.shape encoder.old }
-    requires long { length unit.old ≡ unit_length (E.params encoder.old) }
+    requires shape { picture.now.shape ≡ encoder.old.shape }
+    requires long { length unit.old ≡ unit_length encoder.old.params }
     requires small { length unit.old < 2 ^ 32 }
-    ensures unit { unit.new ≡ picture_unit (E.params encoder.old) previous number (E.slices encoder.old picture.now.samples) }
-    ensures same_encoder { (E.shape encoder.new ≡ E.shape encoder.old) × (E.params encoder.new ≡ E.params encoder.old) × (E.slices encoder.new ≡ E.slices encoder.old) }
+    ensures unit { unit.new ≡ picture_unit encoder.old.params previous number (slices_of encoder.old.shape encoder.old.params picture.now.samples) }
+    ensures same_encoder { encoder.new ≡ encoder.old }
 {
     let mut head = [0; 13];
     let info = ParseInfo {

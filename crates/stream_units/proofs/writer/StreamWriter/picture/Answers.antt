@@ -5,7 +5,10 @@ use Rattle.slice_geometry.specs.declared.unit_list.UnitShape.{UnitShape}
 use Rattle.slice_geometry.specs.Units as shapes
 use Rattle.transform_params.specs.Params.{Params}
 use Rattle.transform_params.specs.Views.{params_of}
+use Rattle.sequence_header.specs.Coding.{IsShapeOf}
+use Rattle.picture_codec.specs.Encoding.{slices_of}
 use Rattle.stream_units.specs.Encoded.{picture_unit}
+use Rattle.stream_units.proofs.SameShapes.{one_shape}
 use Rattle.stream_units.specs.Writer.{WriterState, WritesPicture, picture_shape, total_length, next_number, next_previous}
 use Rattle.stream_units.proofs.WrittenShapes.{sound_picture, picture_length}
 use Rattle.stream_units.proofs.writer.StreamWriter.picture.Goals as goal
@@ -27,16 +30,17 @@ returns-clause-picture g c no_stop =
     let out0 = g.K.Sink.written c.args.sink.now in
     let out1 = g.K.Sink.written c.write_whole.new.sink in
     let p = params_of c.self.inside.params in
-    let slices = g.E.PayloadEncoder.slices c.args.encoder.now c.args.picture.now.samples in
+    let slices = slices_of c.args.picture.now.shape p c.args.picture.now.samples in
+    let shape = one_shape c.self.inside.header c.self.inside.encoder.shape c.args.picture.now.shape c.self.invariant.2.shape (subst (λ (w : WriterState). IsShapeOf c.args.picture.now.shape w.settings.parts) (sym c.self.view_is) c.requires.shape) in
     let units = c.self.inside.shapes.units in
     let old : WriterState = record { settings = record { parts = c.self.inside.header; params = p; first = c.self.inside.first }; shapes = units; ended = c.self.inside.ended; stop = c.self.inside.stop } in
     let new : WriterState = record old { shapes = c.push.new.self.units } in
     let list : c.push.new.self.units ≡ units ++ picture_shape p (total_length units) ∷ [] =
     c.push.ensures.units ∙ ap (λ l. l ++ c.picture_shape-shape.result ∷ []) c.reserve.ensures.units
     ∙ ap (λ u. units ++ u ∷ []) (c.picture_shape-shape.ensures.shape ∙ ap (picture_shape p) (c.place-2.ensures.value ∙ c.self.invariant.0.place ∙ c.self.invariant.0.total)) in
-    let params : g.E.PayloadEncoder.params c.args.encoder.now ≡ p = c.requires.params ∙ ap (λ (w : WriterState). w.settings.params) (sym c.self.view_is) in
     let unit : c.write_picture_unit.new.unit ≡ picture_unit p (next_previous old) (next_number old) slices =
-    c.write_picture_unit.ensures.unit ∙ ap (λ q. picture_unit q c.previous.result c.self.inside.number slices) params
+    c.write_picture_unit.ensures.unit ∙ ap (λ q. picture_unit q c.previous.result c.self.inside.number (slices_of c.self.inside.encoder.shape q c.args.picture.now.samples)) c.self.invariant.2.params
+    ∙ ap (λ z. picture_unit p c.previous.result c.self.inside.number (slices_of z p c.args.picture.now.samples)) shape
     ∙ ap (λ n. picture_unit p n c.self.inside.number slices) (c.previous.ensures ∙ c.self.invariant.0.previous)
     ∙ ap (λ n. picture_unit p (next_previous old) n slices) c.self.invariant.0.number_is in
     let here : WritesPicture old new slices out0 out1 (Ok tt) = record {
