@@ -1,4 +1,4 @@
-use Rattle.std.proofs.Common.{◌≡◌, ◌≤◌, ◌∙◌, ap, arith}
+use Rattle.std.proofs.Common.{◌∙◌, ap, arith}
 use Rattle.stream_units.specs.Units.{Past}
 use Rattle.stream_units.proofs.Answering.{after-place}
 use Rattle.vc2_cli.proofs.check.CheckingUnitCommandStreamReader.turn.Goals as goal
