@@ -3,6 +3,10 @@
 #![tactic(auto)]
 
 #[cfg(test)]
+mod analysis;
+#[cfg(test)]
+mod block_writing;
+#[cfg(test)]
 mod blocks;
 #[cfg(test)]
 mod codes;
@@ -12,6 +16,8 @@ mod heads;
 mod layouts;
 #[cfg(test)]
 mod parameters;
+#[cfg(test)]
+mod picture_writing;
 #[cfg(test)]
 mod pictures;
 #[cfg(test)]
@@ -23,9 +29,15 @@ mod quantisers;
 #[cfg(test)]
 mod raw_pictures;
 #[cfg(test)]
+mod raw_reading;
+#[cfg(test)]
 mod same;
 #[cfg(test)]
+mod schedules;
+#[cfg(test)]
 mod sequence_headers;
+#[cfg(test)]
+mod slice_writing;
 #[cfg(test)]
 mod slices;
 #[cfg(test)]

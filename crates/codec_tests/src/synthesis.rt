@@ -56,7 +56,7 @@ fn are_bands(bands: &Bands, level: u32, w: u32, h: u32) -> bool
 }
 
 // Whether `synth` may be called.
-fn can_synth(bands: &Bands, plane: &Plane, scratch: &Plane) -> bool
+pub(crate) fn can_synth(bands: &Bands, plane: &Plane, scratch: &Plane) -> bool
     ensures sizes { result ≡ true → AgreeInSize bands.now plane.now scratch.now }
     ensures small { result ≡ true → AreSmall bands.now plane.now }
 {
@@ -104,7 +104,7 @@ fn levels_in_place(rt: HostRuntime) -> Result<(), Fail> {
 }
 
 // Whether a band is there.
-fn exists(depth: u32, level: u32, orient: u32) -> bool
+pub(crate) fn exists(depth: u32, level: u32, orient: u32) -> bool
     ensures { result ≡ true → BandExists depth level orient }
 {
     if level == 0 {

@@ -5,3 +5,13 @@ pub mod Sizes
 pub mod Steps
 pub mod Whole
 pub mod WorkedPictures
+pub mod ReadBack
+pub mod WrittenValues
+pub mod WrittenBands
+pub mod WrittenPictures
+pub mod AnalysedBands
+pub mod ChosenSlices
+pub mod WrittenPasses
+pub mod WrittenChosen
+pub mod CodedBands
+pub mod Runs

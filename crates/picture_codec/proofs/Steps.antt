@@ -19,10 +19,11 @@ use Rattle.planes.specs.declared.Trio.{Trio}
 use Rattle.slice_geometry.specs.declared.PictureShape.{PictureShape}
 use Rattle.slice_geometry.specs.declared.SliceHead.{SliceHead}
 use Rattle.quant_factors.specs.Weights.{Weights}
-use Rattle.slice_decoder.specs.Slice.{Slice, level_rect, place_number, slice_at, luma_values, colour_values, are_small}
+use Rattle.slice_decoder.specs.Slice.{Slice, slice_at, luma_values, colour_values, are_small}
+use Rattle.slice_geometry.specs.SliceOrder.{level_rect, place_number}
 use Rattle.slice_decoder.specs.Decoded.{IsReady, AreReady, HoldsSlice, KeepsOthers, AllKeepOthers, IsDecoded}
 use Rattle.slice_decoder.proofs.Dealt.{are_small-at, and-left, and-right}
-use Rattle.slice_decoder.proofs.Stacks.{end_inside}
+use Rattle.slice_geometry.proofs.RectsInBands.{end_inside}
 use Rattle.transform_params.specs.Params.{Params}
 use Rattle.picture_codec.specs.Pictures.{Frame, size_of, slice_value}
 use Rattle.picture_codec.specs.Taking.{holder, TakesSlice}

@@ -12,7 +12,7 @@ use Rattle.slice_geometry.specs.Slicing.{Slicing, AreSlicesAllowed, slice_number
 use Rattle.slice_geometry.specs.Geometry.{band_size, holding}
 use Rattle.slice_geometry.proofs.Places.{held, alone, holding_below}
 use Rattle.slice_geometry.proofs.Quotients.{div-rises}
-use Rattle.slice_decoder.specs.Slice.{level_rect}
+use Rattle.slice_geometry.specs.SliceOrder.{level_rect}
 use Rattle.dc_prediction.specs.Prediction.{prediction, restored}
 use Rattle.dc_prediction.proofs.Bands.{is_restored, restored_same}
 use Rattle.dc_prediction.proofs.PredictionLemmas.{prediction_same}

@@ -6,7 +6,8 @@ use Rattle.slice_geometry.specs.declared.Component.{Component}
 use Rattle.slice_geometry.specs.declared.Component.TheVariants.{Luma, C1, C2}
 use Rattle.slice_geometry.specs.Slicing.{slice_number}
 use Rattle.slice_geometry.specs.Geometry.{band_size, holding}
-use Rattle.slice_decoder.specs.Slice.{slice_at, luma_values, colour_values, place_number}
+use Rattle.slice_decoder.specs.Slice.{slice_at, luma_values, colour_values}
+use Rattle.slice_geometry.specs.SliceOrder.{place_number}
 use Rattle.dc_prediction.specs.Prediction.{restored}
 use Rattle.lifting.specs.Transform.{Grid, Coefficients, synthesis}
 use Rattle.transform_params.specs.Params.{Params}

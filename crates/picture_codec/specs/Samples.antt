@@ -1,5 +1,5 @@
 -- The samples of a component and of a picture.
-use Rattle.std.specs.Prelude.{◌≡◌, ℕ, ◌+◌, ◌*◌, ◌/◌, ◌%◌, ◌^◌, ◌<◌, List, map, replicate, slice_index_or, slice_set}
+use Rattle.std.specs.Prelude.{◌≡◌, ℕ, ◌+◌, ◌*◌, ◌/◌, ◌%◌, ◌^◌, ◌<◌, ◌++◌, List, length, take, drop, map, replicate, slice_index_or, slice_set}
 use Rattle.std.specs.List.{range_with_len}
 use Rattle.slice_geometry.specs.declared.Component.{Component}
 use Rattle.slice_geometry.specs.declared.Component.TheVariants.{Luma, C1, C2}
@@ -31,11 +31,19 @@ blank size = record { w = size.w; h = size.h; cells = replicate (size.h * size.w
 abbrev pub with_sample : SampleRows → ℕ → ℕ → ℕ → SampleRows
 with_sample s y x v = record s { cells = slice_set s.cells (y * s.w + x) v }
 
+-- samples from one place on, row by row, and all else as it was
+abbrev pub with_run : SampleRows → ℕ → List ℕ → SampleRows
+with_run s from samples = record s { cells = take from s.cells ++ (samples ++ drop (from + length samples) s.cells) }
+
+-- each number is below m
+abbrev pub AreBelow : ℕ → List ℕ → Type 0
+AreBelow m cells = (k : ℕ) → slice_index_or cells k 0 < m
+
 -- samples of a component of this size, each of so many bits
 pub record AreSamples (size : Size) (depth : ℕ) (s : SampleRows) : Type 0 where
   pub width : s.w ≡ size.w
   pub height : s.h ≡ size.h
-  pub small : (k : ℕ) → slice_index_or s.cells k 0 < 2 ^ depth
+  pub small : AreBelow (2 ^ depth) s.cells
 
 -- A picture: the samples of its components.
 pub record PictureSamples : Type 0 where

@@ -7,7 +7,7 @@ use Rattle.slice_geometry.specs.declared.Size.{Size}
 use Rattle.slice_geometry.specs.declared.Component.{Component}
 use Rattle.slice_geometry.specs.Slicing.{Slicing, slice_number}
 use Rattle.slice_geometry.specs.Geometry.{band_size, holding}
-use Rattle.slice_decoder.specs.Slice.{level_rect}
+use Rattle.slice_geometry.specs.SliceOrder.{level_rect}
 use Rattle.dc_prediction.specs.Prediction.{prediction, restored}
 use Rattle.transform_params.specs.Params.{Params}
 use Rattle.picture_codec.specs.Pictures.{Frame, size_of, slice_value, coefficient}

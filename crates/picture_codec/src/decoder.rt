@@ -9,66 +9,14 @@ ghost use Rattle.picture_codec.specs.Samples.{frame_of, picture_of};
 ghost use Rattle.picture_codec.specs.Decoding.{AreTaken, ArePadded, AreNewBands, IsNewDecoder, IsTaken, IsSliceRefused, HasTaken, with_synthesised, synthesised_picture, wanted_of};
 
 use crate::picture::Picture;
+use crate::workspace::{Workspace, size_of, zero_trio};
 use lifting::synth;
-use planes::{Bands, NoMemory, Plane, Trio};
+use planes::{Bands, NoMemory, Trio};
 use slice_decoder::{SliceFault, decode_slice};
 use slice_geometry::{Component, Layout, PictureShape, Size};
 use std::alloc::Global;
 use std::marker::Model;
 use transform_params::TransformParams;
-
-// Two planes of a component's padded size, for synthesis.
-#[derive(Drop)]
-struct Workspace {
-    plane: Plane,
-    scratch: Plane,
-}
-
-impl Workspace {
-    fn new(alloc: Global, layout: &Layout, size: Size) -> Result<Workspace, NoMemory>
-        requires { IsSize size.w size.h }
-        ensures { IfOk result (λ w. ArePadded layout.now size w.plane w.scratch) }
-    {
-        // The rules of a layout.
-        let _ = layout.depth();
-        let padded = layout.padded_size(size);
-        Ok(Workspace {
-            plane: Plane::new(alloc, padded.w, padded.h)?,
-            scratch: Plane::new(alloc, padded.w, padded.h)?,
-        })
-    }
-}
-
-// The bands of a component, all zero.
-fn zero_bands(alloc: Global, layout: &Layout, size: Size) -> Result<Bands, NoMemory>
-    requires { IsSize size.w size.h }
-    ensures { IfOk result (AreNewBands layout.now size) }
-{
-    let padded = layout.padded_size(size);
-    Bands::new(alloc, layout.depth(), padded.w, padded.h)
-}
-
-// The bands of the three components, all zero.
-fn zero_trio(alloc: Global, layout: &Layout, shape: &PictureShape) -> Result<Trio, NoMemory>
-    ensures { IfOk result (λ bands. AreNewBands layout.now shape.now.luma bands.luma × AreNewBands layout.now shape.now.colour bands.c1 × AreNewBands layout.now shape.now.colour bands.c2) }
-{
-    Ok(Trio {
-        luma: zero_bands(alloc, layout, shape.luma)?,
-        c1: zero_bands(alloc, layout, shape.colour)?,
-        c2: zero_bands(alloc, layout, shape.colour)?,
-    })
-}
-
-// The size of a component.
-fn size_of(shape: &PictureShape, c: Component) -> Size
-    ensures value { result ≡ pictures.size_of (frame_of shape.now) c }
-    ensures allowed { IsSize result.w result.h }
-{
-    match c {
-        Component::Luma => shape.luma,
-        Component::C1 | Component::C2 => shape.colour,
-    }
-}
 
 // The samples of a component from its bands.
 fn show_component(

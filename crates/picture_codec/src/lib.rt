@@ -1,12 +1,16 @@
-//! Whole pictures: their samples, and the decoder that makes them of slices.
+//! Whole pictures: their samples, the decoder that makes them of slices, and the encoder that writes slices of them.
 #![tactic(auto)]
 
+pub mod closed_loop;
 mod decoder;
+mod encoder;
 pub mod laws;
 mod picture;
 mod samples;
+mod workspace;
 
 pub use decoder::PictureDecoder;
+pub use encoder::{EncoderFault, PictureEncoder};
 pub use picture::Picture;
 pub use slice_decoder::SliceFault;
 pub use transform_params::{TransformFault, TransformParams, TransformReason};

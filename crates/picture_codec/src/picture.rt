@@ -1,8 +1,9 @@
 //! A picture.
 
-ghost use Rattle.std.specs.Prelude.{◌≡◌, ◌*◌, ◌^◌, ◌<◌, ◌≤◌, length, IfOk};
+ghost use Rattle.std.specs.Prelude.{◌≡◌, ◌+◌, ◌*◌, ◌^◌, ◌<◌, ◌≤◌, length, IfOk};
+ghost use Rattle.std.specs.List.{All};
 ghost use Rattle.planes.specs.Raster.{height, at};
-ghost use Rattle.picture_codec.specs.Samples.{PictureSeen, blank_picture, shown, width_of, height_of, bits_of, sample_at, with_sample, with_component, with_shown};
+ghost use Rattle.picture_codec.specs.Samples.{AreBelow, PictureSeen, blank_picture, shown, width_of, height_of, bits_of, sample_at, with_sample, with_run, with_component, with_shown};
 
 use crate::samples::Samples;
 use planes::{NoMemory, Plane};
@@ -55,6 +56,7 @@ impl Picture {
         ensures value { result.now ≡ shown self.now c }
         ensures width { result.now.w ≡ width_of self.now c }
         ensures height { result.now.h ≡ height_of self.now c }
+        ensures below { AreBelow (2 ^ bits_of self.now c) result.now.cells }
     {
         match c {
             Component::Luma => &self.luma,
@@ -73,9 +75,13 @@ impl Picture {
     }
 
     /// All samples of a component, row by row from the top.
+    #[tactic(auto, using(crate::proofs::Runs::all_are_below))]
     pub fn samples(&self, c: Component) -> &[u16]
         ensures value { result.now ≡ (shown self.now c).cells }
+        ensures width { (shown self.now c).w ≡ width_of self.now c }
+        ensures height { (shown self.now c).h ≡ height_of self.now c }
         ensures count { length result.now ≡ height_of self.now c * width_of self.now c }
+        ensures below { All (λ v. v < 2 ^ bits_of self.now c) result.now }
     {
         self.component(c).cells()
     }
@@ -91,6 +97,19 @@ impl Picture {
             Component::Luma => self.luma.set(y, x, v as u16),
             Component::C1 => self.c1.set(y, x, v as u16),
             Component::C2 => self.c2.set(y, x, v as u16),
+        }
+    }
+
+    /// Puts samples into a component's places from `from` on, row by row from the top, and leaves all else.
+    pub fn put_samples(&mut self, c: Component, from: usize, samples: &[u16])
+        requires inside { from + length samples.now ≤ height_of self.old c * width_of self.old c }
+        requires small { All (λ v. v < 2 ^ bits_of self.old c) samples.now }
+        ensures { self.new ≡ record self.old { samples = with_component self.old.samples c (with_run (shown self.old c) from samples.now) } }
+    {
+        match c {
+            Component::Luma => self.luma.put(from, samples),
+            Component::C1 => self.c1.put(from, samples),
+            Component::C2 => self.c2.put(from, samples),
         }
     }
 

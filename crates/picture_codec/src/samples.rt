@@ -5,7 +5,7 @@ ghost use Rattle.std.specs.Int.{int_min, int_max};
 ghost use Rattle.planes.specs.Raster.{height, at};
 ghost use Rattle.slice_geometry.specs.Shape.{IsSize, IsDepth};
 ghost use Rattle.picture_codec.specs.Pictures.{sample_of};
-ghost use Rattle.picture_codec.specs.Samples.{sample_at, with_sample, tabulated, blank};
+ghost use Rattle.picture_codec.specs.Samples.{sample_at, with_sample, with_run, tabulated, blank};
 
 use planes::{NoMemory, Plane};
 use slice_geometry::Size;
@@ -60,7 +60,7 @@ fn offset(v: i64, half: i64) -> u16
 
 // Half of the numbers of so many bits.
 #[tactic(auto, using(crate::proofs::Halves::half_some, crate::proofs::Halves::half_most))]
-fn half_range(depth: u32) -> i64
+pub(crate) fn half_range(depth: u32) -> i64
     requires { IsDepth depth }
     ensures value { result ≡ pos (2 ^ (depth - 1)) }
     ensures some { pos 1 ≤ℤ result }
@@ -111,6 +111,14 @@ impl Samples {
         ensures { self.new ≡ with_sample self.old y x v }
     {
         self.cells[(y * self.w + x) as usize] = v;
+    }
+
+    /// Puts samples into the places from `from` on, row by row, and leaves all else.
+    pub fn put(&mut self, from: usize, samples: &[u16])
+        requires { from + length samples.now ≤ self.old.h * self.old.w }
+        ensures { self.new ≡ with_run self.old from samples.now }
+    {
+        self.cells[from..from + samples.len()].copy_from_slice(samples);
     }
 
     /// All samples, row by row from the top.

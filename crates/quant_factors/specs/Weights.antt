@@ -14,3 +14,7 @@ entry_of m level orient = slice_index m.entries (band_index level orient)
 -- the slice's index less the entry, or 0
 abbrev pub quantiser_of : ℕ → ℕ → ℕ
 quantiser_of qindex entry = qindex - entry
+
+-- the quantisation index of a band in a slice of this index (13.5.5 slice_quantizers)
+abbrev pub band_quantiser : Weights → ℕ → ℕ → ℕ → ℕ
+band_quantiser matrix qindex level orient = quantiser_of qindex (entry_of matrix level orient)

@@ -1,1 +1,3 @@
 pub mod RawText
+pub mod RawParse
+pub mod Reading

@@ -22,12 +22,13 @@ use Rattle.slice_geometry.specs.Slicing.{Slicing, length_bits}
 use Rattle.slice_geometry.specs.Geometry.{padded_length}
 use Rattle.slice_geometry.proofs.Lengths.{padded_most}
 use Rattle.quant_factors.specs.Weights.{Weights}
-use Rattle.slice_decoder.specs.Slice.{Slice, level_rect, place_count, place_number, quantisers, dequantised, are_small, slice_at, luma_values, colour_values}
+use Rattle.slice_decoder.specs.Slice.{Slice, quantisers, dequantised, are_small, slice_at, luma_values, colour_values}
+use Rattle.slice_geometry.specs.SliceOrder.{level_rect, place_count, place_number, numbered}
 use Rattle.slice_decoder.specs.Dealing.{dealt, KeepsOutside}
-use Rattle.slice_decoder.specs.Components.{Part, part_of, numbered, rect_of, quantisers_before, BandsHold, BandsKeep}
+use Rattle.slice_decoder.specs.Components.{Part, part_of, rect_of, quantisers_before, BandsHold, BandsKeep}
 use Rattle.slice_decoder.specs.Decoded.{IsReady, HoldsSlice, KeepsOthers}
 use Rattle.slice_decoder.proofs.Dealt.{dequantised-values, are_small-at}
-use Rattle.slice_decoder.proofs.Stacks.{FitsIn, fits}
+use Rattle.slice_geometry.proofs.RectsInBands.{FitsIn, fits}
 use Rattle.slice_decoder.proofs.Whole.{quantisers-are, length-to_level, is_band, place-holds}
 
 pub lt_tests : (m n : ℕ) → m < n → nat_lt m n ≡ true
@@ -107,7 +108,7 @@ pub can-restore : (each from : ℕ) (p : Part) (block : List Bool) (old b : Band
     → CanRestore rect (numbered b 0)
 can-restore each from p block old b rect lt rect_is deep size across down ready held small =
     let lowest = held.bands 0 (omega arith) in
-    let inside : FitsIn rect (numbered old 0) = fits p 0 rect old (numbered old 0) rect_is refl (omega arith) ready.depth across down ready.sizes in
+    let inside : FitsIn rect (numbered old 0) = fits p.slicing p.size p.sx p.sy 0 rect old (numbered old 0) rect_is refl (omega arith) ready.depth across down ready.sizes in
     let width : (numbered old 0).w ≡ padded_length old.depth p.size.w / 2 ^ old.depth = ready.sizes.widths 0 0 (inl (refl, refl)) ∙ ap (λ d. padded_length d p.size.w / 2 ^ old.depth) (sym ready.depth) in
     let tall : height (numbered old 0) ≡ padded_length old.depth p.size.h / 2 ^ old.depth = ready.sizes.heights 0 0 (inl (refl, refl)) ∙ ap (λ d. padded_length d p.size.h / 2 ^ old.depth) (sym ready.depth) in
     let shallow : old.depth ≤ 4 = omega (arith, ready.depth, deep) in

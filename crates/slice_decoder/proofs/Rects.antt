@@ -6,7 +6,7 @@ use Rattle.planes.specs.declared.Rect.{Rect}
 use Rattle.planes.specs.Raster.{Raster, height, row_of, at, with_row}
 use Rattle.planes.specs.Rect.{IsInRect}
 use Rattle.planes.proofs.RasterLemmas.{row_of-with_row_same, row_of-with_row_other, height-with_row}
-use Rattle.slice_decoder.specs.Slice.{number_in}
+use Rattle.slice_geometry.specs.SliceOrder.{number_in}
 use Rattle.slice_decoder.specs.Dealing.{dealt, behind}
 use Rattle.slice_decoder.proofs.Dealt.{grow-old, grow-new}
 

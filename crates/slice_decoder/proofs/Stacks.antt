@@ -1,49 +1,15 @@
 -- One more band of a component.
-use Rattle.std.proofs.Common.{◌≡◌, ◌≢◌, ℕ, zero, suc, ◌+◌, ◌-◌, ◌*◌, ◌<◌, ◌≤◌, List, [], ◌++◌, Bool, true, false, ◌&&◌, length, replicate, get_or, set, ℤ, refl, sym, ap, subst, ◌∙◌, inl, inr, arith, add-one, append_assoc, append-nil}
-use Rattle.std.proofs.Math.Nat.{mul-le-mul_left, div-le_of_le-mul}
+use Rattle.std.proofs.Common.{◌≡◌, ℕ, zero, suc, ◌+◌, ◌-◌, ◌*◌, ◌<◌, ◌≤◌, List, [], ◌++◌, Bool, true, false, ◌&&◌, length, replicate, ℤ, sym, ap, subst, ◌∙◌, inl, inr, arith, add-one, append_assoc, append-nil}
 use Rattle.std.proofs.lemmas.Bool.{cases_eq}
-use Rattle.std.proofs.lemmas.Bool.Decides.{nat_tests}
-use Rattle.std.proofs.lemmas.List.{get_or-set_same, get_or-set_other}
 use Rattle.planes.specs.declared.Rect.{Rect}
-use Rattle.planes.specs.Raster.{Raster, height}
-use Rattle.planes.specs.Subbands.{BandStack, BandExists, band_index, band_of, with_band, no_band, subband_length, HaveSizes}
-use Rattle.slice_geometry.specs.declared.Size.{Size}
-use Rattle.slice_geometry.specs.Geometry.{padded_length, band_size, slice_start, slice_end, slice_rect}
-use Rattle.slice_geometry.proofs.Quotients.{div-rises}
-use Rattle.quant_factors.specs.Weights.{entry_of, quantiser_of}
-use Rattle.slice_decoder.specs.Slice.{are_small, area}
+use Rattle.planes.specs.Raster.{Raster}
+use Rattle.planes.specs.Subbands.{BandStack, band_index, with_band}
+use Rattle.slice_decoder.specs.Slice.{are_small}
+use Rattle.slice_geometry.specs.SliceOrder.{area, numbered}
 use Rattle.slice_decoder.specs.Dealing.{dealt, behind, HoldsRect, KeepsOutside}
-use Rattle.slice_decoder.specs.Components.{Part, level_of, orient_of, numbered, rect_of, index_of, quantisers_of, quantisers_before, BandsHold, BandsKeep}
+use Rattle.slice_decoder.specs.Components.{Part, rect_of, index_of, quantisers_of, quantisers_before, BandsHold, BandsKeep}
+use Rattle.slice_geometry.proofs.NumberedBands.{numbered-same, numbered-other}
 use Rattle.slice_decoder.proofs.Dealt.{dealt-append, are_small-append, more-small, more-behind}
-
--- ---- numbers of bands
-
-index_above : (k : ℕ) → 1 ≤ k → band_index (level_of k) (orient_of k) ≡ k
-index_above k one = grind (arith, nat_tests)
-
-pub index-numbered : (k : ℕ) → band_index (level_of k) (orient_of k) ≡ k
-index-numbered zero = refl
-index-numbered (suc k) = index_above (suc k) (omega arith)
-
-exists_above : (depth k : ℕ) → 1 ≤ k → k < 3 * depth + 1 → BandExists depth (level_of k) (orient_of k)
-exists_above depth k one lt =
-    let low : 1 ≤ orient_of k = grind (arith, nat_tests) in
-    let high : orient_of k ≤ 3 = grind (arith, nat_tests) in
-    inr (omega arith, omega arith, low, high)
-
-pub band-exists : (depth k : ℕ) → k < 3 * depth + 1 → BandExists depth (level_of k) (orient_of k)
-band-exists depth zero lt = inl (refl, refl)
-band-exists depth (suc k) lt = exists_above depth (suc k) (omega arith) lt
-
--- ---- a stack with another band
-
-pub numbered-same : (b : BandStack) (level orient k : ℕ) (p : Raster ℤ) → band_index level orient ≡ k → k < length b.bands → numbered (with_band b level orient p) k ≡ p
-numbered-same b level orient k p is lt =
-    ap (λ j. get_or (set b.bands j p) k no_band) is ∙ get_or-set_same b.bands k p no_band lt
-
-pub numbered-other : (b : BandStack) (level orient k j : ℕ) (p : Raster ℤ) → band_index level orient ≡ k → j ≢ k → numbered (with_band b level orient p) j ≡ numbered b j
-numbered-other b level orient k j p is ne =
-    ap (λ i. get_or (set b.bands i p) j no_band) is ∙ get_or-set_other b.bands k j p no_band ne
 
 -- ---- quantisers
 
@@ -147,54 +113,3 @@ bands-hold each from p k block block' old b before after level orient index rect
         subst R (sym (numbered-other b level orient k j after is ne)) (held.bands j (omega arith))
   ];
 }
-
--- ---- rectangles in their bands
-
-pub start_before_end : (length count i : ℕ) → i < count → slice_start length count i ≤ slice_end length count i
-start_before_end length count i lt = div-rises (length * i) (length * (i + 1)) count (omega arith) (mul-le-mul_left length (omega arith))
-
-pub end_inside : (length count i : ℕ) → i < count → slice_end length count i ≤ length
-end_inside length count i lt =
-    let all : length * (i + 1) ≤ length * count = mul-le-mul_left length (omega arith) in
-    div-le_of_le-mul count {m = length * (i + 1)} {n = length} (omega (arith, all))
-
--- the rectangle of a slice lies in its band
-pub record FitsIn (rect : Rect) (p : Raster ℤ) : Type 0 where
-  pub across : rect.x0 ≤ rect.x1
-  pub down : rect.y0 ≤ rect.y1
-  pub x_inside : rect.x1 ≤ p.w
-  pub y_inside : rect.y1 ≤ height p
-
-pub fits : (p : Part) (k : ℕ) (rect : Rect) (old : BandStack) (before : Raster ℤ) → rect ≡ rect_of p k → before ≡ numbered old k → k < 3 * p.slicing.depth + 1 → old.depth ≡ p.slicing.depth → p.sx < p.slicing.slices_x → p.sy < p.slicing.slices_y
-    → HaveSizes old (padded_length p.slicing.depth p.size.w) (padded_length p.slicing.depth p.size.h) → FitsIn rect before
-fits p k rect old before rect_is before_is lt depth across down sizes =
-    let D : ℕ → Type 0 = λ d. BandExists d (level_of k) (orient_of k) in
-    let exists : BandExists old.depth (level_of k) (orient_of k) = subst D (sym depth) (band-exists p.slicing.depth k lt) in
-    let band : before ≡ band_of old (level_of k) (orient_of k) = before_is ∙ ap (λ j. get_or old.bands j no_band) (sym (index-numbered k)) in
-    let size : Size = band_size p.slicing.depth (level_of k) p.size in
-    let width : before.w ≡ size.w = ap (λ r. r.w) band ∙ sizes.widths (level_of k) (orient_of k) exists ∙ ap (λ d. subband_length d (level_of k) (padded_length p.slicing.depth p.size.w)) depth in
-    let tall : height before ≡ size.h = ap height band ∙ sizes.heights (level_of k) (orient_of k) exists ∙ ap (λ d. subband_length d (level_of k) (padded_length p.slicing.depth p.size.h)) depth in
-    let P : Rect → Type 0 = λ r. FitsIn r before in
-    subst P (sym rect_is) (record {
-      across = start_before_end size.w p.slicing.slices_x p.sx across;
-      down = start_before_end size.h p.slicing.slices_y p.sy down;
-      x_inside = omega (arith, end_inside size.w p.slicing.slices_x p.sx across, width);
-      y_inside = omega (arith, end_inside size.h p.slicing.slices_y p.sy down, tall);
-    })
-
--- ---- what the code finds at band k
-
-pub rect_here : (p : Part) (k level : ℕ) (rect : Rect) → level ≡ level_of k → rect ≡ slice_rect p.slicing (band_size p.slicing.depth level p.size) p.sx p.sy → rect ≡ rect_of p k
-rect_here p k level rect level_is is = is ∙ ap (λ l. slice_rect p.slicing (band_size p.slicing.depth l p.size) p.sx p.sy) level_is
-
-pub index_here : (p : Part) (k level number orient index : ℕ) → level ≡ level_of k → number ≡ orient_of k → orient ≡ number → index ≡ quantiser_of p.qindex (entry_of p.matrix level orient) → index ≡ index_of p k
-index_here p k level number orient index level_is number_is orient_is is =
-    is
-    ∙ ap (λ l. quantiser_of p.qindex (entry_of p.matrix l orient)) level_is
-    ∙ ap (λ o. quantiser_of p.qindex (entry_of p.matrix (level_of k) o)) (orient_is ∙ number_is)
-
-pub number_here : (k level number : ℕ) → level ≡ level_of k → number ≡ orient_of k → band_index level number ≡ k
-number_here k level number level_is number_is = ap (λ l. band_index l number) level_is ∙ ap (band_index (level_of k)) number_is ∙ index-numbered k
-
-pub before_here : (b : BandStack) (k level number : ℕ) (before : Raster ℤ) → band_index level number ≡ k → before ≡ band_of b level number → before ≡ numbered b k
-before_here b k level number before number_is is = is ∙ ap (λ j. get_or b.bands j no_band) number_is

@@ -7,9 +7,11 @@ use Rattle.planes.specs.declared.Rect.{Rect}
 use Rattle.planes.specs.Raster.{at}
 use Rattle.planes.specs.Rect.{IsInRect}
 use Rattle.planes.specs.Subbands.{BandStack, BandExists, band_index, band_of}
-use Rattle.slice_decoder.specs.Slice.{level_rect, area, places_to, places_before, number_in, place_number, band_quantiser, quantisers}
+use Rattle.quant_factors.specs.Weights.{band_quantiser}
+use Rattle.slice_decoder.specs.Slice.{quantisers}
+use Rattle.slice_geometry.specs.SliceOrder.{level_rect, area, places_to, places_before, number_in, place_number, level_of, orient_of}
 use Rattle.slice_decoder.specs.Dealing.{dealt, behind}
-use Rattle.slice_decoder.specs.Components.{Part, level_of, orient_of, rect_of, index_of, quantisers_of, quantisers_before, BandsHold}
+use Rattle.slice_decoder.specs.Components.{Part, rect_of, index_of, quantisers_of, quantisers_before, BandsHold}
 use Rattle.slice_decoder.proofs.Dealt.{more-old, more-new}
 use Rattle.slice_decoder.proofs.Stacks.{quantisers-more, quantisers-split}
 

@@ -1,23 +1,12 @@
--- What reading a component's part of a slice leaves in its subbands. The bands are numbered from 0: LL, then HL, LH and HH of each level.
-use Rattle.std.specs.Prelude.{◌≡◌, ℕ, zero, suc, ◌+◌, ◌-◌, ◌*◌, ◌/◌, ◌<◌, ◌==◌, Bool, List, [], ◌++◌, replicate, slice_index_or, if◌then◌else◌, ℤ}
+-- What reading a component's part of a slice leaves in its subbands, which are numbered in the slice's order.
+use Rattle.std.specs.Prelude.{◌≡◌, ℕ, zero, suc, ◌*◌, ◌<◌, Bool, List, [], ◌++◌, replicate}
 use Rattle.planes.specs.declared.Rect.{Rect}
-use Rattle.planes.specs.Raster.{Raster}
-use Rattle.planes.specs.Subbands.{BandStack, no_band}
+use Rattle.planes.specs.Subbands.{BandStack}
 use Rattle.slice_geometry.specs.declared.Size.{Size}
 use Rattle.slice_geometry.specs.Slicing.{Slicing}
-use Rattle.quant_factors.specs.Weights.{Weights}
-use Rattle.slice_decoder.specs.Slice.{level_rect, area, band_quantiser}
+use Rattle.quant_factors.specs.Weights.{Weights, band_quantiser}
+use Rattle.slice_geometry.specs.SliceOrder.{level_rect, area, level_of, orient_of, numbered}
 use Rattle.slice_decoder.specs.Dealing.{dealt, behind, HoldsRect, KeepsOutside}
-
-abbrev pub level_of : ℕ → ℕ
-level_of k = (k + 2) / 3
-
-abbrev pub orient_of : ℕ → ℕ
-orient_of k = if k == 0 then 0 else k + 3 - 3 * level_of k
-
--- band number k
-abbrev pub numbered : BandStack → ℕ → Raster ℤ
-numbered b k = slice_index_or b.bands k no_band
 
 -- the slice in column sx and row sy, as it is read into a component of this size
 pub record Part : Type 0 where

@@ -5,7 +5,7 @@ use Rattle.planes.specs.Raster.{Raster, height, at}
 use Rattle.planes.specs.Rect.{IsInRect}
 use Rattle.bounded_blocks.specs.Reading.{value_at}
 use Rattle.quant_factors.specs.Factors.{inverse_of}
-use Rattle.slice_decoder.specs.Slice.{number_in}
+use Rattle.slice_geometry.specs.SliceOrder.{number_in}
 
 -- a value for each quantiser
 abbrev pub dealt : List Bool → List ℕ → List ℤ

@@ -15,7 +15,8 @@ use Rattle.slice_geometry.specs.Geometry.{padded_length}
 use Rattle.quant_factors.specs.Weights.{Weights}
 use Rattle.slice_decoder.specs.declared.SliceFault.{SliceFault}
 use Rattle.slice_decoder.specs.declared.SliceFault.TheVariants.{LumaLengthTooLong, CoefficientTooLarge}
-use Rattle.slice_decoder.specs.Slice.{Slice, level_rect, place_number, luma_values, colour_values, is_small}
+use Rattle.slice_decoder.specs.Slice.{Slice, luma_values, colour_values, is_small}
+use Rattle.slice_geometry.specs.SliceOrder.{level_rect, place_number}
 use Rattle.slice_decoder.specs.Dealing.{KeepsOutside}
 
 -- The bands of one component are ready for the slice in column sx and row sy: they have their sizes, and what is looked at outside the slice

@@ -1,45 +1,12 @@
 -- A slice as a function of its bytes (SMPTE ST 2042-1:2017, 13.5.3.1 ld_slice, 13.5.6.3 slice_band, 13.5.6.4 color_diff_slice_band).
-use Rattle.std.specs.Prelude.{ℕ, zero, suc, ◌+◌, ◌-◌, ◌*◌, ◌^◌, ◌&&◌, Bool, true, if◌then◌else◌, nat_le, nat_lt, List, [], ◌∷◌, ◌++◌, length, take, drop, replicate, ℤ, unsigned_abs}
+use Rattle.std.specs.Prelude.{ℕ, zero, suc, ◌+◌, ◌*◌, ◌^◌, ◌&&◌, Bool, true, if◌then◌else◌, nat_le, nat_lt, List, [], ◌∷◌, ◌++◌, length, take, drop, replicate, ℤ, unsigned_abs}
 use Rattle.bit_codes.specs.Bits.{bits_of, binary_after}
 use Rattle.bounded_blocks.specs.Reading.{values}
-use Rattle.planes.specs.declared.Rect.{Rect}
 use Rattle.slice_geometry.specs.declared.Size.{Size}
 use Rattle.slice_geometry.specs.Slicing.{Slicing, length_bits}
-use Rattle.slice_geometry.specs.Geometry.{band_size, slice_rect}
+use Rattle.slice_geometry.specs.SliceOrder.{level_rect, area, place_count}
 use Rattle.quant_factors.specs.Factors.{inverse_of}
-use Rattle.quant_factors.specs.Weights.{Weights, entry_of, quantiser_of}
-
--- ---- the order of a slice's places: LL, then per level HL, LH, HH, and in each band row by row
-
--- the places of the slice in column sx and row sy, in a level's bands of a component of this size
-abbrev pub level_rect : Slicing → Size → ℕ → ℕ → ℕ → Rect
-level_rect s size sx sy level = slice_rect s (band_size s.depth level size) sx sy
-
--- how many places a rectangle has
-abbrev pub area : Rect → ℕ
-area r = (r.x1 - r.x0) * (r.y1 - r.y0)
-
--- how many places the bands of the levels up to this one have
-abbrev pub places_to : Slicing → Size → ℕ → ℕ → ℕ → ℕ
-places_to s size sx sy zero = area (level_rect s size sx sy 0)
-places_to s size sx sy (suc level) = places_to s size sx sy level + 3 * area (level_rect s size sx sy (suc level))
-
--- how many places the slice has in a component
-abbrev pub place_count : Slicing → Size → ℕ → ℕ → ℕ
-place_count s size sx sy = places_to s size sx sy s.depth
-
--- how many come before those of a band
-abbrev pub places_before : Slicing → Size → ℕ → ℕ → ℕ → ℕ → ℕ
-places_before s size sx sy zero orient = 0
-places_before s size sx sy (suc level) orient = places_to s size sx sy level + (orient - 1) * area (level_rect s size sx sy (suc level))
-
--- the number of a place in a rectangle, row by row
-abbrev pub number_in : Rect → ℕ → ℕ → ℕ
-number_in r y x = (y - r.y0) * (r.x1 - r.x0) + (x - r.x0)
-
--- the number of a place among all of the slice's in its component
-abbrev pub place_number : Slicing → Size → ℕ → ℕ → ℕ → ℕ → ℕ → ℕ → ℕ
-place_number s size sx sy level orient y x = places_before s size sx sy level orient + number_in (level_rect s size sx sy level) y x
+use Rattle.quant_factors.specs.Weights.{Weights, band_quantiser}
 
 -- ---- the bytes
 
@@ -74,10 +41,6 @@ abbrev pub slice_at : Slicing → Size → Size → ℕ → ℕ → List ℕ →
 slice_at s luma colour sx sy bytes = slice_of bytes (place_count s luma sx sy) (place_count s colour sx sy)
 
 -- ---- dequantised
-
--- the quantiser of a band (13.5.5 slice_quantizers)
-abbrev pub band_quantiser : Weights → ℕ → ℕ → ℕ → ℕ
-band_quantiser matrix qindex level orient = quantiser_of qindex (entry_of matrix level orient)
 
 -- the quantiser of each value of a block, in the slice's order, where each place has so many values
 abbrev pub quantisers : ℕ → Slicing → Size → ℕ → ℕ → Weights → ℕ → ℕ → List ℕ

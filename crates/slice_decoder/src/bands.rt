@@ -2,7 +2,8 @@
 
 ghost use Rattle.std.specs.Prelude.{◌≡◌, ℕ, ◌+◌, ◌-◌, ◌*◌, ◌<◌, ◌≤◌, true, length, slice_index_or, pos};
 ghost use Rattle.planes.specs.Raster.{height};
-ghost use Rattle.slice_decoder.specs.Slice.{are_small, area};
+ghost use Rattle.slice_decoder.specs.Slice.{are_small};
+ghost use Rattle.slice_geometry.specs.SliceOrder.{area};
 ghost use Rattle.slice_decoder.specs.Dealing.{next_values, behind_next, StaysBeside, HoldsRect, KeepsOutside};
 
 use crate::dealing::{fill_pair, fill_row};

@@ -6,7 +6,8 @@ ghost use Rattle.slice_geometry.specs.Shape.{IsSize};
 ghost use Rattle.slice_geometry.specs.Geometry.{padded_length};
 ghost use Rattle.slice_decoder.specs.Slice.{are_small};
 ghost use Rattle.slice_decoder.specs.Dealing.{dealt};
-ghost use Rattle.slice_decoder.specs.Components.{part_of, level_of, orient_of, quantisers_before, BandsHold, BandsKeep};
+ghost use Rattle.slice_decoder.specs.Components.{part_of, quantisers_before, BandsHold, BandsKeep};
+ghost use Rattle.slice_geometry.specs.SliceOrder.{level_of, orient_of};
 
 use crate::bands::{fill_rect, fill_rects};
 use bounded_blocks::Block;

@@ -8,7 +8,8 @@ ghost use Rattle.bounded_blocks.specs.Parts.{block_of};
 ghost use Rattle.dc_prediction.specs.Restoring.{CanRestore, RestoresRect};
 ghost use Rattle.slice_geometry.specs.Slicing as slicing;
 ghost use Rattle.slice_decoder.specs.Slice.{slice_at};
-ghost use Rattle.slice_decoder.specs.Components.{part_of, numbered};
+ghost use Rattle.slice_decoder.specs.Components.{part_of};
+ghost use Rattle.slice_geometry.specs.SliceOrder.{numbered};
 ghost use Rattle.slice_decoder.specs.Read.{IsRead};
 ghost use Rattle.slice_decoder.specs.Decoded.{AreReady, AllKeepOthers, IsDecoded, IsRefused};
 

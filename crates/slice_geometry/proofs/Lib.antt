@@ -3,3 +3,6 @@ pub mod Shares
 pub mod Places
 pub mod Lengths
 pub mod UnitLemmas
+pub mod NumberedBands
+pub mod RectsInBands
+pub mod LengthBits

@@ -1,6 +1,7 @@
 pub mod Shape
 pub mod Slicing
 pub mod Geometry
+pub mod SliceOrder
 pub mod SliceLaws
 pub mod Units
 pub mod UnitsInside

@@ -30,3 +30,5 @@ pub mod EncodedStreams
 pub mod WorkedEncoding
 pub mod WrittenShapes
 pub mod WriterCalls
+pub mod WrittenSlices
+pub mod EncodedPictures

@@ -15,3 +15,5 @@ pub mod Writer
 pub mod WriterInside
 pub mod Stops
 pub mod Taking
+pub mod WrittenSlices
+pub mod EncodedPictures

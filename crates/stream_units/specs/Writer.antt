@@ -86,13 +86,11 @@ leaves old next (Err stop) = stopped old stop
 abbrev pub HasRoom : WriterState → Type 0
 HasRoom w = next_place w + unit_length w.settings.params + 13 ≤ limit
 
--- why a picture isn't written; want of memory alone is free
+-- why a picture isn't written: without room for it and the end it never is, and with room only a write or memory fails
 abbrev pub PictureStops : WriterState → Result (Unit {0}) WriteStop → Type 0
-PictureStops w (Ok x) = HasRoom w
-PictureStops w (Err stops.OutFault) = HasRoom w
 PictureStops w (Err stops.StreamTooLong) = HasRoom w → ⊥
 PictureStops w (Err stops.MatrixTooSteep) = ⊥
-PictureStops w (Err stops.NoMemory) = Unit {0}
+PictureStops w other = HasRoom w
 
 -- the end always fits
 abbrev pub EndStops : Result (Unit {0}) WriteStop → Type 0

@@ -6,6 +6,8 @@ ghost use Rattle.picture_codec.specs.Samples.{picture_of};
 ghost use Rattle.stream_units.specs.Streams.{limit, frame_under, pictures_of};
 ghost use Rattle.stream_units.specs.Encoded.{Settings, header_unit, encoded, units_of, AreLawful, IsSliced, IsStreamOf};
 ghost use Rattle.stream_units.specs.Writer.{started, texts_from, HaveRoom};
+ghost use Rattle.stream_units.specs.WrittenSlices.{WrittenAreSliced, ChosenAreSliced};
+ghost use Rattle.stream_units.specs.EncodedPictures.{PicturesAreAStream};
 ghost use Rattle.transform_params.specs.Fields.{IsLawful};
 
 /// What is written under lawful settings, of pictures whose slices a reader takes, is a stream of exactly these pictures:
@@ -29,4 +31,21 @@ pub fn calls_write_the_stream()
 pub fn calls_write_a_stream()
     ensures { (s : Settings) (pictures : List (List (List ℕ))) → AreLawful s → AllByRecursion (IsSliced s.parts s.params) pictures
         → (s.parts.coding ≡ 1 → length pictures % 2 ≡ 0) → HaveRoom (started s) pictures → IsStreamOf (header_unit s.parts ++ texts_from (started s) pictures) (units_of s pictures) }
+{}
+
+/// The slices that an encoder writes, each in its share of bytes at its index, are such slices, and a reader finds the
+/// encoder's lists in them.
+pub fn written_slices_are_taken()
+    ensures { WrittenAreSliced }
+{}
+
+/// So are those that it chooses for a picture, whatever the picture is, where the matrix is not too steep.
+pub fn chosen_slices_are_taken()
+    ensures { ChosenAreSliced }
+{}
+
+/// So what an encoder writes of pictures of the header's shape is a stream, whatever their samples are, where the matrix
+/// is not too steep.
+pub fn encoded_pictures_are_a_stream()
+    ensures { PicturesAreAStream }
 {}

@@ -5,7 +5,7 @@ use Rattle.slice_geometry.specs.Slicing.{length_bits}
 use Rattle.slice_decoder.specs.Slice.{slice_at}
 use Rattle.slice_decoder.specs.Components.{Part, part_of, BandsKeep}
 use Rattle.slice_decoder.proofs.Dealt.{and-left, and-right}
-use Rattle.slice_decoder.proofs.Heads.{length_bits-fit}
+use Rattle.slice_geometry.proofs.LengthBits.{length_bits-fit}
 use Rattle.slice_decoder.proofs.Decodes.{lt_tests, ge_tests, AreValues, are-values, both-small, can-restore, holds-slice, keeps-others, bands-restored}
 use Rattle.slice_decoder.proofs.decode_slice.Goals as goal
 

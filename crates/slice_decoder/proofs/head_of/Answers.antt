@@ -1,7 +1,7 @@
 use Rattle.std.proofs.Common.{length, ap, arith}
 use Rattle.std.proofs.lemmas.List.{length-drop}
 use Rattle.bit_codes.proofs.BitLemmas.{length-rest}
-use Rattle.slice_decoder.proofs.Heads.{length_bits-most, length_bits-fit}
+use Rattle.slice_geometry.proofs.LengthBits.{length_bits-most, length_bits-fit}
 use Rattle.slice_decoder.proofs.head_of.Goals as goal
 
 pub next_bits-qindex-requires-clause-there : goal.next_bits-qindex-requires-clause-there

@@ -1,7 +1,8 @@
 use Rattle.std.proofs.Common.{◌≡◌, ℕ, ◌+◌, ◌-◌, ◌*◌, ◌<◌, ◌≤◌, true, replicate, get_or, pos}
 use Rattle.planes.specs.Raster.{height, at}
 use Rattle.planes.specs.Rect.{IsInRect}
-use Rattle.slice_decoder.specs.Slice.{are_small, number_in}
+use Rattle.slice_decoder.specs.Slice.{are_small}
+use Rattle.slice_geometry.specs.SliceOrder.{number_in}
 use Rattle.slice_decoder.specs.Dealing.{dealt, behind}
 use Rattle.slice_decoder.proofs.bands.fill_rect.Given as goal
 

@@ -1,7 +1,8 @@
 use Rattle.std.proofs.Common.{◌≡◌, ℕ, ◌≤◌, true, length}
 use Rattle.slice_decoder.specs.Slice.{are_small}
 use Rattle.slice_decoder.specs.Dealing.{dealt, behind}
-use Rattle.slice_decoder.specs.Components.{Part, numbered, quantisers_before, BandsHold, BandsKeep}
+use Rattle.slice_decoder.specs.Components.{Part, quantisers_before, BandsHold, BandsKeep}
+use Rattle.slice_geometry.specs.SliceOrder.{numbered}
 use Rattle.slice_decoder.proofs.components.read_colour.Given as goal
 
 abbrev pub invariant-loop-k : goal.invariant-loop-k

@@ -1,0 +1,5 @@
+pub mod Rates
+pub mod Slices
+pub mod Courses
+pub mod Plans
+pub mod Stepping

@@ -1,0 +1,307 @@
+//! The encoder of pictures.
+
+ghost use Rattle.std.specs.Prelude.{◌≡◌, ℕ, ◌+◌, ◌*◌, ◌<◌, ◌≤◌, ◌≤ℤ◌, ◌↔◌, length, IfOk, MatchResult, slice_index_or, pos, ◌-ℤ◌, ◌^◌, ◌++◌, Err, true};
+ghost use Rattle.std.specs.List.{concat};
+ghost use Rattle.std.specs.Int.{w32, to_be_bytes};
+ghost use Rattle.planes.specs.Raster.{height, at};
+ghost use Rattle.slice_geometry.specs.Shape.{IsSize, IsDepth};
+ghost use Rattle.slice_geometry.specs.Slicing.{total_bytes};
+ghost use Rattle.slice_encoder.specs.Ready.{coded_picture, AreGiven};
+ghost use Rattle.slice_encoder.specs.Tries.{KeptHaveSizes};
+ghost use Rattle.slice_encoder.specs.Chosen.{written_slices};
+ghost use Rattle.transform_params.specs.Views.{params_of};
+ghost use Rattle.transform_params.specs.Fields.{byte_length, unit_length, params_bytes};
+ghost use Rattle.picture_codec.specs.Samples.{frame_of, shown};
+ghost use Rattle.picture_codec.specs.Decoding.{ArePadded};
+ghost use Rattle.picture_codec.specs.Pictures as pictures;
+ghost use Rattle.picture_codec.specs.Encoding.{centred, slices_of, picture_bytes, IsSteepFor};
+ghost use Rattle.picture_codec.specs.EncoderInside.{IsWhole, AreWhole, HaveBandSizes, IsLowest, IsReadyToEncode, HoldComponent, HoldPicture};
+
+use crate::picture::Picture;
+use crate::samples::half_range;
+use crate::workspace::{Workspace, depth_of, size_of, zero_trio};
+use lifting::analyse;
+use planes::{Bands, NoMemory, Plane, ThreePlanes, Trio};
+use quant_factors::Matrix;
+use slice_encoder::{SliceEncoder, steep_ok};
+use slice_geometry::{Component, Layout, PictureShape, Size};
+use std::alloc::Global;
+use std::marker::Model;
+use transform_params::TransformParams;
+
+/// Why there is no encoder.
+#[derive(Clone, Copy, Debug, PartialEq, Eq)]
+pub enum EncoderFault {
+    /// An entry of the quantisation matrix is so large that a slice may fit at no index.
+    MatrixTooSteep,
+    NoMemory,
+}
+
+// A row of samples, counted from the middle of their range. What lies behind them in the row stays.
+fn put_row(row: &mut [i64], samples: &[u16], half: i64)
+    requires len { length samples.now ≤ length row.old }
+    requires some { pos 1 ≤ℤ half }
+    requires most { half ≤ℤ pos 32768 }
+    ensures same_length { length row.new ≡ length row.old }
+    ensures row { (x : ℕ) → x < length samples.now → slice_index_or row.new x (pos 0) ≡ pos (slice_index_or samples.now x 0) -ℤ half }
+{
+    for x in 0..samples.len() {
+        row[x] = i64::from(samples[x]) - half;
+    }
+}
+
+// The samples of a component, counted from the middle of their range, and padded.
+fn centre(samples: &[u16], size: Size, depth: u32, plane: &mut Plane)
+    requires size { IsSize size.w size.h }
+    requires depth { IsDepth depth }
+    requires count { length samples.now ≡ size.h * size.w }
+    requires across { size.w ≤ plane.old.w }
+    requires down { size.h ≤ height plane.old }
+    ensures same_width { plane.new.w ≡ plane.old.w }
+    ensures same_height { height plane.new ≡ height plane.old }
+    ensures values { (y x : ℕ) → y < height plane.new → x < plane.new.w → at plane.new y x ≡ centred depth size (record { w = size.w; h = size.h; cells = samples.now }) y x }
+{
+    let half = half_range(depth);
+    for y in 0..size.h {
+        let start = (y * size.w) as usize;
+        let end = start + size.w as usize;
+        put_row(plane.row_mut(y), &samples[start..end], half);
+    }
+    plane.fill_edges(size.w, size.h);
+}
+
+// Says of a plane that its rows are as long as it is wide.
+fn is_whole(plane: &Plane)
+    ensures { IsWhole plane.now }
+{
+    for y in 0..plane.h() {
+        prove_eq!(plane.row(y).len(), plane.w() as usize);
+    }
+}
+
+// The same of all bands.
+fn are_whole(bands: &Bands)
+    ensures { AreWhole bands.now }
+{
+    for k in 0..3 * bands.depth() + 1 {
+        let level = (k + 2) / 3;
+        let orient = if k == 0 { 0 } else { k + 3 - 3 * level };
+        is_whole(bands.band(level, orient));
+    }
+}
+
+// The coefficients of a component of a picture.
+fn analyse_component(
+    params: &TransformParams,
+    picture: &Picture,
+    c: Component,
+    room: &mut Workspace,
+    bands: &mut Bands,
+)
+    requires room { ArePadded params.now.layout (pictures.size_of (frame_of picture.now.shape) c) room.old.plane room.old.scratch }
+    requires bands { HaveBandSizes params.now.layout (pictures.size_of (frame_of picture.now.shape) c) bands.old }
+    ensures room { ArePadded params.now.layout (pictures.size_of (frame_of picture.now.shape) c) room.new.plane room.new.scratch }
+    ensures bands { HoldComponent (params_of params.now) (pictures.size_of (frame_of picture.now.shape) c) (pictures.depth_of (frame_of picture.now.shape) c) (shown picture.now c) bands.new }
+{
+    // The rules of a layout.
+    let _ = params.layout.depth();
+    let shape = picture.shape();
+    let depth = depth_of(shape, c);
+    centre(
+        picture.samples(c),
+        size_of(shape, c),
+        depth,
+        &mut room.plane,
+    );
+    analyse(params.wavelet, &mut room.plane, &mut room.scratch, bands);
+    are_whole(bands);
+}
+
+// A lowest subband, all zero.
+fn kept_plane(alloc: Global, layout: &Layout, size: Size) -> Result<Plane, NoMemory>
+    requires { IsSize size.w size.h }
+    ensures { IfOk result (IsLowest layout.now size) }
+{
+    let band = layout.band_size(size, 0);
+    Plane::new(alloc, band.w, band.h)
+}
+
+// Writes the slices of a picture whose coefficients these are, each at the least index at which it fits after those
+// before it.
+fn encode_slices(
+    params: &TransformParams,
+    slices: &mut SliceEncoder,
+    bands: &Trio,
+    kept: &mut ThreePlanes,
+    bytes: &mut [u8],
+)
+    requires layout { slices.old.slicing ≡ params.now.layout }
+    requires steep { IsSteepFor slices.old.shape (params_of params.now) }
+    requires given { AreGiven (coded_picture params.now.layout slices.old.shape params.now.matrix bands.now) }
+    requires kept { KeptHaveSizes (coded_picture params.now.layout slices.old.shape params.now.matrix bands.now) kept.old }
+    requires room { length bytes.old ≡ total_bytes params.now.layout }
+    ensures same { slices.new ≡ slices.old }
+    ensures kept { KeptHaveSizes (coded_picture params.now.layout slices.old.shape params.now.matrix bands.now) kept.new }
+    ensures slices { bytes.new ≡ concat (written_slices (coded_picture params.now.layout slices.old.shape params.now.matrix bands.now)) }
+{
+    let layout = &params.layout;
+    let across = layout.slices_x();
+    let mut place = 0usize;
+    for n in 0..layout.count() {
+        let end = place + layout.share(n) as usize;
+        slices.encode_slice(
+            &params.matrix,
+            n % across,
+            n / across,
+            bands,
+            kept,
+            &mut bytes[place..end],
+        );
+        place = end;
+    }
+}
+
+/// Writes pictures of one shape with one set of parameters. Contracts see these two.
+///
+/// All memory is taken in `new`: about 8 bytes a sample for the subbands, 16 for two planes of each size, and little for
+/// the lowest subbands as a decoder restores them.
+#[derive(Drop)]
+pub struct PictureEncoder {
+    params: TransformParams,
+    shape: PictureShape,
+    slices: SliceEncoder,
+    bands: Trio,
+    kept: ThreePlanes,
+    luma_room: Workspace,
+    colour_room: Workspace,
+}
+
+impl Model for PictureEncoder {
+    ghost use Rattle.std.specs.Prelude.{◌≡◌};
+    ghost use Rattle.transform_params.specs.Views.{params_of};
+    ghost use Rattle.picture_codec.specs.Encoding.{Encoding, IsSteepFor};
+    ghost use Rattle.picture_codec.specs.EncoderInside.{IsReadyToEncode};
+
+    ghost Value = { Encoding };
+
+    ghost view = { λ e. record { shape = e.shape; params = params_of e.params } };
+
+    ghost invariant = { λ e. IsReadyToEncode e.params.layout e.shape e.bands e.kept e.luma_room.plane e.luma_room.scratch e.colour_room.plane e.colour_room.scratch
+        × (e.slices ≡ record { slicing = e.params.layout; shape = e.shape }) × IsSteepFor e.shape (params_of e.params) };
+}
+
+// The lowest subbands of a picture, all zero.
+fn kept_planes(
+    alloc: Global,
+    layout: &Layout,
+    shape: &PictureShape,
+) -> Result<ThreePlanes, NoMemory>
+    ensures { IfOk result (λ kept. IsLowest layout.now shape.now.luma kept.luma × IsLowest layout.now shape.now.colour kept.c1 × IsLowest layout.now shape.now.colour kept.c2) }
+{
+    Ok(ThreePlanes {
+        luma: kept_plane(alloc, layout, shape.luma)?,
+        c1: kept_plane(alloc, layout, shape.colour)?,
+        c2: kept_plane(alloc, layout, shape.colour)?,
+    })
+}
+
+// Whether every slice of a picture of this shape can be written by the matrix.
+fn is_steep_ok(shape: &PictureShape, params: &TransformParams) -> bool
+    ensures { (result ≡ true) ↔ IsSteepFor shape.now (params_of params.now) }
+{
+    let depth = shape.luma_depth.max(shape.colour_depth);
+    steep_ok(params.layout.depth(), depth, &params.matrix)
+}
+
+// The number of a picture, and its parameters.
+fn put_front(params: &TransformParams, number: u32, front: &mut [u8])
+    requires { length front.old ≡ 4 + byte_length (params_of params.now) }
+    ensures { front.new ≡ to_be_bytes w32 number ++ params_bytes (params_of params.now) }
+{
+    let (word, others) = front.split_at_mut(4);
+    word.copy_from_slice(&number.to_be_bytes());
+    params.write(others);
+}
+
+impl PictureEncoder {
+    // An encoder where the matrix passes.
+    fn with_room(
+        alloc: Global,
+        shape: &PictureShape,
+        params: &TransformParams,
+    ) -> Result<PictureEncoder, NoMemory>
+        requires { IsSteepFor shape.now (params_of params.now) }
+        ensures { IfOk result (λ e. e ≡ record { shape = shape.now; params = params_of params.now }) }
+    {
+        let layout = &params.layout;
+        Ok(PictureEncoder {
+            params: *params,
+            shape: *shape,
+            slices: SliceEncoder::new(alloc, layout, shape)?,
+            bands: zero_trio(alloc, layout, shape)?,
+            kept: kept_planes(alloc, layout, shape)?,
+            luma_room: Workspace::new(alloc, layout, shape.luma)?,
+            colour_room: Workspace::new(alloc, layout, shape.colour)?,
+        })
+    }
+
+    /// An encoder of pictures of this shape. `MatrixTooSteep` comes exactly where an entry of the quantisation matrix is
+    /// too large for the shape's depths.
+    pub fn new(
+        alloc: Global,
+        shape: &PictureShape,
+        params: &TransformParams,
+    ) -> Result<PictureEncoder, EncoderFault>
+        ensures new { IfOk result (λ e. (e ≡ record { shape = shape.now; params = params_of params.now }) × IsSteepFor shape.now (params_of params.now)) }
+        ensures steep { result ≡ Err EncoderFault.MatrixTooSteep → IsSteepFor shape.now (params_of params.now) → ⊥ }
+    {
+        if !is_steep_ok(shape, params) {
+            return Err(EncoderFault::MatrixTooSteep);
+        }
+        match PictureEncoder::with_room(alloc, shape, params) {
+            Ok(encoder) => Ok(encoder),
+            Err(NoMemory) => Err(EncoderFault::NoMemory),
+        }
+    }
+
+    /// The payload of a picture's unit: its number, the parameters and the slices, each at the least quantisation index at
+    /// which it fits after those before it. There is no refusal, whatever the samples are.
+    pub fn encode(&mut self, picture: &Picture, number: u32, bytes: &mut [u8])
+        requires shape { picture.now.shape ≡ self.old.shape }
+        requires room { 13 + length bytes.old ≡ unit_length self.old.params }
+        ensures same { self.new ≡ self.old }
+        ensures payload { bytes.new ≡ picture_bytes self.old.params number (slices_of self.old.shape self.old.params picture.now.samples) }
+    {
+        let params = self.params;
+        analyse_component(
+            &params,
+            picture,
+            Component::Luma,
+            &mut self.luma_room,
+            &mut self.bands.luma,
+        );
+        analyse_component(
+            &params,
+            picture,
+            Component::C1,
+            &mut self.colour_room,
+            &mut self.bands.c1,
+        );
+        analyse_component(
+            &params,
+            picture,
+            Component::C2,
+            &mut self.colour_room,
+            &mut self.bands.c2,
+        );
+        let (front, slices) = bytes.split_at_mut(4 + params.byte_len());
+        put_front(&params, number, front);
+        encode_slices(
+            &params,
+            &mut self.slices,
+            &self.bands,
+            &mut self.kept,
+            slices,
+        );
+    }
+}

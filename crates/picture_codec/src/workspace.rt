@@ -1,0 +1,79 @@
+//! What the decoder and the encoder of pictures have in common: the room for a component's transform, and its size.
+
+ghost use Rattle.std.specs.Prelude.{◌≡◌, IfOk};
+ghost use Rattle.slice_geometry.specs.Shape.{IsSize, IsDepth};
+ghost use Rattle.picture_codec.specs.Pictures as pictures;
+ghost use Rattle.picture_codec.specs.Samples.{frame_of};
+ghost use Rattle.picture_codec.specs.Decoding.{ArePadded, AreNewBands};
+
+use planes::{Bands, NoMemory, Plane, Trio};
+use slice_geometry::{Component, Layout, PictureShape, Size};
+use std::alloc::Global;
+
+/// The plane that is transformed, and a scratch beside it.
+#[derive(Drop)]
+pub(crate) struct Workspace {
+    pub(crate) plane: Plane,
+    pub(crate) scratch: Plane,
+}
+
+impl Workspace {
+    pub(crate) fn new(alloc: Global, layout: &Layout, size: Size) -> Result<Workspace, NoMemory>
+        requires { IsSize size.w size.h }
+        ensures { IfOk result (λ w. ArePadded layout.now size w.plane w.scratch) }
+    {
+        // The rules of a layout.
+        let _ = layout.depth();
+        let padded = layout.padded_size(size);
+        Ok(Workspace {
+            plane: Plane::new(alloc, padded.w, padded.h)?,
+            scratch: Plane::new(alloc, padded.w, padded.h)?,
+        })
+    }
+}
+
+// The bands of a component, all zero.
+fn zero_bands(alloc: Global, layout: &Layout, size: Size) -> Result<Bands, NoMemory>
+    requires { IsSize size.w size.h }
+    ensures { IfOk result (AreNewBands layout.now size) }
+{
+    let padded = layout.padded_size(size);
+    Bands::new(alloc, layout.depth(), padded.w, padded.h)
+}
+
+/// The bands of the three components, all zero.
+pub(crate) fn zero_trio(
+    alloc: Global,
+    layout: &Layout,
+    shape: &PictureShape,
+) -> Result<Trio, NoMemory>
+    ensures { IfOk result (λ bands. AreNewBands layout.now shape.now.luma bands.luma × AreNewBands layout.now shape.now.colour bands.c1 × AreNewBands layout.now shape.now.colour bands.c2) }
+{
+    Ok(Trio {
+        luma: zero_bands(alloc, layout, shape.luma)?,
+        c1: zero_bands(alloc, layout, shape.colour)?,
+        c2: zero_bands(alloc, layout, shape.colour)?,
+    })
+}
+
+/// The size of a component.
+pub(crate) fn size_of(shape: &PictureShape, c: Component) -> Size
+    ensures value { result ≡ pictures.size_of (frame_of shape.now) c }
+    ensures allowed { IsSize result.w result.h }
+{
+    match c {
+        Component::Luma => shape.luma,
+        Component::C1 | Component::C2 => shape.colour,
+    }
+}
+
+/// The bits of its samples.
+pub(crate) fn depth_of(shape: &PictureShape, c: Component) -> u32
+    ensures value { result ≡ pictures.depth_of (frame_of shape.now) c }
+    ensures allowed { IsDepth result }
+{
+    match c {
+        Component::Luma => shape.luma_depth,
+        Component::C1 | Component::C2 => shape.colour_depth,
+    }
+}

@@ -1,0 +1,6 @@
+use Rattle.std.proofs.Common.{◌≡◌, ◌*◌, take, true}
+use Rattle.raw_video.specs.RawParse.{samples_in}
+use Rattle.raw_video.proofs.parsing.parse_wide.Given as goal
+
+abbrev pub invariant-loop-k : goal.invariant-loop-k
+invariant-loop-k l = take l.k l.samples ≡ samples_in true (take (2 * l.k) l.bytes)

@@ -1,0 +1,15 @@
+use Rattle.std.proofs.Common.{◌≡◌, ◌∙◌, Ok, ap, sym, subst, arith}
+use Rattle.slice_geometry.specs.declared.PictureShape.{PictureShape}
+use Rattle.picture_codec.specs.Samples.{frame_of}
+use Rattle.raw_video.specs.RawParse.{raw_length}
+use Rattle.raw_video.specs.Reading.{RawReaderSeen, ReadsFront}
+use Rattle.raw_video.proofs.reader.RawReader.next.Goals as goal
+
+pub invariant_of-self : goal.invariant_of-self
+invariant_of-self g c =
+    let rest = g.S.Source.rest in
+    let f = frame_of c.args.picture.now.shape in
+    let front = subst (ReadsFront f c.self.inside.place (rest c.args.src.now) (rest c.read_front-result.new.src) c.read_front-result.new.picture.samples) (c.in-Ok.is ∙ ap Ok c.in-Picture.is) c.read_front-result.ensures.front in
+    let same : c.args.picture.now.shape ≡ c.self.inside.shape = c.requires.shape ∙ sym (ap (λ (r : RawReaderSeen). r.shape) c.self.view_is) in
+    let long : raw_length f ≡ c.picture_length.result = ap (λ (s : PictureShape). raw_length (frame_of s)) same ∙ sym c.picture_length.ensures.value in
+    omega (arith, front.front.1, long)

@@ -1,0 +1,21 @@
+use Rattle.std.proofs.Common.{◌≡◌, ◌≢◌, ◌*◌, ◌^◌, min, length, take, replicate, Ok}
+use Rattle.slice_geometry.specs.declared.Component.{Component}
+use Rattle.picture_codec.specs.Samples.{shown, width_of, height_of, bits_of}
+use Rattle.raw_video.specs.Reading.{ReadsSamples}
+use Rattle.raw_video.proofs.reading.read_component.Given as goal
+
+abbrev pub invariant-loop-piece : goal.invariant-loop-piece
+invariant-loop-piece g l =
+    let rest = g.S.Source.rest in
+    let faults = g.S.Source.faults in
+    let done = min l.count (2048 * l.piece) in
+    record {
+      long : length l.samples ≡ 2048;
+      same_shape : l.picture.shape ≡ l.fn.picture.shape;
+      many : length (shown l.picture l.c).cells ≡ l.count;
+      size : height_of l.picture l.c * width_of l.picture l.c ≡ l.count;
+      below : 2 ^ bits_of l.picture l.c ≡ l.bound;
+      so_far : ReadsSamples l.wide l.start l.room (replicate done l.bound) (rest l.fn.src) (rest l.src) (take done (shown l.picture l.c).cells) (Ok tt);
+      others : (other : Component) → other ≢ l.c → shown l.picture other ≡ shown l.fn.picture other;
+      steady : faults l.src ≡ faults l.fn.src;
+    }

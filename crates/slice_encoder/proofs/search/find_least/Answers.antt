@@ -1,0 +1,90 @@
+use Rattle.std.proofs.Common.{◌∙◌, true, false, refl, arith}
+use Rattle.slice_encoder.specs.Trials.{CodedPicture}
+use Rattle.slice_encoder.specs.Tries.{tried_lists}
+use Rattle.slice_encoder.specs.Choice.{fits}
+use Rattle.slice_encoder.specs.Ready.{coded_picture}
+use Rattle.slice_encoder.proofs.Again.{all_tried_again, all_tried_keep, all_keep_nothing, coarsest_tried}
+use Rattle.slice_encoder.proofs.Searching.{ready_again, holds_again, fit_again, refuted_more}
+use Rattle.slice_encoder.proofs.search.find_least.Goals as goal
+
+pub loop-index-init : goal.loop-index-init
+loop-index-init c =
+    let a = c.args in
+    let j : CodedPicture = coded_picture a.layout.now a.shape.now a.matrix.now a.coefficients.now in
+    record { luma_length = refl; colour_length = refl; keeps = all_keep_nothing j a.sx a.sy a.kept.now; refuted = λ i lt. absurd (omega arith) }
+
+pub try_at-trying-requires-clause-ready : goal.try_at-trying-requires-clause-ready
+try_at-trying-requires-clause-ready c =
+    let a = c.args in
+    let j : CodedPicture = coded_picture a.layout.now a.shape.now a.matrix.now a.coefficients.now in
+    ready_again j a.sx a.sy a.kept.now c.loop-index.kept c.requires.ready c.loop-index.invariant.keeps
+
+pub returns-then-trying-clause-least : goal.returns-then-trying-clause-least
+returns-then-trying-clause-least c =
+    let a = c.args in
+    let j : CodedPicture = coded_picture a.layout.now a.shape.now a.matrix.now a.coefficients.now in
+    let l = c.loop-index in
+    record {
+      most = omega arith;
+      fit = fit_again j a.bytes a.sx a.sy l.index a.kept.now l.kept c.try_at-trying.result c.try_at-trying.new.luma c.try_at-trying.new.colour l.invariant.keeps c.try_at-trying.ensures.holds true c.if-trying.true;
+      least = l.invariant.refuted;
+    }
+
+pub returns-then-trying-clause-holds : goal.returns-then-trying-clause-holds
+returns-then-trying-clause-holds c =
+    let a = c.args in
+    let j : CodedPicture = coded_picture a.layout.now a.shape.now a.matrix.now a.coefficients.now in
+    let l = c.loop-index in
+    holds_again j a.bytes a.sx a.sy l.index a.kept.now l.kept c.try_at-trying.result c.try_at-trying.new.luma c.try_at-trying.new.colour l.invariant.keeps c.try_at-trying.ensures.holds
+
+pub returns-then-trying-clause-kept : goal.returns-then-trying-clause-kept
+returns-then-trying-clause-kept c =
+    let a = c.args in
+    let j : CodedPicture = coded_picture a.layout.now a.shape.now a.matrix.now a.coefficients.now in
+    let l = c.loop-index in
+    all_tried_again j a.sx a.sy l.index a.kept.now l.kept c.try_at-trying.new.kept l.invariant.keeps c.try_at-trying.ensures.kept
+
+pub loop-index-preserved : goal.loop-index-preserved
+loop-index-preserved c =
+    let a = c.args in
+    let j : CodedPicture = coded_picture a.layout.now a.shape.now a.matrix.now a.coefficients.now in
+    let l = c.loop-index in
+    record {
+      luma_length = c.try_at-trying.auto.luma ∙ l.invariant.luma_length;
+      colour_length = c.try_at-trying.auto.colour ∙ l.invariant.colour_length;
+      keeps = all_tried_keep j a.sx a.sy l.index a.kept.now c.try_at-trying.new.kept (all_tried_again j a.sx a.sy l.index a.kept.now l.kept c.try_at-trying.new.kept l.invariant.keeps c.try_at-trying.ensures.kept);
+      refuted =
+          refuted_more (λ i. fits a.bytes (tried_lists j a.kept.now a.sx a.sy i)) l.index l.invariant.refuted
+          (fit_again j a.bytes a.sx a.sy l.index a.kept.now l.kept c.try_at-trying.result c.try_at-trying.new.luma c.try_at-trying.new.colour l.invariant.keeps c.try_at-trying.ensures.holds false c.if-trying.false);
+    }
+
+pub try_at-trying-requires-2-clause-ready : goal.try_at-trying-requires-2-clause-ready
+try_at-trying-requires-2-clause-ready c =
+    let a = c.args in
+    let j : CodedPicture = coded_picture a.layout.now a.shape.now a.matrix.now a.coefficients.now in
+    ready_again j a.sx a.sy a.kept.now c.loop-index.kept c.requires.ready c.loop-index.invariant.keeps
+
+pub returns-clause-least : goal.returns-clause-least
+returns-clause-least c =
+    let a = c.args in
+    let j : CodedPicture = coded_picture a.layout.now a.shape.now a.matrix.now a.coefficients.now in
+    let l = c.loop-index in
+    record {
+      most = omega arith;
+      fit = coarsest_tried j a.bytes a.sx a.sy a.kept.now c.requires.ready c.requires.steep;
+      least = λ i lt. l.invariant.refuted i (omega arith);
+    }
+
+pub returns-clause-holds : goal.returns-clause-holds
+returns-clause-holds c =
+    let a = c.args in
+    let j : CodedPicture = coded_picture a.layout.now a.shape.now a.matrix.now a.coefficients.now in
+    let l = c.loop-index in
+    holds_again j a.bytes a.sx a.sy 127 a.kept.now l.kept c.try_at-trying-2.result c.try_at-trying-2.new.luma c.try_at-trying-2.new.colour l.invariant.keeps c.try_at-trying-2.ensures.holds
+
+pub returns-clause-kept : goal.returns-clause-kept
+returns-clause-kept c =
+    let a = c.args in
+    let j : CodedPicture = coded_picture a.layout.now a.shape.now a.matrix.now a.coefficients.now in
+    let l = c.loop-index in
+    all_tried_again j a.sx a.sy 127 a.kept.now l.kept c.try_at-trying-2.new.kept l.invariant.keeps c.try_at-trying-2.ensures.kept

@@ -1,0 +1,13 @@
+pub mod Loop
+pub mod Order
+pub mod Trials
+pub mod Choice
+pub mod Tries
+pub mod RectTrials
+pub mod Listing
+pub mod Laws
+pub mod Ready
+pub mod Buffers
+pub mod Encoded
+pub mod Room
+pub mod Chosen

@@ -1,0 +1,15 @@
+-- The buffers of an encoder.
+use Rattle.std.specs.Global.{Global}
+use Rattle.std.specs.declared.vec.Vec.{Vec}
+use Rattle.std.specs.Prelude.{ℕ, ◌*◌, ◌^◌, ◌<◌, ◌≤◌, ℤ}
+use Rattle.std.specs.Vec.{vec_len}
+use Rattle.slice_geometry.specs.declared.PictureShape.{PictureShape}
+use Rattle.slice_geometry.specs.Slicing.{Slicing}
+use Rattle.slice_geometry.specs.SliceOrder.{place_count}
+
+-- there is room for the values of each slice
+pub record HasRoomForAll (s : Slicing) (shape : PictureShape) (lumas colours : Vec ℤ Global) : Type 0 where
+  pub luma : (sx sy : ℕ) → sx < s.slices_x → sy < s.slices_y → place_count s shape.luma sx sy ≤ vec_len lumas
+  pub colour : (sx sy : ℕ) → sx < s.slices_x → sy < s.slices_y → 2 * place_count s shape.colour sx sy ≤ vec_len colours
+  pub few_luma : vec_len lumas ≤ 2 ^ 32
+  pub few_colour : vec_len colours ≤ 2 ^ 32

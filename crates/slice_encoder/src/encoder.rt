@@ -1,0 +1,158 @@
+//! A slice written at the least index at which it fits.
+
+ghost use Rattle.std.specs.Prelude.{◌≡◌, ℕ, ◌^◌, ◌<◌, ◌≤◌, max, List, length, IfOk};
+ghost use Rattle.slice_encoder.specs.Laws.{IsSteepOk};
+ghost use Rattle.slice_encoder.specs.Trials.{AreKept};
+ghost use Rattle.slice_encoder.specs.Tries.{AreTried, IsNext, tried_lists};
+ghost use Rattle.slice_encoder.specs.Ready.{coded_picture, AreReady};
+ghost use Rattle.slice_encoder.specs.Encoded as encoded;
+ghost use Rattle.slice_encoder.specs.Encoded.{IsEncoded, IsEncodedAfter, trial_of, IsTriedAfter};
+
+use crate::packing::put_slice;
+use crate::room::most_places;
+use crate::search::{find_least, share_of, try_at};
+use planes::{NoMemory, ThreePlanes, Trio};
+use quant_factors::Matrix;
+use slice_geometry::{Layout, PictureShape, SliceHead};
+use std::alloc::Global;
+use std::marker::Model;
+
+/// What a trial of an index finds: what the slice's values need, and whether they fit into the slice's bytes.
+#[derive(Clone, Copy, Debug, PartialEq, Eq)]
+pub struct Trial {
+    /// The need of the luma values, in bits.
+    pub luma_need: u64,
+    /// The need of the colour values, in bits.
+    pub colour_need: u64,
+    /// Whether both fit into the slice's share of bytes.
+    pub fits: bool,
+}
+
+/// Writes the slices of pictures of one shape. Contracts see the layout and the shape.
+#[derive(Drop)]
+pub struct SliceEncoder {
+    layout: Layout,
+    shape: PictureShape,
+    luma: Vec<i64>,
+    colour: Vec<i64>,
+}
+
+impl Model for SliceEncoder {
+    ghost use Rattle.slice_encoder.specs.Encoded.{EncoderSeen};
+    ghost use Rattle.slice_encoder.specs.Room.{HasRoomForAll};
+
+    ghost Value = { EncoderSeen };
+
+    ghost view = { λ e. record { slicing = e.layout; shape = e.shape } };
+
+    ghost invariant = { λ e. HasRoomForAll e.layout e.shape e.luma e.colour };
+}
+
+impl SliceEncoder {
+    /// An encoder with room for the values of the greatest slice. It is the only call that takes memory.
+    pub fn new(
+        alloc: Global,
+        layout: &Layout,
+        shape: &PictureShape,
+    ) -> Result<SliceEncoder, NoMemory>
+        ensures { IfOk result (λ e. e ≡ record { slicing = layout.now; shape = shape.now }) }
+    {
+        let luma = Vec::from_elem(alloc, 0i64, most_places(layout, shape.luma))?;
+        let colour = Vec::from_elem(alloc, 0i64, 2 * most_places(layout, shape.colour))?;
+        Ok(SliceEncoder {
+            layout: *layout,
+            shape: *shape,
+            luma,
+            colour,
+        })
+    }
+
+    /// Tries the slice in column sx and row sy at a quantisation index from 0 to 127. The kept planes hold restored
+    /// values of the lowest subbands; the slice's places of them are left as a decoder would restore them.
+    pub fn trial(
+        &mut self,
+        matrix: &Matrix,
+        sx: u32,
+        sy: u32,
+        qindex: u32,
+        coefficients: &Trio,
+        kept: &mut ThreePlanes,
+    ) -> Trial
+        requires index { qindex ≤ 127 }
+        requires ready { AreReady (coded_picture self.old.slicing self.old.shape matrix.now coefficients.now) sx sy kept.old }
+        ensures same { self.new ≡ self.old }
+        ensures answer { result ≡ trial_of (encoded.share_of self.old.slicing sx sy)
+            (tried_lists (coded_picture self.old.slicing self.old.shape matrix.now coefficients.now) kept.old sx sy qindex) }
+        ensures kept { AreTried (coded_picture self.old.slicing self.old.shape matrix.now coefficients.now) sx sy qindex kept.old kept.new }
+        ensures after { (indices : List ℕ) → IsNext (coded_picture self.old.slicing self.old.shape matrix.now coefficients.now) indices sx sy
+            → AreKept (coded_picture self.old.slicing self.old.shape matrix.now coefficients.now) indices kept.old
+            → IsTriedAfter (coded_picture self.old.slicing self.old.shape matrix.now coefficients.now) indices sx sy qindex result kept.new }
+    {
+        let bytes = share_of(&self.layout, sx, sy);
+        let trying = try_at(
+            &self.layout,
+            &self.shape,
+            matrix,
+            sx,
+            sy,
+            qindex,
+            bytes,
+            coefficients,
+            kept,
+            &mut self.luma,
+            &mut self.colour,
+        );
+        Trial {
+            luma_need: trying.luma_need,
+            colour_need: trying.colour_need,
+            fits: trying.fits,
+        }
+    }
+
+    /// Writes the slice in column sx and row sy, in exactly as many bytes as it is given, at the least quantisation index
+    /// at which it fits. The slice's places of the kept planes are left as a decoder will restore them.
+    pub fn encode_slice(
+        &mut self,
+        matrix: &Matrix,
+        sx: u32,
+        sy: u32,
+        coefficients: &Trio,
+        kept: &mut ThreePlanes,
+        bytes: &mut [u8],
+    ) -> SliceHead
+        requires some { 1 ≤ length bytes.old }
+        requires most { length bytes.old ≤ 2 ^ 28 }
+        requires ready { AreReady (coded_picture self.old.slicing self.old.shape matrix.now coefficients.now) sx sy kept.old }
+        requires steep { IsSteepOk self.old.slicing.depth (max self.old.shape.luma_depth self.old.shape.colour_depth) matrix.now }
+        ensures same { self.new ≡ self.old }
+        ensures slice { IsEncoded (tried_lists (coded_picture self.old.slicing self.old.shape matrix.now coefficients.now) kept.old sx sy) bytes.new result }
+        ensures kept { AreTried (coded_picture self.old.slicing self.old.shape matrix.now coefficients.now) sx sy result.qindex kept.old kept.new }
+        ensures after { (indices : List ℕ) → IsNext (coded_picture self.old.slicing self.old.shape matrix.now coefficients.now) indices sx sy
+            → AreKept (coded_picture self.old.slicing self.old.shape matrix.now coefficients.now) indices kept.old
+            → IsEncodedAfter (coded_picture self.old.slicing self.old.shape matrix.now coefficients.now) indices sx sy bytes.new result kept.new }
+    {
+        let (index, trying) = find_least(
+            &self.layout,
+            &self.shape,
+            matrix,
+            sx,
+            sy,
+            bytes.len() as u32,
+            coefficients,
+            kept,
+            &mut self.luma,
+            &mut self.colour,
+        );
+        put_slice(
+            bytes,
+            index,
+            trying.luma_need,
+            &self.luma[..trying.luma],
+            &self.colour[..trying.colour],
+        );
+        SliceHead {
+            qindex: index,
+            luma_bits: trying.luma_need as u32,
+        }
+    }
+}

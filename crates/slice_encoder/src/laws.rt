@@ -1,0 +1,45 @@
+//! Laws of the definitions. Each function does nothing; its contract is the law.
+
+ghost use Rattle.std.specs.Prelude.{◌≡◌, ℕ};
+ghost use Rattle.planes.specs.Raster.{Grid};
+ghost use Rattle.slice_encoder.specs.Loop.{Rule, IsMade, made};
+ghost use Rattle.slice_encoder.specs.Tries.{TrialsGoOn};
+ghost use Rattle.slice_encoder.specs.Ready.{NextIsReady};
+ghost use Rattle.slice_encoder.specs.Trials.{Lists};
+ghost use Rattle.slice_encoder.specs.Laws.{EarlierIndicesAlone, RestoredStaysNear, CoarsestFits, HasOneLeast};
+
+/// Each rule makes exactly one band.
+pub fn one_band_is_made()
+    ensures one { (f : Rule) → IsMade f (made f) }
+    ensures no_other { (f : Rule) (g : Grid) → IsMade f g → (y x : ℕ) → g y x ≡ made f y x }
+{}
+
+/// What is restored in a slice depends on its index and those before it alone.
+pub fn earlier_indices_alone()
+    ensures { EarlierIndicesAlone }
+{}
+
+/// Restored values and residuals stay in a range that doesn't grow from place to place.
+pub fn restored_stays_near()
+    ensures { RestoredStaysNear }
+{}
+
+/// The coarsest index fits each slice after whatever indices.
+pub fn coarsest_fits()
+    ensures { CoarsestFits }
+{}
+
+/// A trial of the next slice goes on from the values that trials of the slices before it left.
+pub fn trials_go_on()
+    ensures { TrialsGoOn }
+{}
+
+/// Where the values of all slices before are kept, the next slice can be encoded.
+pub fn next_is_ready()
+    ensures { NextIsReady }
+{}
+
+/// Where the coarsest index fits, a slice has exactly one least index at which it fits.
+pub fn one_least_index()
+    ensures { (bytes : ℕ) (at_index : ℕ → Lists) → HasOneLeast bytes at_index }
+{}

@@ -1,0 +1,19 @@
+//! One slice out: the least quantisation index at which it fits, its bytes, and what a decoder will restore of it.
+//!
+//! A trial of an index quantises the slice's coefficients, in the lowest subbands less their predictions over restored
+//! values, and counts what they need. `SliceEncoder` takes the least index that fits. What it leaves in the kept planes is
+//! what later slices are predicted from.
+#![tactic(auto)]
+
+mod encoder;
+pub mod laws;
+mod listing;
+mod packing;
+mod rect_trials;
+mod room;
+mod search;
+mod steep;
+mod trying;
+
+pub use encoder::{SliceEncoder, Trial};
+pub use steep::steep_ok;

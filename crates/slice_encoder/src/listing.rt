@@ -1,0 +1,88 @@
+// The values of a slice, listed.
+
+ghost use Rattle.std.specs.Prelude.{◌≡◌, ◌+◌, ◌-◌, ◌*◌, ◌^◌, ◌<◌, ◌≤◌, ◌++◌, length, take};
+ghost use Rattle.planes.specs.Rect.{IsInRect};
+ghost use Rattle.slice_geometry.specs.SliceOrder.{area};
+ghost use Rattle.slice_encoder.specs.Listing.{band_value, rect_values, pair_values, CanList};
+
+use crate::rect_trials::residual;
+use dc_prediction::predict;
+use planes::{Plane, Rect};
+use quant_factors::forward;
+
+// The value of a place of a rectangle.
+#[inline(always)]
+fn value_at(
+    coefficients: &Plane,
+    kept: &Plane,
+    level: u32,
+    rect: Rect,
+    y: u32,
+    x: u32,
+    index: u32,
+) -> i64
+    requires index { index ≤ 127 }
+    requires can { CanList rect level coefficients.now kept.now }
+    requires inside { IsInRect rect y x }
+    ensures { result ≡ band_value coefficients.now kept.now level index y x }
+{
+    let coefficient = coefficients.get(y, x);
+    if level == 0 {
+        residual(coefficient, predict(kept, y, x), index)
+    } else {
+        forward(coefficient, index)
+    }
+}
+
+// Lists the values of a rectangle from a place on.
+pub fn list_rect(
+    coefficients: &Plane,
+    kept: &Plane,
+    level: u32,
+    rect: Rect,
+    index: u32,
+    out: &mut [i64],
+    from: usize,
+)
+    requires index { index ≤ 127 }
+    requires can { CanList rect level coefficients.now kept.now }
+    requires room { from + area rect ≤ length out.old }
+    ensures listed { take (from + area rect) out.new ≡ take from out.old ++ rect_values (band_value coefficients.now kept.now level index) rect }
+{
+    let mut place = from;
+    for y in rect.y0..rect.y1 {
+        for x in rect.x0..rect.x1 {
+            out[place] = value_at(coefficients, kept, level, rect, y, x, index);
+            place += 1;
+        }
+    }
+}
+
+// Lists the values of a rectangle in two bands in turn, from a place on.
+pub fn list_pair(
+    first: &Plane,
+    second: &Plane,
+    first_kept: &Plane,
+    second_kept: &Plane,
+    level: u32,
+    rect: Rect,
+    index: u32,
+    out: &mut [i64],
+    from: usize,
+)
+    requires index { index ≤ 127 }
+    requires first_can { CanList rect level first.now first_kept.now }
+    requires second_can { CanList rect level second.now second_kept.now }
+    requires room { from + 2 * area rect ≤ length out.old }
+    ensures listed { take (from + 2 * area rect) out.new ≡ take from out.old
+        ++ pair_values (band_value first.now first_kept.now level index) (band_value second.now second_kept.now level index) rect }
+{
+    let mut place = from;
+    for y in rect.y0..rect.y1 {
+        for x in rect.x0..rect.x1 {
+            out[place] = value_at(first, first_kept, level, rect, y, x, index);
+            out[place + 1] = value_at(second, second_kept, level, rect, y, x, index);
+            place += 2;
+        }
+    }
+}

@@ -1,0 +1,206 @@
+// The least index at which a slice fits.
+
+ghost use Rattle.std.specs.Prelude.{◌≡◌, ◌+◌, ◌*◌, ◌^◌, ◌<◌, ◌≤◌, max, length};
+ghost use Rattle.slice_encoder.specs.Choice.{needs_fit, IsLeast};
+ghost use Rattle.slice_geometry.specs.Slicing.{slice_bytes, slice_number};
+ghost use Rattle.bounded_blocks.specs.Writing.{need};
+ghost use Rattle.slice_encoder.specs.Laws.{AreSmall, IsSteepOk};
+ghost use Rattle.slice_encoder.specs.Tries.{AreTried, tried_lists};
+ghost use Rattle.slice_encoder.specs.Buffers.{HasRoom, Holds};
+ghost use Rattle.slice_encoder.specs.Ready.{coded_picture, AreReady};
+
+use crate::trying::{list_colour, list_luma, try_lowest};
+use bounded_blocks::Need;
+use planes::{ThreePlanes, Trio};
+use quant_factors::Matrix;
+use slice_geometry::{Layout, PictureShape, length_bits};
+
+/// How many values of luma and of colour a trial listed, what they need, and whether they fit.
+#[derive(Clone, Copy)]
+pub struct Trying {
+    pub luma: usize,
+    pub colour: usize,
+    pub luma_need: u64,
+    pub colour_need: u64,
+    pub fits: bool,
+}
+
+// Whether needs fit into so many bytes.
+fn do_fit(bytes: u32, luma: u64, colour: u64) -> bool
+    requires some { 1 ≤ bytes }
+    requires most { bytes ≤ 2 ^ 28 }
+    requires luma_small { luma ≤ 2 ^ 40 }
+    requires colour_small { colour ≤ 2 ^ 40 }
+    ensures { result ≡ needs_fit bytes luma colour }
+{
+    let m = length_bits(bytes);
+    luma <= (1 << m) - 1 && luma + colour <= 8 * u64::from(bytes) - 7 - u64::from(m)
+}
+
+// The bytes of a slice.
+pub fn share_of(layout: &Layout, sx: u32, sy: u32) -> u32
+    requires across { sx < layout.now.slices_x }
+    requires down { sy < layout.now.slices_y }
+    ensures value { result ≡ slice_bytes layout.now.a layout.now.b (slice_number layout.now sx sy) }
+    ensures some { 1 ≤ result }
+    ensures most { result ≤ 2 ^ 28 }
+{
+    layout.share(sy * layout.slices_x() + sx)
+}
+
+// The need of values.
+fn need_of_values(values: &[i64]) -> u64
+    requires few { length values.now ≤ 2 ^ 32 }
+    requires small { AreSmall values.now }
+    ensures { result ≡ need values.now }
+{
+    Need::of(values).bits()
+}
+
+// Tries one index: its restored values are kept, and its values listed and counted.
+pub fn try_at(
+    layout: &Layout,
+    shape: &PictureShape,
+    matrix: &Matrix,
+    sx: u32,
+    sy: u32,
+    index: u32,
+    bytes: u32,
+    coefficients: &Trio,
+    kept: &mut ThreePlanes,
+    luma: &mut [i64],
+    colour: &mut [i64],
+) -> Trying
+    requires index { index ≤ 127 }
+    requires some { 1 ≤ bytes }
+    requires most { bytes ≤ 2 ^ 28 }
+    requires ready { AreReady (coded_picture layout.now shape.now matrix.now coefficients.now) sx sy kept.old }
+    requires room { HasRoom (coded_picture layout.now shape.now matrix.now coefficients.now) sx sy (length luma.old) (length colour.old) }
+    ensures holds { Holds (tried_lists (coded_picture layout.now shape.now matrix.now coefficients.now) kept.old sx sy index) bytes result luma.new colour.new }
+    ensures kept { AreTried (coded_picture layout.now shape.now matrix.now coefficients.now) sx sy index kept.old kept.new }
+{
+    let _depth = layout.depth();
+    try_lowest(
+        layout,
+        shape.luma,
+        shape.luma_depth,
+        matrix,
+        sx,
+        sy,
+        index,
+        &coefficients.luma,
+        &mut kept.luma,
+    );
+    try_lowest(
+        layout,
+        shape.colour,
+        shape.colour_depth,
+        matrix,
+        sx,
+        sy,
+        index,
+        &coefficients.c1,
+        &mut kept.c1,
+    );
+    try_lowest(
+        layout,
+        shape.colour,
+        shape.colour_depth,
+        matrix,
+        sx,
+        sy,
+        index,
+        &coefficients.c2,
+        &mut kept.c2,
+    );
+    let lumas = list_luma(
+        layout,
+        shape.luma,
+        matrix,
+        sx,
+        sy,
+        index,
+        &coefficients.luma,
+        &kept.luma,
+        luma,
+    );
+    let colours = list_colour(
+        layout,
+        shape.colour,
+        matrix,
+        sx,
+        sy,
+        index,
+        &coefficients.c1,
+        &coefficients.c2,
+        &kept.c1,
+        &kept.c2,
+        colour,
+    );
+    let luma_need = need_of_values(&luma[..lumas]);
+    let colour_need = need_of_values(&colour[..colours]);
+    let fits = do_fit(bytes, luma_need, colour_need);
+    Trying {
+        luma: lumas,
+        colour: colours,
+        luma_need,
+        colour_need,
+        fits,
+    }
+}
+
+// Tries the indices from 0 on, and keeps the trial of the first that fits.
+pub fn find_least(
+    layout: &Layout,
+    shape: &PictureShape,
+    matrix: &Matrix,
+    sx: u32,
+    sy: u32,
+    bytes: u32,
+    coefficients: &Trio,
+    kept: &mut ThreePlanes,
+    luma: &mut [i64],
+    colour: &mut [i64],
+) -> (u32, Trying)
+    requires some { 1 ≤ bytes }
+    requires most { bytes ≤ 2 ^ 28 }
+    requires ready { AreReady (coded_picture layout.now shape.now matrix.now coefficients.now) sx sy kept.old }
+    requires steep { IsSteepOk layout.now.depth (max shape.now.luma_depth shape.now.colour_depth) matrix.now }
+    requires room { HasRoom (coded_picture layout.now shape.now matrix.now coefficients.now) sx sy (length luma.old) (length colour.old) }
+    ensures least { IsLeast bytes (tried_lists (coded_picture layout.now shape.now matrix.now coefficients.now) kept.old sx sy) result.0 }
+    ensures holds { Holds (tried_lists (coded_picture layout.now shape.now matrix.now coefficients.now) kept.old sx sy result.0) bytes result.1 luma.new colour.new }
+    ensures kept { AreTried (coded_picture layout.now shape.now matrix.now coefficients.now) sx sy result.0 kept.old kept.new }
+{
+    for index in 0..127 {
+        let trying = try_at(
+            layout,
+            shape,
+            matrix,
+            sx,
+            sy,
+            index,
+            bytes,
+            coefficients,
+            kept,
+            luma,
+            colour,
+        );
+        if trying.fits {
+            return (index, trying);
+        }
+    }
+    let trying = try_at(
+        layout,
+        shape,
+        matrix,
+        sx,
+        sy,
+        127,
+        bytes,
+        coefficients,
+        kept,
+        luma,
+        colour,
+    );
+    (127, trying)
+}

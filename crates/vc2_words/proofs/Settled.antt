@@ -1,0 +1,193 @@
+-- Settings that break no rule are lawful: their header passes, and so do their parameters.
+use Rattle.std.proofs.Common.{◌≡◌, ℕ, ◌+◌, ◌*◌, ◌-◌, ◌≤◌, ◌<◌, ◌^◌, true, false, List, [], ◌∷◌, Some, None, Ok, Err, length, map, refl, sym, ap, ◌∙◌, subst, ◌%◌, arith}
+use Rattle.std.specs.Prelude.{Option, Bool, Result, ◌==◌, nat_le, slice_index, if◌then◌else◌}
+use Rattle.std.specs.List.{AllByRecursion}
+use Rattle.std.proofs.lemmas.Bool.{leb-true, eqb-true, eq-eqb}
+use Rattle.field_rows.specs.Rows.{Rule, first_broken}
+use Rattle.sequence_header.specs.declared.parts.HeaderParts.{HeaderParts}
+use Rattle.sequence_header.specs.Checking.{Passes}
+use Rattle.slice_geometry.specs.Slicing.{Slicing, slice_count, IsAllowed, AreSlicesAllowed, IsShareAllowed}
+use Rattle.transform_params.specs.Params.{Params}
+use Rattle.transform_params.specs.Fields.{IsLawful, unit_length}
+use Rattle.channel_schedule.specs.declared.schedule.Rate.{Rate}
+use Rattle.channel_schedule.specs.declared.schedule.Schedule.{Schedule}
+use Rattle.channel_schedule.specs.Rates.{IsRate, IsSchedule}
+use Rattle.std.proofs.Math.Nat.{mul-le-mul_left}
+use Rattle.vc2_words.specs.declared.keys.Key.TheVariants as of_key
+use Rattle.vc2_words.specs.declared.keys.Rule as settings
+use Rattle.vc2_words.specs.Forms.{greatest, cut_at, slash}
+use Rattle.vc2_words.specs.Operands.{Table, value_of, and_then, operands_of}
+use Rattle.vc2_words.specs.Plain.{IsPlain, IsPlainFor}
+use Rattle.vc2_words.specs.Lawful.{AreLawful}
+use Rattle.vc2_words.specs.declared.keys.Name.{Name}
+use Rattle.vc2_words.specs.declared.keys.Name.TheVariants as names
+use Rattle.vc2_words.specs.declared.keys.WordFault.{WordFault}
+use Rattle.vc2_words.specs.Keys.{name_of}
+use Rattle.vc2_words.specs.Commands.{AskedCommand, chain, header, decode, check, encode, trial, unless_broken, schedule_from, schedule_of, command_of, part_of, named, asked_by}
+use Rattle.vc2_words.proofs.Plainness.{plain_of, whole_of, pair_is, none_some, some_same}
+use Rattle.vc2_words.specs.Read.{IsRead, IsValue}
+use Rattle.vc2_words.proofs.Small.{AreSmall, given_small, number_small}
+use Rattle.vc2_words.specs.Settings.{number_of, number_at, entries_of, parts_of, params_of, slicing_of, are_slices, is_share, number_rules, trial_rules, broken_rule, or_first, is_even_with, Asked, asked_of, rate_or, rate_given, buffer_given}
+use Rattle.vc2_words.proofs.Lawful.{range_of, and_both, passes}
+use Rattle.vc2_words.proofs.Rules.{all_hold, slices_hold, share_holds, count_holds}
+
+all_low : (ns : List ℕ) → AreSmall ns → AllByRecursion (λ (n : ℕ). n < 2 ^ 32) ns
+all_low [] small = tt
+all_low (n ∷ ns) small = (omega (arith, small.0), all_low ns small.1)
+
+entries_low : (given : Table) → IsRead given → AllByRecursion (λ (n : ℕ). n < 2 ^ 32) (entries_of (value_of given of_key.Matrix))
+entries_low given read = here (value_of given of_key.Matrix) refl
+  where
+    here : (v : Option (List ℕ)) → value_of given of_key.Matrix ≡ v → AllByRecursion (λ (n : ℕ). n < 2 ^ 32) (entries_of v)
+    here None is = tt
+    here (Some ns) is = all_low ns (given_small given of_key.Matrix ns read is)
+
+pub slices_allowed : (s : Slicing) → are_slices s ≡ true → AreSlicesAllowed s
+slices_allowed s good =
+    let one = and_both _ _ good in
+    let two = and_both _ _ one.1 in
+    let x = range_of 1 8192 s.slices_x one.0 in
+    let y = range_of 1 8192 s.slices_y two.0 in
+    record { some_across = x.0; across = x.1; some_down = y.0; down = y.1; count = leb-true (s.slices_x * s.slices_y) (2 ^ 20) two.1 }
+
+pub share_allowed : (s : Slicing) → is_share s ≡ true → IsShareAllowed s
+share_allowed s good =
+    let one = and_both _ _ good in
+    let two = and_both _ _ one.1 in
+    record { some = leb-true 1 s.b one.0; byte = leb-true s.b s.a two.0; total = leb-true _ (2 ^ 28) two.1 }
+
+none_before : (a b : Option settings.Rule) → or_first a b ≡ None → a ≡ None
+none_before None b e = refl
+none_before (Some rule) b e = e
+
+numbers_hold : (given : Table) (pictures : Option ℕ) → broken_rule given pictures ≡ None → first_broken (number_rules (parts_of given) (params_of given) (number_at given of_key.First 0) pictures) ≡ None
+numbers_hold given pictures none = none_before (first_broken (number_rules (parts_of given) (params_of given) (number_at given of_key.First 0) pictures)) (first_broken (trial_rules (parts_of given) (params_of given) pictures)) none
+
+pub params_lawful : (given : Table) (pictures : Option ℕ) → IsRead given → broken_rule given pictures ≡ None → IsLawful (params_of given)
+params_lawful given pictures read none =
+    let first = number_at given of_key.First 0 in
+    let held = numbers_hold given pictures none in
+    let all = all_hold (number_rules (parts_of given) (params_of given) first pictures) held in
+    let a = number_small given of_key.Bytes 0 read in
+    let b = number_small given of_key.Bytes 1 read in
+    record {
+      allowed = record {
+        depth = leb-true (slicing_of given).depth 4 all.1.1.1.0;
+        slices = slices_allowed (slicing_of given) (slices_hold (parts_of given) (params_of given) first pictures held);
+        share = share_allowed (slicing_of given) (share_holds (parts_of given) (params_of given) first pictures held);
+      };
+      a = omega (arith, a);
+      b = omega (arith, b);
+      deep = refl;
+      count = count_holds (parts_of given) (params_of given) first pictures held;
+      small = entries_low given read;
+    }
+
+pub header_passes : (given : Table) (pictures : Option ℕ) → IsPlain (parts_of given) → broken_rule given pictures ≡ None → Passes (parts_of given)
+header_passes given pictures plain none =
+    let all = all_hold (number_rules (parts_of given) (params_of given) (number_at given of_key.First 0) pictures) (numbers_hold given pictures none) in
+    passes (parts_of given) plain all.0 all.1.0 all.1.1.0
+
+-- ---- the rate
+
+rate_lawful : (r : Option (List ℕ)) → ((ns : List ℕ) → r ≡ Some ns → IsValue of_key.Rate ns) → (usual : Rate) → IsRate usual → IsRate (rate_or usual (rate_given r))
+rate_lawful None read usual good = good
+rate_lawful (Some ns) read usual good =
+    let value = read ns refl in
+    let pair = pair_is 1 (cut_at slash value.text) ns value.reads in
+    rw pair.2 (record { some_bytes = pair.3; some_slots = pair.5 })
+
+one_product : (m n : ℕ) → 1 ≤ m → 1 ≤ n → 1 ≤ m * n
+one_product m n some_m some_n = let more : m * 1 ≤ m * n = mul-le-mul_left m some_n in omega (arith, more)
+
+usual_rate : (params : Params) → are_slices params.slicing ≡ true → IsRate (record { num = unit_length params; den = slice_count params.slicing })
+usual_rate params good =
+    let allowed = slices_allowed params.slicing good in
+    record { some_bytes = omega arith; some_slots = one_product params.slicing.slices_x params.slicing.slices_y allowed.some_across allowed.some_down }
+
+-- ---- of the words
+
+even_first : (coding first : ℕ) → is_even_with coding first ≡ true → coding ≡ 1 → first % 2 ≡ 0
+even_first coding first good one =
+    let is : (coding == 1) ≡ true = eq-eqb coding 1 one in
+    eqb-true (first % 2) 0 (rw is at good)
+
+lawful : (given : Table) (pictures : Option ℕ) → IsRead given → IsPlain (parts_of given) → broken_rule given pictures ≡ None → AreLawful (asked_of given)
+lawful given pictures read plain none =
+    let first = number_at given of_key.First 0 in
+    let low = number_small given of_key.First 0 read in
+    let all = all_hold (number_rules (parts_of given) (params_of given) first pictures) (numbers_hold given pictures none) in
+    record {
+      header = header_passes given pictures plain none;
+      params = params_lawful given pictures read none;
+      first = omega (arith, low);
+      rate = rate_lawful (value_of given of_key.Rate) (λ ns is. read.read of_key.Rate ns is) (record { num = unit_length (params_of given); den = slice_count (slicing_of given) }) (usual_rate (params_of given) (slices_hold (parts_of given) (params_of given) first pictures (numbers_hold given pictures none)));
+      even = even_first (parts_of given).coding first all.1.1.1.1.1.1.1.0;
+    }
+
+-- ---- a schedule
+
+schedule_lawful : (given : Table) → IsRead given → (s : Schedule) → schedule_of given ≡ Some s → IsSchedule s
+schedule_lawful given read s e = here (value_of given of_key.Rate) (value_of given of_key.Delay) (value_of given of_key.Buffer) refl refl e
+  where
+    here : (r d b : Option (List ℕ)) → value_of given of_key.Rate ≡ r → value_of given of_key.Delay ≡ d → schedule_from (rate_given r) d (buffer_given b) ≡ Some s → IsSchedule s
+    here None d b ir id e = none_some e
+    here (Some ns) None b ir id e = none_some e
+    here (Some ns) (Some ds) None ir id e = none_some e
+    here (Some ns) (Some ds) (Some bs) ir id e =
+        let delay : number_of (value_of given of_key.Delay) 0 ≤ 2 ^ 72 = number_small given of_key.Delay 0 read in
+        let short : slice_index ds 0 ≤ 2 ^ 72 = rw id at delay in
+        let usual : Rate = record { num = 1; den = 1 } in
+        let rate = rate_lawful (Some ns) (λ ms is. read.read of_key.Rate ms (ir ∙ is)) usual (record { some_bytes = omega arith; some_slots = omega arith }) in
+        subst (λ (k : Schedule). IsSchedule k) (some_same e) (record { rate = rate; short = short })
+
+abbrev SaysOf : Option Schedule → Type 0
+SaysOf None = Unit {0}
+SaysOf (Some s) = IsSchedule s
+
+schedule_says : (given : Table) → IsRead given → (r : Option Schedule) → schedule_of given ≡ r → SaysOf r
+schedule_says given read None is = tt
+schedule_says given read (Some s) is = schedule_lawful given read s is
+
+abbrev Says : AskedCommand → Type 0
+Says (check schedule) = SaysOf schedule
+Says (encode s) = AreLawful s
+Says (trial s part) = AreLawful s
+Says _ = Unit {0}
+
+abbrev fine : AskedCommand → Result AskedCommand WordFault
+fine c = Ok c
+
+fine_same : {a b : AskedCommand} → fine a ≡ fine b → a ≡ b
+fine_same e = cc
+
+failed : {G : Type 0} {fault : WordFault} {c : AskedCommand} → Err fault ≡ fine c → G
+failed e = absurd (let h = e in cc)
+
+unbroken : (given : Table) (pictures : Option ℕ) (told c : AskedCommand) → (broken_rule given pictures ≡ None → Says told) → unless_broken (broken_rule given pictures) told ≡ fine c → Says c
+unbroken given pictures told c good e = here (broken_rule given pictures) refl e
+  where
+    here : (r : Option settings.Rule) → broken_rule given pictures ≡ r → unless_broken r told ≡ fine c → Says c
+    here (Some rule) is e = failed e
+    here None is e = subst (λ (k : AskedCommand). Says k) (fine_same e) (good is)
+
+command_says : (name : Name) (given : Table) (c : AskedCommand) → IsRead given → IsPlainFor name (parts_of given) → command_of name given ≡ fine c → Says c
+command_says names.Chain given c read plain e = subst (λ (k : AskedCommand). Says k) (fine_same e) tt
+command_says names.Header given c read plain e = subst (λ (k : AskedCommand). Says k) (fine_same e) tt
+command_says names.Decode given c read plain e = subst (λ (k : AskedCommand). Says k) (fine_same e) tt
+command_says names.Check given c read plain e = subst (λ (k : AskedCommand). Says k) (fine_same e) (schedule_says given read (schedule_of given) refl)
+command_says names.Encode given c read plain e = unbroken given None (encode (asked_of given)) c (lawful given None read plain) e
+command_says names.Trial given c read plain e =
+    unbroken given (Some (number_at given of_key.Pictures 0)) (trial (asked_of given) (part_of given)) c (lawful given (Some (number_at given of_key.Pictures 0)) read plain) e
+
+pub words_say : (words : List (List ℕ)) (c : AskedCommand) → asked_by words ≡ fine c → Says c
+words_say [] c e = failed e
+words_say (word ∷ words) c e = here (name_of word) e
+  where
+    read : (name : Name) (r : Result Table WordFault) → operands_of name words ≡ r → and_then r (λ given. command_of name given) ≡ fine c → Says c
+    read name (Err fault) is e = failed e
+    read name (Ok given) is e = command_says name given c (whole_of name words given is).read (plain_of name words given is) e
+
+    here : (n : Option Name) → named n words ≡ fine c → Says c
+    here None e = failed e
+    here (Some name) e = read name (operands_of name words) refl e

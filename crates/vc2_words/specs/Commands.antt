@@ -1,0 +1,66 @@
+-- What the words ask for: a command with its settings, or the first fault.
+use Rattle.std.specs.Prelude.{ℕ, List, [], ◌∷◌, slice_index, Option, Some, None, Result, Ok, Err}
+use Rattle.vc2_words.specs.declared.keys.Name.{Name}
+use Rattle.vc2_words.specs.declared.keys.Name.TheVariants as names
+use Rattle.vc2_words.specs.declared.keys.Key.TheVariants as of_key
+use Rattle.vc2_words.specs.declared.keys.Rule as settings
+use Rattle.vc2_words.specs.declared.keys.WordFault.{WordFault}
+use Rattle.vc2_words.specs.declared.keys.WordFault.TheVariants as faults
+use Rattle.channel_schedule.specs.declared.schedule.Rate.{Rate}
+use Rattle.channel_schedule.specs.declared.schedule.Schedule.{Schedule}
+use Rattle.vc2_words.specs.declared.words.TrialPart.{TrialPart}
+use Rattle.vc2_words.specs.declared.words.Command.{Command}
+use Rattle.vc2_words.specs.declared.words.Command.TheVariants as commands
+use Rattle.vc2_words.specs.Keys.{name_of}
+use Rattle.vc2_words.specs.Operands.{Table, value_of, and_then, operands_of}
+use Rattle.vc2_words.specs.Settings.{Asked, asked_of, broken_rule, number_at, rate_given, buffer_given}
+use Rattle.vc2_words.specs.Shown.{shown}
+
+pub data AskedCommand : Type 0 where
+  chain : AskedCommand
+  header : AskedCommand
+  decode : AskedCommand
+  check : Option Schedule → AskedCommand
+  encode : Asked → AskedCommand
+  trial : Asked → TrialPart → AskedCommand
+
+-- a schedule, where all of it is given
+abbrev pub schedule_from : Option Rate → Option (List ℕ) → Option ℕ → Option Schedule
+schedule_from (Some rate) (Some delay) (Some size) = Some (record { rate = rate; delay = slice_index delay 0; size = size })
+schedule_from rate delay size = None
+
+abbrev pub schedule_of : Table → Option Schedule
+schedule_of given = schedule_from (rate_given (value_of given of_key.Rate)) (value_of given of_key.Delay) (buffer_given (value_of given of_key.Buffer))
+
+abbrev pub part_of : Table → TrialPart
+part_of given = record { seed = number_at given of_key.Seed 0; pictures = number_at given of_key.Pictures 0 }
+
+abbrev pub unless_broken : Option settings.Rule → AskedCommand → Result AskedCommand WordFault
+unless_broken None command = Ok command
+unless_broken (Some rule) command = Err (faults.SettingsRefused rule)
+
+abbrev pub command_of : Name → Table → Result AskedCommand WordFault
+command_of names.Chain given = Ok chain
+command_of names.Header given = Ok header
+command_of names.Decode given = Ok decode
+command_of names.Check given = Ok (check (schedule_of given))
+command_of names.Encode given = unless_broken (broken_rule given None) (encode (asked_of given))
+command_of names.Trial given = unless_broken (broken_rule given (Some (number_at given of_key.Pictures 0))) (trial (asked_of given) (part_of given))
+
+abbrev pub named : Option Name → List (List ℕ) → Result AskedCommand WordFault
+named None words = Err faults.UnknownCommand
+named (Some name) words = and_then (operands_of name words) (λ given. command_of name given)
+
+-- the words' command, or their first fault
+abbrev pub asked_by : List (List ℕ) → Result AskedCommand WordFault
+asked_by [] = Err faults.NoCommand
+asked_by (word ∷ words) = named (name_of word) words
+
+-- what is seen of a command
+abbrev pub seen : Command → AskedCommand
+seen commands.Chain = chain
+seen commands.Header = header
+seen commands.Decode = decode
+seen (commands.Check schedule) = check schedule
+seen (commands.Encode s) = encode (shown s)
+seen (commands.Trial s part) = trial (shown s) part

@@ -1,0 +1,11 @@
+pub mod Forms
+pub mod Keys
+pub mod NumbersInside
+pub mod Operands
+pub mod Plain
+pub mod Settings
+pub mod Shown
+pub mod Commands
+pub mod Lawful
+pub mod Read
+pub mod Order

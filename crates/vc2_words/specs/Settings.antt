@@ -1,0 +1,193 @@
+-- The settings that operands ask for, and the rules on them.
+use Rattle.std.specs.Prelude.{◌≡◌, ℕ, ◌+◌, ◌*◌, ◌^◌, ◌%◌, ◌≤◌, ◌<◌, ◌==◌, ◌&&◌, ◌||◌, not, nat_le, Bool, true, false, List, [], ◌∷◌, length, map, slice_index, Option, Some, None, Result, Ok, Err, if◌then◌else◌}
+use Rattle.std.specs.Int.{is_in_range}
+use Rattle.field_rows.specs.Rows.{Rule, ◌or_else◌, first_broken}
+use Rattle.sequence_header.specs.declared.parts.HeaderParts.{HeaderParts}
+use Rattle.sequence_header.specs.declared.parts.RateField.{RateField}
+use Rattle.sequence_header.specs.declared.parts.RateField.TheVariants as rates
+use Rattle.sequence_header.specs.declared.parts.AspectField.TheVariants as aspects
+use Rattle.sequence_header.specs.declared.parts.ColourField.TheVariants as colours
+use Rattle.sequence_header.specs.declared.parts.SignalField.{SignalField}
+use Rattle.sequence_header.specs.declared.parts.SignalField.TheVariants as signals
+use Rattle.sequence_header.specs.declared.parts.SignalRange.{SignalRange}
+use Rattle.sequence_header.specs.Bytes.{header_len}
+use Rattle.slice_geometry.specs.Slicing.{Slicing, slice_count, total_bytes}
+use Rattle.quant_factors.specs.Weights.{Weights}
+use Rattle.lifting.specs.declared.Wavelet.{Wavelet}
+use Rattle.lifting.specs.declared.Wavelet.TheVariants.{LeGall, HaarFlat, HaarShift}
+use Rattle.transform_params.specs.Params.{Params}
+use Rattle.transform_params.specs.Fields.{unit_length}
+use Rattle.vc2_words.specs.declared.keys.Key.TheVariants as of_key
+use Rattle.vc2_words.specs.declared.keys.Key.{Key}
+use Rattle.vc2_words.specs.declared.keys.Rule.TheVariants as broken
+use Rattle.vc2_words.specs.declared.keys.Rule as settings
+use Rattle.channel_schedule.specs.declared.schedule.Rate.{Rate}
+use Rattle.vc2_words.specs.Forms.{greatest}
+use Rattle.vc2_words.specs.Operands.{Table, value_of}
+
+-- ---- numbers of operands
+
+abbrev pub number_of : Option (List ℕ) → ℕ → ℕ
+number_of None i = 0
+number_of (Some ns) i = slice_index ns i
+
+abbrev pub number_at : Table → Key → ℕ → ℕ
+number_at given key i = number_of (value_of given key) i
+
+-- ---- the header
+
+-- the rate by its index where it is one of the standard's table
+abbrev pub rate_field : ℕ → ℕ → RateField
+rate_field num den =
+    if num == 24000 && den == 1001 then rates.Index 1 else (
+    if num == 24 && den == 1 then rates.Index 2 else (
+    if num == 25 && den == 1 then rates.Index 3 else (
+    if num == 30000 && den == 1001 then rates.Index 4 else (
+    if num == 30 && den == 1 then rates.Index 5 else (
+    if num == 50 && den == 1 then rates.Index 6 else (
+    if num == 60000 && den == 1001 then rates.Index 7 else (
+    if num == 60 && den == 1 then rates.Index 8 else rates.Pair num den)))))))
+
+-- an index where one number is given, else the range
+abbrev pub signal_of : Option (List ℕ) → SignalField
+signal_of None = signals.Index 1
+signal_of (Some ns) =
+    if length ns == 1
+    then signals.Index (slice_index ns 0)
+    else signals.Custom (record { luma_offset = slice_index ns 0; luma_excursion = slice_index ns 1; colour_offset = slice_index ns 2; colour_excursion = slice_index ns 3 })
+
+abbrev pub scan_of : Option (List ℕ) → Option ℕ
+scan_of None = None
+scan_of (Some ns) = Some (slice_index ns 0)
+
+abbrev pub parts_of : Table → HeaderParts
+parts_of given = record {
+  major = 1;
+  minor = 0;
+  level = 0;
+  width = number_at given of_key.Size 0;
+  height = number_at given of_key.Size 1;
+  sampling = number_at given of_key.Sampling 0;
+  scan = scan_of (value_of given of_key.Scan);
+  rate = rate_field (number_at given of_key.Fps 0) (number_at given of_key.Fps 1);
+  aspect = aspects.Default;
+  clean = None;
+  signal = signal_of (value_of given of_key.Signal);
+  colour = colours.Default;
+  coding = number_at given of_key.Fields 0;
+}
+
+abbrev pub is_size : HeaderParts → Bool
+is_size p = is_in_range 1 8192 p.width && (is_in_range 1 8192 p.height && nat_le (p.width * p.height) (2 ^ 24))
+
+abbrev pub is_divided : HeaderParts → Bool
+is_divided p =
+    (p.sampling == 0 || p.width % 2 == 0)
+    && ((not (p.sampling == 2) || p.height % 2 == 0)
+    && (p.coding == 0 || (p.height % 2 == 0 && (not (p.sampling == 2) || p.height % 4 == 0))))
+
+abbrev pub is_signal : SignalField → Bool
+is_signal (signals.Index n) = true
+is_signal (signals.Custom r) = is_in_range 1 65535 r.luma_excursion && is_in_range 1 65535 r.colour_excursion
+
+-- ---- the parameters
+
+abbrev pub wavelet_of : ℕ → Wavelet
+wavelet_of n = if n == 0 then LeGall else (if n == 1 then HaarFlat else HaarShift)
+
+abbrev pub slicing_of : Table → Slicing
+slicing_of given = record {
+  depth = number_at given of_key.Depth 0;
+  slices_x = number_at given of_key.Slices 0;
+  slices_y = number_at given of_key.Slices 1;
+  a = number_at given of_key.Bytes 0;
+  b = number_at given of_key.Bytes 1;
+}
+
+abbrev pub entries_of : Option (List ℕ) → List ℕ
+entries_of None = []
+entries_of (Some ns) = ns
+
+abbrev pub params_of : Table → Params
+params_of given = record {
+  wavelet = wavelet_of (number_at given of_key.Wavelet 0);
+  slicing = slicing_of given;
+  matrix = record { depth = number_at given of_key.Depth 0; entries = entries_of (value_of given of_key.Matrix) };
+}
+
+abbrev pub are_slices : Slicing → Bool
+are_slices s = is_in_range 1 8192 s.slices_x && (is_in_range 1 8192 s.slices_y && nat_le (slice_count s) (2 ^ 20))
+
+abbrev pub is_share : Slicing → Bool
+is_share s = nat_le 1 s.b && (nat_le s.b s.a && nat_le (total_bytes s) (2 ^ 28))
+
+-- ---- all rules
+
+abbrev pub is_even_with : ℕ → ℕ → Bool
+is_even_with coding n = not (coding == 1) || n % 2 == 0
+
+abbrev pub are_paired : ℕ → Option ℕ → Bool
+are_paired coding None = true
+are_paired coding (Some pictures) = is_even_with coding pictures
+
+abbrev pub is_short : HeaderParts → Params → Option ℕ → Bool
+is_short parts params None = true
+is_short parts params (Some pictures) = nat_le (26 + header_len parts + pictures * unit_length params) (2 ^ 28)
+
+-- the rules on the numbers
+abbrev pub number_rules : HeaderParts → Params → ℕ → Option ℕ → List (Rule settings.Rule)
+number_rules parts params first pictures =
+    (is_size parts or_else broken.Size)
+    ∷ (is_divided parts or_else broken.Divide)
+    ∷ (is_signal parts.signal or_else broken.Signal)
+    ∷ (nat_le params.slicing.depth 4 or_else broken.Depth)
+    ∷ (are_slices params.slicing or_else broken.Slices)
+    ∷ (is_share params.slicing or_else broken.Share)
+    ∷ ((length params.matrix.entries == 1 + 3 * params.slicing.depth) or_else broken.MatrixCount)
+    ∷ (is_even_with parts.coding first or_else broken.FirstOdd)
+    ∷ (are_paired parts.coding pictures or_else broken.FieldCount) ∷ []
+
+-- and on a trial's length
+abbrev pub trial_rules : HeaderParts → Params → Option ℕ → List (Rule settings.Rule)
+trial_rules parts params pictures = (is_short parts params pictures or_else broken.TrialSize) ∷ []
+
+abbrev pub or_first : Option settings.Rule → Option settings.Rule → Option settings.Rule
+or_first None later = later
+or_first (Some rule) later = Some rule
+
+-- the first rule that these operands break
+abbrev pub broken_rule : Table → Option ℕ → Option settings.Rule
+broken_rule given pictures =
+    or_first (first_broken (number_rules (parts_of given) (params_of given) (number_at given of_key.First 0) pictures))
+    (first_broken (trial_rules (parts_of given) (params_of given) pictures))
+
+-- what is asked of a stream
+pub record Asked : Type 0 where
+  pub parts : HeaderParts
+  pub params : Params
+  pub first : ℕ
+  pub rate : Rate
+
+abbrev pub rate_given : Option (List ℕ) → Option Rate
+rate_given None = None
+rate_given (Some ns) = Some (record { num = slice_index ns 0; den = slice_index ns 1 })
+
+abbrev pub buffer_given : Option (List ℕ) → Option ℕ
+buffer_given None = None
+buffer_given (Some ns) = Some (slice_index ns 0)
+
+abbrev pub rate_or : Rate → Option Rate → Rate
+rate_or usual None = usual
+rate_or usual (Some rate) = rate
+
+-- a picture unit's bytes in as many slots as it has slices, where no rate is given
+abbrev pub rate_of : Params → Option (List ℕ) → Rate
+rate_of params given = rate_or (record { num = unit_length params; den = slice_count params.slicing }) (rate_given given)
+
+abbrev pub asked_of : Table → Asked
+asked_of given = record {
+  parts = parts_of given;
+  params = params_of given;
+  first = number_at given of_key.First 0;
+  rate = rate_of (params_of given) (value_of given of_key.Rate);
+}

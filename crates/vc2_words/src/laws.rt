@@ -1,0 +1,32 @@
+//! A law of the definitions.
+
+ghost use Rattle.std.specs.Prelude.{◌≡◌, ℕ, List, Ok, Some};
+ghost use Rattle.channel_schedule.specs.declared.schedule.Schedule.{Schedule};
+ghost use Rattle.channel_schedule.specs.Rates.{IsSchedule};
+ghost use Rattle.vc2_words.specs.declared.words.TrialPart.{TrialPart};
+ghost use Rattle.vc2_words.specs.Settings.{Asked};
+ghost use Rattle.vc2_words.specs.Commands.{asked_by, check, encode, trial};
+ghost use Rattle.vc2_words.specs.Lawful.{AreLawful};
+ghost use Rattle.vc2_words.specs.Order.{FirstFaultIsTold, OrderIsFree};
+
+/// The settings that words ask for are lawful: their header and parameters pass the rules, the first picture's number is even
+/// with field coding, and the rate is one.
+pub fn settings_are_lawful()
+    ensures encode { (words : List (List ℕ)) (s : Asked) → asked_by words ≡ Ok (encode s) → AreLawful s }
+    ensures trial { (words : List (List ℕ)) (s : Asked) (part : TrialPart) → asked_by words ≡ Ok (trial s part) → AreLawful s }
+{}
+
+/// The schedule that words ask for is one: its rate's numbers are at least 1, and its delay at most 2^72.
+pub fn schedules_are_lawful()
+    ensures { (words : List (List ℕ)) (s : Schedule) → asked_by words ≡ Ok (check (Some s)) → IsSchedule s }
+{}
+
+/// The fault that is told of operands is that of the first word that is refused, and of no other.
+pub fn the_first_fault_is_told()
+    ensures { FirstFaultIsTold }
+{}
+
+/// Operands that ask for a command ask for the same one in any order.
+pub fn the_order_is_free()
+    ensures { OrderIsFree }
+{}

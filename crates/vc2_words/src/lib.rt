@@ -1,0 +1,14 @@
+//! The words of the command line: a command, and its operands `key=value`.
+#![tactic(auto)]
+
+mod keys;
+pub mod laws;
+mod numbers;
+mod operands;
+mod settings;
+mod values;
+mod words;
+
+pub use keys::{Key, Name, Rule, WordFault};
+pub use settings::Settings;
+pub use words::{Command, TrialPart, read_words};

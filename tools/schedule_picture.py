@@ -1,0 +1,101 @@
+#!/usr/bin/env python3
+"""Draws how a receiver's buffer fills under the plan of a stream.
+
+usage: tools/schedule_picture.py STREAM SLICES_A/B RATE [OUT]
+
+STREAM is a file; the units and their lengths are what `./vc2 chain` prints of it, the slices what `./vc2 check` counts.
+SLICES_A/B is the bytes of a slice, RATE the bytes in slots of the channel. The picture is written to OUT, or to standard
+output, as SVG. The plan is found here by search, apart from the program.
+"""
+import os
+import subprocess
+import sys
+
+HERE = os.path.dirname(os.path.dirname(os.path.abspath(__file__)))
+WIDTH, HEIGHT, LEFT, BOTTOM = 720, 300, 64, 44
+
+
+def vc2(command, stream):
+    with open(stream, "rb") as source:
+        done = subprocess.run([os.path.join(HERE, "vc2"), command], stdin=source, capture_output=True, text=True, check=True)
+    return done.stdout.splitlines()
+
+
+def units_of(stream, a, b):
+    """(first byte, length, slices) of each unit."""
+    lines = [line.split() for line in vc2("chain", stream)]
+    places = [int(line[0]) for line in lines] + [os.path.getsize(stream)]
+    names = [line[1] for line in lines]
+    pictures = names.count("low-delay-picture")
+    slices = int(vc2("check", stream)[0].split()[4]) // max(pictures, 1)
+    return [
+        (place, after - place, slices if name == "low-delay-picture" else 0)
+        for place, after, name in zip(places, places[1:], names)
+    ]
+
+
+def ends_of(units, a, b):
+    """Where each slice ends, and the stream's length as the end of its tail."""
+    ends = []
+    for place, length, slices in units:
+        head = length - slices * a // b
+        ends += [place + head + (j + 1) * a // b for j in range(slices)]
+    return ends + [units[-1][0] + units[-1][1]]
+
+
+def fills_of(ends, num, den):
+    """The least delay, and the bytes before and behind each slice that is taken."""
+    total = ends[-1]
+    arrived = lambda slot: min(total, slot * num // den)
+    delay = 0
+    while any(arrived(delay + k) < end for k, end in enumerate(ends)):
+        delay += 1
+    steps = [(slot, arrived(slot), arrived(slot)) for slot in range(delay)]
+    for k, end in enumerate(ends):
+        have = arrived(delay + k)
+        steps.append((delay + k, have - (ends[k - 1] if k else 0), have - end))
+    return delay, max(before for _, before, _ in steps[delay:]), steps
+
+
+def svg(delay, size, steps):
+    across = (WIDTH - LEFT - 16) / (steps[-1][0] + 1)
+    up = (HEIGHT - BOTTOM - 28) / size
+    x = lambda slot: LEFT + slot * across
+    y = lambda fill: HEIGHT - BOTTOM - fill * up
+    path = " ".join(
+        f"{'L' if i else 'M'}{x(slot):.1f},{y(before):.1f} L{x(slot):.1f},{y(behind):.1f}"
+        for i, (slot, before, behind) in enumerate(steps)
+    )
+    text = lambda px, py, words, anchor="start": f'<text x="{px:.1f}" y="{py:.1f}" text-anchor="{anchor}">{words}</text>'
+    return "\n".join([
+        f'<svg xmlns="http://www.w3.org/2000/svg" width="{WIDTH}" height="{HEIGHT}" font-family="sans-serif" font-size="13">',
+        f'<rect width="{WIDTH}" height="{HEIGHT}" fill="white"/>',
+        f'<path d="M{LEFT},{y(size):.1f} H{WIDTH - 16}" stroke="#b33" stroke-dasharray="6 4"/>',
+        f'<path d="M{x(delay):.1f},{y(0):.1f} V16" stroke="#888" stroke-dasharray="2 4"/>',
+        f'<path d="{path}" fill="none" stroke="#246" stroke-width="1.2"/>',
+        f'<path d="M{LEFT},16 V{HEIGHT - BOTTOM} H{WIDTH - 16}" fill="none" stroke="black"/>',
+        text(LEFT - 6, y(size) + 4, f"{size}", "end"),
+        text(LEFT - 6, y(0) + 4, "0", "end"),
+        text(LEFT + 6, y(size) - 6, "size of the buffer, bytes"),
+        text(x(delay), HEIGHT - BOTTOM + 16, f"slot {delay}: the first slice is taken", "start"),
+        text(x(steps[-1][0]), HEIGHT - BOTTOM + 32, f"slot {steps[-1][0]}: the tail", "end"),
+        "</svg>",
+        "",
+    ])
+
+
+def main():
+    stream, share, rate, *out = sys.argv[1:]
+    a, b = (int(n) for n in share.split("/"))
+    num, den = (int(n) for n in rate.split("/"))
+    ends = ends_of(units_of(stream, a, b), a, b)
+    drawn = svg(*fills_of(ends, num, den))
+    if out:
+        with open(out[0], "w", encoding="utf-8") as file:
+            file.write(drawn)
+    else:
+        sys.stdout.write(drawn)
+
+
+if __name__ == "__main__":
+    main()
