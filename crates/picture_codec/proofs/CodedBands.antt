@@ -54,10 +54,10 @@ is_table depth size c (suc n) orient (inr e) = upper_table depth size c n orient
 -- ---- the bands of a component
 
 module _ (wavelet : Wavelet) (depth : ℕ) (size : Size) (d : ℕ) (s : SampleRows) (low : depth ≤ 4) (some : 1 ≤ d) (small : (k : ℕ) → get_or s.cells k 0 < 2 ^ d) where
-  abbrev h : ℕ
+  abbrev pub h : ℕ
   h = (band_size depth 0 size).h
 
-  abbrev w : ℕ
+  abbrev pub w : ℕ
   w = (band_size depth 0 size).w
 
   abbrev grid : Grid
@@ -78,16 +78,16 @@ module _ (wavelet : Wavelet) (depth : ℕ) (size : Size) (d : ℕ) (s : SampleRo
   next : (m : ℕ) → m + 1 ≡ suc m
   next m = omega arith
 
-  level_rows : (n : ℕ) → n < depth → h * 2 ^ n ≡ (band_size depth (suc n) size).h
+  pub level_rows : (n : ℕ) → n < depth → h * 2 ^ n ≡ (band_size depth (suc n) size).h
   level_rows n lt = sym (levels.band_size (padded_length depth size.h) depth (padded_whole depth size.h low) n lt) ∙ ap (λ (l : ℕ). subband_length depth l (padded_length depth size.h)) (next n)
 
-  level_columns : (n : ℕ) → n < depth → w * 2 ^ n ≡ (band_size depth (suc n) size).w
+  pub level_columns : (n : ℕ) → n < depth → w * 2 ^ n ≡ (band_size depth (suc n) size).w
   level_columns n lt = sym (levels.band_size (padded_length depth size.w) depth (padded_whole depth size.w low) n lt) ∙ ap (λ (l : ℕ). subband_length depth l (padded_length depth size.w)) (next n)
 
-  high : h * 2 ^ depth ≡ padded_length depth size.h
+  pub high : h * 2 ^ depth ≡ padded_length depth size.h
   high = levels.whole_size (padded_length depth size.h) depth (padded_whole depth size.h low)
 
-  wide : w * 2 ^ depth ≡ padded_length depth size.w
+  pub wide : w * 2 ^ depth ≡ padded_length depth size.w
   wide = levels.whole_size (padded_length depth size.w) depth (padded_whole depth size.w low)
 
   tabulated : SameBands h w depth (coefficients_of bands) found

@@ -14,4 +14,5 @@ pub mod ChosenSlices
 pub mod WrittenPasses
 pub mod WrittenChosen
 pub mod CodedBands
+pub mod Lossless
 pub mod Runs

@@ -5,3 +5,4 @@ pub mod Decoding
 pub mod Written
 pub mod Encoding
 pub mod EncoderInside
+pub mod Lossless

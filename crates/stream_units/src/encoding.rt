@@ -3,6 +3,7 @@
 ghost use Rattle.std.specs.Prelude.{◌≡◌, ◌≤◌, ◌<◌, ◌^◌, ◌%◌, ◌++◌, List, ℕ, length, map};
 ghost use Rattle.std.specs.List.{AllByRecursion};
 ghost use Rattle.picture_codec.specs.Samples.{picture_of};
+ghost use Rattle.picture_codec.specs.Lossless.{LosslessIsGivenBack};
 ghost use Rattle.stream_units.specs.Streams.{limit, frame_under, pictures_of};
 ghost use Rattle.stream_units.specs.Encoded.{Settings, header_unit, encoded, units_of, AreLawful, IsSliced, IsStreamOf};
 ghost use Rattle.stream_units.specs.Writer.{started, texts_from, HaveRoom};
@@ -48,4 +49,9 @@ pub fn chosen_slices_are_taken()
 /// is not too steep.
 pub fn encoded_pictures_are_a_stream()
     ensures { PicturesAreAStream }
+{}
+
+/// Where every quantiser of a picture is 0, each sample that is decoded of its slices is the one that was there.
+pub fn lossless_pictures_are_given_back()
+    ensures { LosslessIsGivenBack }
 {}
