@@ -17,6 +17,8 @@ mod layouts;
 #[cfg(test)]
 mod parameters;
 #[cfg(test)]
+mod picture_writing;
+#[cfg(test)]
 mod pictures;
 #[cfg(test)]
 mod planes_and_bands;

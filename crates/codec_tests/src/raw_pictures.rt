@@ -2,7 +2,7 @@
 //!
 //! Owners are dropped by name, since the proof of that call is short.
 
-ghost use Rattle.std.specs.Prelude.{◌≡◌};
+ghost use Rattle.std.specs.Prelude.{◌≡◌, IfOk};
 ghost use Rattle.slice_geometry.specs.Shape.{IsSize, IsDepth};
 ghost use Rattle.picture_codec.specs.Pictures.{size_of, depth_of};
 ghost use Rattle.picture_codec.specs.Samples.{frame_of};
@@ -36,7 +36,9 @@ fn depth_of(shape: &PictureShape, c: Component) -> u32
 }
 
 // Puts all samples of a component, row by row.
-fn put(rt: &impl Abort, picture: &mut Picture, c: Component, samples: &[u32]) {
+pub(crate) fn put(rt: &impl Abort, picture: &mut Picture, c: Component, samples: &[u32])
+    ensures { picture.new.shape ≡ picture.old.shape }
+{
     for place in 0..samples.len() {
         let size = size_of(picture.shape(), c);
         let depth = depth_of(picture.shape(), c);
@@ -48,12 +50,14 @@ fn put(rt: &impl Abort, picture: &mut Picture, c: Component, samples: &[u32]) {
 }
 
 // A picture of these samples.
-fn picture_of(
+pub(crate) fn picture_of(
     rt: &impl Abort,
     alloc: Global,
     shape: &PictureShape,
     samples: [&[u32]; 3],
-) -> Result<Picture, Fail> {
+) -> Result<Picture, Fail>
+    ensures { IfOk result (λ p. p.shape ≡ shape.now) }
+{
     let mut picture = Picture::new(alloc, shape)?;
     let [luma, c1, c2] = samples;
     put(rt, &mut picture, Component::Luma, luma);

@@ -57,9 +57,10 @@ fn depth_of(shape: &PictureShape, c: Component) -> u32
     }
 }
 
-// Reads n samples that are below the bound, from sample `start` of the picture on, into the front of the buffer.
+// Reads n samples that are below the bound, from sample `start` of the picture on, into the front of `samples`.
 fn read_piece<S: Source>(
     src: &mut S,
+    bytes: &mut [u8],
     start: usize,
     n: usize,
     room: u64,
@@ -71,20 +72,21 @@ fn read_piece<S: Source>(
     requires few { n ≤ 2048 }
     requires start_few { start ≤ 2 ^ 26 }
     requires inside { sample_size wide * start ≤ room }
+    requires bytes_long { length bytes.old ≡ 4096 }
     requires long { length samples.old ≡ 2048 }
     ensures piece { ReadsSamples wide start room (replicate n bound) (S.rest src.old) (S.rest src.new) (take n samples.new) result }
+    ensures bytes_len { length bytes.new ≡ 4096 }
     ensures len { length samples.new ≡ 2048 }
     ensures cause { HaltCause (S.faults src.old) (S.faults src.new) result }
 {
-    let mut buffer = [0u8; 2 * PIECE];
     let before = bytes_of(wide, start as u64);
     let want = bytes_of(wide, n as u64);
     let most = want.min(room - before) as usize;
-    let came = match fill(src, &mut buffer[..most]) {
+    let came = match fill(src, &mut bytes[..most]) {
         Ok(came) => came,
         Err(_) => return Err(Halt::ReadFault),
     };
-    let count = parse(&buffer[..came], wide, samples);
+    let count = parse(&bytes[..came], wide, samples);
     if let Some(k) = first_large(&samples[..count], bound) {
         return Err(Halt::Large((start + k) as u64));
     }
@@ -114,11 +116,21 @@ fn read_component<S: Source>(
     let wide = are_wide(picture.shape());
     let bound = bound_of(depth_of(picture.shape(), c));
     let count = picture.samples(c).len();
+    let mut bytes = [0u8; 2 * PIECE];
     let mut samples = [0u16; PIECE];
     for piece in 0..(count + PIECE - 1) / PIECE {
         let from = PIECE * piece;
         let n = (count - from).min(PIECE);
-        read_piece(src, start + from, n, room, wide, bound, &mut samples)?;
+        read_piece(
+            src,
+            &mut bytes,
+            start + from,
+            n,
+            room,
+            wide,
+            bound,
+            &mut samples,
+        )?;
         picture.put_samples(c, from, &samples[..n]);
     }
     Ok(())

@@ -141,18 +141,18 @@ ran_no_memory laws first command rest0 out0 out1 h n = turned_no_memory limit pa
 
 -- ---- the bytes that were taken, and the causes
 
-turn_bytes : {Z U I : Type 0} (g : Grammar Z Reason U) (Tells : Z → U → List ℕ → I → Type 0) (old new : ReaderSeen Z) (rest1 rest2 : Option (List ℕ)) (result : Result (Turn I) ReadStop) → g.place old.past ≤ 2 ^ 40 → NextOver g Tells old new rest1 rest2 result
+turn_bytes : {Z U I : Type 0} (g : Grammar Z Reason U) (Tells : Z → U → List ℕ → I → Type 0) (Stays : Type 0) (old new : ReaderSeen Z) (rest1 rest2 : Option (List ℕ)) (result : Result (Turn I) ReadStop) → g.place old.past ≤ 2 ^ 40 → NextOver g Tells Stays old new rest1 rest2 result
     → (read : List ℕ) × Consumes rest1 rest2 read × (g.place old.past + length (old.held ++ read) ≤ limit + 1)
-turn_bytes g Tells old new rest1 rest2 (Ok (turns.Unit item)) most n = (n.takes.read, n.takes.took, omega (arith, n.takes.most))
-turn_bytes g Tells old new rest1 rest2 (Ok (turns.Last item)) most n = (n.meets.read, n.meets.took, n.meets.most)
-turn_bytes g Tells old new rest1 rest2 (Ok turns.Rest) most n = ([], n.0.took, omega (arith, most, ap (λ (l : List ℕ). length l) n.0.none, length-append old.held []))
-turn_bytes g Tells old new rest1 rest2 (Err (stops.Refused refusal)) most n = (n.0.meets.read, n.0.meets.took, n.0.meets.most)
-turn_bytes g Tells old new rest1 rest2 (Err stops.ReadFault) most n = (n.0.2.read, n.0.2.took, omega (arith, n.0.2.top_is, n.0.1))
-turn_bytes g Tells old new rest1 rest2 (Err stops.NoMemory) most n = (n.0.2.read, n.0.2.took, omega (arith, n.0.2.top_is, n.0.1))
+turn_bytes g Tells Stays old new rest1 rest2 (Ok (turns.Unit item)) most n = (n.takes.read, n.takes.took, omega (arith, n.takes.most))
+turn_bytes g Tells Stays old new rest1 rest2 (Ok (turns.Last item)) most n = (n.meets.read, n.meets.took, n.meets.most)
+turn_bytes g Tells Stays old new rest1 rest2 (Ok turns.Rest) most n = ([], n.0.took, omega (arith, most, ap (λ (l : List ℕ). length l) n.0.none, length-append old.held []))
+turn_bytes g Tells Stays old new rest1 rest2 (Err (stops.Refused refusal)) most n = (n.0.meets.read, n.0.meets.took, n.0.meets.most)
+turn_bytes g Tells Stays old new rest1 rest2 (Err stops.ReadFault) most n = (n.0.2.read, n.0.2.took, omega (arith, n.0.2.top_is, n.0.1))
+turn_bytes g Tells Stays old new rest1 rest2 (Err stops.NoMemory) most n = (n.0.2.read, n.0.2.took, omega (arith, n.0.2.top_is, n.0.1))
 
-pub takes_at_most : {Z U I : Type 0} (g : Grammar Z Reason U) (Tells : Z → U → List ℕ → I → Type 0) (old new : ReaderSeen Z) (rest0 rest1 rest2 : Option (List ℕ)) (result : Result (Turn I) ReadStop) → g.place old.past ≤ 2 ^ 40 → Goes g rest0 rest1 old → NextOver g Tells old new rest1 rest2 result → TakesAtMost (2 ^ 40 + 1) rest0 rest2
-takes_at_most g Tells old new rest0 rest1 rest2 result most b n =
-    let t = turn_bytes g Tells old new rest1 rest2 result most n in
+pub takes_at_most : {Z U I : Type 0} (g : Grammar Z Reason U) (Tells : Z → U → List ℕ → I → Type 0) (Stays : Type 0) (old new : ReaderSeen Z) (rest0 rest1 rest2 : Option (List ℕ)) (result : Result (Turn I) ReadStop) → g.place old.past ≤ 2 ^ 40 → Goes g rest0 rest1 old → NextOver g Tells Stays old new rest1 rest2 result → TakesAtMost (2 ^ 40 + 1) rest0 rest2
+takes_at_most g Tells Stays old new rest0 rest1 rest2 result most b n =
+    let t = turn_bytes g Tells Stays old new rest1 rest2 result most n in
     (b.taken ++ t.0, omega (arith, length-append b.taken t.0, length-append old.held t.0, b.total, t.2), Consumes-then rest0 rest1 rest2 b.taken t.0 b.took t.1)
 
 pub takes_none : (rest : Option (List ℕ)) → TakesAtMost (2 ^ 40 + 1) rest rest

@@ -49,11 +49,11 @@ pub record TakesLast {Z U I : Type 0} (g : Grammar Z Reason U) (Tells : Z → U 
   pub last : IsAtEnd rest1
   pub final : (other : Option Reason) × (g.behind unit ≡ Final other)
 
-abbrev pub NextOver : {Z U I : Type 0} → Grammar Z Reason U → (Z → U → List ℕ → I → Type 0) → ReaderSeen Z → ReaderSeen Z → Option (List ℕ) → Option (List ℕ) → Result (Turn I) ReadStop → Type 0
-NextOver g Tells old new rest0 rest1 (Ok (turns.Unit item)) = TakesItem g Tells old new rest0 rest1 item
-NextOver g Tells old new rest0 rest1 (Ok (turns.Last item)) = TakesLast g Tells old rest0 rest1 item
-NextOver g Tells old new rest0 rest1 (Ok turns.Rest) = RestsHere g old.past old.held rest0 rest1 × (new.past ≡ old.past)
-NextOver g Tells old new rest0 rest1 (Err stop) = LimitStops g old.past old.held rest0 rest1 stop × (new.past ≡ old.past)
+abbrev pub NextOver : {Z U I : Type 0} → Grammar Z Reason U → (Z → U → List ℕ → I → Type 0) → Type 0 → ReaderSeen Z → ReaderSeen Z → Option (List ℕ) → Option (List ℕ) → Result (Turn I) ReadStop → Type 0
+NextOver g Tells Stays old new rest0 rest1 (Ok (turns.Unit item)) = TakesItem g Tells old new rest0 rest1 item
+NextOver g Tells Stays old new rest0 rest1 (Ok (turns.Last item)) = TakesLast g Tells old rest0 rest1 item
+NextOver g Tells Stays old new rest0 rest1 (Ok turns.Rest) = RestsHere g old.past old.held rest0 rest1 × Stays
+NextOver g Tells Stays old new rest0 rest1 (Err stop) = LimitStops g old.past old.held rest0 rest1 stop × Stays
 
 -- ---- the run
 

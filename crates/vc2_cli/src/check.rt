@@ -61,9 +61,9 @@ impl UnitCommand<StreamReader> for Checking {
 
     ghost command = { checking };
 
-    ghost own = { λ c. c.slices };
+    ghost own = { λ c r. c.slices };
 
-    ghost keeps = { λ c n. c.slices ≤ n };
+    ghost keeps = { λ c r. c.slices ≤ r.past.place };
 
     ghost is_done = { IsDone };
 

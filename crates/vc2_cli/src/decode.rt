@@ -34,9 +34,9 @@ impl UnitCommand<StreamReader> for Decoding {
 
     ghost command = { decoding };
 
-    ghost own = { λ c. tt };
+    ghost own = { λ c r. tt };
 
-    ghost keeps = { λ c n. Unit {0} };
+    ghost keeps = { λ c r. Unit {0} };
 
     ghost is_done = { IsDone };
 

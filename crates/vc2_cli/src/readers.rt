@@ -6,7 +6,7 @@ ghost use Rattle.stream_units.specs.HeadUnits.{heads};
 ghost use Rattle.stream_units.proofs.Steady.{units_laws};
 ghost use Rattle.stream_units.proofs.AloneRows.{heads_laws};
 ghost use Rattle.stream_units.proofs.Answering.{after-place};
-ghost use Rattle.vc2_cli.specs.Telling.{TellsUnit};
+ghost use Rattle.vc2_cli.specs.Telling.{TellsUnit, StaysBehind};
 
 use crate::running::{Turn, UnitReader};
 use parse_info::ParseInfo;
@@ -40,7 +40,9 @@ impl UnitReader for HeadReader {
 
     ghost seen = { λ r. record { past = r.place; held = r.held; stop = r.stop; ended = r.ended } };
 
-    ghost tells = { λ r z unit bytes item. (item.place ≡ z) × (item.info ≡ unit) };
+    ghost tells = { λ old new z unit bytes item. (item.place ≡ z) × (item.info ≡ unit) };
+
+    ghost stays = { λ old new. new.place ≡ old.place };
 
     fn next_turn<S: Source>(&mut self, src: &mut S) -> Result<Turn<Placed>, ReadStop> {
         let place = self.place();
@@ -93,7 +95,9 @@ impl UnitReader for StreamReader {
 
     ghost seen = { λ r. record { past = r.past; held = r.held; stop = r.stop; ended = r.ended } };
 
-    ghost tells = { λ r z unit bytes item. TellsUnit r z unit bytes };
+    ghost tells = { λ old new z unit bytes item. TellsUnit old new z unit bytes };
+
+    ghost stays = { StaysBehind };
 
     fn next_turn<S: Source>(&mut self, src: &mut S) -> Result<Turn<Item>, ReadStop> {
         let item = match self.next(src) {

@@ -51,12 +51,15 @@ pub(crate) trait UnitReader {
 
     ghost seen: { Self → ReaderSeen Self.Past };
 
-    /// What is told behind the unit is this unit of these bytes.
-    ghost tells: { Self → Self.Past → Self.Made → List ℕ → Self.Item → Type 0 };
+    /// Between the two readers is this unit of these bytes, and the item tells it.
+    ghost tells: { Self → Self → Self.Past → Self.Made → List ℕ → Self.Item → Type 0 };
+
+    /// The second reader shows what the first did.
+    ghost stays: { Self → Self → Type 0 };
 
     /// Takes the unit in front of the bytes that are held and then the source's.
     fn next_turn<S: Source>(&mut self, src: &mut S) -> Result<Turn<Self::Item>, ReadStop>
-        ensures next { (seen self.old).stop ≡ None → (seen self.old).ended ≡ false → NextOver grammar (tells self.new) (seen self.old) (seen self.new) (S.rest src.old) (S.rest src.new) result }
+        ensures next { (seen self.old).stop ≡ None → (seen self.old).ended ≡ false → NextOver grammar (tells self.old self.new) (stays self.old self.new) (seen self.old) (seen self.new) (S.rest src.old) (S.rest src.new) result }
         ensures cause { (seen self.old).stop ≡ None → StopCause (S.faults src.old) (S.faults src.new) result };
 }
 
@@ -66,11 +69,11 @@ pub(crate) trait UnitCommand<R: UnitReader>: Drop {
 
     ghost command: { Command R.Past Reason R.Made Own Ending };
 
-    /// What the units so far leave to the command.
-    ghost own: { Self → Own };
+    /// What the units so far leave to the command, as it and the reader show.
+    ghost own: { Self → R → Own };
 
-    /// What is true of it behind units of so many bytes.
-    ghost keeps: { Self → ℕ → Type 0 };
+    /// What is true of it beside a reader behind the units so far.
+    ghost keeps: { Self → R → Type 0 };
 
     /// All is done, and the input was read to its end.
     ghost is_done: { Ending → Type 0 };
@@ -83,29 +86,29 @@ pub(crate) trait UnitCommand<R: UnitReader>: Drop {
         ensures own { self.new ≡ self.old }
         ensures cause { HaltHasCause 0 0 (K.faults out.old) (K.faults out.new) result };
 
-    /// Writes the text of a unit.
+    /// Writes the text of a unit, behind which the reader is.
     fn turn<K: Sink>(&mut self, reader: &R, item: R::Item, out: &mut K) -> Result<(), Halt>
-        requires { (z : R.Past) × (unit : R.Made) × (bytes : List ℕ) × R.tells reader.now z unit bytes item × keeps self.old ((R.grammar).place z) × ((R.grammar).place z + length bytes ≤ 2 ^ 40) }
-        ensures wrote { (z : R.Past) (unit : R.Made) (bytes : List ℕ) → R.tells reader.now z unit bytes item → Turns (command) z unit bytes (own self.old) (own self.new) (K.written out.old) (K.written out.new) result }
-        ensures keeps { (z : R.Past) (unit : R.Made) (bytes : List ℕ) → R.tells reader.now z unit bytes item → keeps self.old ((R.grammar).place z) → OnOk result (keeps self.new ((R.grammar).place z + length bytes)) }
+        requires { (before : R) × (z : R.Past) × (unit : R.Made) × (bytes : List ℕ) × R.tells before reader.now z unit bytes item × keeps self.old before × (z ≡ (R.seen before).past) × ((R.grammar).place z + length bytes ≤ 2 ^ 40) }
+        ensures wrote { (before : R) (z : R.Past) (unit : R.Made) (bytes : List ℕ) → R.tells before reader.now z unit bytes item → Turns (command) z unit bytes (own self.old before) (own self.new reader.now) (K.written out.old) (K.written out.new) result }
+        ensures keeps { (before : R) (z : R.Past) (unit : R.Made) (bytes : List ℕ) → R.tells before reader.now z unit bytes item → z ≡ (R.seen before).past → keeps self.old before → OnOk result (keeps self.new reader.now) }
         ensures cause { HaltHasCause 0 0 (K.faults out.old) (K.faults out.new) result };
 
-    /// Ends behind the last unit.
+    /// Ends behind the last unit, behind which the reader is.
     fn finish<K: Sink>(&mut self, reader: &R, item: R::Item, out: &mut K) -> Result<Ending, Halt>
-        ensures wrote { (z : R.Past) (unit : R.Made) (bytes : List ℕ) (other : Option Reason) → R.tells reader.now z unit bytes item → (R.grammar).behind unit ≡ Final other → let ending = (command).finished z (own self.old) unit bytes in
-            Closes ending ((command).last z (own self.old) ending) (K.written out.old) (K.written out.new) result }
+        ensures wrote { (before : R) (z : R.Past) (unit : R.Made) (bytes : List ℕ) (other : Option Reason) → R.tells before reader.now z unit bytes item → keeps self.old before → (R.grammar).behind unit ≡ Final other → let ending = (command).finished z (own self.old before) unit bytes in
+            Closes ending ((command).last z (own self.old before) ending) (K.written out.old) (K.written out.new) result }
         ensures cause { HaltHasCause 0 0 (K.faults out.old) (K.faults out.new) result };
 
     /// Ends where the input is over before a unit.
     fn rest<K: Sink>(&mut self, reader: &R, out: &mut K) -> Result<Ending, Halt>
-        ensures wrote { let z = (R.seen reader.now).past in let ending = (command).rested z (own self.old) in
-            Closes ending ((command).last z (own self.old) ending) (K.written out.old) (K.written out.new) result }
+        ensures wrote { (before : R) → R.stays before reader.now → keeps self.old before → let z = (R.seen before).past in let ending = (command).rested z (own self.old before) in
+            Closes ending ((command).last z (own self.old before) ending) (K.written out.old) (K.written out.new) result }
         ensures cause { HaltHasCause 0 0 (K.faults out.old) (K.faults out.new) result };
 
     /// Ends where the input is refused.
     fn refuse<K: Sink>(&mut self, reader: &R, refusal: Refusal, out: &mut K) -> Result<Ending, Halt>
-        ensures wrote { (fault : Fault Reason) → refusal ≡ refusal_of fault → let z = (R.seen reader.now).past in let ending = (command).refused z (own self.old) fault in
-            Closes ending ((command).last z (own self.old) ending) (K.written out.old) (K.written out.new) result }
+        ensures wrote { (before : R) (fault : Fault Reason) → refusal ≡ refusal_of fault → R.stays before reader.now → keeps self.old before → let z = (R.seen before).past in let ending = (command).refused z (own self.old before) fault in
+            Closes ending ((command).last z (own self.old before) ending) (K.written out.old) (K.written out.new) result }
         ensures cause { HaltHasCause 0 0 (K.faults out.old) (K.faults out.new) result };
 }
 
@@ -117,8 +120,8 @@ pub(crate) fn run_units<R: UnitReader, C: UnitCommand<R>, S: Source, K: Sink>(
     out: &mut K,
 ) -> Result<Ending, Halt>
     requires new { R.seen reader.old ≡ first_seen R.first }
-    requires start { C.own command.old ≡ (C.command).start }
-    requires keeps { C.keeps command.old 0 }
+    requires start { C.own command.old reader.old ≡ (C.command).start }
+    requires keeps { C.keeps command.old reader.old }
     ensures { Runs (machine_of limit past_limit R.grammar R.first C.command) C.is_done (change S.rest S.faults src.old src.new) (change K.written K.faults out.old out.new) result }
 {
     match command.open(out) {

@@ -56,6 +56,7 @@ loop-piece-preserved g c =
     let so_far = subst (λ (m : ℕ). ReadsSamples c.are_wide-wide.result c.args.start c.args.room (replicate m c.bound_of-bound.result) (rest c.args.src.now) (rest c.loop-piece.src) (take m rows.cells) (Ok tt)) done i.so_far in
     let next : min count (2048 * (c.loop-piece.piece + 1)) ≡ from + n = omega (arith, c.min-n.ensures, inside) in
     record {
+      bytes_long = c.read_piece.ensures.bytes_len;
       long = c.read_piece.ensures.len;
       same_shape = same_shape ∙ i.same_shape;
       many = ap (λ (r : SampleRows). length r.cells) here ∙ run_long rows from samples (omega (arith, many, i.many, c.min-n.ensures, inside)) ∙ i.many;

@@ -10,6 +10,7 @@ invariant-loop-piece g l =
     let faults = g.S.Source.faults in
     let done = min l.count (2048 * l.piece) in
     record {
+      bytes_long : length l.bytes ≡ 4096;
       long : length l.samples ≡ 2048;
       same_shape : l.picture.shape ≡ l.fn.picture.shape;
       many : length (shown l.picture l.c).cells ≡ l.count;

@@ -1,17 +1,17 @@
-use Rattle.std.proofs.Common.{◌≡◌, ◌≤◌, ℕ, List, ◌++◌, length, replicate, take, drop, sym, ◌∙◌, arith}
-use Rattle.std.proofs.lemmas.List.{length-take, length-replicate, take-append-le}
+use Rattle.std.proofs.Common.{◌≡◌, ◌≤◌, ◌++◌, length, take, drop, sym, ◌∙◌, arith}
+use Rattle.std.proofs.lemmas.List.{length-take, take-append-le}
 use Rattle.raw_video.proofs.PieceTurns.{size_most, large_few, piece_large, piece_ended, piece_whole}
 use Rattle.raw_video.proofs.reading.read_piece.Goals as goal
 
 pub overflow_add-result : goal.overflow_add-result
 overflow_add-result g c =
     let rest = g.S.Source.rest in
-    let buffer : List ℕ = replicate 4096 0 in
+    let buffer = c.args.bytes.now in
     let buf = c.fill.new.buf in
     let most = c.min-most.result in
     let came = c.in-Ok.came in
     let few : most ≤ 4096 = omega (arith, c.min-most.ensures, c.bytes_of-want.ensures, c.requires.few, size_most c.args.wide c.args.n c.requires.few) in
-    let long : length buf ≡ most = c.fill.auto.buf ∙ (let e : length (take most buffer) ≡ most = omega (arith, length-take most buffer, length-replicate {A = ℕ} 4096 0, few) in e) in
+    let long : length buf ≡ most = c.fill.auto.buf ∙ (let e : length (take most buffer) ≡ most = omega (arith, length-take most buffer, c.requires.bytes_long, few) in e) in
     let bytes : take came (buf ++ drop most buffer) ≡ take came buf = take-append-le came buf (drop most buffer) c.in-Ok.ensures.bound in
     omega (
       arith,
@@ -24,12 +24,12 @@ overflow_add-result g c =
 pub returns-in-Some-clause-piece : goal.returns-in-Some-clause-piece
 returns-in-Some-clause-piece g c =
     let rest = g.S.Source.rest in
-    let buffer : List ℕ = replicate 4096 0 in
+    let buffer = c.args.bytes.now in
     let buf = c.fill.new.buf in
     let most = c.min-most.result in
     let came = c.in-Ok.came in
     let few : most ≤ 4096 = omega (arith, c.min-most.ensures, c.bytes_of-want.ensures, c.requires.few, size_most c.args.wide c.args.n c.requires.few) in
-    let long : length buf ≡ most = c.fill.auto.buf ∙ (let e : length (take most buffer) ≡ most = omega (arith, length-take most buffer, length-replicate {A = ℕ} 4096 0, few) in e) in
+    let long : length buf ≡ most = c.fill.auto.buf ∙ (let e : length (take most buffer) ≡ most = omega (arith, length-take most buffer, c.requires.bytes_long, few) in e) in
     let bytes : take came (buf ++ drop most buffer) ≡ take came buf = take-append-le came buf (drop most buffer) c.in-Ok.ensures.bound in
     piece_large c.args.wide c.args.start c.args.room c.args.n c.args.bound c.bytes_of-before.result c.bytes_of-want.result most came c.parse-count.result (rest c.args.src.now) (rest c.fill.new.src) buf (take came (buf ++ drop most buffer)) c.parse-count.new.samples
     c.bytes_of-before.ensures c.bytes_of-want.ensures c.requires.inside c.min-most.ensures long c.in-Ok.ensures.bound c.in-Ok.ensures.ok c.in-Ok.ensures.end bytes c.parse-count.ensures.samples c.parse-count.ensures.count c.parse-count.ensures.fits c.in-Some.k (sym c.first_large.ensures ∙ c.in-Some.is)
@@ -37,12 +37,12 @@ returns-in-Some-clause-piece g c =
 pub returns-then-came-want-clause-piece : goal.returns-then-came-want-clause-piece
 returns-then-came-want-clause-piece g c =
     let rest = g.S.Source.rest in
-    let buffer : List ℕ = replicate 4096 0 in
+    let buffer = c.args.bytes.now in
     let buf = c.fill.new.buf in
     let most = c.min-most.result in
     let came = c.in-Ok.came in
     let few : most ≤ 4096 = omega (arith, c.min-most.ensures, c.bytes_of-want.ensures, c.requires.few, size_most c.args.wide c.args.n c.requires.few) in
-    let long : length buf ≡ most = c.fill.auto.buf ∙ (let e : length (take most buffer) ≡ most = omega (arith, length-take most buffer, length-replicate {A = ℕ} 4096 0, few) in e) in
+    let long : length buf ≡ most = c.fill.auto.buf ∙ (let e : length (take most buffer) ≡ most = omega (arith, length-take most buffer, c.requires.bytes_long, few) in e) in
     let bytes : take came (buf ++ drop most buffer) ≡ take came buf = take-append-le came buf (drop most buffer) c.in-Ok.ensures.bound in
     piece_ended c.args.wide c.args.start c.args.room c.args.n c.args.bound c.bytes_of-before.result c.bytes_of-want.result most came c.parse-count.result (rest c.args.src.now) (rest c.fill.new.src) buf (take came (buf ++ drop most buffer)) c.parse-count.new.samples
     c.bytes_of-before.ensures c.bytes_of-want.ensures c.requires.inside c.min-most.ensures long c.in-Ok.ensures.bound c.in-Ok.ensures.ok c.in-Ok.ensures.end bytes c.parse-count.ensures.samples c.parse-count.ensures.count c.parse-count.ensures.fits (sym c.first_large.ensures ∙ c.in_default.is) c.if-came-want.true
@@ -50,12 +50,12 @@ returns-then-came-want-clause-piece g c =
 pub returns-clause-piece : goal.returns-clause-piece
 returns-clause-piece g c =
     let rest = g.S.Source.rest in
-    let buffer : List ℕ = replicate 4096 0 in
+    let buffer = c.args.bytes.now in
     let buf = c.fill.new.buf in
     let most = c.min-most.result in
     let came = c.in-Ok.came in
     let few : most ≤ 4096 = omega (arith, c.min-most.ensures, c.bytes_of-want.ensures, c.requires.few, size_most c.args.wide c.args.n c.requires.few) in
-    let long : length buf ≡ most = c.fill.auto.buf ∙ (let e : length (take most buffer) ≡ most = omega (arith, length-take most buffer, length-replicate {A = ℕ} 4096 0, few) in e) in
+    let long : length buf ≡ most = c.fill.auto.buf ∙ (let e : length (take most buffer) ≡ most = omega (arith, length-take most buffer, c.requires.bytes_long, few) in e) in
     let bytes : take came (buf ++ drop most buffer) ≡ take came buf = take-append-le came buf (drop most buffer) c.in-Ok.ensures.bound in
     piece_whole c.args.wide c.args.start c.args.room c.args.n c.args.bound c.bytes_of-before.result c.bytes_of-want.result most came c.parse-count.result (rest c.args.src.now) (rest c.fill.new.src) buf (take came (buf ++ drop most buffer)) c.parse-count.new.samples
     c.bytes_of-before.ensures c.bytes_of-want.ensures c.requires.inside c.min-most.ensures long c.in-Ok.ensures.bound c.in-Ok.ensures.ok c.in-Ok.ensures.end bytes c.parse-count.ensures.samples c.parse-count.ensures.count c.parse-count.ensures.fits (sym c.first_large.ensures ∙ c.in_default.is) c.if-came-want.false

@@ -1,7 +1,7 @@
 use Rattle.std.proofs.Common.{◌≤◌, ◌∙◌, Ok, Err, refl, sym, ap, subst, arith}
 use Rattle.vc2_io.specs.Outside.{Rose}
 use Rattle.stream_units.specs.Stops.{LimitStops, StopCause}
-use Rattle.vc2_cli.specs.Running.{NextOver, Closes}
+use Rattle.vc2_cli.specs.Running.{NextOver}
 use Rattle.vc2_cli.proofs.Exits.{goes_first, holds_first, ran_unopened_by, goes_more, place_more, holds_turn, ran_unwritten, ran_finished, ran_refused, ran_rested, ran_lost, ran_no_memory, takes_at_most, takes_none, cause_then, cause_halt, closed_is}
 use Rattle.vc2_cli.specs.declared.status.Ending.{Ending}
 use Rattle.vc2_cli.proofs.running.run_units.Goals as goal
@@ -37,8 +37,8 @@ loop-turn-init g c =
     let first = g.R.UnitReader.first in
     record {
       goes = goes_first G first (rest c.args.src.now) (seen c.args.reader.now) c.requires.new g.R.UnitReader.begins;
-      holds = holds_first G laws first cmd (rest c.args.src.now) (written c.args.out.now) (written c.open.new.out) (seen c.args.reader.now) (own c.open.new.self) c.requires.new (ap own c.open.ensures.own ∙ c.requires.start) c.in-Ok.ensures.wrote;
-      keeps = subst (λ s. g.C.UnitCommand.keeps s (G.place (seen c.args.reader.now).past)) (sym c.open.ensures.own) (subst (λ n. g.C.UnitCommand.keeps c.args.command.now n) (sym (ap (λ x. G.place x.past) c.requires.new ∙ g.R.UnitReader.begins)) c.requires.keeps);
+      holds = holds_first G laws first cmd (rest c.args.src.now) (written c.args.out.now) (written c.open.new.out) (seen c.args.reader.now) (own c.open.new.self c.args.reader.now) c.requires.new (ap (λ s. own s c.args.reader.now) c.open.ensures.own ∙ c.requires.start) c.in-Ok.ensures.wrote;
+      keeps = subst (λ s. g.C.UnitCommand.keeps s c.args.reader.now) (sym c.open.ensures.own) c.requires.keeps;
       steady = refl;
       steady_out = c.in-Ok.ensures.cause.1;
     }
@@ -56,7 +56,7 @@ returns-in-ReadFault g c =
     let first = g.R.UnitReader.first in
     let l = c.loop-turn in
     let i = l.invariant in
-    let w = own l.command in
+    let w = own l.command l.reader in
     let old = seen l.reader in
     let new = seen c.next_turn.new.self in
     let z = old.past in
@@ -67,7 +67,7 @@ returns-in-ReadFault g c =
     let o1 = written l.out in
     let n = c.in-Err-next_turn.ensures.next i.goes.no_stop i.goes.no_end in
     let k = c.in-Err-next_turn.ensures.cause i.goes.no_stop in
-    let most = takes_at_most G (Tells c.next_turn.new.self) old new r0 r1 r2 (Err c.in-Err-next_turn.stop) i.goes.most i.goes n in
+    let most = takes_at_most G (Tells l.reader c.next_turn.new.self) (g.R.UnitReader.stays l.reader c.next_turn.new.self) old new r0 r1 r2 (Err c.in-Err-next_turn.stop) i.goes.most i.goes n in
     let lost = subst (λ s. LimitStops G z old.held r1 r2 s) c.in-ReadFault.is n.0 in
     let why = subst (λ s. StopCause {X = Unit {0}} (g.S.Source.faults l.src) (g.S.Source.faults c.next_turn.new.src) (Err s)) c.in-ReadFault.is k in
     record {
@@ -90,7 +90,7 @@ returns-in-NoMemory g c =
     let first = g.R.UnitReader.first in
     let l = c.loop-turn in
     let i = l.invariant in
-    let w = own l.command in
+    let w = own l.command l.reader in
     let old = seen l.reader in
     let new = seen c.next_turn.new.self in
     let z = old.past in
@@ -101,7 +101,7 @@ returns-in-NoMemory g c =
     let o1 = written l.out in
     let n = c.in-Err-next_turn.ensures.next i.goes.no_stop i.goes.no_end in
     let k = c.in-Err-next_turn.ensures.cause i.goes.no_stop in
-    let most = takes_at_most G (Tells c.next_turn.new.self) old new r0 r1 r2 (Err c.in-Err-next_turn.stop) i.goes.most i.goes n in
+    let most = takes_at_most G (Tells l.reader c.next_turn.new.self) (g.R.UnitReader.stays l.reader c.next_turn.new.self) old new r0 r1 r2 (Err c.in-Err-next_turn.stop) i.goes.most i.goes n in
     let due = subst (λ s. LimitStops G z old.held r1 r2 s) c.in-NoMemory.is n.0 in
     let why = subst (λ s. StopCause {X = Unit {0}} (g.S.Source.faults l.src) (g.S.Source.faults c.next_turn.new.src) (Err s)) c.in-NoMemory.is k in
     record {
@@ -124,7 +124,7 @@ returns-in-Err-next_turn g c =
     let first = g.R.UnitReader.first in
     let l = c.loop-turn in
     let i = l.invariant in
-    let w = own l.command in
+    let w = own l.command l.reader in
     let old = seen l.reader in
     let new = seen c.next_turn.new.self in
     let z = old.past in
@@ -135,12 +135,11 @@ returns-in-Err-next_turn g c =
     let o1 = written l.out in
     let n = c.in-Err-next_turn.ensures.next i.goes.no_stop i.goes.no_end in
     let k = c.in-Err-next_turn.ensures.cause i.goes.no_stop in
-    let most = takes_at_most G (Tells c.next_turn.new.self) old new r0 r1 r2 (Err c.in-Err-next_turn.stop) i.goes.most i.goes n in
+    let most = takes_at_most G (Tells l.reader c.next_turn.new.self) (g.R.UnitReader.stays l.reader c.next_turn.new.self) old new r0 r1 r2 (Err c.in-Err-next_turn.stop) i.goes.most i.goes n in
     let o2 = written c.refuse.new.out in
     let f = subst (λ s. LimitStops G z old.held r1 r2 s) c.in-Refused.is n.0 in
     let why = subst (λ s. StopCause {X = Unit {0}} (g.S.Source.faults l.src) (g.S.Source.faults c.next_turn.new.src) (Err s)) c.in-Refused.is k in
-    let same = n.1 in
-    let closes = subst (λ y. Closes (cmd.refused y w f.fault) (cmd.last y w (cmd.refused y w f.fault)) o1 o2 c.refuse.result) same (c.refuse.ensures.wrote f.fault f.there) in
+    let closes = c.refuse.ensures.wrote l.reader f.fault f.there n.1 i.keeps in
     record {
       ran = ran_refused laws first cmd r0 o0 o1 o2 f.fault c.refuse.result i.holds f.meets closes;
       limit = most;
@@ -161,7 +160,7 @@ returns-in-Last g c =
     let first = g.R.UnitReader.first in
     let l = c.loop-turn in
     let i = l.invariant in
-    let w = own l.command in
+    let w = own l.command l.reader in
     let old = seen l.reader in
     let new = seen c.next_turn.new.self in
     let z = old.past in
@@ -171,13 +170,13 @@ returns-in-Last g c =
     let o0 = written c.args.out.now in
     let o1 = written l.out in
     let a = c.in-Ok-next_turn.ensures.next i.goes.no_stop i.goes.no_end in
-    let n = subst (λ t. NextOver G (Tells c.next_turn.new.self) old new r1 r2 (Ok t)) c.in-Last.is a in
+    let n = subst (λ t. NextOver G (Tells l.reader c.next_turn.new.self) (g.R.UnitReader.stays l.reader c.next_turn.new.self) old new r1 r2 (Ok t)) c.in-Last.is a in
     let steady = c.in-Ok-next_turn.ensures.cause i.goes.no_stop ∙ i.steady in
-    let most = takes_at_most G (Tells c.next_turn.new.self) old new r0 r1 r2 (Ok c.in-Ok-next_turn.turn) i.goes.most i.goes a in
+    let most = takes_at_most G (Tells l.reader c.next_turn.new.self) (g.R.UnitReader.stays l.reader c.next_turn.new.self) old new r0 r1 r2 (Ok c.in-Ok-next_turn.turn) i.goes.most i.goes a in
     let o2 = written c.finish.new.out in
     let tells = n.tells in
     record {
-      ran = ran_finished laws first cmd r0 o0 o1 o2 w c.finish.result i.holds n (c.finish.ensures.wrote z n.unit n.bytes n.final.0 tells n.final.1);
+      ran = ran_finished laws first cmd r0 o0 o1 o2 w c.finish.result i.holds n (c.finish.ensures.wrote l.reader z n.unit n.bytes n.final.0 tells i.keeps n.final.1);
       limit = most;
       cause = cause_then (g.S.Source.faults c.args.src.now) (g.S.Source.faults c.next_turn.new.src) (g.K.Sink.faults c.args.out.now) (g.K.Sink.faults c.loop-turn.out) (g.K.Sink.faults c.finish.new.out) c.finish.result steady i.steady_out c.finish.ensures.cause;
       end = λ ending e done. n.last;
@@ -196,7 +195,7 @@ returns-in-Rest g c =
     let first = g.R.UnitReader.first in
     let l = c.loop-turn in
     let i = l.invariant in
-    let w = own l.command in
+    let w = own l.command l.reader in
     let old = seen l.reader in
     let new = seen c.next_turn.new.self in
     let z = old.past in
@@ -206,12 +205,11 @@ returns-in-Rest g c =
     let o0 = written c.args.out.now in
     let o1 = written l.out in
     let a = c.in-Ok-next_turn.ensures.next i.goes.no_stop i.goes.no_end in
-    let n = subst (λ t. NextOver G (Tells c.next_turn.new.self) old new r1 r2 (Ok t)) c.in-Rest.is a in
+    let n = subst (λ t. NextOver G (Tells l.reader c.next_turn.new.self) (g.R.UnitReader.stays l.reader c.next_turn.new.self) old new r1 r2 (Ok t)) c.in-Rest.is a in
     let steady = c.in-Ok-next_turn.ensures.cause i.goes.no_stop ∙ i.steady in
-    let most = takes_at_most G (Tells c.next_turn.new.self) old new r0 r1 r2 (Ok c.in-Ok-next_turn.turn) i.goes.most i.goes a in
+    let most = takes_at_most G (Tells l.reader c.next_turn.new.self) (g.R.UnitReader.stays l.reader c.next_turn.new.self) old new r0 r1 r2 (Ok c.in-Ok-next_turn.turn) i.goes.most i.goes a in
     let o2 = written c.rest.new.out in
-    let same = n.1 in
-    let closes = subst (λ y. Closes (cmd.rested y w) (cmd.last y w (cmd.rested y w)) o1 o2 c.rest.result) same c.rest.ensures.wrote in
+    let closes = c.rest.ensures.wrote l.reader n.1 i.keeps in
     record {
       ran = ran_rested laws first cmd r0 o0 o1 o2 c.rest.result i.holds n.0 closes;
       limit = most;
@@ -232,7 +230,7 @@ loop-turn-smaller g c =
     let first = g.R.UnitReader.first in
     let l = c.loop-turn in
     let i = l.invariant in
-    let w = own l.command in
+    let w = own l.command l.reader in
     let old = seen l.reader in
     let new = seen c.next_turn.new.self in
     let z = old.past in
@@ -242,9 +240,9 @@ loop-turn-smaller g c =
     let o0 = written c.args.out.now in
     let o1 = written l.out in
     let a = c.in-Ok-next_turn.ensures.next i.goes.no_stop i.goes.no_end in
-    let n = subst (λ t. NextOver G (Tells c.next_turn.new.self) old new r1 r2 (Ok t)) c.in-Unit.is a in
+    let n = subst (λ t. NextOver G (Tells l.reader c.next_turn.new.self) (g.R.UnitReader.stays l.reader c.next_turn.new.self) old new r1 r2 (Ok t)) c.in-Unit.is a in
     let steady = c.in-Ok-next_turn.ensures.cause i.goes.no_stop ∙ i.steady in
-    let most = takes_at_most G (Tells c.next_turn.new.self) old new r0 r1 r2 (Ok c.in-Ok-next_turn.turn) i.goes.most i.goes a in
+    let most = takes_at_most G (Tells l.reader c.next_turn.new.self) (g.R.UnitReader.stays l.reader c.next_turn.new.self) old new r0 r1 r2 (Ok c.in-Ok-next_turn.turn) i.goes.most i.goes a in
     let p = place_more g.R.UnitReader.along n in
     omega (arith, p.0, p.1)
 
@@ -261,7 +259,7 @@ loop-turn-preserved g c =
     let first = g.R.UnitReader.first in
     let l = c.loop-turn in
     let i = l.invariant in
-    let w = own l.command in
+    let w = own l.command l.reader in
     let old = seen l.reader in
     let new = seen c.next_turn.new.self in
     let z = old.past in
@@ -271,14 +269,14 @@ loop-turn-preserved g c =
     let o0 = written c.args.out.now in
     let o1 = written l.out in
     let a = c.in-Ok-next_turn.ensures.next i.goes.no_stop i.goes.no_end in
-    let n = subst (λ t. NextOver G (Tells c.next_turn.new.self) old new r1 r2 (Ok t)) c.in-Unit.is a in
+    let n = subst (λ t. NextOver G (Tells l.reader c.next_turn.new.self) (g.R.UnitReader.stays l.reader c.next_turn.new.self) old new r1 r2 (Ok t)) c.in-Unit.is a in
     let steady = c.in-Ok-next_turn.ensures.cause i.goes.no_stop ∙ i.steady in
-    let most = takes_at_most G (Tells c.next_turn.new.self) old new r0 r1 r2 (Ok c.in-Ok-next_turn.turn) i.goes.most i.goes a in
+    let most = takes_at_most G (Tells l.reader c.next_turn.new.self) (g.R.UnitReader.stays l.reader c.next_turn.new.self) old new r0 r1 r2 (Ok c.in-Ok-next_turn.turn) i.goes.most i.goes a in
     let tells = n.tells in
     record {
       goes = goes_more g.R.UnitReader.along i.goes n;
-      holds = holds_turn laws first cmd r0 o0 o1 (written c.turn.new.out) w (own c.turn.new.self) i.holds n (c.in-Ok-turn.ensures.wrote z n.unit n.bytes tells);
-      keeps = subst (λ m. g.C.UnitCommand.keeps c.turn.new.self m) (sym (ap G.place n.past ∙ g.R.UnitReader.along z n.unit n.bytes)) (c.in-Ok-turn.ensures.keeps z n.unit n.bytes tells i.keeps);
+      holds = holds_turn laws first cmd r0 o0 o1 (written c.turn.new.out) w (own c.turn.new.self c.next_turn.new.self) i.holds n (c.in-Ok-turn.ensures.wrote l.reader z n.unit n.bytes tells);
+      keeps = c.in-Ok-turn.ensures.keeps l.reader z n.unit n.bytes tells refl i.keeps;
       steady = steady;
       steady_out = c.in-Ok-turn.ensures.cause.1 ∙ i.steady_out;
     }
@@ -296,7 +294,7 @@ returns-in-Err-turn g c =
     let first = g.R.UnitReader.first in
     let l = c.loop-turn in
     let i = l.invariant in
-    let w = own l.command in
+    let w = own l.command l.reader in
     let old = seen l.reader in
     let new = seen c.next_turn.new.self in
     let z = old.past in
@@ -306,12 +304,12 @@ returns-in-Err-turn g c =
     let o0 = written c.args.out.now in
     let o1 = written l.out in
     let a = c.in-Ok-next_turn.ensures.next i.goes.no_stop i.goes.no_end in
-    let n = subst (λ t. NextOver G (Tells c.next_turn.new.self) old new r1 r2 (Ok t)) c.in-Unit.is a in
+    let n = subst (λ t. NextOver G (Tells l.reader c.next_turn.new.self) (g.R.UnitReader.stays l.reader c.next_turn.new.self) old new r1 r2 (Ok t)) c.in-Unit.is a in
     let steady = c.in-Ok-next_turn.ensures.cause i.goes.no_stop ∙ i.steady in
-    let most = takes_at_most G (Tells c.next_turn.new.self) old new r0 r1 r2 (Ok c.in-Ok-next_turn.turn) i.goes.most i.goes a in
+    let most = takes_at_most G (Tells l.reader c.next_turn.new.self) (g.R.UnitReader.stays l.reader c.next_turn.new.self) old new r0 r1 r2 (Ok c.in-Ok-next_turn.turn) i.goes.most i.goes a in
     let tells = n.tells in
     record {
-      ran = ran_unwritten (Unit {0}) laws first cmd r0 o0 o1 (written c.turn.new.out) w c.in-Err-turn.halt i.holds n (c.in-Err-turn.ensures.wrote z n.unit n.bytes tells);
+      ran = ran_unwritten (Unit {0}) laws first cmd r0 o0 o1 (written c.turn.new.out) w c.in-Err-turn.halt i.holds n (c.in-Err-turn.ensures.wrote l.reader z n.unit n.bytes tells);
       limit = most;
       cause = cause_halt (Unit {0}) Ending (g.S.Source.faults c.args.src.now) (g.S.Source.faults c.next_turn.new.src) (g.K.Sink.faults c.args.out.now) (g.K.Sink.faults c.loop-turn.out) (g.K.Sink.faults c.turn.new.out) c.in-Err-turn.halt steady i.steady_out c.in-Err-turn.ensures.cause;
       end = λ ending e done. absurd cc;
@@ -328,6 +326,6 @@ turn-requires g c =
     let old = seen l.reader in
     let new = seen c.next_turn.new.self in
     let a = c.in-Ok-next_turn.ensures.next i.goes.no_stop i.goes.no_end in
-    let n = subst (λ t. NextOver G (Tells c.next_turn.new.self) old new (rest l.src) (rest c.next_turn.new.src) (Ok t)) c.in-Unit.is a in
+    let n = subst (λ t. NextOver G (Tells l.reader c.next_turn.new.self) (g.R.UnitReader.stays l.reader c.next_turn.new.self) old new (rest l.src) (rest c.next_turn.new.src) (Ok t)) c.in-Unit.is a in
     let p = place_more g.R.UnitReader.along n in
-    (old.past, n.unit, n.bytes, n.tells, i.keeps, omega (arith, p.1, ap G.place n.past ∙ g.R.UnitReader.along old.past n.unit n.bytes))
+    (l.reader, old.past, n.unit, n.bytes, n.tells, i.keeps, refl, omega (arith, p.1, ap G.place n.past ∙ g.R.UnitReader.along old.past n.unit n.bytes))

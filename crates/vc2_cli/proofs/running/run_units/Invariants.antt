@@ -12,8 +12,8 @@ invariant-loop-turn g l =
     let seen = g.R.UnitReader.seen in
     record {
       goes : Goes g.R.UnitReader.grammar (rest l.fn.src) (rest l.src) (seen l.reader);
-      holds : Holds (machine_of limit past_limit g.R.UnitReader.grammar g.R.UnitReader.first g.C.UnitCommand.command) (rest l.fn.src) (rest l.src) (written l.fn.out) (written l.out) (seen l.reader).held (record { past = (seen l.reader).past; own = g.C.UnitCommand.own l.command });
-      keeps : g.C.UnitCommand.keeps l.command ((g.R.UnitReader.grammar).place (seen l.reader).past);
+      holds : Holds (machine_of limit past_limit g.R.UnitReader.grammar g.R.UnitReader.first g.C.UnitCommand.command) (rest l.fn.src) (rest l.src) (written l.fn.out) (written l.out) (seen l.reader).held (record { past = (seen l.reader).past; own = g.C.UnitCommand.own l.command l.reader });
+      keeps : g.C.UnitCommand.keeps l.command l.reader;
       steady : g.S.Source.faults l.src ≡ g.S.Source.faults l.fn.src;
       steady_out : g.K.Sink.faults l.out ≡ g.K.Sink.faults l.fn.out;
     }

@@ -11,7 +11,7 @@ returns-then-is_end-clause-next g c = λ no_stop going.
     record {
       unit = End;
       bytes = n.bytes;
-      tells = record { past = n.past; picture = n.over.1; before = c.args.self.now.shapes; shapes = n.shapes; few = omega arith };
+      tells = record { past = n.past; picture = n.over.1; shapes = n.shapes; few = omega arith };
       meets = n.meets;
       whole = n.whole;
       last = n.last;
@@ -25,8 +25,11 @@ returns-clause-next g c = λ no_stop going.
     record {
       unit = n.unit;
       bytes = n.bytes;
-      tells = record { past = n.past; picture = n.picture; before = c.args.self.now.shapes; shapes = n.shapes; few = n.few };
+      tells = record { past = n.past; picture = n.picture; shapes = n.shapes; few = n.few };
       takes = n.takes;
       past = n.past;
       going = n.going;
     }
+
+pub returns-in-Err-clause-next : goal.returns-in-Err-clause-next
+returns-in-Err-clause-next g c = λ no_stop going. let n = c.in-Err.ensures.next no_stop going in (n.0, record { past = n.1.past; shapes = n.1.shapes })
