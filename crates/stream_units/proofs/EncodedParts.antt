@@ -1,13 +1,11 @@
 -- The parts of the units that are written, each in front of the rows that follow it.
-use Rattle.std.proofs.Common.{◌≡◌, ℕ, suc, ◌+◌, ◌-◌, ◌*◌, ◌/◌, ◌%◌, ◌^◌, ◌<◌, ◌≤◌, Bool, true, false, cond, List, [], ◌∷◌, ◌++◌, length, take, drop, None, Ok, refl, sym, ap, subst, ◌∙◌, append_assoc, append-nil, arith}
+use Rattle.std.proofs.Common.{◌≡◌, ℕ, ◌+◌, ◌*◌, ◌^◌, ◌<◌, Bool, true, false, List, [], ◌∷◌, ◌++◌, length, take, drop, None, Ok, refl, sym, ap, subst, ◌∙◌, append_assoc, append-nil, arith}
 use Rattle.std.specs.Prelude.{◌==◌, ◌||◌}
-use Rattle.std.specs.List.{AllByRecursion, concat}
-use Rattle.std.specs.Int.{w32, to_be_bytes}
+use Rattle.std.specs.List.{concat}
 use Rattle.std.proofs.Math.Seq.{take-length}
 use Rattle.std.proofs.lemmas.Bool.{eq-eqb}
 use Rattle.std.proofs.lemmas.List.{length-append, drop_at}
-use Rattle.bit_codes.specs.Bits.{bits_of, bytes_of, cursor_at, zeros_to_byte_end}
-use Rattle.bit_codes.proofs.ByteLemmas.{bits_of-bytes_of, length-bytes_of, bytes_of-fit}
+use Rattle.bit_codes.specs.Bits.{cursor_at}
 use Rattle.field_rows.specs.Rows.{◌or_else◌, Rows, done, ◌>>=◌, bytes_under, word_under, byte_under, renamed, read, first_broken, judged}
 use Rattle.field_rows.specs.Given.{written}
 use Rattle.field_rows.proofs.Reading.{read-done}
@@ -34,7 +32,7 @@ use Rattle.stream_units.specs.Heads.{leads_behind}
 use Rattle.stream_units.proofs.Groups.{group_moves}
 use Rattle.stream_units.proofs.UnitGroups.{params_group}
 use Rattle.stream_units.proofs.HeadRows.{payload_is, read-checked_unit}
-use Rattle.stream_units.specs.Encoded.{IsSlice, AreSlices}
+use Rattle.stream_units.specs.Encoded.{AreSlices}
 use Rattle.stream_units.proofs.EncodedPieces.{moves_then, moves_none, moves_word, moves_bytes, moves_code}
 
 -- ---- the head

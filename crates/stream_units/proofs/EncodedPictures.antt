@@ -1,5 +1,5 @@
 -- What is written of pictures is a stream of them.
-use Rattle.std.proofs.Common.{◌≡◌, ◌∙◌, sym, ap, ◌%◌, ℕ, List, [], ◌∷◌, length, map}
+use Rattle.std.proofs.Common.{◌∙◌, ap, ◌%◌, ℕ, List, [], ◌∷◌, map}
 use Rattle.std.specs.List.{AllByRecursion}
 use Rattle.std.proofs.lemmas.List.{length-map}
 use Rattle.sequence_header.specs.declared.parts.HeaderParts.{HeaderParts}

@@ -1,21 +1,20 @@
 -- What is written is a stream.
-use Rattle.std.proofs.Common.{◌≡◌, ℕ, suc, ◌+◌, ◌-◌, ◌*◌, ◌/◌, ◌%◌, ◌^◌, ◌<◌, ◌≤◌, Bool, true, false, not, List, [], ◌∷◌, ◌++◌, length, map, take, drop, Some, None, Ok, refl, sym, ap, subst, ◌∙◌, append_assoc, append-nil, arith}
+use Rattle.std.proofs.Common.{◌≡◌, ℕ, ◌+◌, ◌-◌, ◌*◌, ◌%◌, ◌^◌, ◌<◌, ◌≤◌, Bool, true, false, not, List, [], ◌∷◌, ◌++◌, length, map, take, drop, Some, None, Ok, refl, sym, ap, subst, ◌∙◌, append-nil, arith}
 use Rattle.std.specs.Prelude.{◌==◌, ◌&&◌, ◌||◌}
 use Rattle.std.specs.List.{AllByRecursion, concat}
 use Rattle.std.specs.Int.{w32, to_be_bytes}
 use Rattle.std.proofs.lemmas.Bool.{eq-eqb, ne_eqb, eqb-true}
-use Rattle.std.proofs.lemmas.List.{length-append, take_at}
-use Rattle.bit_codes.specs.Bits.{bits_of, bytes_of, Cursor, cursor_at, zeros_to_byte_end}
+use Rattle.std.proofs.lemmas.List.{take_at}
+use Rattle.bit_codes.specs.Bits.{bits_of, bytes_of, zeros_to_byte_end}
 use Rattle.bit_codes.proofs.BitLemmas.{length-bits}
 use Rattle.bit_codes.proofs.Numbers.{bits_of-append}
 use Rattle.bit_codes.proofs.ByteLemmas.{bytes_of-bits_of, bytes_of-fit}
-use Rattle.field_rows.specs.Rows.{Value, Rows, done, ◌>>=◌, ◌or_else◌, read, first_broken, no_more, field_at, spelled, is_nil}
+use Rattle.field_rows.specs.Rows.{Value, done, ◌>>=◌, ◌or_else◌, read, first_broken, no_more, field_at, spelled, is_nil}
 use Rattle.field_rows.specs.Given.{written}
 use Rattle.field_rows.specs.Standing.{Stand}
 use Rattle.field_rows.proofs.Answers.{found_fields}
 use Rattle.field_rows.proofs.Reading.{read-done, then_ok}
-use Rattle.parse_info.specs.declared.Code.{Code}
-use Rattle.parse_info.specs.declared.Code.TheVariants.{SequenceHeader, EndOfSequence, Auxiliary, Padding, LowDelayPicture}
+use Rattle.parse_info.specs.declared.Code.TheVariants.{SequenceHeader, EndOfSequence, LowDelayPicture}
 use Rattle.parse_info.specs.declared.ParseInfo.{ParseInfo}
 use Rattle.parse_info.specs.Head.{head_bytes}
 use Rattle.parse_info.proofs.WrittenHeads.{word_fits, head_fits}
@@ -25,12 +24,11 @@ use Rattle.sequence_header.proofs.Bounds.{header_short}
 use Rattle.transform_params.specs.Params.{Params}
 use Rattle.transform_params.specs.Fields as written_params
 use Rattle.transform_params.specs.Fields.{bit_length, unit_length, params_bytes, IsLawful}
-use Rattle.unit_table.specs.Grammar.{Behind, Inner, ends_by, tail_rows, bytes_at}
+use Rattle.unit_table.specs.Grammar.{Inner, ends_by, tail_rows, bytes_at}
 use Rattle.unit_table.specs.Begun.{Moves}
-use Rattle.stream_units.specs.declared.reason.Reason.{Reason}
 use Rattle.stream_units.specs.declared.reason.Reason.TheVariants as reasons
 use Rattle.stream_units.specs.Units.{First, Past, nothing_yet, DataUnit, Sequence, Repeated, Picture, Skipped, End, unit_behind, reason_of, code_rules, number_rules, body_rows, unit_rows, after, units}
-use Rattle.stream_units.specs.Streams.{bytes_between, Entry, Units, IsStreamFrom, IsStream, limit, frame_under, pictures_of}
+use Rattle.stream_units.specs.Streams.{bytes_between, Entry, Units, IsStreamFrom, limit, frame_under, pictures_of}
 use Rattle.picture_codec.specs.Samples.{picture_of}
 use Rattle.picture_codec.specs.Encoding.{picture_bytes}
 use Rattle.stream_units.specs.Encoded.{header_unit, picture_unit, end_unit, number_after, units_behind, Settings, encoded, pictures_under, units_of, AreSlices, IsSliced, AreLawful, IsStreamOf}

@@ -1,18 +1,12 @@
 -- The units that are written, whole.
-use Rattle.std.proofs.Common.{◌≡◌, ℕ, suc, ◌+◌, ◌-◌, ◌*◌, ◌/◌, ◌%◌, ◌^◌, ◌<◌, ◌≤◌, Bool, true, false, List, [], ◌∷◌, ◌++◌, length, take, drop, Some, None, Ok, refl, sym, ap, subst, ◌∙◌, append_assoc, append-nil, arith}
-use Rattle.std.specs.List.{AllByRecursion, concat}
+use Rattle.std.proofs.Common.{◌≡◌, ℕ, ◌+◌, ◌^◌, ◌<◌, List, [], ◌∷◌, length, Some, None, refl, sym, ap, subst, append-nil, arith}
+use Rattle.std.specs.List.{concat}
 use Rattle.std.specs.Int.{w32, to_be_bytes}
-use Rattle.std.proofs.lemmas.List.{length-append, take_at}
-use Rattle.bit_codes.specs.Bits.{bits_of, bytes_of, Cursor}
-use Rattle.bit_codes.proofs.BitLemmas.{length-bits}
-use Rattle.bit_codes.proofs.Numbers.{bits_of-append}
-use Rattle.bit_codes.proofs.ByteLemmas.{bytes_of-bits_of, bytes_of-fit}
-use Rattle.field_rows.specs.Rows.{Value, Rows, done, ◌>>=◌, word_under, renamed, read, first_broken}
+use Rattle.std.proofs.lemmas.List.{length-append}
+use Rattle.field_rows.specs.Rows.{Rows, done, ◌>>=◌, renamed, first_broken}
 use Rattle.field_rows.specs.Given.{written}
 use Rattle.field_rows.proofs.Filled.{length-filled}
 use Rattle.parse_info.specs.Head.{head_bytes}
-use Rattle.field_rows.proofs.Answers.{found_fields}
-use Rattle.field_rows.proofs.Reading.{read-done, then_ok}
 use Rattle.parse_info.specs.declared.Code.TheVariants.{SequenceHeader, EndOfSequence, LowDelayPicture}
 use Rattle.parse_info.specs.declared.ParseInfo.{ParseInfo}
 use Rattle.sequence_header.specs.declared.parts.HeaderParts.{HeaderParts}
@@ -22,11 +16,9 @@ use Rattle.slice_geometry.specs.Slicing.{slice_count, bytes_before, total_bytes}
 use Rattle.slice_geometry.proofs.Shares.{bytes_before-rises, bytes_before-zero}
 use Rattle.transform_params.specs.Params.{Params, params_rows}
 use Rattle.transform_params.specs.Fields.{fields_of, byte_length, unit_length, params_bytes, IsLawful}
-use Rattle.unit_table.specs.Grammar.{bytes_at}
 use Rattle.unit_table.specs.Begun.{Moves}
 use Rattle.stream_units.specs.declared.reason.Reason.{Reason}
-use Rattle.stream_units.specs.Units.{First, Past, nothing_yet, DataUnit, Sequence, Picture, End, reason_of, transform_reason, code_rules, next_rules, number_rules, slice_rows, next_checked, unit_head, first_payload, picture_payload, payload_of, payload_rows, body_rows, units}
-use Rattle.stream_units.specs.Streams.{bytes_between}
+use Rattle.stream_units.specs.Units.{First, Past, nothing_yet, DataUnit, Sequence, Picture, End, transform_reason, code_rules, number_rules, slice_rows, next_checked, picture_payload, payload_of, payload_rows, body_rows, units}
 use Rattle.picture_codec.specs.Encoding.{picture_bytes}
 use Rattle.stream_units.specs.Encoded.{header_unit, picture_unit, end_unit, AreSlices, IsSliced}
 use Rattle.stream_units.proofs.EncodedPieces.{moves_then, moves_none, moves_word}

@@ -1,9 +1,9 @@
 -- A header has one shape of pictures.
-use Rattle.std.proofs.Common.{◌≡◌, ◌∙◌, sym, ap, subst, ℕ, ◌≤◌}
+use Rattle.std.proofs.Common.{◌≡◌, ◌∙◌, sym, ap, subst, ℕ}
 use Rattle.std.specs.Prelude.{max}
 use Rattle.std.proofs.Props.{props}
 use Rattle.sequence_header.specs.declared.parts.HeaderParts.{HeaderParts}
-use Rattle.sequence_header.specs.Coding.{IsShapeOf, luma_depth, colour_depth}
+use Rattle.sequence_header.specs.Coding.{IsShapeOf, colour_depth}
 use Rattle.slice_geometry.specs.declared.Size.{Size}
 use Rattle.slice_geometry.specs.declared.PictureShape.{PictureShape}
 use Rattle.slice_geometry.specs.Shape.{IsSize, IsDepth}

@@ -1,5 +1,5 @@
 -- What the calls of a writer come to.
-use Rattle.std.proofs.Common.{◌≡◌, ℕ, ◌+◌, ◌*◌, ◌%◌, ◌^◌, ◌<◌, ◌≤◌, List, [], ◌∷◌, ◌++◌, length, refl, sym, ap, subst, ◌∙◌, arith}
+use Rattle.std.proofs.Common.{◌≡◌, ℕ, ◌+◌, ◌*◌, ◌%◌, ◌^◌, ◌<◌, ◌≤◌, List, [], ◌∷◌, ◌++◌, length, sym, ap, subst, ◌∙◌, arith}
 use Rattle.std.specs.List.{AllByRecursion}
 use Rattle.std.proofs.lemmas.List.{length-append}
 use Rattle.sequence_header.specs.Bytes.{header_len}
@@ -9,7 +9,7 @@ use Rattle.transform_params.specs.Params.{Params}
 use Rattle.transform_params.specs.Fields.{unit_length, IsLawful}
 use Rattle.stream_units.specs.Encoded.{Settings, header_unit, picture_unit, end_unit, number_after, units_behind, encoded, units_of, AreLawful, IsSliced, IsStreamOf}
 use Rattle.stream_units.specs.Streams.{limit}
-use Rattle.stream_units.specs.Writer.{WriterState, next_place, next_previous, next_number, picture_shape, plain_shape, started, after_picture, texts_from, total_length, HaveRoom}
+use Rattle.stream_units.specs.Writer.{WriterState, next_place, next_previous, next_number, picture_shape, started, after_picture, texts_from, HaveRoom}
 use Rattle.stream_units.proofs.EncodedUnits.{length-header_unit, length-picture_unit}
 use Rattle.stream_units.proofs.EncodedStreams.{encoded_stream}
 use Rattle.stream_units.proofs.WrittenShapes.{total_push, pictures_push, last_push, picture_length, plain_length, one_more}

@@ -1,8 +1,6 @@
 -- The shapes of units, one more.
-use Rattle.std.proofs.Common.{◌≡◌, ℕ, ◌+◌, ◌*◌, ◌/◌, ◌%◌, ◌^◌, ◌<◌, ◌≤◌, Bool, true, false, cond, ltb, List, [], ◌∷◌, ◌++◌, length, Option, Some, None, Result, Ok, Err, refl, sym, ap, subst, ◌∙◌, arith}
-use Rattle.std.specs.Io.KnownBytes.{Appends}
+use Rattle.std.proofs.Common.{◌≡◌, ℕ, ◌+◌, ◌%◌, ◌^◌, ◌≤◌, Bool, false, cond, ltb, List, [], ◌∷◌, ◌++◌, Option, refl, sym, ap, ◌∙◌, arith}
 use Rattle.std.proofs.lemmas.Bool.{lt-ltb}
-use Rattle.vc2_io.specs.Outside.{GrewShort}
 use Rattle.slice_geometry.specs.declared.unit_list.UnitShape.{UnitShape}
 use Rattle.slice_geometry.specs.Units as shapes
 use Rattle.slice_geometry.specs.Units.{UnitList}
@@ -57,6 +55,16 @@ sound_picture first number number' size chain chain' units units' u stop ended s
       number_is = next ∙ omega (arith, s.number_is, pictures_push units.units u, one) ∙ ap (λ l. (first + pictures_among l) % 2 ^ 32) (sym list);
       room = λ e. omega (arith, total, room);
     }
+
+-- the fields over a list with room for one more, whatever stop is kept
+pub sound_kept : (first number : ℕ) (chain : Links) (units units' : UnitList) (stop stop' : Option WriteStop) (ended : Bool) → IsSound first chain number units stop ended → units'.units ≡ units.units → units'.total ≡ units.total → IsSound first chain number units' stop' ended
+sound_kept first number chain units units' stop stop' ended s list total = record {
+  total = total ∙ s.total ∙ ap total_length (sym list);
+  place = s.place ∙ sym total;
+  previous = s.previous ∙ ap (last_length 0) (sym list);
+  number_is = s.number_is ∙ ap (λ l. (first + pictures_among l) % 2 ^ 32) (sym list);
+  room = λ e. omega (arith, total, s.room e);
+}
 
 pub picture_length : (p : Params) (start : ℕ) → shapes.unit_length (picture_shape p start) ≡ unit_length p
 picture_length p start = omega arith

@@ -1,5 +1,5 @@
 -- The slices that were written of a picture are slices of a stream.
-use Rattle.std.proofs.Common.{◌≡◌, ◌∙◌, sym, ap, subst, refl, ℕ, zero, suc, ◌+◌, ◌*◌, ◌/◌, ◌%◌, ◌<◌, ◌≤◌, Bool, true, false, not, List, [], ◌∷◌, length, get_or, None, arith}
+use Rattle.std.proofs.Common.{◌≡◌, ◌∙◌, sym, ap, subst, refl, ℕ, suc, ◌+◌, ◌/◌, ◌%◌, ◌<◌, Bool, true, false, not, List, [], ◌∷◌, length, get_or, None, arith}
 use Rattle.std.specs.List.{All, AllByRecursion}
 use Rattle.std.proofs.lemmas.List.FromFn.{length-map-range_with_len}
 use Rattle.field_rows.specs.Rows.{◌or_else◌, first_broken}
@@ -9,7 +9,7 @@ use Rattle.lifting.specs.declared.Wavelet.{Wavelet}
 use Rattle.slice_geometry.specs.declared.Size.{Size}
 use Rattle.slice_geometry.specs.Slicing.{IsAllowed, slice_count, slice_number}
 use Rattle.transform_params.specs.Params.{Params}
-use Rattle.slice_decoder.specs.Slice.{Slice, slice_at, is_small}
+use Rattle.slice_decoder.specs.Slice.{slice_at, is_small}
 use Rattle.slice_encoder.specs.Trials.{CodedPicture}
 use Rattle.slice_encoder.specs.Chosen.{chosen, written_slice, written_slices}
 use Rattle.slice_encoder.specs.Laws.{IsIndex}
@@ -21,7 +21,6 @@ use Rattle.picture_codec.proofs.WrittenPasses.{not_too_long, is_small_there}
 use Rattle.picture_codec.proofs.ChosenSlices.{chosen_indices}
 use Rattle.picture_codec.proofs.WrittenChosen.{slice_there, share_is, bytes_there, chosen_are_written}
 use Rattle.stream_units.specs.declared.reason.Reason.TheVariants as reasons
-use Rattle.stream_units.specs.Units.{slice_rules}
 use Rattle.stream_units.specs.Encoded.{IsSlice, AreSlices, IsSliced}
 use Rattle.stream_units.specs.WrittenSlices.{HaveShares, WrittenAreSliced, ChosenAreSliced}
 

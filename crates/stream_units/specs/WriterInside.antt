@@ -1,5 +1,5 @@
 -- What is true of the fields of a writer.
-use Rattle.std.specs.Prelude.{◌≡◌, ◌≤◌, ◌<◌, ℕ, ◌+◌, ◌%◌, ◌^◌, Bool, true, false, length, Option, Some, None}
+use Rattle.std.specs.Prelude.{◌≡◌, ◌≤◌, ℕ, ◌+◌, ◌%◌, ◌^◌, Bool, false, Option}
 use Rattle.parse_info.specs.Chain.{Links}
 use Rattle.slice_geometry.specs.Units.{UnitList}
 use Rattle.sequence_header.specs.declared.parts.HeaderParts.{HeaderParts}

@@ -1,6 +1,5 @@
-use Rattle.std.proofs.Common.{◌≡◌, ◌+◌, ◌≤◌, ℕ, List, [], ◌∷◌, ◌++◌, true, false, Some, None, Ok, Err, refl, sym, ap, subst, ◌∙◌, arith}
+use Rattle.std.proofs.Common.{◌≡◌, [], ◌∷◌, ◌++◌, true, Some, Ok, Err, ap, subst, ◌∙◌, arith}
 use Rattle.std.specs.Io.KnownBytes.{Appends}
-use Rattle.slice_geometry.specs.declared.unit_list.UnitShape.{UnitShape}
 use Rattle.slice_geometry.specs.Units as shapes
 use Rattle.transform_params.specs.Views.{params_of}
 use Rattle.vc2_io.specs.Outside.{GrewShort}
@@ -18,6 +17,7 @@ invariant_of-self-2 g c = (
       c.step.ensures
       (λ e. absurd cc),
   c.self.invariant.1,
+  c.self.invariant.2,
 )
 
 pub returns-clause-end : goal.returns-clause-end
