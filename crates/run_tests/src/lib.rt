@@ -8,6 +8,8 @@ mod hexadecimal;
 #[cfg(test)]
 mod long;
 #[cfg(test)]
+mod operands;
+#[cfg(test)]
 mod row;
 #[cfg(test)]
 mod rows;

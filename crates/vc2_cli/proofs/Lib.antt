@@ -6,3 +6,4 @@ pub mod Decoding
 pub mod Chaining
 pub mod StreamReplies
 pub mod Exits
+pub mod Replaying

@@ -1,15 +1,21 @@
 -- What stands after a status, part by part, as the clauses of `run` have it.
-use Rattle.std.proofs.Common.{◌≡◌, ℕ, List, Option, None, Some, IfSome, Result, Ok, Err, refl, sym, subst}
+use Rattle.std.proofs.Common.{◌≡◌, ℕ, List, Option, None, Some, IfSome, Result, Ok, Err, refl, sym, subst, ◌∙◌}
+use Rattle.std.specs.Prelude.{IfErr, MatchResult}
 use Rattle.std.specs.Io.KnownBytes.{Appends, Keeps}
 use Rattle.vc2_io.specs.Outside.{GrewShort}
 use Rattle.vc2_cli.specs.declared.status.Status.{Status}
 use Rattle.vc2_cli.specs.declared.status.Status.TheVariants as st
 use Rattle.vc2_cli.specs.declared.status.Ending.{Ending}
-use Rattle.vc2_cli.specs.declared.status.Ending.TheVariants.{Done, Decoded, Accepted, Refused}
-use Rattle.vc2_cli.specs.declared.status.WordFault.{WordFault}
-use Rattle.vc2_cli.specs.declared.words.Command.{Command}
-use Rattle.vc2_cli.specs.declared.words.Command.TheVariants.{Chain, Header, Decode, Check}
-use Rattle.vc2_cli.specs.Reply.{Reply, Breaks, Stops, StopsShort, IsStatusOf, command_reply, command_due, status_of}
+use Rattle.vc2_cli.specs.declared.status.Ending.TheVariants.{Done, Decoded, Accepted, Scheduled, Refused}
+use Rattle.channel_schedule.specs.declared.schedule.Schedule.{Schedule}
+use Rattle.channel_schedule.specs.declared.schedule.Outcome.TheVariants as outcomes
+use Rattle.channel_schedule.specs.Rates.{IsSchedule}
+use Rattle.vc2_words.specs.declared.keys.WordFault.{WordFault}
+use Rattle.vc2_words.specs.declared.words.Command.{Command}
+use Rattle.vc2_words.specs.Commands.{AskedCommand, chain, header, decode, check, encode, trial, seen, asked_by}
+use Rattle.vc2_words.proofs.Settled.{words_say}
+use Rattle.vc2_cli.specs.Words.{seen_words}
+use Rattle.vc2_cli.specs.Reply.{Reply, Breaks, Stops, StopsShort, IsStatusOf, command_reply, command_due, status_of, ReadsAll}
 use Rattle.vc2_cli.specs.Settled.{Settles}
 
 if_told : (known : Option (List ℕ)) (P : List ℕ → Type 0) → ((input : List ℕ) → known ≡ Some input → P input) → IfSome known P
@@ -28,30 +34,55 @@ own_ending : (ending : Ending) → IsOwn (status_of ending)
 own_ending Done = tt
 own_ending (Decoded pictures bytes) = tt
 own_ending (Accepted pictures slices bytes) = tt
+own_ending (Scheduled pictures slices bytes outcomes.Runs) = tt
+own_ending (Scheduled pictures slices bytes (outcomes.Late slot have need)) = tt
+own_ending (Scheduled pictures slices bytes (outcomes.Overfull slot fill size)) = tt
 own_ending (Refused refusal) = tt
 
-own : (command : Result Command WordFault) (input : List ℕ) → IsOwn (command_reply command input).status
+own : (command : Result AskedCommand WordFault) (input : List ℕ) → IsOwn (command_reply command input).status
 own (Err fault) input = tt
-own (Ok Chain) input = own_ending _
-own (Ok Header) input = own_ending _
-own (Ok Decode) input = own_ending _
-own (Ok Check) input = own_ending _
+own (Ok chain) input = own_ending _
+own (Ok header) input = own_ending _
+own (Ok decode) input = own_ending _
+own (Ok (check None)) input = own_ending _
+own (Ok (check (Some schedule))) input = own_ending _
+own (Ok (encode settings)) input = tt
+own (Ok (trial settings part)) input = tt
+
+-- ---- the words
+
+-- what was read is what the words ask for
+pub words_are : (words : List (List ℕ)) (command : Result Command WordFault) → MatchResult command (λ told. asked_by words ≡ Ok (seen told)) (λ fault. asked_by words ≡ Err fault) → seen_words command ≡ asked_by words
+words_are words (Ok command) is = sym is
+words_are words (Err fault) is = sym is
+
+-- a schedule that was read is lawful
+pub schedule_is : (words : List (List ℕ)) (command : Result Command WordFault) (schedule : Schedule) → seen_words command ≡ asked_by words → seen_words command ≡ Ok (check (Some schedule)) → IsSchedule schedule
+schedule_is words command schedule same is = words_say words (check (Some schedule)) (sym same ∙ is)
+
+-- their fault is the one that was read
+pub fault_is : (command : Result Command WordFault) (asked : Result AskedCommand WordFault) (P : WordFault → Type 0) → seen_words command ≡ asked → IfErr command P → IfErr asked P
+fault_is (Ok command) asked P same told = subst (λ (r : Result AskedCommand WordFault). IfErr r P) same tt
+fault_is (Err fault) asked P same told = subst (λ (r : Result AskedCommand WordFault). IfErr r P) same told
+
+-- ---- the parts
 
 -- what stands, for every input that the source may tell
-abbrev pub AllSettled : Result Command WordFault → Option (List ℕ) → Option (List ℕ) → Option (List ℕ) → Option (List ℕ) → Option (List ℕ) → Option (List ℕ) → Status → Type 0
+abbrev pub AllSettled : Result AskedCommand WordFault → Option (List ℕ) → Option (List ℕ) → Option (List ℕ) → Option (List ℕ) → Option (List ℕ) → Option (List ℕ) → Status → Type 0
 AllSettled command known rest out0 out1 note0 note1 status = (input : List ℕ) → known ≡ Some input → Settles (command_reply command input) (command_due command) input rest out0 out1 note0 note1 status
 
 -- the same command by another name
-pub settled_by : (command other : Result Command WordFault) (known rest out0 out1 note0 note1 : Option (List ℕ)) (status : Status) → command ≡ other → AllSettled command known rest out0 out1 note0 note1 status → AllSettled other known rest out0 out1 note0 note1 status
-settled_by command other known rest out0 out1 note0 note1 status e all = subst (λ (r : Result Command WordFault). AllSettled r known rest out0 out1 note0 note1 status) e all
+pub settled_by : (command other : Result AskedCommand WordFault) (known rest out0 out1 note0 note1 : Option (List ℕ)) (status : Status) → command ≡ other → AllSettled command known rest out0 out1 note0 note1 status → AllSettled other known rest out0 out1 note0 note1 status
+settled_by command other known rest out0 out1 note0 note1 status e all = subst (λ (r : Result AskedCommand WordFault). AllSettled r known rest out0 out1 note0 note1 status) e all
 
-at : (command : Result Command WordFault) (known rest out0 out1 note0 note1 : Option (List ℕ)) (status is : Status) → AllSettled command known rest out0 out1 note0 note1 status → status ≡ is → (input : List ℕ) → known ≡ Some input
+at : (command : Result AskedCommand WordFault) (known rest out0 out1 note0 note1 : Option (List ℕ)) (status is : Status) → AllSettled command known rest out0 out1 note0 note1 status → status ≡ is → (input : List ℕ) → known ≡ Some input
     → Settles (command_reply command input) (command_due command) input rest out0 out1 note0 note1 is
 at command known rest out0 out1 note0 note1 status is all e input told = subst (λ s. Settles (command_reply command input) (command_due command) input rest out0 out1 note0 note1 s) e (all input told)
 
 status_in : (reply : Reply) (due : List ℕ → List ℕ) (input : List ℕ) (rest out0 out1 note0 note1 : Option (List ℕ)) (status : Status) → Settles reply due input rest out0 out1 note0 note1 status → IsStatusOf reply status
 status_in reply due input rest out0 out1 note0 note1 st.Done h = h.0.0
 status_in reply due input rest out0 out1 note0 note1 (st.Refused refusal) h = h.0
+status_in reply due input rest out0 out1 note0 note1 (st.Schedule fault) h = h.0.0
 status_in reply due input rest out0 out1 note0 note1 (st.Usage fault) h = h.0
 status_in reply due input rest out0 out1 note0 note1 st.ReadFault h = tt
 status_in reply due input rest out0 out1 note0 note1 st.OutFault h = tt
@@ -61,6 +92,7 @@ status_in reply due input rest out0 out1 note0 note1 st.NoMemory h = tt
 texts_in : (reply : Reply) (due : List ℕ → List ℕ) (input : List ℕ) (rest out0 out1 note0 note1 : Option (List ℕ)) (status : Status) → IsOwn reply.status → Settles reply due input rest out0 out1 note0 note1 status → status ≡ reply.status → Appends out0 out1 reply.out × Appends note0 note1 reply.note
 texts_in reply due input rest out0 out1 note0 note1 st.Done is_own h e = (h.0.1, h.0.2)
 texts_in reply due input rest out0 out1 note0 note1 (st.Refused refusal) is_own h e = (h.1, h.2)
+texts_in reply due input rest out0 out1 note0 note1 (st.Schedule fault) is_own h e = (h.0.1, h.0.2)
 texts_in reply due input rest out0 out1 note0 note1 (st.Usage fault) is_own h e = (h.1, h.2)
 texts_in reply due input rest out0 out1 note0 note1 st.ReadFault is_own h e = absurd (subst IsOwn (sym e) is_own)
 texts_in reply due input rest out0 out1 note0 note1 st.OutFault is_own h e = absurd (subst IsOwn (sym e) is_own)
@@ -69,12 +101,12 @@ texts_in reply due input rest out0 out1 note0 note1 st.NoMemory is_own h e = abs
 
 -- ---- the clauses of `run`
 
-pub told_status : (command : Result Command WordFault) (known rest out0 out1 note0 note1 : Option (List ℕ)) (status : Status) → AllSettled command known rest out0 out1 note0 note1 status
+pub told_status : (command : Result AskedCommand WordFault) (known rest out0 out1 note0 note1 : Option (List ℕ)) (status : Status) → AllSettled command known rest out0 out1 note0 note1 status
     → IfSome known (λ input. IsStatusOf (command_reply command input) status)
 told_status command known rest out0 out1 note0 note1 status all =
     if_told known _ (λ input told. status_in (command_reply command input) (command_due command) input rest out0 out1 note0 note1 status (all input told))
 
-pub told_texts : (command : Result Command WordFault) (known rest out0 out1 note0 note1 : Option (List ℕ)) (status : Status) → AllSettled command known rest out0 out1 note0 note1 status
+pub told_texts : (command : Result AskedCommand WordFault) (known rest out0 out1 note0 note1 : Option (List ℕ)) (status : Status) → AllSettled command known rest out0 out1 note0 note1 status
     → IfSome known (λ input. status ≡ (command_reply command input).status → Appends out0 out1 (command_reply command input).out × Appends note0 note1 (command_reply command input).note)
 told_texts command known rest out0 out1 note0 note1 status all =
     if_told known _ (λ input told. texts_in (command_reply command input) (command_due command) input rest out0 out1 note0 note1 status (own command input) (all input told))
@@ -82,23 +114,34 @@ told_texts command known rest out0 out1 note0 note1 status all =
 left_in : (rest : Option (List ℕ)) (left : List ℕ) → ((more : List ℕ) → rest ≡ Some more → more ≡ left) → IfSome rest (λ more. more ≡ left)
 left_in rest left h = if_told rest (λ more. more ≡ left) h
 
-pub told_done : (command : Result Command WordFault) (known rest out0 out1 note0 note1 : Option (List ℕ)) (status : Status) → AllSettled command known rest out0 out1 note0 note1 status
-    → IfSome known (λ input. status ≡ st.Done → IfSome rest (λ left. left ≡ (command_reply command input).rest))
-told_done command known rest out0 out1 note0 note1 status all =
-    if_told known _ (λ input told is. left_in rest (command_reply command input).rest (at command known rest out0 out1 note0 note1 status st.Done all is input told).1)
+rest_in : (reply : Reply) (due : List ℕ → List ℕ) (input : List ℕ) (rest out0 out1 note0 note1 : Option (List ℕ)) (status : Status) → ReadsAll status → Settles reply due input rest out0 out1 note0 note1 status
+    → (more : List ℕ) → rest ≡ Some more → more ≡ reply.rest
+rest_in reply due input rest out0 out1 note0 note1 st.Done reads h = h.1
+rest_in reply due input rest out0 out1 note0 note1 (st.Schedule fault) reads h = h.1
+rest_in reply due input rest out0 out1 note0 note1 (st.Refused refusal) reads h = absurd reads
+rest_in reply due input rest out0 out1 note0 note1 (st.Usage fault) reads h = absurd reads
+rest_in reply due input rest out0 out1 note0 note1 st.ReadFault reads h = absurd reads
+rest_in reply due input rest out0 out1 note0 note1 st.OutFault reads h = absurd reads
+rest_in reply due input rest out0 out1 note0 note1 st.NoteFault reads h = absurd reads
+rest_in reply due input rest out0 out1 note0 note1 st.NoMemory reads h = absurd reads
 
-pub told_read_fault : (command : Result Command WordFault) (known rest out0 out1 note0 note1 : Option (List ℕ)) (status : Status) → AllSettled command known rest out0 out1 note0 note1 status
+pub told_done : (command : Result AskedCommand WordFault) (known rest out0 out1 note0 note1 : Option (List ℕ)) (status : Status) → AllSettled command known rest out0 out1 note0 note1 status
+    → IfSome known (λ input. ReadsAll status → IfSome rest (λ left. left ≡ (command_reply command input).rest))
+told_done command known rest out0 out1 note0 note1 status all =
+    if_told known _ (λ input told reads. left_in rest (command_reply command input).rest (rest_in (command_reply command input) (command_due command) input rest out0 out1 note0 note1 status reads (all input told)))
+
+pub told_read_fault : (command : Result AskedCommand WordFault) (known rest out0 out1 note0 note1 : Option (List ℕ)) (status : Status) → AllSettled command known rest out0 out1 note0 note1 status
     → IfSome known (λ input. status ≡ st.ReadFault → Breaks (command_due command) input rest out0 out1 × Keeps note0 note1)
 told_read_fault command known rest out0 out1 note0 note1 status all = if_told known _ (λ input told is. at command known rest out0 out1 note0 note1 status st.ReadFault all is input told)
 
-pub told_out_fault : (command : Result Command WordFault) (known rest out0 out1 note0 note1 : Option (List ℕ)) (status : Status) → AllSettled command known rest out0 out1 note0 note1 status
+pub told_out_fault : (command : Result AskedCommand WordFault) (known rest out0 out1 note0 note1 : Option (List ℕ)) (status : Status) → AllSettled command known rest out0 out1 note0 note1 status
     → IfSome known (λ input. status ≡ st.OutFault → StopsShort (command_reply command input) (command_due command) input rest out0 out1 × Keeps note0 note1)
 told_out_fault command known rest out0 out1 note0 note1 status all = if_told known _ (λ input told is. at command known rest out0 out1 note0 note1 status st.OutFault all is input told)
 
-pub told_no_memory : (command : Result Command WordFault) (known rest out0 out1 note0 note1 : Option (List ℕ)) (status : Status) → AllSettled command known rest out0 out1 note0 note1 status
+pub told_no_memory : (command : Result AskedCommand WordFault) (known rest out0 out1 note0 note1 : Option (List ℕ)) (status : Status) → AllSettled command known rest out0 out1 note0 note1 status
     → IfSome known (λ input. status ≡ st.NoMemory → Stops (command_reply command input) (command_due command) input rest out0 out1 × Keeps note0 note1)
 told_no_memory command known rest out0 out1 note0 note1 status all = if_told known _ (λ input told is. at command known rest out0 out1 note0 note1 status st.NoMemory all is input told)
 
-pub told_note_fault : (command : Result Command WordFault) (known rest out0 out1 note0 note1 : Option (List ℕ)) (status : Status) → AllSettled command known rest out0 out1 note0 note1 status
+pub told_note_fault : (command : Result AskedCommand WordFault) (known rest out0 out1 note0 note1 : Option (List ℕ)) (status : Status) → AllSettled command known rest out0 out1 note0 note1 status
     → IfSome known (λ input. status ≡ st.NoteFault → Appends out0 out1 (command_reply command input).out × GrewShort note0 note1 (command_reply command input).note)
 told_note_fault command known rest out0 out1 note0 note1 status all = if_told known _ (λ input told is. at command known rest out0 out1 note0 note1 status st.NoteFault all is input told)

@@ -9,9 +9,9 @@ use Rattle.unit_table.specs.Fronts.{Between, Command, machine_of}
 use Rattle.stream_units.specs.declared.reason.Reason.{Reason}
 use Rattle.stream_units.specs.Units.{Past, nothing_yet, DataUnit, Sequence, Repeated, Picture, Skipped, End, units}
 use Rattle.stream_units.specs.Streams.{limit, past_limit, refusal_of, frame_under}
-use Rattle.vc2_cli.specs.Texts.{accepted_line}
+use Rattle.vc2_cli.specs.Texts.{accepted_line, replayed_lines}
 use Rattle.vc2_cli.specs.declared.status.Ending.{Ending}
-use Rattle.vc2_cli.specs.declared.status.Ending.TheVariants.{Done, Decoded, Accepted, Refused}
+use Rattle.vc2_cli.specs.declared.status.Ending.TheVariants.{Done, Decoded, Accepted, Scheduled, Refused}
 
 -- the raw text of a unit's picture, if it has one
 abbrev pub unit_text : DataUnit → List ℕ
@@ -35,9 +35,10 @@ decoding = record {
   endless = Done;
 }
 
--- the line of a stream that was accepted
+-- the lines of a stream that was accepted
 abbrev pub last_line : Ending → List ℕ
 last_line (Accepted pictures slices bytes) = accepted_line pictures slices bytes
+last_line (Scheduled pictures slices bytes outcome) = replayed_lines pictures slices bytes outcome
 last_line other = []
 
 -- the slices of a unit

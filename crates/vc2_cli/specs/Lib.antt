@@ -2,6 +2,7 @@ pub mod Texts
 pub mod Words
 pub mod Chain
 pub mod Decode
+pub mod Scheduled
 pub mod Reply
 pub mod Streams
 pub mod Settled

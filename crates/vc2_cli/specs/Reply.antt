@@ -1,66 +1,102 @@
 -- What the program replies to its words and its input, and what of it stands after a status.
-use Rattle.std.specs.Prelude.{◌≡◌, ◌≤◌, ℕ, List, [], Option, Some, Result, Ok, Err}
+use Rattle.std.specs.Prelude.{◌≡◌, ◌≤◌, ℕ, List, [], Option, Some, None, Result, Ok, Err}
 use Rattle.std.specs.Io.KnownBytes.{Appends, Consumes, Keeps}
 use Rattle.vc2_io.specs.Outside.{Rose, GrewShort}
 use Rattle.vc2_run.specs.Walk.{Answer, answer_to, out_of, due, IsPrefix, IsProperPrefix, IsPrompt}
-use Rattle.vc2_cli.specs.declared.words.Command.{Command}
-use Rattle.vc2_cli.specs.declared.words.Command.TheVariants.{Chain, Header, Decode, Check}
-use Rattle.vc2_cli.specs.declared.status.WordFault.{WordFault}
+use Rattle.channel_schedule.specs.declared.schedule.Outcome.{Outcome}
+use Rattle.channel_schedule.specs.declared.schedule.Outcome.TheVariants as outcomes
+use Rattle.vc2_words.specs.declared.keys.WordFault.{WordFault}
+use Rattle.vc2_words.specs.declared.keys.WordFault.TheVariants.{UnknownCommand}
+use Rattle.vc2_words.specs.Commands.{AskedCommand, chain, header, decode, check, encode, trial, asked_by}
+use Rattle.vc2_cli.specs.declared.status.ScheduleFault.{ScheduleFault}
+use Rattle.vc2_cli.specs.declared.status.ScheduleFault.TheVariants.{Late, Overfull}
 use Rattle.vc2_cli.specs.declared.status.Status.{Status}
 use Rattle.vc2_cli.specs.declared.status.Status.TheVariants as status
 use Rattle.vc2_cli.specs.declared.status.Ending.{Ending}
 use Rattle.vc2_cli.specs.declared.status.Ending.TheVariants as ending
-use Rattle.vc2_cli.specs.Texts.{refusal_line, usage_line, decoded_line}
-use Rattle.vc2_cli.specs.Words.{command_of}
+use Rattle.vc2_cli.specs.Texts.{refusal_line, usage_line, decoded_line, fault_line}
 use Rattle.vc2_cli.specs.Chain.{chain_machine}
 use Rattle.vc2_cli.specs.First.{header_machine, behind_first}
 use Rattle.vc2_cli.specs.Decode.{decode_machine, check_machine}
+use Rattle.vc2_cli.specs.Scheduled.{replay_machine}
 
--- a status with its texts for `out` and `note`, and what is left of the input where the status is `Done`
+-- a status with its texts for `out` and `note`, and what is left of the input where the status is `Done` or `Schedule`
 pub record Reply : Type 0 where
   pub status : Status
   pub rest : List ℕ
   pub out : List ℕ
   pub note : List ℕ
 
+-- why a schedule does not run
+abbrev pub fault_of : Outcome → Option ScheduleFault
+fault_of outcomes.Runs = None
+fault_of (outcomes.Late slot have need) = Some (Late slot have need)
+fault_of (outcomes.Overfull slot fill size) = Some (Overfull slot fill size)
+
+abbrev pub schedule_status : Option ScheduleFault → Status
+schedule_status None = status.Done
+schedule_status (Some fault) = status.Schedule fault
+
+abbrev pub schedule_note : Option ScheduleFault → List ℕ
+schedule_note None = []
+schedule_note (Some fault) = fault_line fault
+
 abbrev pub status_of : Ending → Status
 status_of ending.Done = status.Done
 status_of (ending.Decoded pictures bytes) = status.Done
 status_of (ending.Accepted pictures slices bytes) = status.Done
+status_of (ending.Scheduled pictures slices bytes outcome) = schedule_status (fault_of outcome)
 status_of (ending.Refused refusal) = status.Refused refusal
 
 abbrev pub note_of : Ending → List ℕ
 note_of ending.Done = []
 note_of (ending.Decoded pictures bytes) = decoded_line pictures bytes
 note_of (ending.Accepted pictures slices bytes) = []
+note_of (ending.Scheduled pictures slices bytes outcome) = schedule_note (fault_of outcome)
 note_of (ending.Refused refusal) = refusal_line refusal
 
 -- the reply by a run's answer, of a command that leaves so much of its input
 abbrev pub reply_of : List ℕ → Answer Ending → Reply
 reply_of left answer = record { status = status_of answer.ending; rest = left; out = out_of answer; note = note_of answer.ending }
 
--- the reply to a command, or to words that are refused
-abbrev pub command_reply : Result Command WordFault → List ℕ → Reply
-command_reply (Err fault) input = record { status = status.Usage fault; rest = input; out = []; note = usage_line fault }
-command_reply (Ok Chain) input = reply_of [] (answer_to chain_machine input)
-command_reply (Ok Header) input = reply_of (behind_first input) (answer_to header_machine input)
-command_reply (Ok Decode) input = reply_of [] (answer_to decode_machine input)
-command_reply (Ok Check) input = reply_of [] (answer_to check_machine input)
+-- the reply to words that are refused
+abbrev pub usage_reply : WordFault → List ℕ → Reply
+usage_reply fault input = record { status = status.Usage fault; rest = input; out = []; note = usage_line fault }
+
+-- The reply to a command, or to words that are refused. No words ask for a command that is not built yet: its name is unknown.
+abbrev pub command_reply : Result AskedCommand WordFault → List ℕ → Reply
+command_reply (Err fault) input = usage_reply fault input
+command_reply (Ok chain) input = reply_of [] (answer_to chain_machine input)
+command_reply (Ok header) input = reply_of (behind_first input) (answer_to header_machine input)
+command_reply (Ok decode) input = reply_of [] (answer_to decode_machine input)
+command_reply (Ok (check None)) input = reply_of [] (answer_to check_machine input)
+command_reply (Ok (check (Some schedule))) input = reply_of [] (answer_to (replay_machine schedule) input)
+command_reply (Ok (encode settings)) input = usage_reply UnknownCommand input
+command_reply (Ok (trial settings part)) input = usage_reply UnknownCommand input
 
 -- the text for `out` that is due once these bytes were taken
-abbrev pub command_due : Result Command WordFault → List ℕ → List ℕ
+abbrev pub command_due : Result AskedCommand WordFault → List ℕ → List ℕ
 command_due (Err fault) taken = []
-command_due (Ok Chain) taken = due chain_machine taken
-command_due (Ok Header) taken = due header_machine taken
-command_due (Ok Decode) taken = due decode_machine taken
-command_due (Ok Check) taken = due check_machine taken
+command_due (Ok chain) taken = due chain_machine taken
+command_due (Ok header) taken = due header_machine taken
+command_due (Ok decode) taken = due decode_machine taken
+command_due (Ok (check None)) taken = due check_machine taken
+command_due (Ok (check (Some schedule))) taken = due (replay_machine schedule) taken
+command_due (Ok (encode settings)) taken = []
+command_due (Ok (trial settings part)) taken = []
 
 -- the same by the words
 abbrev pub reply_to : List (List ℕ) → List ℕ → Reply
-reply_to words input = command_reply (command_of words) input
+reply_to words input = command_reply (asked_by words) input
 
 abbrev pub due_to : List (List ℕ) → List ℕ → List ℕ
-due_to words taken = command_due (command_of words) taken
+due_to words taken = command_due (asked_by words) taken
+
+-- a status that is told once all of the input that the command reads was read
+abbrev pub ReadsAll : Status → Type 0
+ReadsAll status.Done = Unit {0}
+ReadsAll (status.Schedule fault) = Unit {0}
+ReadsAll other = ⊥
 
 -- The status is the reply's, or something outside failed.
 abbrev pub IsStatusOf : Reply → Status → Type 0

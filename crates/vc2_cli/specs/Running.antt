@@ -14,7 +14,7 @@ use Rattle.stream_units.specs.declared.stop.ReadStop.{ReadStop}
 use Rattle.stream_units.specs.Streams.{limit, past_limit}
 use Rattle.stream_units.specs.Stops.{LimitStops}
 use Rattle.vc2_cli.specs.declared.status.Ending.{Ending}
-use Rattle.vc2_cli.specs.declared.status.Ending.TheVariants.{Done, Decoded, Accepted, Refused}
+use Rattle.vc2_cli.specs.declared.status.Ending.TheVariants.{Done, Decoded, Accepted, Scheduled, Refused}
 use Rattle.vc2_cli.specs.declared.running.Turn.{Turn}
 use Rattle.vc2_cli.specs.declared.running.Turn.TheVariants as turns
 
@@ -62,6 +62,7 @@ abbrev pub IsDone : Ending → Type 0
 IsDone Done = Unit {0}
 IsDone (Decoded pictures bytes) = Unit {0}
 IsDone (Accepted pictures slices bytes) = Unit {0}
+IsDone (Scheduled pictures slices bytes outcome) = Unit {0}
 IsDone (Refused refusal) = ⊥
 
 -- an object before and after a call: what it tells of its bytes, and its count of faults
@@ -80,6 +81,10 @@ pub record Runs {Z E : Type 0} (machine : Machine Z E) (IsDone : E → Type 0) (
   pub limit : TakesAtMost (2 ^ 40 + 1) src.was src.is
   pub cause : HaltHasCause src.faults_were src.faults_are out.faults_were out.faults_are result
   pub end : (ending : E) → result ≡ Ok ending → IsDone ending → IsAtEnd src.is
+
+-- the command, where it begins with this
+abbrev pub begun : {Z R U W E : Type 0} → Command Z R U W E → W → Command Z R U W E
+begun command own = record command { start = own }
 
 -- how a text is written
 abbrev pub WritesText : {X : Type 0} → List ℕ → Option (List ℕ) → Option (List ℕ) → Result X Halt → Type 0

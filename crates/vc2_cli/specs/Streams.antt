@@ -1,5 +1,5 @@
 -- What `decode` and `check` reply to a stream, and to an input that is refused.
-use Rattle.std.specs.Prelude.{◌≡◌, ◌<◌, ℕ, List, [], length, map, Ok}
+use Rattle.std.specs.Prelude.{◌≡◌, ◌<◌, ℕ, List, [], length, map, Ok, None}
 use Rattle.std.specs.List.{AllByRecursion, flat_map}
 use Rattle.picture_codec.specs.Pictures.{Frame}
 use Rattle.picture_codec.specs.Samples.{PictureSamples}
@@ -7,7 +7,7 @@ use Rattle.raw_video.specs.RawText.{raw_text}
 use Rattle.stream_units.specs.declared.reason.Refusal.{Refusal}
 use Rattle.stream_units.specs.Units.{DataUnit, Sequence, Repeated, Picture, Skipped, End}
 use Rattle.stream_units.specs.Streams.{Entry, total, pictures_of, IsStream, IsRefusal}
-use Rattle.vc2_cli.specs.declared.words.Command.TheVariants.{Decode, Check}
+use Rattle.vc2_words.specs.Commands.{decode, check}
 use Rattle.vc2_cli.specs.declared.status.Status.TheVariants as status
 use Rattle.vc2_cli.specs.Texts.{refusal_line, decoded_line, accepted_line}
 use Rattle.vc2_cli.specs.Decode.{slices_in}
@@ -46,10 +46,10 @@ refused_reply text refusal = record { status = status.Refused refusal; rest = []
 
 -- A stream is decoded whole; an input that is refused, up to its fault.
 pub record IsDecoded (bytes : List ℕ) : Type 0 where
-  pub stream : (units : List Entry) (last : Entry) → IsStream bytes units last → command_reply (Ok Decode) bytes ≡ decoded_reply bytes units
-  pub refusal : (refusal : Refusal) (is : IsRefusal bytes refusal) → command_reply (Ok Decode) bytes ≡ refused_reply (pictures_text is.units) refusal
+  pub stream : (units : List Entry) (last : Entry) → IsStream bytes units last → command_reply (Ok decode) bytes ≡ decoded_reply bytes units
+  pub refusal : (refusal : Refusal) (is : IsRefusal bytes refusal) → command_reply (Ok decode) bytes ≡ refused_reply (pictures_text is.units) refusal
 
 -- A stream is accepted; an input that is refused has no text.
 pub record IsChecked (bytes : List ℕ) : Type 0 where
-  pub stream : (units : List Entry) (last : Entry) → IsStream bytes units last → command_reply (Ok Check) bytes ≡ accepted_reply bytes units
-  pub refusal : (refusal : Refusal) → IsRefusal bytes refusal → command_reply (Ok Check) bytes ≡ refused_reply [] refusal
+  pub stream : (units : List Entry) (last : Entry) → IsStream bytes units last → command_reply (Ok (check None)) bytes ≡ accepted_reply bytes units
+  pub refusal : (refusal : Refusal) → IsRefusal bytes refusal → command_reply (Ok (check None)) bytes ≡ refused_reply [] refusal

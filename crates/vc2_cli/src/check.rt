@@ -39,7 +39,7 @@ fn accept<K: Sink>(
 }
 
 // The number of slices of the last unit.
-fn last_count(reader: &StreamReader) -> u32
+pub(crate) fn last_count(reader: &StreamReader) -> u32
     ensures { IsLastCount reader.now.shapes result }
 {
     let shapes = reader.shapes();
@@ -62,6 +62,8 @@ impl UnitCommand<StreamReader> for Checking {
     ghost command = { checking };
 
     ghost own = { λ c r. c.slices };
+
+    ghost start = { λ c. 0 };
 
     ghost keeps = { λ c r. c.slices ≤ r.past.place };
 

@@ -36,6 +36,8 @@ impl UnitCommand<StreamReader> for Decoding {
 
     ghost own = { λ c r. tt };
 
+    ghost start = { λ c. tt };
+
     ghost keeps = { λ c r. Unit {0} };
 
     ghost is_done = { IsDone };

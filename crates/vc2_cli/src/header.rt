@@ -1,8 +1,7 @@
 // The command `header`.
 ghost use Rattle.std.specs.Prelude.{◌≡◌, List, ℕ, Some, IfOk};
 ghost use Rattle.vc2_run.specs.Ran.{Ran, TakesAtMost, HaltHasCause};
-ghost use Rattle.vc2_cli.specs.declared.status.Status.TheVariants as status;
-ghost use Rattle.vc2_cli.specs.Reply.{status_of};
+ghost use Rattle.vc2_cli.specs.Reply.{ReadsAll, status_of};
 ghost use Rattle.vc2_cli.specs.First.{header_machine, behind_first};
 ghost use Rattle.vc2_cli.specs.FirstTurn.{TookFirst};
 
@@ -62,7 +61,7 @@ pub(crate) fn header<S: Source, K: Sink>(
     src: &mut S,
     out: &mut K,
 ) -> Result<Ending, Halt>
-    ensures left { (input : List ℕ) → S.rest src.old ≡ Some input → IfOk result (λ ending. status_of ending ≡ status.Done → (more : List ℕ) → S.rest src.new ≡ Some more → more ≡ behind_first input) }
+    ensures left { (input : List ℕ) → S.rest src.old ≡ Some input → IfOk result (λ ending. ReadsAll (status_of ending) → (more : List ℕ) → S.rest src.new ≡ Some more → more ≡ behind_first input) }
     ensures limit { TakesAtMost 250 (S.rest src.old) (S.rest src.new) }
     ensures ran { Ran header_machine (S.rest src.old) (S.rest src.new) (K.written out.old) (K.written out.new) result }
     ensures cause { HaltHasCause (S.faults src.old) (S.faults src.new) (K.faults out.old) (K.faults out.new) result }

@@ -9,15 +9,16 @@ mod header_texts;
 mod laws;
 mod readers;
 mod running;
+mod scheduled;
 mod status;
 mod texts;
 mod top;
-mod words;
 
 pub use laws::{
-    one_answer, one_check_answer, one_decode_answer, one_header_answer, streams_have_replies,
+    one_answer, one_check_answer, one_decode_answer, one_header_answer, one_schedule_answer,
+    streams_have_replies,
 };
-pub use status::{Ending, Status, WordFault, exit_code};
+pub use status::{Ending, ScheduleFault, Status, exit_code};
 pub use stream_units::{Reason, Refusal};
 pub use top::run;
-pub use words::{Command, read_words};
+pub use vc2_words::{Key, Rule, WordFault};

@@ -10,7 +10,7 @@ ghost use Rattle.stream_units.specs.declared.reason.Reason.{Reason};
 ghost use Rattle.stream_units.specs.Streams.{limit, past_limit, refusal_of};
 ghost use Rattle.stream_units.specs.Stops.{StopCause};
 ghost use Rattle.vc2_cli.specs.declared.status.Ending.{Ending};
-ghost use Rattle.vc2_cli.specs.Running.{ReaderSeen, first_seen, NextOver, Runs, change, WritesText, Closes, Turns};
+ghost use Rattle.vc2_cli.specs.Running.{ReaderSeen, first_seen, NextOver, Runs, change, begun, WritesText, Closes, Turns};
 
 use crate::status::Ending;
 use stream_units::{ReadStop, Refusal};
@@ -72,6 +72,9 @@ pub(crate) trait UnitCommand<R: UnitReader>: Drop {
     /// What the units so far leave to the command, as it and the reader show.
     ghost own: { Self → R → Own };
 
+    /// What it begins with, which may hold what it was asked for.
+    ghost start: { Self → Own };
+
     /// What is true of it beside a reader behind the units so far.
     ghost keeps: { Self → R → Type 0 };
 
@@ -120,9 +123,9 @@ pub(crate) fn run_units<R: UnitReader, C: UnitCommand<R>, S: Source, K: Sink>(
     out: &mut K,
 ) -> Result<Ending, Halt>
     requires new { R.seen reader.old ≡ first_seen R.first }
-    requires start { C.own command.old reader.old ≡ (C.command).start }
+    requires start { C.own command.old reader.old ≡ C.start command.old }
     requires keeps { C.keeps command.old reader.old }
-    ensures { Runs (machine_of limit past_limit R.grammar R.first C.command) C.is_done (change S.rest S.faults src.old src.new) (change K.written K.faults out.old out.new) result }
+    ensures { Runs (machine_of limit past_limit R.grammar R.first (begun C.command (C.start command.old))) C.is_done (change S.rest S.faults src.old src.new) (change K.written K.faults out.old out.new) result }
 {
     match command.open(out) {
         Ok(()) => {}

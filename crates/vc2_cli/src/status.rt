@@ -2,7 +2,9 @@
 ghost use Rattle.std.specs.Prelude.{◌≡◌};
 ghost use Rattle.vc2_cli.specs.Exit.{exit_code_of};
 
+use channel_schedule::Outcome;
 use stream_units::Refusal;
+use vc2_words::WordFault;
 
 /// How a command ends where nothing outside fails.
 #[derive(Clone, Copy, Debug, PartialEq, Eq)]
@@ -20,16 +22,24 @@ pub enum Ending {
         slices: u64,
         bytes: u64,
     },
+    /// A stream was accepted, and a schedule was replayed over it.
+    Scheduled {
+        pictures: u64,
+        slices: u64,
+        bytes: u64,
+        outcome: Outcome,
+    },
     /// The input is refused.
     Refused(Refusal),
 }
 
-/// Why the words are refused. A number is the word's place, the command's being 0.
+/// Why a schedule does not run: the slot in which a slice is taken, and bytes.
 #[derive(Clone, Copy, Debug, PartialEq, Eq)]
-pub enum WordFault {
-    NoCommand,
-    UnknownCommand,
-    UnknownKey(usize),
+pub enum ScheduleFault {
+    /// The slice has not arrived: `have` bytes have, and `need` are wanted.
+    Late { slot: u128, have: u64, need: u64 },
+    /// More bytes are held than there is room for.
+    Overfull { slot: u128, fill: u64, size: u64 },
 }
 
 /// How the program ends.
@@ -39,6 +49,8 @@ pub enum Status {
     Done,
     /// The input is refused.
     Refused(Refusal),
+    /// The input is a stream, and the schedule does not run.
+    Schedule(ScheduleFault),
     /// The words are refused.
     Usage(WordFault),
     /// A read of the input failed.
@@ -57,7 +69,7 @@ pub fn exit_code(status: &Status) -> u8
 {
     match status {
         Status::Done => 0,
-        Status::Refused(_) => 1,
+        Status::Refused(_) | Status::Schedule(_) => 1,
         Status::Usage(_) => 2,
         Status::ReadFault => 3,
         Status::OutFault | Status::NoteFault => 4,

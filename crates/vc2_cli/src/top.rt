@@ -1,22 +1,28 @@
 // The top call.
-ghost use Rattle.std.specs.Prelude.{◌≡◌, ◌^◌, ◌+◌, ℕ, List, map, string_bytes, Some, IfSome, IfOk, IfErr};
+ghost use Rattle.std.specs.Prelude.{◌≡◌, ◌^◌, ◌+◌, ℕ, List, map, string_bytes, Ok, Some, IfSome, IfOk, IfErr};
 ghost use Rattle.std.specs.Io.KnownBytes.{Appends, Keeps};
 ghost use Rattle.vc2_io.specs.Outside.{GrewShort};
 ghost use Rattle.vc2_run.specs.Ran.{TakesAtMost};
-ghost use Rattle.vc2_cli.specs.Words.{command_of};
-ghost use Rattle.vc2_cli.specs.Reply.{reply_to, due_to, command_reply, command_due, status_of, note_of, IsStatusOf, Breaks, Stops, StopsShort, HasCauses, AnswersUsage};
+ghost use Rattle.channel_schedule.specs.declared.schedule.Schedule.{Schedule};
+ghost use Rattle.channel_schedule.specs.Rates.{IsSchedule};
+ghost use Rattle.vc2_words.specs.Commands as asked;
+ghost use Rattle.vc2_words.specs.Commands.{asked_by};
+ghost use Rattle.vc2_cli.specs.Words.{seen_words};
+ghost use Rattle.vc2_cli.specs.Reply.{reply_to, due_to, command_reply, command_due, status_of, note_of, fault_of, schedule_status, schedule_note, ReadsAll, IsStatusOf, Breaks, Stops, StopsShort, HasCauses, AnswersUsage};
 ghost use Rattle.vc2_cli.specs.Settled.{Settles, Concludes, HasNoteCause, status_of_halt};
 
 use crate::chain::chain;
 use crate::check::check;
 use crate::decode::decode;
 use crate::header::header;
-use crate::status::{Ending, Status, WordFault};
-use crate::texts::{decoded_text, refusal_text, usage_text};
-use crate::words::{Command, read_words};
+use crate::scheduled::check_schedule;
+use crate::status::{Ending, ScheduleFault, Status};
+use crate::texts::{decoded_text, fault_text, refusal_text, usage_text};
+use channel_schedule::Outcome;
 use std::alloc::{AllocError, Global};
 use vc2_io::{Sink, Source, write_whole};
 use vc2_run::Halt;
+use vc2_words::{Command, WordFault, read_words};
 
 fn status_of_halt(halt: Halt) -> Status
     ensures { result ≡ status_of_halt halt }
@@ -28,11 +34,45 @@ fn status_of_halt(halt: Halt) -> Status
     }
 }
 
+// Why a schedule does not run.
+fn fault_of(outcome: Outcome) -> Option<ScheduleFault>
+    ensures { result ≡ fault_of outcome }
+{
+    match outcome {
+        Outcome::Runs => None,
+        Outcome::Late { slot, have, need } => Some(ScheduleFault::Late { slot, have, need }),
+        Outcome::Overfull { slot, fill, size } => Some(ScheduleFault::Overfull {
+            slot,
+            fill,
+            size,
+        }),
+    }
+}
+
+fn schedule_status(outcome: Outcome) -> Status
+    ensures { result ≡ schedule_status (fault_of outcome) }
+{
+    match fault_of(outcome) {
+        None => Status::Done,
+        Some(fault) => Status::Schedule(fault),
+    }
+}
+
+fn schedule_note(alloc: Global, outcome: Outcome) -> Result<String, AllocError>
+    ensures { IfOk result (λ text. string_bytes text ≡ schedule_note (fault_of outcome)) }
+{
+    match fault_of(outcome) {
+        None => Ok(String::new(alloc)),
+        Some(fault) => fault_text(alloc, &fault),
+    }
+}
+
 fn status_of(ending: Ending) -> Status
     ensures { result ≡ status_of ending }
 {
     match ending {
         Ending::Done | Ending::Decoded { .. } | Ending::Accepted { .. } => Status::Done,
+        Ending::Scheduled { outcome, .. } => schedule_status(outcome),
         Ending::Refused(refusal) => Status::Refused(refusal),
     }
 }
@@ -43,6 +83,7 @@ fn note_text(alloc: Global, ending: &Ending) -> Result<String, AllocError>
     match ending {
         Ending::Done | Ending::Accepted { .. } => Ok(String::new(alloc)),
         Ending::Decoded { pictures, bytes } => decoded_text(alloc, *pictures, *bytes),
+        Ending::Scheduled { outcome, .. } => schedule_note(alloc, *outcome),
         Ending::Refused(refusal) => refusal_text(alloc, refusal),
     }
 }
@@ -90,8 +131,9 @@ fn answer<S: Source, K: Sink, N: Sink>(
     out: &mut K,
     note: &mut N,
 ) -> Status
+    requires { (schedule : Schedule) → seen_words command ≡ Ok (asked.check (Some schedule)) → IsSchedule schedule }
     ensures settled { (input : List ℕ) → S.rest src.old ≡ Some input →
-        Settles (command_reply command input) (command_due command) input (S.rest src.new)
+        Settles (command_reply (seen_words command) input) (command_due (seen_words command)) input (S.rest src.new)
         (K.written out.old) (K.written out.new) (N.written note.old) (N.written note.new) result }
     ensures limit { TakesAtMost (2 ^ 40 + 1) (S.rest src.old) (S.rest src.new) }
     ensures causes { HasCauses (S.faults src.old) (S.faults src.new) (K.faults out.old) (K.faults out.new) (N.faults note.old) (N.faults note.new) result }
@@ -103,7 +145,12 @@ fn answer<S: Source, K: Sink, N: Sink>(
             Command::Chain => conclude(alloc, chain(alloc, src, out), note),
             Command::Header => conclude(alloc, header(alloc, src, out), note),
             Command::Decode => conclude(alloc, decode(alloc, src, out), note),
-            Command::Check => conclude(alloc, check(alloc, src, out), note),
+            Command::Check(schedule) => match schedule {
+                None => conclude(alloc, check(alloc, src, out), note),
+                Some(schedule) => conclude(alloc, check_schedule(alloc, schedule, src, out), note),
+            },
+            Command::Encode(_) => refuse(alloc, WordFault::UnknownCommand, note),
+            Command::Trial(_, _) => refuse(alloc, WordFault::UnknownCommand, note),
         },
         Err(fault) => refuse(alloc, fault, note),
     }
@@ -127,8 +174,8 @@ pub fn run<S: Source, K: Sink, N: Sink>(
     ensures texts { IfSome (S.rest src.old) (λ input. let reply = reply_to (map string_bytes words.now) input in
         result ≡ reply.status → Appends (K.written out.old) (K.written out.new) reply.out × Appends (N.written note.old) (N.written note.new) reply.note) }
 
-    // `Done` leaves of the input what the reply says: of a command that reads to the end, nothing.
-    ensures done { IfSome (S.rest src.old) (λ input. result ≡ Status.Done →
+    // `Done` and `Schedule` leave of the input what the reply says: of a command that reads to the end, nothing.
+    ensures done { IfSome (S.rest src.old) (λ input. ReadsAll result →
         IfSome (S.rest src.new) (λ left. left ≡ (reply_to (map string_bytes words.now) input).rest)) }
 
     // Where a read failed, all that was due for the bytes that were taken was written, and no note.
@@ -159,7 +206,7 @@ pub fn run<S: Source, K: Sink, N: Sink>(
     ensures causes { HasCauses (S.faults src.old) (S.faults src.new) (K.faults out.old) (K.faults out.new) (N.faults note.old) (N.faults note.new) result }
 
     // Whatever is told: words that are refused are refused, nothing is read, and nothing is written to `out`.
-    ensures usage { IfErr (command_of (map string_bytes words.now)) (λ fault. AnswersUsage fault (N.written note.old) (N.written note.new) result
+    ensures usage { IfErr (asked_by (map string_bytes words.now)) (λ fault. AnswersUsage fault (N.written note.old) (N.written note.new) result
         × (S.rest src.new ≡ S.rest src.old) × (K.written out.new ≡ K.written out.old)) }
 {
     let command = read_words(words);

@@ -1,6 +1,9 @@
 use Rattle.std.proofs.Common.{[], Ok, Result, ap, ◌∙◌, subst, sym, arith}
-use Rattle.vc2_cli.specs.declared.words.Command.{Command}
-use Rattle.vc2_cli.specs.declared.status.WordFault.{WordFault}
+use Rattle.vc2_words.specs.declared.words.Command.{Command}
+use Rattle.vc2_words.specs.declared.words.Command.TheVariants.{Check}
+use Rattle.vc2_words.specs.declared.keys.WordFault.{WordFault}
+use Rattle.vc2_words.specs.declared.keys.WordFault.TheVariants.{UnknownCommand}
+use Rattle.vc2_cli.specs.Words.{seen_words}
 use Rattle.vc2_cli.specs.Reply.{command_reply, command_due}
 use Rattle.vc2_cli.specs.Settled.{Settles}
 use Rattle.vc2_cli.specs.Chain.{chain_machine}
@@ -9,6 +12,8 @@ use Rattle.vc2_cli.proofs.HeaderRuns.{header_laws}
 use Rattle.vc2_cli.proofs.Chaining.{chain_laws}
 use Rattle.vc2_cli.specs.Decode.{decode_machine, check_machine}
 use Rattle.vc2_cli.proofs.Decoding.{decode_laws, check_laws}
+use Rattle.vc2_cli.specs.Scheduled.{replay_machine}
+use Rattle.vc2_cli.proofs.Replaying.{replay_laws}
 use Rattle.vc2_cli.proofs.Settling.{at_end, settled, settled_usage}
 use Rattle.vc2_cli.proofs.top.answer.Goals as goal
 
@@ -17,7 +22,7 @@ returns-in-Chain-clause-settled g c = λ input e.
     let rest = g.S.Source.rest in
     let out = g.K.Sink.written in
     let note = g.N.Sink.written in
-    subst (λ (r : Result Command WordFault). Settles (command_reply r input) (command_due r) input (rest c.chain.new.src) (out c.args.out.now) (out c.chain.new.out) (note c.args.note.now) (note c.conclude.new.note) c.conclude.result)
+    subst (λ (r : Result Command WordFault). Settles (command_reply (seen_words r) input) (command_due (seen_words r)) input (rest c.chain.new.src) (out c.args.out.now) (out c.chain.new.out) (note c.args.note.now) (note c.conclude.new.note) c.conclude.result)
     (sym (c.in-Ok.is ∙ ap Ok c.in-Chain.is))
     (settled chain_machine chain_laws [] (rest c.args.src.now) (rest c.chain.new.src) (out c.args.out.now) (out c.chain.new.out) (note c.args.note.now) (note c.conclude.new.note) input c.chain.result c.conclude.result e
     (at_end (rest c.chain.new.src) c.chain.result c.chain.ensures.end) c.chain.ensures.ran c.conclude.ensures.told)
@@ -27,7 +32,7 @@ returns-in-Header-clause-settled g c = λ input e.
     let rest = g.S.Source.rest in
     let out = g.K.Sink.written in
     let note = g.N.Sink.written in
-    subst (λ (r : Result Command WordFault). Settles (command_reply r input) (command_due r) input (rest c.header.new.src) (out c.args.out.now) (out c.header.new.out) (note c.args.note.now) (note c.conclude-in-Header.new.note) c.conclude-in-Header.result)
+    subst (λ (r : Result Command WordFault). Settles (command_reply (seen_words r) input) (command_due (seen_words r)) input (rest c.header.new.src) (out c.args.out.now) (out c.header.new.out) (note c.args.note.now) (note c.conclude-in-Header.new.note) c.conclude-in-Header.result)
     (sym (c.in-Ok.is ∙ ap Ok c.in-Header.is))
     (settled header_machine header_laws (behind_first input) (rest c.args.src.now) (rest c.header.new.src) (out c.args.out.now) (out c.header.new.out) (note c.args.note.now) (note c.conclude-in-Header.new.note) input c.header.result c.conclude-in-Header.result e
     (c.header.ensures.left input e) c.header.ensures.ran c.conclude-in-Header.ensures.told)
@@ -37,26 +42,51 @@ returns-in-Decode-clause-settled g c = λ input e.
     let rest = g.S.Source.rest in
     let out = g.K.Sink.written in
     let note = g.N.Sink.written in
-    subst (λ (r : Result Command WordFault). Settles (command_reply r input) (command_due r) input (rest c.decode.new.src) (out c.args.out.now) (out c.decode.new.out) (note c.args.note.now) (note c.conclude-in-Decode.new.note) c.conclude-in-Decode.result)
+    subst (λ (r : Result Command WordFault). Settles (command_reply (seen_words r) input) (command_due (seen_words r)) input (rest c.decode.new.src) (out c.args.out.now) (out c.decode.new.out) (note c.args.note.now) (note c.conclude-in-Decode.new.note) c.conclude-in-Decode.result)
     (sym (c.in-Ok.is ∙ ap Ok c.in-Decode.is))
     (settled decode_machine decode_laws [] (rest c.args.src.now) (rest c.decode.new.src) (out c.args.out.now) (out c.decode.new.out) (note c.args.note.now) (note c.conclude-in-Decode.new.note) input c.decode.result c.conclude-in-Decode.result e
     (at_end (rest c.decode.new.src) c.decode.result c.decode.ensures.end) c.decode.ensures.ran c.conclude-in-Decode.ensures.told)
 
-pub returns-in-Check-clause-settled : goal.returns-in-Check-clause-settled
-returns-in-Check-clause-settled g c = λ input e.
+pub returns-in-None-clause-settled : goal.returns-in-None-clause-settled
+returns-in-None-clause-settled g c = λ input e.
     let rest = g.S.Source.rest in
     let out = g.K.Sink.written in
     let note = g.N.Sink.written in
-    subst (λ (r : Result Command WordFault). Settles (command_reply r input) (command_due r) input (rest c.check.new.src) (out c.args.out.now) (out c.check.new.out) (note c.args.note.now) (note c.conclude-in-Check.new.note) c.conclude-in-Check.result)
-    (sym (c.in-Ok.is ∙ ap Ok c.in-Check.is))
-    (settled check_machine check_laws [] (rest c.args.src.now) (rest c.check.new.src) (out c.args.out.now) (out c.check.new.out) (note c.args.note.now) (note c.conclude-in-Check.new.note) input c.check.result c.conclude-in-Check.result e
-    (at_end (rest c.check.new.src) c.check.result c.check.ensures.end) c.check.ensures.ran c.conclude-in-Check.ensures.told)
+    subst (λ (r : Result Command WordFault). Settles (command_reply (seen_words r) input) (command_due (seen_words r)) input (rest c.check.new.src) (out c.args.out.now) (out c.check.new.out) (note c.args.note.now) (note c.conclude-in-None.new.note) c.conclude-in-None.result)
+    (sym (c.in-Ok.is ∙ ap Ok (c.in-Check.is ∙ ap Check c.in-None.is)))
+    (settled check_machine check_laws [] (rest c.args.src.now) (rest c.check.new.src) (out c.args.out.now) (out c.check.new.out) (note c.args.note.now) (note c.conclude-in-None.new.note) input c.check.result c.conclude-in-None.result e
+    (at_end (rest c.check.new.src) c.check.result c.check.ensures.end) c.check.ensures.ran c.conclude-in-None.ensures.told)
+
+pub returns-in-Some-clause-settled : goal.returns-in-Some-clause-settled
+returns-in-Some-clause-settled g c = λ input e.
+    let rest = g.S.Source.rest in
+    let out = g.K.Sink.written in
+    let note = g.N.Sink.written in
+    subst (λ (r : Result Command WordFault). Settles (command_reply (seen_words r) input) (command_due (seen_words r)) input (rest c.check_schedule.new.src) (out c.args.out.now) (out c.check_schedule.new.out) (note c.args.note.now) (note c.conclude-in-Some.new.note) c.conclude-in-Some.result)
+    (sym (c.in-Ok.is ∙ ap Ok (c.in-Check.is ∙ ap Check c.in-Some.is)))
+    (settled (replay_machine c.in-Some.schedule) (replay_laws c.in-Some.schedule) [] (rest c.args.src.now) (rest c.check_schedule.new.src) (out c.args.out.now) (out c.check_schedule.new.out) (note c.args.note.now) (note c.conclude-in-Some.new.note) input c.check_schedule.result c.conclude-in-Some.result e
+    (at_end (rest c.check_schedule.new.src) c.check_schedule.result c.check_schedule.ensures.end) c.check_schedule.ensures.ran c.conclude-in-Some.ensures.told)
+
+pub check_schedule-requires : goal.check_schedule-requires
+check_schedule-requires g c = c.requires c.in-Some.schedule (ap seen_words (c.in-Ok.is ∙ ap Ok (c.in-Check.is ∙ ap Check c.in-Some.is)))
 
 pub returns-in-Header-clause-limit : goal.returns-in-Header-clause-limit
 returns-in-Header-clause-limit g c = let few = c.header.ensures.limit in (few.0, omega (arith, few.1), few.2)
 
+pub returns-in-Encode-clause-settled : goal.returns-in-Encode-clause-settled
+returns-in-Encode-clause-settled g c = λ input e.
+    subst (λ (r : Result Command WordFault). Settles (command_reply (seen_words r) input) (command_due (seen_words r)) input (g.S.Source.rest c.args.src.now) (g.K.Sink.written c.args.out.now) (g.K.Sink.written c.args.out.now)
+    (g.N.Sink.written c.args.note.now) (g.N.Sink.written c.refuse.new.note) c.refuse.result) (sym (c.in-Ok.is ∙ ap Ok c.in-Encode.is))
+    (settled_usage UnknownCommand input (g.S.Source.rest c.args.src.now) (g.K.Sink.written c.args.out.now) (g.N.Sink.written c.args.note.now) (g.N.Sink.written c.refuse.new.note) c.refuse.result e c.refuse.ensures.told)
+
+pub returns-in-Trial-clause-settled : goal.returns-in-Trial-clause-settled
+returns-in-Trial-clause-settled g c = λ input e.
+    subst (λ (r : Result Command WordFault). Settles (command_reply (seen_words r) input) (command_due (seen_words r)) input (g.S.Source.rest c.args.src.now) (g.K.Sink.written c.args.out.now) (g.K.Sink.written c.args.out.now)
+    (g.N.Sink.written c.args.note.now) (g.N.Sink.written c.refuse-in-Trial.new.note) c.refuse-in-Trial.result) (sym (c.in-Ok.is ∙ ap Ok c.in-Trial.is))
+    (settled_usage UnknownCommand input (g.S.Source.rest c.args.src.now) (g.K.Sink.written c.args.out.now) (g.N.Sink.written c.args.note.now) (g.N.Sink.written c.refuse-in-Trial.new.note) c.refuse-in-Trial.result e c.refuse-in-Trial.ensures.told)
+
 pub returns-in-Err-clause-settled : goal.returns-in-Err-clause-settled
 returns-in-Err-clause-settled g c = λ input e.
-    subst (λ (r : Result Command WordFault). Settles (command_reply r input) (command_due r) input (g.S.Source.rest c.args.src.now) (g.K.Sink.written c.args.out.now) (g.K.Sink.written c.args.out.now)
-    (g.N.Sink.written c.args.note.now) (g.N.Sink.written c.refuse.new.note) c.refuse.result) (sym c.in-Err.is)
-    (settled_usage c.in-Err.fault input (g.S.Source.rest c.args.src.now) (g.K.Sink.written c.args.out.now) (g.N.Sink.written c.args.note.now) (g.N.Sink.written c.refuse.new.note) c.refuse.result e c.refuse.ensures.told)
+    subst (λ (r : Result Command WordFault). Settles (command_reply (seen_words r) input) (command_due (seen_words r)) input (g.S.Source.rest c.args.src.now) (g.K.Sink.written c.args.out.now) (g.K.Sink.written c.args.out.now)
+    (g.N.Sink.written c.args.note.now) (g.N.Sink.written c.refuse-in-Err.new.note) c.refuse-in-Err.result) (sym c.in-Err.is)
+    (settled_usage c.in-Err.fault input (g.S.Source.rest c.args.src.now) (g.K.Sink.written c.args.out.now) (g.N.Sink.written c.args.note.now) (g.N.Sink.written c.refuse-in-Err.new.note) c.refuse-in-Err.result e c.refuse-in-Err.ensures.told)

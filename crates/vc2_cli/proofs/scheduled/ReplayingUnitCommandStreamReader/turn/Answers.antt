@@ -1,0 +1,8 @@
+use Rattle.std.proofs.Common.{◌∙◌, ap, arith}
+use Rattle.stream_units.specs.Units.{Past}
+use Rattle.stream_units.proofs.Answering.{after-place}
+use Rattle.vc2_cli.proofs.scheduled.ReplayingUnitCommandStreamReader.turn.Goals as goal
+
+pub returns-clause-keeps : goal.returns-clause-keeps
+returns-clause-keeps g c = λ before z unit bytes t same few.
+    omega (arith, few, t.few, c.last_count.ensures before.shapes _ t.shapes, c.from.ensures, ap (λ (x : Past). x.place) t.past ∙ after-place z unit bytes, ap (λ (x : Past). x.place) same)

@@ -1,0 +1,140 @@
+// The command `check` with a schedule.
+ghost use Rattle.std.specs.Prelude.{◌≤◌};
+ghost use Rattle.vc2_run.specs.Ran.{HaltHasCause};
+ghost use Rattle.channel_schedule.specs.Rates.{IsSchedule};
+ghost use Rattle.vc2_cli.specs.declared.status.Ending.TheVariants as ending;
+ghost use Rattle.vc2_cli.specs.Running.{IsDone, Runs, change, Closes};
+ghost use Rattle.vc2_cli.specs.Decode.{last_line};
+ghost use Rattle.vc2_cli.specs.Scheduled.{Replayed, nothing_replayed, replaying_any, replay_machine};
+
+use crate::check::last_count;
+use crate::running::{UnitCommand, run_units};
+use crate::status::Ending;
+use crate::texts::replayed_text;
+use channel_schedule::{Outcome, Schedule, replay};
+use std::alloc::Global;
+use stream_units::{Item, Refusal, StreamReader};
+use vc2_io::{Sink, Source, write_whole};
+use vc2_run::Halt;
+
+// Writes the lines of a stream that is accepted.
+fn accept<K: Sink>(
+    alloc: Global,
+    out: &mut K,
+    pictures: u64,
+    slices: u64,
+    bytes: u64,
+    outcome: Outcome,
+) -> Result<Ending, Halt>
+    ensures wrote { Closes (ending.Scheduled pictures slices bytes outcome) (last_line (ending.Scheduled pictures slices bytes outcome)) (K.written out.old) (K.written out.new) result }
+    ensures cause { HaltHasCause 0 0 (K.faults out.old) (K.faults out.new) result }
+{
+    let lines = match replayed_text(alloc, pictures, slices, bytes, &outcome) {
+        Ok(lines) => lines,
+        Err(_) => return Err(Halt::NoMemory),
+    };
+    match write_whole(out, lines.as_bytes()) {
+        Ok(()) => Ok(Ending::Scheduled {
+            pictures,
+            slices,
+            bytes,
+            outcome,
+        }),
+        Err(_) => Err(Halt::OutFault),
+    }
+}
+
+/// The slices of a stream so far, and the schedule.
+#[derive(Drop)]
+struct Replaying {
+    alloc: Global,
+    schedule: Schedule,
+    slices: u64,
+    ghost lawful: { IsSchedule schedule },
+}
+
+impl UnitCommand<StreamReader> for Replaying {
+    ghost Own = { Replayed };
+
+    ghost command = { replaying_any };
+
+    ghost own = { λ c r. record { schedule = c.schedule; slices = c.slices; shapes = r.shapes } };
+
+    ghost start = { λ c. nothing_replayed c.schedule };
+
+    ghost keeps = { λ c r. c.slices ≤ r.past.place };
+
+    ghost is_done = { IsDone };
+
+    ghost refused_is_no_end = { λ z w fault done. done };
+
+    fn open<K: Sink>(&mut self, _out: &mut K) -> Result<(), Halt> {
+        Ok(())
+    }
+
+    fn turn<K: Sink>(
+        &mut self,
+        reader: &StreamReader,
+        _item: Item,
+        _out: &mut K,
+    ) -> Result<(), Halt> {
+        self.slices += u64::from(last_count(reader));
+        Ok(())
+    }
+
+    fn finish<K: Sink>(
+        &mut self,
+        reader: &StreamReader,
+        _item: Item,
+        out: &mut K,
+    ) -> Result<Ending, Halt> {
+        let outcome = replay(reader.shapes(), &self.schedule);
+        accept(
+            self.alloc,
+            out,
+            reader.pictures(),
+            self.slices,
+            reader.taken(),
+            outcome,
+        )
+    }
+
+    fn rest<K: Sink>(&mut self, _reader: &StreamReader, _out: &mut K) -> Result<Ending, Halt> {
+        Ok(Ending::Done)
+    }
+
+    fn refuse<K: Sink>(
+        &mut self,
+        _reader: &StreamReader,
+        refusal: Refusal,
+        _out: &mut K,
+    ) -> Result<Ending, Halt> {
+        Ok(Ending::Refused(refusal))
+    }
+}
+
+/// Reads the whole stream, replays the schedule over its slices, and writes how many pictures, slices and bytes it has,
+/// and whether the schedule runs.
+pub(crate) fn check_schedule<S: Source, K: Sink>(
+    alloc: Global,
+    schedule: Schedule,
+    src: &mut S,
+    out: &mut K,
+) -> Result<Ending, Halt>
+    requires { IsSchedule schedule }
+    ensures { Runs (replay_machine schedule) IsDone (change S.rest S.faults src.old src.new) (change K.written K.faults out.old out.new) result }
+{
+    match StreamReader::new(alloc) {
+        Ok(mut reader) => {
+            let mut command = Replaying {
+                alloc,
+                schedule,
+                slices: 0,
+            };
+            let result = run_units(&mut reader, &mut command, src, out);
+            drop(reader);
+            result
+        }
+        Err(_) => Err(Halt::NoMemory),
+    }
+}
