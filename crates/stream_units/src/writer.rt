@@ -130,7 +130,13 @@ impl StreamWriter {
             return Err(WriteStop::NoMemory);
         }
         let unit = self.buffer.as_mut_slice();
-        write_picture_unit(&mut self.encoder, picture, self.chain.previous(), self.number, unit);
+        write_picture_unit(
+            &mut self.encoder,
+            picture,
+            self.chain.previous(),
+            self.number,
+            unit,
+        );
         match write_whole(sink, unit) {
             Ok(()) => {}
             Err(_) => {
