@@ -90,42 +90,51 @@ fn schedules_are_replayed(rt: HostRuntime) -> Result<(), Fail> {
     check_all(&rt, rt.alloc(), &SCHEDULED)
 }
 
-const fn usage(fault: WordFault, note: &'static [u8]) -> Outcome<'static> {
-    Outcome {
-        status: Status::Usage(fault),
-        out: b"",
-        note,
-    }
-}
-
 const REFUSED: [Operands<'static>; 5] = [
     Operands {
         name: "repeated key",
         operands: &["delay=1", "delay=2"],
-        ends: usage(WordFault::RepeatedKey(2), b"usage: RepeatedKey word 2\n"),
+        ends: Outcome {
+            status: Status::Usage(WordFault::RepeatedKey(2)),
+            out: b"",
+            note: b"usage: RepeatedKey word 2\n",
+        },
     },
     Operands {
         name: "leading zero",
         operands: &["delay=02"],
-        ends: usage(WordFault::BadValue(1), b"usage: BadValue word 1\n"),
+        ends: Outcome {
+            status: Status::Usage(WordFault::BadValue(1)),
+            out: b"",
+            note: b"usage: BadValue word 1\n",
+        },
     },
     Operands {
         name: "missing buffer",
         operands: &["rate=21/1", "delay=2"],
-        ends: usage(
-            WordFault::MissingKey(Key::Buffer),
-            b"usage: MissingKey buffer\n",
-        ),
+        ends: Outcome {
+            status: Status::Usage(WordFault::MissingKey(Key::Buffer)),
+            out: b"",
+            note: b"usage: MissingKey buffer\n",
+        },
     },
     Operands {
         name: "a rate of nothing",
         operands: &["delay=2", "rate=0/1", "buffer=42"],
-        ends: usage(WordFault::BadValue(2), b"usage: BadValue word 2\n"),
+        ends: Outcome {
+            status: Status::Usage(WordFault::BadValue(2)),
+            out: b"",
+            note: b"usage: BadValue word 2\n",
+        },
     },
     Operands {
         name: "another command's key",
         operands: &["rate=21/1", "seed=1"],
-        ends: usage(WordFault::UnknownKey(2), b"usage: UnknownKey word 2\n"),
+        ends: Outcome {
+            status: Status::Usage(WordFault::UnknownKey(2)),
+            out: b"",
+            note: b"usage: UnknownKey word 2\n",
+        },
     },
 ];
 
