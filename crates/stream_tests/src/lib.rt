@@ -16,5 +16,3 @@ mod refusals;
 mod smallest;
 #[cfg(test)]
 mod sources;
-#[cfg(test)]
-mod writing;
