@@ -64,6 +64,8 @@ truncated reasons.LumaLengthTooLong e = absurd cc
 truncated reasons.CoefficientTooLarge e = absurd cc
 truncated reasons.TrailingBytes e = absurd cc
 truncated reasons.StreamTooLong e = absurd cc
+truncated reasons.SampleTooLarge e = absurd cc
+truncated reasons.RawTruncated e = absurd cc
 
 -- and one that isn't
 pub not_truncated : (r : Reason) → is_truncated r ≡ false → r ≢ reasons.Truncated

@@ -70,8 +70,13 @@ pub enum Reason {
     CoefficientTooLarge,
     /// A byte lies behind the end of the sequence.
     TrailingBytes,
-    /// The first 2^40 bytes aren't the whole input, and what they come to hangs on what follows.
+    /// The first 2^40 bytes aren't the whole input, and what they come to hangs on what follows; or the stream that is
+    /// written would be longer than 2^40 bytes.
     StreamTooLong,
+    /// A sample of raw video that isn't below 2^d, where d is its component's depth.
+    SampleTooLarge,
+    /// Raw video ends inside a picture.
+    RawTruncated,
 }
 
 /// The first fault of an input: its place, a byte counted from 0, and why.

@@ -3,6 +3,8 @@ pub mod Parts
 pub mod WorkedRows
 pub mod HeaderRuns
 pub mod Decoding
+pub mod Encoding
+pub mod EncodeTurns
 pub mod Chaining
 pub mod StreamReplies
 pub mod Exits

@@ -3,6 +3,8 @@ pub mod Words
 pub mod Chain
 pub mod Decode
 pub mod Scheduled
+pub mod Encode
+pub mod EncodeTurn
 pub mod Reply
 pub mod Streams
 pub mod Settled

@@ -4,6 +4,7 @@
 mod chain;
 mod check;
 mod decode;
+mod encode;
 mod header;
 mod header_texts;
 mod laws;
