@@ -4,6 +4,7 @@ use Rattle.slice_geometry.specs.Units.{UnitList, StandInTurn}
 use Rattle.slice_geometry.specs.declared.unit_list.UnitShape.{UnitShape}
 use Rattle.slice_geometry.specs.Slicing.{bytes_before}
 use Rattle.channel_schedule.specs.declared.schedule.Rate.{Rate}
+use Rattle.channel_schedule.specs.declared.schedule.Schedule.{Schedule}
 use Rattle.channel_schedule.specs.declared.schedule.Outcome.{Outcome}
 use Rattle.channel_schedule.specs.declared.schedule.Outcome.TheVariants.{Runs}
 use Rattle.channel_schedule.specs.Rates.{IsRate}
@@ -58,6 +59,9 @@ plan_delay shapes rate = greatest (lead_of shapes rate) (count_in shapes) / rate
 
 abbrev pub plan_size : UnitList → Rate → ℕ
 plan_size shapes rate = greatest (held (course_of shapes rate (plan_delay shapes rate))) (count_in shapes)
+
+abbrev pub plan_of : UnitList → Rate → Schedule
+plan_of shapes rate = record { rate = rate; delay = plan_delay shapes rate; size = plan_size shapes rate }
 
 -- these numbers are the plan, and no others are
 pub record OnePlan (shapes : UnitList) (rate : Rate) : Type 0 where

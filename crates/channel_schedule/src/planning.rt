@@ -1,6 +1,6 @@
 // The least schedule at a rate.
 ghost use Rattle.std.specs.Prelude.{◌≡◌};
-ghost use Rattle.channel_schedule.specs.Plans.{IsPlan};
+ghost use Rattle.channel_schedule.specs.Plans.{IsPlan, plan_of};
 ghost use Rattle.channel_schedule.specs.Rates.{IsRate, IsSchedule};
 
 use crate::fill::fill;
@@ -13,8 +13,8 @@ use slice_geometry::UnitShapes;
 pub fn plan(shapes: &UnitShapes, rate: Rate) -> Schedule
     requires { IsRate rate }
     ensures schedule { IsSchedule result }
-    ensures rate { result.rate ≡ rate }
     ensures plan { IsPlan shapes.now rate result.delay result.size }
+    ensures value { result ≡ plan_of shapes.now rate }
 {
     let delay = lead(shapes, rate).div_ceil(u128::from(rate.num));
     let size = fill(shapes, rate, delay);

@@ -5,7 +5,7 @@
 ghost use Rattle.std.specs.Prelude.{◌≡◌, IfOk};
 ghost use Rattle.slice_geometry.specs.Shape.{IsSize, IsDepth};
 ghost use Rattle.picture_codec.specs.Pictures.{size_of, depth_of};
-ghost use Rattle.picture_codec.specs.Samples.{frame_of};
+ghost use Rattle.slice_geometry.specs.Frames.{frame_of};
 
 use picture_codec::Picture;
 use raw_video::write_picture;

@@ -7,6 +7,7 @@ use Rattle.planes.specs.Raster.{Raster, Grid, height, row_of, at}
 use Rattle.planes.specs.Subbands.{BandStack, BandExists, band_of, subband_length, HaveSizes}
 use Rattle.slice_geometry.specs.declared.Size.{Size}
 use Rattle.slice_geometry.specs.declared.PictureShape.{PictureShape}
+use Rattle.slice_geometry.specs.Frames.{frame_of}
 use Rattle.slice_geometry.specs.Geometry.{padded_length, band_size}
 use Rattle.lifting.specs.declared.Wavelet.{Wavelet}
 use Rattle.lifting.specs.Transform.{Coefficients, analysis}
@@ -130,13 +131,15 @@ module _ (wavelet : Wavelet) (depth : ℕ) (size : Size) (d : ℕ) (s : SampleRo
 
 -- ---- a picture
 
-pub coded_is_given : (shape : PictureShape) (p : Params) (s : PictureSamples) → IsLawful p → HaveShape shape s → AreGiven (coded_from shape p s)
+pub coded_is_given : (shape : PictureShape) (p : Params) (s : PictureSamples) → IsLawful p → HaveShape shape s → AreGiven (coded_from (frame_of shape) p s)
 coded_is_given shape p s f have =
     let low = f.allowed.depth in
     let luma_bits = shape.luma_depth_fits in
     let colour_bits = shape.colour_depth_fits in
     record {
       entries = f.deep;
+      luma_bits = luma_bits;
+      colour_bits = colour_bits;
       luma = record { depth = refl; sizes = sizes_there p.wavelet p.slicing.depth shape.luma shape.luma_depth s.luma low luma_bits.some have.luma.small; small = small_there p.wavelet p.slicing.depth shape.luma shape.luma_depth s.luma low luma_bits.some have.luma.small };
       c1 = record { depth = refl; sizes = sizes_there p.wavelet p.slicing.depth shape.colour shape.colour_depth s.c1 low colour_bits.some have.c1.small; small = small_there p.wavelet p.slicing.depth shape.colour shape.colour_depth s.c1 low colour_bits.some have.c1.small };
       c2 = record { depth = refl; sizes = sizes_there p.wavelet p.slicing.depth shape.colour shape.colour_depth s.c2 low colour_bits.some have.c2.small; small = small_there p.wavelet p.slicing.depth shape.colour shape.colour_depth s.c2 low colour_bits.some have.c2.small };

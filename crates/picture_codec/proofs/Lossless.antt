@@ -22,7 +22,8 @@ use Rattle.transform_params.specs.Fields.{IsLawful}
 use Rattle.slice_encoder.specs.Chosen.{chosen, written_slices}
 use Rattle.slice_encoder.specs.Trials.{CodedPicture}
 use Rattle.picture_codec.specs.Pictures.{size_of, depth_of, coefficient, coefficients, sample_of, sample}
-use Rattle.picture_codec.specs.Samples.{SampleRows, PictureSamples, HaveShape, AreSamples, component_of, sample_at, frame_of}
+use Rattle.slice_geometry.specs.Frames.{frame_of}
+use Rattle.picture_codec.specs.Samples.{SampleRows, PictureSamples, HaveShape, AreSamples, component_of, sample_at}
 use Rattle.picture_codec.specs.Encoding.{centred, bands_from, coded_from, slices_of, IsSteepFor}
 use Rattle.picture_codec.specs.Written.{RestoresWhatWasWritten}
 use Rattle.picture_codec.specs.Lossless.{IsLossless, LosslessIsGivenBack}
@@ -93,12 +94,12 @@ module _ (p : Params) (size : Size) (d : ℕ) (s : SampleRows) (low : p.slicing.
 
 module _ (shape : PictureShape) (p : Params) (s : PictureSamples) (f : IsLawful p) (steep : IsSteepFor shape p) (have : HaveShape shape s) (none : IsLossless shape p s) where
   abbrev j : CodedPicture
-  j = coded_from shape p s
+  j = coded_from (frame_of shape) p s
 
-  restores : (c : Component) → RestoresWhatWasWritten (coded_from shape p s) (chosen (coded_from shape p s) (slice_count p.slicing)) (written_slices (coded_from shape p s)) p.wavelet c
+  restores : (c : Component) → RestoresWhatWasWritten (coded_from (frame_of shape) p s) (chosen (coded_from (frame_of shape) p s) (slice_count p.slicing)) (written_slices (coded_from (frame_of shape) p s)) p.wavelet c
   restores c =
       let given = coded_is_given shape p s f have in
-      written_is_restored (coded_from shape p s) (chosen (coded_from shape p s) (slice_count p.slicing)) (written_slices (coded_from shape p s)) p.wavelet c f.allowed given (chosen_indices (coded_from shape p s) (slice_count p.slicing)) (chosen_are_written (coded_from shape p s) f.allowed given steep)
+      written_is_restored (coded_from (frame_of shape) p s) (chosen (coded_from (frame_of shape) p s) (slice_count p.slicing)) (written_slices (coded_from (frame_of shape) p s)) p.wavelet c f.allowed given (chosen_indices (coded_from (frame_of shape) p s) (slice_count p.slicing)) (chosen_are_written (coded_from (frame_of shape) p s) f.allowed given steep)
 
   -- the slice that holds a place of a band
   no_quantiser : (size : Size) (level orient y x : ℕ) → BandExists p.slicing.depth level orient → y < (band_size p.slicing.depth level size).h → x < (band_size p.slicing.depth level size).w
@@ -106,11 +107,11 @@ module _ (shape : PictureShape) (p : Params) (s : PictureSamples) (f : IsLawful 
       let n = slice_number p.slicing (holding p.slicing.slices_x band.w x) (holding p.slicing.slices_y band.h y) in n < slice_count p.slicing)
   no_quantiser size level orient y x exists ly lx = holder_below p.slicing (band_size p.slicing.depth level size) y x f.allowed.slices ly lx
 
-  sample_given_back : (c : Component) (y x : ℕ) → y < (size_of (frame_of shape) c).h → x < (size_of (frame_of shape) c).w → sample (frame_of shape) p (slices_of shape p s) c y x ≡ sample_at (component_of s c) y x
+  sample_given_back : (c : Component) (y x : ℕ) → y < (size_of (frame_of shape) c).h → x < (size_of (frame_of shape) c).w → sample (frame_of shape) p (slices_of (frame_of shape) p s) c y x ≡ sample_at (component_of s c) y x
   unfolding sample
   sample_given_back Luma y x ly lx =
       let r = restores Luma in
-      let c = coefficients (frame_of shape) p (slices_of shape p s) Luma in
+      let c = coefficients (frame_of shape) p (slices_of (frame_of shape) p s) Luma in
       let zero_there = λ (level orient y x : ℕ) (exists : BandExists p.slicing.depth level orient) (ly : y < (band_size p.slicing.depth level shape.luma).h) (lx : x < (band_size p.slicing.depth level shape.luma).w). none _ level orient (no_quantiser shape.luma level orient y x exists ly lx) exists in
       component_back p shape.luma shape.luma_depth s.luma f.allowed.depth shape.luma_depth_fits.some have.luma c
       (bands_back p shape.luma shape.luma_depth s.luma f.allowed.depth shape.luma_depth_fits.some have.luma c
@@ -120,7 +121,7 @@ module _ (shape : PictureShape) (p : Params) (s : PictureSamples) (f : IsLawful 
       (λ level y x exists one ly lx. r.others_lossless level 3 y x exists one ly lx (zero_there level 3 y x exists ly lx))) y x ly lx
   sample_given_back C1 y x ly lx =
       let r = restores C1 in
-      let c = coefficients (frame_of shape) p (slices_of shape p s) C1 in
+      let c = coefficients (frame_of shape) p (slices_of (frame_of shape) p s) C1 in
       let zero_there = λ (level orient y x : ℕ) (exists : BandExists p.slicing.depth level orient) (ly : y < (band_size p.slicing.depth level shape.colour).h) (lx : x < (band_size p.slicing.depth level shape.colour).w). none _ level orient (no_quantiser shape.colour level orient y x exists ly lx) exists in
       component_back p shape.colour shape.colour_depth s.c1 f.allowed.depth shape.colour_depth_fits.some have.c1 c
       (bands_back p shape.colour shape.colour_depth s.c1 f.allowed.depth shape.colour_depth_fits.some have.c1 c
@@ -130,7 +131,7 @@ module _ (shape : PictureShape) (p : Params) (s : PictureSamples) (f : IsLawful 
       (λ level y x exists one ly lx. r.others_lossless level 3 y x exists one ly lx (zero_there level 3 y x exists ly lx))) y x ly lx
   sample_given_back C2 y x ly lx =
       let r = restores C2 in
-      let c = coefficients (frame_of shape) p (slices_of shape p s) C2 in
+      let c = coefficients (frame_of shape) p (slices_of (frame_of shape) p s) C2 in
       let zero_there = λ (level orient y x : ℕ) (exists : BandExists p.slicing.depth level orient) (ly : y < (band_size p.slicing.depth level shape.colour).h) (lx : x < (band_size p.slicing.depth level shape.colour).w). none _ level orient (no_quantiser shape.colour level orient y x exists ly lx) exists in
       component_back p shape.colour shape.colour_depth s.c2 f.allowed.depth shape.colour_depth_fits.some have.c2 c
       (bands_back p shape.colour shape.colour_depth s.c2 f.allowed.depth shape.colour_depth_fits.some have.c2 c

@@ -25,9 +25,9 @@ use Rattle.slice_decoder.specs.Decoded.{IsReady, AreReady, HoldsSlice, KeepsOthe
 use Rattle.slice_decoder.proofs.Dealt.{are_small-at, and-left, and-right}
 use Rattle.slice_geometry.proofs.RectsInBands.{end_inside}
 use Rattle.transform_params.specs.Params.{Params}
-use Rattle.picture_codec.specs.Pictures.{Frame, size_of, slice_value}
+use Rattle.slice_geometry.specs.Frames.{Frame, frame_of}
+use Rattle.picture_codec.specs.Pictures.{size_of, slice_value}
 use Rattle.picture_codec.specs.Taking.{holder, TakesSlice}
-use Rattle.picture_codec.specs.Samples.{frame_of}
 use Rattle.picture_codec.specs.Decoding.{AreTaken, AllTaken, stack_of}
 use Rattle.picture_codec.proofs.Tables.{row_below, column_below, place_again}
 use Rattle.picture_codec.proofs.Taking.{holder-rises, held-by}

@@ -17,7 +17,8 @@ use Rattle.dc_prediction.specs.Prediction.{prediction, restored}
 use Rattle.dc_prediction.proofs.Bands.{is_restored, restored_same}
 use Rattle.dc_prediction.proofs.PredictionLemmas.{prediction_same}
 use Rattle.transform_params.specs.Params.{Params}
-use Rattle.picture_codec.specs.Pictures.{Frame, size_of, slice_value, coefficient}
+use Rattle.slice_geometry.specs.Frames.{Frame}
+use Rattle.picture_codec.specs.Pictures.{size_of, slice_value, coefficient}
 use Rattle.picture_codec.specs.Taking.{holder, Took, TakesSlice}
 
 -- ---- lists of slices

@@ -21,8 +21,9 @@ use Rattle.lifting.specs.Transform.{Grid, synthesis}
 use Rattle.lifting.proofs.Inside.{synthesis_same}
 use Rattle.lifting.proofs.Levels as levels
 use Rattle.transform_params.specs.Params.{Params}
-use Rattle.picture_codec.specs.Pictures.{Frame, size_of, depth_of, coefficient, coefficients, sample_of, sample}
-use Rattle.picture_codec.specs.Samples.{SampleRows, PictureSamples, tabulated, AreSamples, frame_of, picture_of}
+use Rattle.slice_geometry.specs.Frames.{Frame, frame_of}
+use Rattle.picture_codec.specs.Pictures.{size_of, depth_of, coefficient, coefficients, sample_of, sample}
+use Rattle.picture_codec.specs.Samples.{SampleRows, PictureSamples, tabulated, AreSamples, picture_of}
 use Rattle.picture_codec.specs.Taking.{holder, Took}
 use Rattle.picture_codec.specs.Decoding.{Decoding, AllTaken, HasTaken, synthesised, synthesised_picture}
 use Rattle.picture_codec.proofs.Halves.{half_some, doubled}

@@ -9,7 +9,8 @@ use Rattle.lifting.specs.Transform.{synthesis, synthesis_level, interleaved}
 use Rattle.lifting.specs.Lines.{lift, synthesis_line}
 use Rattle.lifting.specs.Steps.{step, pair_step}
 use Rattle.transform_params.specs.Params.{Params}
-use Rattle.picture_codec.specs.Pictures.{Frame, coefficient, sample}
+use Rattle.slice_geometry.specs.Frames.{Frame}
+use Rattle.picture_codec.specs.Pictures.{coefficient, sample}
 
 abbrev square : Frame
 square = record { luma = record { w = 2; h = 2 }; colour = record { w = 2; h = 2 }; luma_depth = 8; colour_depth = 8 }

@@ -97,7 +97,7 @@ number_below w h x y across down =
 
 -- ---- the slices of a picture
 
-module _ (j : CodedPicture) (allowed : IsAllowed j.slicing) (given : AreGiven j) (steep : IsSteepOk j.slicing.depth (max j.shape.luma_depth j.shape.colour_depth) j.matrix) where
+module _ (j : CodedPicture) (allowed : IsAllowed j.slicing) (given : AreGiven j) (steep : IsSteepOk j.slicing.depth (max j.frame.luma_depth j.frame.colour_depth) j.matrix) where
   share_some : (n : ℕ) → 1 ≤ share_of_slice j n
   share_some n = some_share j.slicing.a j.slicing.b n allowed.share.some allowed.share.byte
 

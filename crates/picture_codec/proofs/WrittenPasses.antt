@@ -143,27 +143,27 @@ module _ (j : CodedPicture) (indices : List ℕ) (slices : List (List ℕ)) (all
   front = pictures.front j indices slices allowed given all written sx sy across down
 
   abbrev slice : Slice
-  slice = slice_at j.slicing j.shape.luma j.shape.colour sx sy bytes
+  slice = slice_at j.slicing j.frame.luma j.frame.colour sx sy bytes
 
   pub not_too_long : slice.too_long ≡ false
   not_too_long = ap (λ (s : Slice). s.too_long) (pictures.slice_is j indices slices allowed given all written sx sy across down)
 
-  pub is_small_there : is_small j.slicing j.shape.luma j.shape.colour sx sy j.matrix slice ≡ true
+  pub is_small_there : is_small j.slicing j.frame.luma j.frame.colour sx sy j.matrix slice ≡ true
   is_small_there =
       let most = pictures.most j indices slices allowed given all written sx sy across down in
       let front_all = pictures.front_all j indices slices allowed given all written sx sy across down in
       let luma = value_of (luma_of j) (restored_after (luma_of j) front) index in
       let c1 = value_of (c1_of j) (restored_after (c1_of j) front) index in
       let c2 = value_of (c2_of j) (restored_after (c2_of j) front) index in
-      let places = places_of j.slicing j.shape.luma sx sy j.slicing.depth in
-      let colour_places = places_of j.slicing j.shape.colour sx sy j.slicing.depth in
-      let luma_fits : are_small (dequantised (map luma places) (quantisers 1 j.slicing j.shape.luma sx sy j.matrix index j.slicing.depth)) ≡ true =
-      ap (λ l. are_small (dequantised (map luma places) l)) (sym (all_once j.matrix index j.slicing j.shape.luma sx sy j.slicing.depth))
-      ∙ once luma (quantiser j.matrix index) places (all_at (luma_of j) j.shape.luma_depth front index most front_all allowed.depth j.shape.luma_depth_fits.most given.luma.small sx sy) in
-      let colour_fits : are_small (dequantised (flat_map (λ p. c1 p ∷ c2 p ∷ []) colour_places) (quantisers 2 j.slicing j.shape.colour sx sy j.matrix index j.slicing.depth)) ≡ true =
-      ap (λ l. are_small (dequantised (flat_map (λ p. c1 p ∷ c2 p ∷ []) colour_places) l)) (sym (all_twice j.matrix index j.slicing j.shape.colour sx sy j.slicing.depth))
+      let places = places_of j.slicing j.frame.luma sx sy j.slicing.depth in
+      let colour_places = places_of j.slicing j.frame.colour sx sy j.slicing.depth in
+      let luma_fits : are_small (dequantised (map luma places) (quantisers 1 j.slicing j.frame.luma sx sy j.matrix index j.slicing.depth)) ≡ true =
+      ap (λ l. are_small (dequantised (map luma places) l)) (sym (all_once j.matrix index j.slicing j.frame.luma sx sy j.slicing.depth))
+      ∙ once luma (quantiser j.matrix index) places (all_at (luma_of j) j.frame.luma_depth front index most front_all allowed.depth given.luma_bits.most given.luma.small sx sy) in
+      let colour_fits : are_small (dequantised (flat_map (λ p. c1 p ∷ c2 p ∷ []) colour_places) (quantisers 2 j.slicing j.frame.colour sx sy j.matrix index j.slicing.depth)) ≡ true =
+      ap (λ l. are_small (dequantised (flat_map (λ p. c1 p ∷ c2 p ∷ []) colour_places) l)) (sym (all_twice j.matrix index j.slicing j.frame.colour sx sy j.slicing.depth))
       ∙ twice c1 c2 (quantiser j.matrix index) colour_places
-      (all_at (c1_of j) j.shape.colour_depth front index most front_all allowed.depth j.shape.colour_depth_fits.most given.c1.small sx sy)
-      (all_at (c2_of j) j.shape.colour_depth front index most front_all allowed.depth j.shape.colour_depth_fits.most given.c2.small sx sy) in
-      ap (λ (s : Slice). is_small j.slicing j.shape.luma j.shape.colour sx sy j.matrix s) (pictures.slice_is j indices slices allowed given all written sx sy across down)
-      ∙ ap (λ (b : Bool). b && are_small (dequantised (flat_map (λ p. c1 p ∷ c2 p ∷ []) colour_places) (quantisers 2 j.slicing j.shape.colour sx sy j.matrix index j.slicing.depth))) luma_fits ∙ colour_fits
+      (all_at (c1_of j) j.frame.colour_depth front index most front_all allowed.depth given.colour_bits.most given.c1.small sx sy)
+      (all_at (c2_of j) j.frame.colour_depth front index most front_all allowed.depth given.colour_bits.most given.c2.small sx sy) in
+      ap (λ (s : Slice). is_small j.slicing j.frame.luma j.frame.colour sx sy j.matrix s) (pictures.slice_is j indices slices allowed given all written sx sy across down)
+      ∙ ap (λ (b : Bool). b && are_small (dequantised (flat_map (λ p. c1 p ∷ c2 p ∷ []) colour_places) (quantisers 2 j.slicing j.frame.colour sx sy j.matrix index j.slicing.depth))) luma_fits ∙ colour_fits

@@ -16,7 +16,8 @@ use Rattle.lifting.specs.Transform.{synthesis}
 use Rattle.lifting.specs.Bands.{coefficients_of}
 use Rattle.transform_params.specs.Params.{Params}
 use Rattle.picture_codec.specs.Pictures.{size_of, sample_of}
-use Rattle.picture_codec.specs.Samples.{SampleRows, PictureSamples, PictureSeen, tabulated, with_component, frame_of, bits_of}
+use Rattle.slice_geometry.specs.Frames.{frame_of}
+use Rattle.picture_codec.specs.Samples.{SampleRows, PictureSamples, PictureSeen, tabulated, with_component, bits_of}
 use Rattle.slice_decoder.specs.declared.SliceFault.{SliceFault}
 use Rattle.slice_decoder.specs.Slice.{Slice, slice_at, is_small}
 use Rattle.slice_decoder.specs.Decoded.{AllKeepOthers, IsRefused}

@@ -8,10 +8,10 @@ use Rattle.lifting.specs.declared.Wavelet.{Wavelet}
 use Rattle.lifting.specs.Transform.{Coefficients, analysis}
 use Rattle.slice_geometry.specs.declared.Size.{Size}
 use Rattle.slice_geometry.specs.declared.PictureShape.{PictureShape}
+use Rattle.slice_geometry.specs.Frames.{Frame}
 use Rattle.slice_geometry.specs.Geometry.{band_size}
 use Rattle.slice_encoder.specs.Laws.{IsSteepOk}
 use Rattle.slice_encoder.specs.Trials.{CodedPicture}
-use Rattle.slice_encoder.specs.Ready.{coded_picture}
 use Rattle.slice_encoder.specs.Chosen.{written_slices}
 use Rattle.transform_params.specs.Params.{Params}
 use Rattle.transform_params.specs.Fields.{params_bytes}
@@ -46,18 +46,23 @@ analysed_bands wavelet depth size d s =
     bands_from depth size (analysis wavelet lowest.h lowest.w depth (centred d size s))
 
 -- a picture as it is written
-abbrev pub coded_from : PictureShape → Params → PictureSamples → CodedPicture
-coded_from shape p s = coded_picture p.slicing shape p.matrix (record {
-  luma = analysed_bands p.wavelet p.slicing.depth shape.luma shape.luma_depth s.luma;
-  c1 = analysed_bands p.wavelet p.slicing.depth shape.colour shape.colour_depth s.c1;
-  c2 = analysed_bands p.wavelet p.slicing.depth shape.colour shape.colour_depth s.c2;
-})
+abbrev pub coded_from : Frame → Params → PictureSamples → CodedPicture
+coded_from f p s = record {
+  slicing = p.slicing;
+  frame = f;
+  matrix = p.matrix;
+  coefficients = record {
+    luma = analysed_bands p.wavelet p.slicing.depth f.luma f.luma_depth s.luma;
+    c1 = analysed_bands p.wavelet p.slicing.depth f.colour f.colour_depth s.c1;
+    c2 = analysed_bands p.wavelet p.slicing.depth f.colour f.colour_depth s.c2;
+  };
+}
 
 -- ---- what is written
 
 -- the slices of a picture
-abbrev pub slices_of : PictureShape → Params → PictureSamples → List (List ℕ)
-slices_of shape p s = written_slices (coded_from shape p s)
+abbrev pub slices_of : Frame → Params → PictureSamples → List (List ℕ)
+slices_of f p s = written_slices (coded_from f p s)
 
 -- the payload of a picture unit: its number, the transform parameters, and the slices
 abbrev pub picture_bytes : Params → ℕ → List (List ℕ) → List ℕ

@@ -1,6 +1,7 @@
 -- The picture of one unit, place by place (SMPTE ST 2042-1:2017, 15.3 inverse_wavelet_transform, 15.5 clip_picture, offset_picture).
 use Rattle.std.specs.Prelude.{ℕ, ◌+◌, ◌-◌, ◌*◌, ◌^◌, List, [], slice_index_or, ℤ, pos, neg_ℤ, ◌+ℤ◌, unsigned_abs}
 use Rattle.std.specs.Int.{int_min, int_max}
+use Rattle.slice_geometry.specs.Frames.{Frame}
 use Rattle.slice_geometry.specs.declared.Size.{Size}
 use Rattle.slice_geometry.specs.declared.Component.{Component}
 use Rattle.slice_geometry.specs.declared.Component.TheVariants.{Luma, C1, C2}
@@ -11,13 +12,6 @@ use Rattle.slice_geometry.specs.SliceOrder.{place_number}
 use Rattle.dc_prediction.specs.Prediction.{restored}
 use Rattle.lifting.specs.Transform.{Grid, Coefficients, synthesis}
 use Rattle.transform_params.specs.Params.{Params}
-
--- The sizes of a picture's components, and the bits of their samples.
-pub record Frame : Type 0 where
-  pub luma : Size
-  pub colour : Size
-  pub luma_depth : ℕ
-  pub colour_depth : ℕ
 
 abbrev pub size_of : Frame → Component → Size
 size_of f Luma = f.luma

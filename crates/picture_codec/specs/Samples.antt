@@ -7,7 +7,8 @@ use Rattle.slice_geometry.specs.declared.Size.{Size}
 use Rattle.slice_geometry.specs.declared.PictureShape.{PictureShape}
 use Rattle.lifting.specs.Transform.{Grid}
 use Rattle.transform_params.specs.Params.{Params}
-use Rattle.picture_codec.specs.Pictures.{Frame, size_of, depth_of, sample_of, sample}
+use Rattle.slice_geometry.specs.Frames.{Frame, frame_of}
+use Rattle.picture_codec.specs.Pictures.{size_of, depth_of, sample_of, sample}
 
 -- h rows of w samples, row by row from the top
 pub record SampleRows : Type 0 where
@@ -83,10 +84,6 @@ pub record HaveShape (shape : PictureShape) (s : PictureSamples) : Type 0 where
 pub record PictureSeen : Type 0 where
   pub shape : PictureShape
   pub samples : PictureSamples
-
--- the sizes and depths of a shape, as plain numbers
-abbrev pub frame_of : PictureShape → Frame
-frame_of shape = record { luma = shape.luma; colour = shape.colour; luma_depth = shape.luma_depth; colour_depth = shape.colour_depth }
 
 -- the samples of the component, of this picture
 abbrev pub shown : PictureSeen → Component → SampleRows

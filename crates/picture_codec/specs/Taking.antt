@@ -10,7 +10,8 @@ use Rattle.slice_geometry.specs.Geometry.{band_size, holding}
 use Rattle.slice_geometry.specs.SliceOrder.{level_rect}
 use Rattle.dc_prediction.specs.Prediction.{prediction, restored}
 use Rattle.transform_params.specs.Params.{Params}
-use Rattle.picture_codec.specs.Pictures.{Frame, size_of, slice_value, coefficient}
+use Rattle.slice_geometry.specs.Frames.{Frame}
+use Rattle.picture_codec.specs.Pictures.{size_of, slice_value, coefficient}
 
 -- the number of the slice that holds a place of a band
 abbrev pub holder : Slicing → Size → ℕ → ℕ → ℕ

@@ -19,7 +19,7 @@ use Rattle.slice_encoder.specs.Choice.{fits, slice_bits}
 use Rattle.slice_encoder.specs.Laws.{IsIndex, AreSmall}
 use Rattle.slice_encoder.specs.Ready.{AreGiven}
 use Rattle.transform_params.specs.Params.{Params}
-use Rattle.picture_codec.specs.Pictures.{Frame, size_of, coefficient}
+use Rattle.picture_codec.specs.Pictures.{size_of, coefficient}
 
 -- ---- a slice
 
@@ -43,10 +43,6 @@ AreWritten j indices slices = (sx sy : ℕ) → sx < j.slicing.slices_x → sy <
     → (let n = slice_number j.slicing sx sy in
     IsWritten (slice_index_or slices n []) (slice_index indices n) (last_lists j (take (n + 1) indices) sx sy))
 
--- what a decoder knows of the picture
-abbrev pub frame_of : CodedPicture → Frame
-frame_of j = record { luma = j.shape.luma; colour = j.shape.colour; luma_depth = j.shape.luma_depth; colour_depth = j.shape.colour_depth }
-
 abbrev pub params_of : Wavelet → CodedPicture → Params
 params_of wavelet j = record { wavelet = wavelet; slicing = j.slicing; matrix = j.matrix }
 
@@ -58,27 +54,27 @@ component_of j C2 = c2_of j
 -- the quantiser of a place of a band, by the index of the slice that holds it
 abbrev pub quantiser_at : CodedPicture → List ℕ → Component → ℕ → ℕ → ℕ → ℕ → ℕ
 quantiser_at j indices c level orient y x =
-    let band = band_size j.slicing.depth level (size_of (frame_of j) c) in
+    let band = band_size j.slicing.depth level (size_of j.frame c) in
     let n = slice_number j.slicing (holding j.slicing.slices_x band.w x) (holding j.slicing.slices_y band.h y) in
     band_quantiser j.matrix (slice_index indices n) level orient
 
 -- A decoder has in the lowest subbands the values that the encoder restored, and elsewhere the coefficients, quantised and dequantised. At a place
 -- whose quantiser is 0 it has the coefficient itself.
 pub record RestoresWhatWasWritten (j : CodedPicture) (indices : List ℕ) (slices : List (List ℕ)) (wavelet : Wavelet) (c : Component) : Type 0 where
-  pub lowest : (y x : ℕ) → y < (band_size j.slicing.depth 0 (size_of (frame_of j) c)).h → x < (band_size j.slicing.depth 0 (size_of (frame_of j) c)).w
-      → restored (coefficient (frame_of j) (params_of wavelet j) slices c 0 0) y x ≡ restored_after (component_of j c) indices y x
+  pub lowest : (y x : ℕ) → y < (band_size j.slicing.depth 0 (size_of j.frame c)).h → x < (band_size j.slicing.depth 0 (size_of j.frame c)).w
+      → restored (coefficient j.frame (params_of wavelet j) slices c 0 0) y x ≡ restored_after (component_of j c) indices y x
   pub others : (level orient y x : ℕ) → BandExists j.slicing.depth level orient → 1 ≤ level
-      → y < (band_size j.slicing.depth level (size_of (frame_of j) c)).h → x < (band_size j.slicing.depth level (size_of (frame_of j) c)).w
+      → y < (band_size j.slicing.depth level (size_of j.frame c)).h → x < (band_size j.slicing.depth level (size_of j.frame c)).w
       → (let q = quantiser_at j indices c level orient y x in
-      coefficient (frame_of j) (params_of wavelet j) slices c level orient y x ≡ inverse_of (forward_of (trials.coefficient (component_of j c) level orient y x) q) q)
+      coefficient j.frame (params_of wavelet j) slices c level orient y x ≡ inverse_of (forward_of (trials.coefficient (component_of j c) level orient y x) q) q)
   pub lowest_lossless : (y x : ℕ)
-      → y < (band_size j.slicing.depth 0 (size_of (frame_of j) c)).h → x < (band_size j.slicing.depth 0 (size_of (frame_of j) c)).w
+      → y < (band_size j.slicing.depth 0 (size_of j.frame c)).h → x < (band_size j.slicing.depth 0 (size_of j.frame c)).w
       → quantiser_at j indices c 0 0 y x ≡ 0
-      → restored (coefficient (frame_of j) (params_of wavelet j) slices c 0 0) y x ≡ trials.coefficient (component_of j c) 0 0 y x
+      → restored (coefficient j.frame (params_of wavelet j) slices c 0 0) y x ≡ trials.coefficient (component_of j c) 0 0 y x
   pub others_lossless : (level orient y x : ℕ) → BandExists j.slicing.depth level orient → 1 ≤ level
-      → y < (band_size j.slicing.depth level (size_of (frame_of j) c)).h → x < (band_size j.slicing.depth level (size_of (frame_of j) c)).w
+      → y < (band_size j.slicing.depth level (size_of j.frame c)).h → x < (band_size j.slicing.depth level (size_of j.frame c)).w
       → quantiser_at j indices c level orient y x ≡ 0
-      → coefficient (frame_of j) (params_of wavelet j) slices c level orient y x ≡ trials.coefficient (component_of j c) level orient y x
+      → coefficient j.frame (params_of wavelet j) slices c level orient y x ≡ trials.coefficient (component_of j c) level orient y x
 
 abbrev pub WrittenIsRestored : Type 0
 WrittenIsRestored = (j : CodedPicture) (indices : List ℕ) (slices : List (List ℕ)) (wavelet : Wavelet) (c : Component) → IsAllowed j.slicing → AreGiven j → All IsIndex indices → AreWritten j indices slices

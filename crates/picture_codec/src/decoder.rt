@@ -5,7 +5,8 @@ ghost use Rattle.slice_geometry.specs.Shape.{IsSize};
 ghost use Rattle.slice_geometry.specs.Slicing.{IsAllowed, slice_count};
 ghost use Rattle.transform_params.specs.Views.{params_of};
 ghost use Rattle.picture_codec.specs.Pictures as pictures;
-ghost use Rattle.picture_codec.specs.Samples.{frame_of, picture_of};
+ghost use Rattle.slice_geometry.specs.Frames.{frame_of};
+ghost use Rattle.picture_codec.specs.Samples.{picture_of};
 ghost use Rattle.picture_codec.specs.Decoding.{AreTaken, ArePadded, AreNewBands, IsNewDecoder, IsTaken, IsSliceRefused, HasTaken, with_synthesised, synthesised_picture, wanted_of};
 
 use crate::picture::Picture;

@@ -11,7 +11,8 @@ ghost use Rattle.slice_encoder.specs.Tries.{KeptHaveSizes};
 ghost use Rattle.slice_encoder.specs.Chosen.{written_slices};
 ghost use Rattle.transform_params.specs.Views.{params_of};
 ghost use Rattle.transform_params.specs.Fields.{byte_length, unit_length, params_bytes};
-ghost use Rattle.picture_codec.specs.Samples.{frame_of, shown};
+ghost use Rattle.slice_geometry.specs.Frames.{frame_of};
+ghost use Rattle.picture_codec.specs.Samples.{shown};
 ghost use Rattle.picture_codec.specs.Decoding.{ArePadded};
 ghost use Rattle.picture_codec.specs.Pictures as pictures;
 ghost use Rattle.picture_codec.specs.Encoding.{centred, slices_of, picture_bytes, IsSteepFor};
@@ -270,7 +271,7 @@ impl PictureEncoder {
         requires shape { picture.now.shape ≡ self.old.shape }
         requires room { 13 + length bytes.old ≡ unit_length self.old.params }
         ensures same { self.new ≡ self.old }
-        ensures payload { bytes.new ≡ picture_bytes self.old.params number (slices_of self.old.shape self.old.params picture.now.samples) }
+        ensures payload { bytes.new ≡ picture_bytes self.old.params number (slices_of (frame_of self.old.shape) self.old.params picture.now.samples) }
     {
         let params = self.params;
         analyse_component(

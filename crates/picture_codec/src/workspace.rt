@@ -3,7 +3,7 @@
 ghost use Rattle.std.specs.Prelude.{◌≡◌, IfOk};
 ghost use Rattle.slice_geometry.specs.Shape.{IsSize, IsDepth};
 ghost use Rattle.picture_codec.specs.Pictures as pictures;
-ghost use Rattle.picture_codec.specs.Samples.{frame_of};
+ghost use Rattle.slice_geometry.specs.Frames.{frame_of};
 ghost use Rattle.picture_codec.specs.Decoding.{ArePadded, AreNewBands};
 
 use planes::{Bands, NoMemory, Plane, Trio};

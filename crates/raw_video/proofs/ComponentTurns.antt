@@ -6,8 +6,8 @@ use Rattle.std.proofs.lemmas.List.{length-append, length-take, length-drop, leng
 use Rattle.slice_geometry.specs.declared.Component.{Component}
 use Rattle.slice_geometry.specs.declared.Component.TheVariants.{Luma, C1, C2}
 use Rattle.slice_geometry.specs.declared.PictureShape.{PictureShape}
-use Rattle.picture_codec.specs.Pictures.{Frame}
-use Rattle.picture_codec.specs.Samples.{SampleRows, PictureSamples, PictureSeen, frame_of, component_of, with_component, with_run, shown, width_of, height_of}
+use Rattle.slice_geometry.specs.Frames.{Frame, frame_of}
+use Rattle.picture_codec.specs.Samples.{SampleRows, PictureSamples, PictureSeen, component_of, with_component, with_run, shown, width_of, height_of}
 use Rattle.raw_video.specs.RawText.{is_wide}
 use Rattle.raw_video.specs.RawParse.{sample_size, luma_count, colour_count, sample_bounds, samples_in, first_large, picture_from}
 use Rattle.raw_video.specs.Reading.{ReadsSamples}

@@ -7,7 +7,7 @@ use Rattle.std.proofs.lemmas.List.{take-append-drop}
 use Rattle.std.proofs.lemmas.Grind.{flat_map-append}
 use Rattle.vc2_io.specs.Outside.{GrewShort}
 use Rattle.vc2_io.proofs.Known.{Appends-then, Appends-along}
-use Rattle.picture_codec.specs.Pictures.{Frame}
+use Rattle.slice_geometry.specs.Frames.{Frame}
 use Rattle.picture_codec.specs.Samples.{PictureSamples}
 use Rattle.raw_video.specs.RawText.{is_wide, text_of, raw_text}
 use Rattle.vc2_io.proofs.Short.{GrewShort-first, GrewShort-second, GrewShort-along}

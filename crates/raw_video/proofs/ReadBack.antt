@@ -6,7 +6,7 @@ use Rattle.std.proofs.Math.Seq.{drop-append_seam}
 use Rattle.std.proofs.lemmas.Bool.{ltb-true, ltb-false, eqb-true}
 use Rattle.std.proofs.lemmas.List.{length-append, length-replicate, length-take, length-drop}
 use Rattle.std.proofs.lemmas.List.Concat.{flat_map-cons}
-use Rattle.picture_codec.specs.Pictures.{Frame}
+use Rattle.slice_geometry.specs.Frames.{Frame}
 use Rattle.picture_codec.specs.Samples.{PictureSamples}
 use Rattle.raw_video.specs.RawText.{is_wide, sample_bytes, text_of, raw_text}
 use Rattle.raw_video.specs.RawParse.{sample_size, luma_count, colour_count, raw_length, samples_in, sample_bounds, later, first_large, picture_from, IsOfFrame, RawFront, Shown, Over, CutAt, TooLong, front_of, raw_front, raw_texts, ahead, parse_from, raw_parse}

@@ -1,7 +1,7 @@
 -- Worked rows of reading: one sample a component.
 use Rattle.std.proofs.Common.{◌≡◌, ℕ, [], ◌∷◌, refl}
 use Rattle.slice_geometry.specs.declared.Size.{Size}
-use Rattle.picture_codec.specs.Pictures.{Frame}
+use Rattle.slice_geometry.specs.Frames.{Frame}
 use Rattle.picture_codec.specs.Samples.{SampleRows, PictureSamples}
 use Rattle.raw_video.specs.RawParse.{Over, LargeAt, CutAt, raw_parse}
 

@@ -1,7 +1,7 @@
 -- Raw video as it is read (own): picture after picture of one shape, with no header. The bytes decide one after another:
 -- what stands in front is a picture, or the input's end, or the first fault with its place.
 use Rattle.std.specs.Prelude.{◌≡◌, ◌<◌, All, ℕ, zero, suc, ◌+◌, ◌-◌, ◌*◌, ◌^◌, ◌==◌, Bool, true, false, nat_lt, if◌then◌else◌, List, [], ◌∷◌, ◌++◌, length, take, drop, replicate, Option, Some, None}
-use Rattle.picture_codec.specs.Pictures.{Frame}
+use Rattle.slice_geometry.specs.Frames.{Frame}
 use Rattle.slice_geometry.specs.declared.Size.{Size}
 use Rattle.picture_codec.specs.Samples.{SampleRows, PictureSamples}
 use Rattle.raw_video.specs.RawText.{is_wide, raw_text}

@@ -1,7 +1,7 @@
 -- The raw text of a picture (own): all luma samples, then C1, then C2, each row by row from the top, with no header.
 use Rattle.std.specs.Prelude.{ℕ, ◌/◌, ◌%◌, Bool, true, false, ◌||◌, nat_lt, List, [], ◌∷◌, ◌++◌}
 use Rattle.std.specs.List.{flat_map}
-use Rattle.picture_codec.specs.Pictures.{Frame}
+use Rattle.slice_geometry.specs.Frames.{Frame}
 use Rattle.picture_codec.specs.Samples.{PictureSamples}
 
 -- a sample takes two bytes: one of the depths is above 8

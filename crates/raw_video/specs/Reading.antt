@@ -3,8 +3,8 @@ use Rattle.std.specs.Prelude.{◌≡◌, ◌≤◌, ◌<◌, ◌⊎◌, ℕ, ◌
 use Rattle.std.specs.Io.KnownBytes.{Consumes, IsAtEnd}
 use Rattle.vc2_io.specs.Outside.{Rose}
 use Rattle.slice_geometry.specs.declared.PictureShape.{PictureShape}
-use Rattle.picture_codec.specs.Pictures.{Frame}
-use Rattle.picture_codec.specs.Samples.{PictureSamples, frame_of}
+use Rattle.slice_geometry.specs.Frames.{Frame, frame_of}
+use Rattle.picture_codec.specs.Samples.{PictureSamples}
 use Rattle.raw_video.specs.RawParse.{sample_size, raw_length, samples_in, first_large, raw_front, Shown, Over, LargeAt, CutAt, TooLong}
 use Rattle.raw_video.specs.declared.reading.Halt.{Halt}
 use Rattle.raw_video.specs.declared.reading.Halt.TheVariants as halts

@@ -2,7 +2,7 @@
 
 ghost use Rattle.std.specs.Prelude.{◌≡◌, ℕ, ◌+◌, ◌^◌, ◌<◌, ◌≤◌, List, ◌++◌, length};
 ghost use Rattle.std.specs.List.{AllByRecursion};
-ghost use Rattle.picture_codec.specs.Pictures.{Frame};
+ghost use Rattle.slice_geometry.specs.Frames.{Frame};
 ghost use Rattle.picture_codec.specs.Samples.{PictureSamples};
 ghost use Rattle.raw_video.specs.RawText.{raw_text};
 ghost use Rattle.raw_video.specs.RawParse.{raw_length, IsOfFrame, Shown, Over, raw_front, raw_texts, raw_parse};

@@ -2,8 +2,8 @@
 ghost use Rattle.std.specs.Prelude.{◌≡◌, ◌≤◌, ◌+◌, ◌-◌, ◌*◌, ◌^◌, ℕ, Option, List, [], ◌∷◌, false, true, IfOk, OnErr, Err, Bool};
 ghost use Rattle.std.specs.Io.KnownBytes.{Consumes, IsAtEnd};
 ghost use Rattle.vc2_io.specs.Outside.{HasCause};
-ghost use Rattle.picture_codec.specs.Pictures.{Frame};
-ghost use Rattle.picture_codec.specs.Samples.{PictureSamples, frame_of};
+ghost use Rattle.slice_geometry.specs.Frames.{Frame, frame_of};
+ghost use Rattle.picture_codec.specs.Samples.{PictureSamples};
 ghost use Rattle.raw_video.specs.RawText.{is_wide};
 ghost use Rattle.raw_video.specs.RawParse.{raw_length, sample_bounds};
 ghost use Rattle.raw_video.specs.declared.reading.Halt.TheVariants.{Ended};

@@ -3,7 +3,8 @@ ghost use Rattle.std.specs.Prelude.{◌≡◌, ◌≢◌, ◌≤◌, ◌+◌, �
 ghost use Rattle.slice_geometry.specs.declared.Component.{Component};
 ghost use Rattle.slice_geometry.specs.Shape.{IsDepth};
 ghost use Rattle.picture_codec.specs.Pictures.{depth_of};
-ghost use Rattle.picture_codec.specs.Samples.{frame_of, shown, width_of, height_of, bits_of};
+ghost use Rattle.slice_geometry.specs.Frames.{frame_of};
+ghost use Rattle.picture_codec.specs.Samples.{shown, width_of, height_of, bits_of};
 ghost use Rattle.raw_video.specs.RawText.{is_wide};
 ghost use Rattle.raw_video.specs.RawParse.{sample_size, sample_bounds};
 ghost use Rattle.raw_video.specs.Reading.{ReadsSamples, HaltCause};

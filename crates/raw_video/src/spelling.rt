@@ -1,6 +1,6 @@
 // Samples to bytes.
 ghost use Rattle.std.specs.Prelude.{◌≡◌, ◌*◌, ◌≤◌, length, take, true, false};
-ghost use Rattle.picture_codec.specs.Samples.{frame_of};
+ghost use Rattle.slice_geometry.specs.Frames.{frame_of};
 ghost use Rattle.raw_video.specs.RawText.{is_wide, text_of};
 
 use slice_geometry::PictureShape;

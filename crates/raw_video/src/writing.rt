@@ -2,7 +2,7 @@
 ghost use Rattle.std.specs.Prelude.{OnOk, OnErr};
 ghost use Rattle.std.specs.Io.KnownBytes.{Appends};
 ghost use Rattle.vc2_io.specs.Outside.{HasCause, GrewShort};
-ghost use Rattle.picture_codec.specs.Samples.{frame_of};
+ghost use Rattle.slice_geometry.specs.Frames.{frame_of};
 ghost use Rattle.raw_video.specs.RawText.{text_of, raw_text};
 
 use crate::spelling::{are_wide, spell};

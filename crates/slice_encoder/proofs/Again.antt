@@ -13,6 +13,7 @@ use Rattle.planes.specs.Subbands.{BandExists}
 use Rattle.dc_prediction.specs.Prediction.{prediction, AllLookedAt}
 use Rattle.dc_prediction.proofs.Rectangles.{in_rect_or_not}
 use Rattle.quant_factors.specs.Weights.{band_quantiser}
+use Rattle.slice_geometry.specs.Shape.{IsDepth}
 use Rattle.slice_geometry.specs.SliceOrder.{level_rect}
 use Rattle.slice_encoder.specs.Loop.{restored_value, made}
 use Rattle.slice_encoder.specs.Trials.{CodedComponent, coefficient, CodedPicture, luma_of, c1_of, c2_of, lists, value_of}
@@ -157,18 +158,18 @@ module _ (c : CodedComponent) (d dmost sx sy : ℕ) (kept : Raster ℤ) (some : 
       All-weaker (λ p. In p × Low p) (λ p. value_of c (tried c sx sy 127 (at kept)) 127 p ≡ pos 0) (λ p h. gone_here p h.0 h.1) places
       (all_both In Low places (places_exist c.slicing c.size sx sy c.slicing.depth c.slicing.depth (omega arith)) (lowest_inside c.slicing c.size sx sy c.slicing.depth))
 
-pub coarsest_tried : (j : CodedPicture) (bytes sx sy : ℕ) (kept : ThreePlanes) → AreReady j sx sy kept → IsSteepOk j.slicing.depth (max j.shape.luma_depth j.shape.colour_depth) j.matrix → fits bytes (tried_lists j kept sx sy 127) ≡ true
-coarsest_tried j bytes sx sy kept ready steep =
-    let most = max j.shape.luma_depth j.shape.colour_depth in
-    let luma = all_gone (luma_of j) j.shape.luma_depth most sx sy kept.luma j.shape.luma_depth_fits.some (omega arith) steep ready.luma in
-    let c1 = all_gone (c1_of j) j.shape.colour_depth most sx sy kept.c1 j.shape.colour_depth_fits.some (omega arith) steep ready.c1 in
-    let c2 = all_gone (c2_of j) j.shape.colour_depth most sx sy kept.c2 j.shape.colour_depth_fits.some (omega arith) steep ready.c2 in
-    let places = places_of j.slicing j.shape.colour sx sy j.slicing.depth in
+pub coarsest_tried : (j : CodedPicture) (bytes sx sy : ℕ) (kept : ThreePlanes) → IsDepth j.frame.luma_depth → IsDepth j.frame.colour_depth → AreReady j sx sy kept → IsSteepOk j.slicing.depth (max j.frame.luma_depth j.frame.colour_depth) j.matrix → fits bytes (tried_lists j kept sx sy 127) ≡ true
+coarsest_tried j bytes sx sy kept luma_bits colour_bits ready steep =
+    let most = max j.frame.luma_depth j.frame.colour_depth in
+    let luma = all_gone (luma_of j) j.frame.luma_depth most sx sy kept.luma luma_bits.some (omega arith) steep ready.luma in
+    let c1 = all_gone (c1_of j) j.frame.colour_depth most sx sy kept.c1 colour_bits.some (omega arith) steep ready.c1 in
+    let c2 = all_gone (c2_of j) j.frame.colour_depth most sx sy kept.c2 colour_bits.some (omega arith) steep ready.c2 in
+    let places = places_of j.slicing j.frame.colour sx sy j.slicing.depth in
     let v1 : Place → ℤ = value_of (c1_of j) (tried (c1_of j) sx sy 127 (at kept.c1)) 127 in
     let v2 : Place → ℤ = value_of (c2_of j) (tried (c2_of j) sx sy 127 (at kept.c2)) 127 in
     let pair : Place → List ℤ = λ p. v1 p ∷ v2 p ∷ [] in
     needs_none bytes _ _
-    (need-zeros _ (All-map (λ v. v ≡ pos 0) (value_of (luma_of j) (tried (luma_of j) sx sy 127 (at kept.luma)) 127) (places_of j.slicing j.shape.luma sx sy j.slicing.depth) luma))
+    (need-zeros _ (All-map (λ v. v ≡ pos 0) (value_of (luma_of j) (tried (luma_of j) sx sy 127 (at kept.luma)) 127) (places_of j.slicing j.frame.luma sx sy j.slicing.depth) luma))
     (need-zeros _ (all_joined (λ v. v ≡ pos 0) pair places
     (All-weaker (λ p. (v1 p ≡ pos 0) × (v2 p ≡ pos 0)) (λ p. All (λ v. v ≡ pos 0) (pair p)) (λ p h. two_zeros _ _ h.0 h.1) places
     (all_both (λ p. v1 p ≡ pos 0) (λ p. v2 p ≡ pos 0) places c1 c2))))

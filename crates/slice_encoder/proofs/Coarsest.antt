@@ -158,9 +158,9 @@ pub coarsest : CoarsestFits
 coarsest j indices bytes sx sy picture steep all count =
     let next = indices ++ 127 ∷ [] in
     let all' : All IsIndex next = All-push IsIndex indices 127 all (omega arith) in
-    let most = max j.shape.luma_depth j.shape.colour_depth in
-    let luma = value_gone (luma_of j) j.shape.luma_depth most j.shape.luma_depth_fits.some (omega arith) picture.luma steep next all' in
-    let c1 = value_gone (c1_of j) j.shape.colour_depth most j.shape.colour_depth_fits.some (omega arith) picture.c1 steep next all' in
-    let c2 = value_gone (c2_of j) j.shape.colour_depth most j.shape.colour_depth_fits.some (omega arith) picture.c2 steep next all' in
+    let most = max j.frame.luma_depth j.frame.colour_depth in
+    let luma = value_gone (luma_of j) j.frame.luma_depth most picture.luma_bits.some (omega arith) picture.luma steep next all' in
+    let c1 = value_gone (c1_of j) j.frame.colour_depth most picture.colour_bits.some (omega arith) picture.c1 steep next all' in
+    let c2 = value_gone (c2_of j) j.frame.colour_depth most picture.colour_bits.some (omega arith) picture.c2 steep next all' in
     rw (last_index indices (slice_number j.slicing sx sy) 127 count)
     (needs_none bytes _ _ (luma_gone (luma_of j) next sx sy luma) (colour_gone (c1_of j) (c2_of j) next sx sy c1 c2))

@@ -56,7 +56,7 @@ next_ready j indices sx sy kept given next sizes values all = record {
   across = next.across;
   down = next.down;
   entries = given.entries;
-  luma = one_ready (luma_of j) j.shape.luma_depth indices sx sy kept.luma given.luma next.allowed next.across next.down next.number sizes.luma values.luma all;
-  c1 = one_ready (c1_of j) j.shape.colour_depth indices sx sy kept.c1 given.c1 next.allowed next.across next.down next.number sizes.c1 values.c1 all;
-  c2 = one_ready (c2_of j) j.shape.colour_depth indices sx sy kept.c2 given.c2 next.allowed next.across next.down next.number sizes.c2 values.c2 all;
+  luma = one_ready (luma_of j) j.frame.luma_depth indices sx sy kept.luma given.luma next.allowed next.across next.down next.number sizes.luma values.luma all;
+  c1 = one_ready (c1_of j) j.frame.colour_depth indices sx sy kept.c1 given.c1 next.allowed next.across next.down next.number sizes.c1 values.c1 all;
+  c2 = one_ready (c2_of j) j.frame.colour_depth indices sx sy kept.c2 given.c2 next.allowed next.across next.down next.number sizes.c2 values.c2 all;
 }

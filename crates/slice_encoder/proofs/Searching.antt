@@ -34,9 +34,9 @@ ready_again j sx sy old mid r k = record {
   across = r.across;
   down = r.down;
   entries = r.entries;
-  luma = one_ready (luma_of j) j.shape.luma_depth sx sy old.luma mid.luma r.luma k.luma;
-  c1 = one_ready (c1_of j) j.shape.colour_depth sx sy old.c1 mid.c1 r.c1 k.c1;
-  c2 = one_ready (c2_of j) j.shape.colour_depth sx sy old.c2 mid.c2 r.c2 k.c2;
+  luma = one_ready (luma_of j) j.frame.luma_depth sx sy old.luma mid.luma r.luma k.luma;
+  c1 = one_ready (c1_of j) j.frame.colour_depth sx sy old.c1 mid.c1 r.c1 k.c1;
+  c2 = one_ready (c2_of j) j.frame.colour_depth sx sy old.c2 mid.c2 r.c2 k.c2;
 }
 
 module _ (j : CodedPicture) (bytes sx sy index : ℕ) (old mid : ThreePlanes) (t : Trying) (luma colour : List ℤ) (k : AllKeepOthers j sx sy old mid) (h : Holds (tried_lists j mid sx sy index) bytes t luma colour) where

@@ -15,8 +15,8 @@ use Rattle.slice_encoder.specs.Laws.{AreSmall}
 
 -- the buffers for a slice's values have room for them
 pub record HasRoom (j : CodedPicture) (sx sy lumas colours : ℕ) : Type 0 where
-  pub luma : place_count j.slicing j.shape.luma sx sy ≤ lumas
-  pub colour : 2 * place_count j.slicing j.shape.colour sx sy ≤ colours
+  pub luma : place_count j.slicing j.frame.luma sx sy ≤ lumas
+  pub colour : 2 * place_count j.slicing j.frame.colour sx sy ≤ colours
   pub few_luma : lumas ≤ 2 ^ 32
   pub few_colour : colours ≤ 2 ^ 32
 

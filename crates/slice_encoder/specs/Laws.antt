@@ -5,6 +5,7 @@ use Rattle.planes.specs.Numbers.{Within}
 use Rattle.planes.specs.Subbands.{BandExists}
 use Rattle.dc_prediction.specs.Prediction.{prediction}
 use Rattle.quant_factors.specs.Weights.{Weights, entry_of}
+use Rattle.slice_geometry.specs.Shape.{IsDepth}
 use Rattle.slice_geometry.specs.Slicing.{AreSlicesAllowed, slice_number}
 use Rattle.slice_geometry.specs.Geometry.{band_size}
 use Rattle.slice_encoder.specs.Trials.{CodedComponent, coefficient, slice_holding, restored_after, CodedPicture, luma_of, c1_of, c2_of, Lists, last_lists}
@@ -38,13 +39,15 @@ abbrev pub AreCoefficients : ℕ → CodedComponent → Type 0
 AreCoefficients d c = (level orient y x : ℕ) → BandExists c.slicing.depth level orient → Within (most_coefficient c.slicing.depth d) (coefficient c level orient y x)
 
 pub record IsPicture (j : CodedPicture) : Type 0 where
-  pub luma : AreCoefficients j.shape.luma_depth (luma_of j)
-  pub c1 : AreCoefficients j.shape.colour_depth (c1_of j)
-  pub c2 : AreCoefficients j.shape.colour_depth (c2_of j)
+  pub luma_bits : IsDepth j.frame.luma_depth
+  pub colour_bits : IsDepth j.frame.colour_depth
+  pub luma : AreCoefficients j.frame.luma_depth (luma_of j)
+  pub c1 : AreCoefficients j.frame.colour_depth (c1_of j)
+  pub c2 : AreCoefficients j.frame.colour_depth (c2_of j)
 
 -- The coarsest index fits each slice after whatever indices.
 abbrev pub CoarsestFits : Type 0
-CoarsestFits = (j : CodedPicture) (indices : List ℕ) (bytes sx sy : ℕ) → IsPicture j → IsSteepOk j.slicing.depth (max j.shape.luma_depth j.shape.colour_depth) j.matrix
+CoarsestFits = (j : CodedPicture) (indices : List ℕ) (bytes sx sy : ℕ) → IsPicture j → IsSteepOk j.slicing.depth (max j.frame.luma_depth j.frame.colour_depth) j.matrix
     → All IsIndex indices → length indices ≡ slice_number j.slicing sx sy
     → fits bytes (last_lists j (indices ++ 127 ∷ []) sx sy) ≡ true
 

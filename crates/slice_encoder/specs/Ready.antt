@@ -9,6 +9,8 @@ use Rattle.planes.specs.declared.ThreePlanes.{ThreePlanes}
 use Rattle.planes.specs.declared.Trio.{Trio}
 use Rattle.quant_factors.specs.Weights.{Weights}
 use Rattle.slice_geometry.specs.declared.PictureShape.{PictureShape}
+use Rattle.slice_geometry.specs.Frames.{frame_of}
+use Rattle.slice_geometry.specs.Shape.{IsDepth}
 use Rattle.slice_geometry.specs.Slicing.{Slicing}
 use Rattle.slice_geometry.specs.Geometry.{padded_length}
 use Rattle.slice_geometry.specs.SliceOrder.{level_rect}
@@ -30,9 +32,9 @@ pub record AreReady (j : CodedPicture) (sx sy : ℕ) (kept : ThreePlanes) : Type
   pub across : sx < j.slicing.slices_x
   pub down : sy < j.slicing.slices_y
   pub entries : j.matrix.depth ≡ j.slicing.depth
-  pub luma : IsReady (luma_of j) j.shape.luma_depth sx sy kept.luma
-  pub c1 : IsReady (c1_of j) j.shape.colour_depth sx sy kept.c1
-  pub c2 : IsReady (c2_of j) j.shape.colour_depth sx sy kept.c2
+  pub luma : IsReady (luma_of j) j.frame.luma_depth sx sy kept.luma
+  pub c1 : IsReady (c1_of j) j.frame.colour_depth sx sy kept.c1
+  pub c2 : IsReady (c2_of j) j.frame.colour_depth sx sy kept.c2
 
 -- what of this stays from slice to slice
 pub record IsGiven (c : CodedComponent) (d : ℕ) : Type 0 where
@@ -42,9 +44,11 @@ pub record IsGiven (c : CodedComponent) (d : ℕ) : Type 0 where
 
 pub record AreGiven (j : CodedPicture) : Type 0 where
   pub entries : j.matrix.depth ≡ j.slicing.depth
-  pub luma : IsGiven (luma_of j) j.shape.luma_depth
-  pub c1 : IsGiven (c1_of j) j.shape.colour_depth
-  pub c2 : IsGiven (c2_of j) j.shape.colour_depth
+  pub luma_bits : IsDepth j.frame.luma_depth
+  pub colour_bits : IsDepth j.frame.colour_depth
+  pub luma : IsGiven (luma_of j) j.frame.luma_depth
+  pub c1 : IsGiven (c1_of j) j.frame.colour_depth
+  pub c2 : IsGiven (c2_of j) j.frame.colour_depth
 
 -- All places but the slice's are as they were.
 pub record KeepsOthers (c : CodedComponent) (sx sy : ℕ) (old new : Raster ℤ) : Type 0 where
@@ -59,7 +63,7 @@ pub record AllKeepOthers (j : CodedPicture) (sx sy : ℕ) (old new : ThreePlanes
 
 -- what is asked of a picture, its shape and its slices
 abbrev pub coded_picture : Slicing → PictureShape → Weights → Trio → CodedPicture
-coded_picture s shape matrix coefficients = record { slicing = s; shape = shape; matrix = matrix; coefficients = coefficients }
+coded_picture s shape matrix coefficients = record { slicing = s; frame = frame_of shape; matrix = matrix; coefficients = coefficients }
 
 -- ---- from slice to slice
 

@@ -9,7 +9,7 @@ use Rattle.dc_prediction.specs.Prediction.{prediction}
 use Rattle.quant_factors.specs.Factors.{forward_of}
 use Rattle.quant_factors.specs.Weights.{Weights, band_quantiser}
 use Rattle.slice_geometry.specs.declared.Size.{Size}
-use Rattle.slice_geometry.specs.declared.PictureShape.{PictureShape}
+use Rattle.slice_geometry.specs.Frames.{Frame}
 use Rattle.slice_geometry.specs.Slicing.{Slicing, slice_number}
 use Rattle.slice_geometry.specs.Geometry.{holding, band_size}
 use Rattle.slice_encoder.specs.Loop.{made, restored_value, residual_of}
@@ -58,18 +58,18 @@ colour_list c1 c2 restored1 restored2 index sx sy =
 
 pub record CodedPicture : Type 0 where
   pub slicing : Slicing
-  pub shape : PictureShape
+  pub frame : Frame
   pub matrix : Weights
   pub coefficients : Trio
 
 abbrev pub luma_of : CodedPicture → CodedComponent
-luma_of j = record { slicing = j.slicing; size = j.shape.luma; matrix = j.matrix; bands = j.coefficients.luma }
+luma_of j = record { slicing = j.slicing; size = j.frame.luma; matrix = j.matrix; bands = j.coefficients.luma }
 
 abbrev pub c1_of : CodedPicture → CodedComponent
-c1_of j = record { slicing = j.slicing; size = j.shape.colour; matrix = j.matrix; bands = j.coefficients.c1 }
+c1_of j = record { slicing = j.slicing; size = j.frame.colour; matrix = j.matrix; bands = j.coefficients.c1 }
 
 abbrev pub c2_of : CodedPicture → CodedComponent
-c2_of j = record { slicing = j.slicing; size = j.shape.colour; matrix = j.matrix; bands = j.coefficients.c2 }
+c2_of j = record { slicing = j.slicing; size = j.frame.colour; matrix = j.matrix; bands = j.coefficients.c2 }
 
 -- the lists of slice (sx, sy) where the restored values are these
 pub record Lists : Type 0 where

@@ -1,4 +1,5 @@
 pub mod Shape
+pub mod Frames
 pub mod Slicing
 pub mod Geometry
 pub mod SliceOrder

@@ -26,8 +26,8 @@ use Rattle.slice_decoder.specs.declared.SliceFault.{SliceFault}
 use Rattle.slice_decoder.specs.declared.SliceFault.TheVariants as faults
 use Rattle.slice_decoder.specs.Slice.{slice_at, is_small}
 use Rattle.slice_decoder.specs.Decoded.{IsRefused}
-use Rattle.picture_codec.specs.Pictures.{Frame}
-use Rattle.picture_codec.specs.Samples.{frame_of, picture_of}
+use Rattle.slice_geometry.specs.Frames.{Frame, frame_of}
+use Rattle.picture_codec.specs.Samples.{picture_of}
 use Rattle.picture_codec.specs.Decoding.{Decoding, HasTaken, IsTaken, IsSliceRefused, stack_of, wanted_of, column_of, row_of_slices, next_slice, synthesised_picture}
 use Rattle.picture_codec.proofs.Taking.{took_none, took_more}
 use Rattle.picture_codec.proofs.Steps.{column_in, number_is}
@@ -47,6 +47,7 @@ use Rattle.stream_units.specs.declared.pictures.Shown.{Shown}
 use Rattle.stream_units.specs.Turns.{Takes, IsShown, Shows}
 use Rattle.stream_units.specs.Stops.{stop_of, StopsOver}
 use Rattle.stream_units.specs.Parts.{IsReady, TookSlices, slice_reason}
+use Rattle.stream_units.proofs.SameShapes.{frame_is}
 use Rattle.stream_units.proofs.Steady.{units_laws}
 use Rattle.stream_units.proofs.Stopping.{units_table, stops_lost, stops_short, stops_refused}
 use Rattle.stream_units.proofs.Groups.{group_moves, group_refused}
@@ -361,13 +362,7 @@ slices_begun {z} {held0} {held1} {rest0} {rest1} {at} parts p q others b same = 
 
 -- the decoder makes pictures of the header's shape
 pub ready_frame : (parts header : HeaderParts) (shape : PictureShape) (p : Params) (d : Decoding) → IsReady shape p d → IsShapeOf shape header → header ≡ parts → frame_of d.shape ≡ frame_under parts
-ready_frame parts header shape p d ready is same =
-    let whole : frame_of shape ≡ frame_under header =
-    ap (λ n. let f : Frame = record { luma = n; colour = shape.colour; luma_depth = shape.luma_depth; colour_depth = shape.colour_depth } in f) is.luma
-    ∙ ap (λ n. let f : Frame = record { luma = luma_size header; colour = n; luma_depth = shape.luma_depth; colour_depth = shape.colour_depth } in f) is.colour
-    ∙ ap (λ n. let f : Frame = record { luma = luma_size header; colour = colour_size header; luma_depth = n; colour_depth = shape.colour_depth } in f) is.luma_depth
-    ∙ ap (λ n. let f : Frame = record { luma = luma_size header; colour = colour_size header; luma_depth = luma_depth header; colour_depth = n } in f) is.colour_depth in
-    ready.frame ∙ whole ∙ ap frame_under same
+ready_frame parts header shape p d ready is same = ready.frame ∙ frame_is header shape is ∙ ap frame_under same
 
 pub finished_shows : (parts : HeaderParts) (p : Params) (slices : List (List ℕ)) (old new : Decoding) → frame_of old.shape ≡ frame_under parts → old.params ≡ p → new ≡ record old { picture = Some (synthesised_picture old) }
     → synthesised_picture old ≡ picture_of (frame_of old.shape) old.params slices → Shows parts p slices new

@@ -14,10 +14,9 @@ use denote.Enum.Bare.{sameb, same_true}
 use Rattle.transform_params.specs.declared.TransformParams.{TransformParams}
 use Rattle.transform_params.specs.Params.{Params}
 use Rattle.transform_params.specs.Views.{params_of}
-use Rattle.picture_codec.specs.Pictures.{Frame}
+use Rattle.slice_geometry.specs.Frames.{Frame, frame_of}
 use Rattle.picture_codec.specs.Decoding.{Decoding}
 use Rattle.stream_units.specs.Parts.{IsReady}
-use Rattle.picture_codec.specs.Samples.{frame_of}
 use Rattle.sequence_header.proofs.Shapes.{and_both}
 
 abbrev is_size : Size → Size → Bool

@@ -3,12 +3,14 @@ use Rattle.std.proofs.Common.{◌≡◌, ◌∙◌, sym, ap, subst, ℕ}
 use Rattle.std.specs.Prelude.{max}
 use Rattle.std.proofs.Props.{props}
 use Rattle.sequence_header.specs.declared.parts.HeaderParts.{HeaderParts}
-use Rattle.sequence_header.specs.Coding.{IsShapeOf, colour_depth}
+use Rattle.sequence_header.specs.Coding.{IsShapeOf, luma_size, colour_size, luma_depth, colour_depth}
 use Rattle.slice_geometry.specs.declared.Size.{Size}
 use Rattle.slice_geometry.specs.declared.PictureShape.{PictureShape}
 use Rattle.slice_geometry.specs.Shape.{IsSize, IsDepth}
+use Rattle.slice_geometry.specs.Frames.{Frame, frame_of}
 use Rattle.slice_encoder.specs.Laws.{IsSteepOk}
 use Rattle.picture_codec.specs.Encoding.{IsSteepFor}
+use Rattle.stream_units.specs.Streams.{frame_under}
 use Rattle.stream_units.specs.Encoded.{Settings}
 use Rattle.stream_units.specs.Writer.{IsSteepUnder}
 
@@ -42,6 +44,14 @@ pub one_shape : (parts : HeaderParts) (a b : PictureShape) → IsShapeOf a parts
 one_shape parts a b x y =
     same a.luma b.luma a.colour b.colour a.luma_depth b.luma_depth a.colour_depth b.colour_depth (x.luma ∙ sym y.luma) (x.colour ∙ sym y.colour) (x.luma_depth ∙ sym y.luma_depth) (x.colour_depth ∙ sym y.colour_depth)
     a.luma_fits a.colour_fits a.luma_depth_fits a.colour_depth_fits b.luma_fits b.colour_fits b.luma_depth_fits b.colour_depth_fits
+
+-- its sizes and depths are the header's
+pub frame_is : (parts : HeaderParts) (shape : PictureShape) → IsShapeOf shape parts → frame_of shape ≡ frame_under parts
+frame_is parts shape is =
+    ap (λ n. let f : Frame = record { luma = n; colour = shape.colour; luma_depth = shape.luma_depth; colour_depth = shape.colour_depth } in f) is.luma
+    ∙ ap (λ n. let f : Frame = record { luma = luma_size parts; colour = n; luma_depth = shape.luma_depth; colour_depth = shape.colour_depth } in f) is.colour
+    ∙ ap (λ n. let f : Frame = record { luma = luma_size parts; colour = colour_size parts; luma_depth = n; colour_depth = shape.colour_depth } in f) is.luma_depth
+    ∙ ap (λ n. let f : Frame = record { luma = luma_size parts; colour = colour_size parts; luma_depth = luma_depth parts; colour_depth = n } in f) is.colour_depth
 
 -- the matrix is asked of the header's depths
 pub steep_for : (s : Settings) (shape : PictureShape) → IsShapeOf shape s.parts → IsSteepUnder s → IsSteepFor shape s.params

@@ -39,7 +39,7 @@ are_slices parts p k (slice ∷ slices) f =
 both_hold : (too_long small : Bool) → too_long ≡ false → small ≡ true → first_broken ((not too_long or_else reasons.LumaLengthTooLong) ∷ (small or_else reasons.CoefficientTooLarge) ∷ []) ≡ None
 both_hold too_long small e f = rw (e, f) refl
 
-module _ (parts : HeaderParts) (wavelet : Wavelet) (j : CodedPicture) (indices : List ℕ) (slices : List (List ℕ)) (allowed : IsAllowed j.slicing) (given : AreGiven j) (all : All IsIndex indices) (written : AreWritten j indices slices) (luma : j.shape.luma ≡ luma_size parts) (colour : j.shape.colour ≡ colour_size parts) (shares : HaveShares (params_of wavelet j) slices) where
+module _ (parts : HeaderParts) (wavelet : Wavelet) (j : CodedPicture) (indices : List ℕ) (slices : List (List ℕ)) (allowed : IsAllowed j.slicing) (given : AreGiven j) (all : All IsIndex indices) (written : AreWritten j indices slices) (luma : j.frame.luma ≡ luma_size parts) (colour : j.frame.colour ≡ colour_size parts) (shares : HaveShares (params_of wavelet j) slices) where
   is_slice : (n : ℕ) → n < length slices → IsSlice parts (params_of wavelet j) n (get_or slices n [])
   is_slice n lt =
       let s = j.slicing in
@@ -50,12 +50,12 @@ module _ (parts : HeaderParts) (wavelet : Wavelet) (j : CodedPicture) (indices :
       let down = row_in s n few in
       let same : get_or slices (slice_number s sx sy) [] ≡ get_or slices n [] = ap (λ k. get_or slices k []) (number_is s n few) in
       let rules : Size → Size → List ℕ → Type 0 = λ y c bytes. let slice = slice_at s y c sx sy bytes in first_broken ((not slice.too_long or_else reasons.LumaLengthTooLong) ∷ (is_small s y c sx sy j.matrix slice or_else reasons.CoefficientTooLarge) ∷ []) ≡ None in
-      let here : rules j.shape.luma j.shape.colour (get_or slices (slice_number s sx sy) []) =
+      let here : rules j.frame.luma j.frame.colour (get_or slices (slice_number s sx sy) []) =
       both_hold _ _ (not_too_long j indices slices allowed given all written sx sy across down) (is_small_there j indices slices allowed given all written sx sy across down) in
       record {
         many = shares.many n lt;
         fit = shares.fit n lt;
-        passes = subst (λ (y : Size). rules y (colour_size parts) (get_or slices n [])) luma (subst (λ (c : Size). rules j.shape.luma c (get_or slices n [])) colour (subst (rules j.shape.luma j.shape.colour) same here));
+        passes = subst (λ (y : Size). rules y (colour_size parts) (get_or slices n [])) luma (subst (λ (c : Size). rules j.frame.luma c (get_or slices n [])) colour (subst (rules j.frame.luma j.frame.colour) same here));
       }
 
   pub sliced : IsSliced parts (params_of wavelet j) slices

@@ -7,7 +7,7 @@ use Rattle.sequence_header.specs.declared.parts.HeaderParts.{HeaderParts}
 use Rattle.slice_decoder.specs.declared.SliceFault.{SliceFault}
 use Rattle.slice_decoder.specs.declared.SliceFault.TheVariants.{LumaLengthTooLong, CoefficientTooLarge}
 use Rattle.transform_params.specs.Params.{Params}
-use Rattle.picture_codec.specs.Samples.{frame_of}
+use Rattle.slice_geometry.specs.Frames.{frame_of}
 use Rattle.picture_codec.specs.Decoding.{Decoding, HasTaken}
 use Rattle.unit_table.specs.Grammar.{Grammar, bytes_at}
 use Rattle.unit_table.specs.Begun.{Begun}

@@ -2,7 +2,8 @@
 use Rattle.std.specs.Prelude.{◌≡◌, ◌≤◌, ℕ, Bool, true, false, List, [], ◌∷◌, ◌++◌, length, Option, Some, None, Result, Ok, Err}
 use Rattle.std.specs.Io.KnownBytes.{IsAtEnd}
 use Rattle.slice_geometry.specs.declared.unit_list.UnitShape.{UnitShape}
-use Rattle.picture_codec.specs.Samples.{PictureSeen, frame_of, picture_of}
+use Rattle.slice_geometry.specs.Frames.{frame_of}
+use Rattle.picture_codec.specs.Samples.{PictureSeen, picture_of}
 use Rattle.unit_table.specs.Fronts.{Finishes}
 use Rattle.unit_table.specs.Turn.{TakesUnit, MeetsFront}
 use Rattle.stream_units.specs.declared.stop.ReadStop.{ReadStop}

@@ -9,7 +9,7 @@ use Rattle.stream_units.specs.declared.reason.Reason.TheVariants as reasons
 use Rattle.stream_units.specs.declared.reason.Refusal.{Refusal}
 use Rattle.sequence_header.specs.declared.parts.HeaderParts.{HeaderParts}
 use Rattle.sequence_header.specs.Coding.{luma_size, colour_size, luma_depth, colour_depth}
-use Rattle.picture_codec.specs.Pictures.{Frame}
+use Rattle.slice_geometry.specs.Frames.{Frame}
 use Rattle.picture_codec.specs.Samples.{PictureSamples, picture_of}
 use Rattle.stream_units.specs.Units.{Past, nothing_yet, DataUnit, Picture, unit_behind, is_truncated, reason_of, unit_rows, after}
 

@@ -6,7 +6,8 @@ use Rattle.slice_geometry.specs.declared.unit_list.UnitShape.{UnitShape}
 use Rattle.slice_geometry.specs.Slicing.{slice_count, total_bytes}
 use Rattle.sequence_header.specs.declared.parts.HeaderParts.{HeaderParts}
 use Rattle.transform_params.specs.Params.{Params}
-use Rattle.picture_codec.specs.Samples.{frame_of, picture_of}
+use Rattle.slice_geometry.specs.Frames.{frame_of}
+use Rattle.picture_codec.specs.Samples.{picture_of}
 use Rattle.picture_codec.specs.Decoding.{Decoding}
 use Rattle.unit_table.specs.Begun.{Begun}
 use Rattle.stream_units.specs.declared.stop.ReadStop.{ReadStop}

@@ -6,7 +6,7 @@ ghost use Rattle.slice_geometry.specs.Slicing.{IsAllowed, total_bytes};
 ghost use Rattle.sequence_header.specs.declared.parts.HeaderParts.{HeaderParts};
 ghost use Rattle.transform_params.specs.Params.{params_rows};
 ghost use Rattle.transform_params.specs.Views.{params_of};
-ghost use Rattle.picture_codec.specs.Samples.{frame_of};
+ghost use Rattle.slice_geometry.specs.Frames.{frame_of};
 ghost use Rattle.picture_codec.specs.Decoding.{wanted_of};
 ghost use Rattle.unit_table.specs.Begun.{Begun};
 ghost use Rattle.stream_units.specs.declared.stop.ReadStop.TheVariants as stops;

@@ -4,7 +4,8 @@ ghost use Rattle.std.specs.Prelude.{◌≡◌, ◌%◌, ◌≤◌, Err, Some, No
 ghost use Rattle.transform_params.specs.Views.{params_of};
 ghost use Rattle.sequence_header.specs.Coding.{IsShapeOf};
 ghost use Rattle.picture_codec.specs.Encoding.{slices_of};
-ghost use Rattle.stream_units.specs.Writer.{Starts, WritesPicture, WritesEnd, WriteCause};
+ghost use Rattle.stream_units.specs.Streams.{frame_under};
+ghost use Rattle.stream_units.specs.Writer.{total_length, Starts, WritesPicture, WritesEnd, WriteCause};
 
 use crate::write_stop::WriteStop;
 use crate::written_units::{
@@ -45,7 +46,8 @@ impl Model for StreamWriter {
     ghost use Rattle.std.specs.Prelude.{◌≡◌, length};
     ghost use Rattle.transform_params.specs.Views.{params_of};
     ghost use Rattle.transform_params.specs.Fields.{unit_length};
-    ghost use Rattle.stream_units.specs.Writer.{WriterState};
+    ghost use Rattle.stream_units.specs.Streams.{frame_under};
+ghost use Rattle.stream_units.specs.Writer.{WriterState};
     ghost use Rattle.stream_units.specs.WriterInside.{IsSound, Encodes};
 
     ghost Value = { WriterState };
@@ -113,7 +115,7 @@ impl StreamWriter {
     pub fn picture<K: Sink>(&mut self, picture: &Picture, sink: &mut K) -> Result<(), WriteStop>
         requires open { self.old.ended ≡ false }
         requires shape { IsShapeOf picture.now.shape self.old.settings.parts }
-        ensures picture { self.old.stop ≡ None → WritesPicture self.old self.new (slices_of picture.now.shape self.old.settings.params picture.now.samples) (K.written sink.old) (K.written sink.new) result }
+        ensures picture { self.old.stop ≡ None → WritesPicture self.old self.new (slices_of (frame_under self.old.settings.parts) self.old.settings.params picture.now.samples) (K.written sink.old) (K.written sink.new) result }
         ensures cause { self.old.stop ≡ None → WriteCause (K.faults sink.old) (K.faults sink.new) result }
         ensures kept { IfSome self.old.stop (λ stop. (result ≡ Err stop) × (self.new ≡ self.old) × (K.written sink.new ≡ K.written sink.old) × (K.faults sink.new ≡ K.faults sink.old)) }
     {
@@ -181,7 +183,8 @@ impl StreamWriter {
 
     /// The units so far, by their lengths.
     pub fn shapes(&self) -> &UnitShapes
-        ensures { result.now.units ≡ self.now.shapes }
+        ensures units { result.now.units ≡ self.now.shapes }
+        ensures total { result.now.total ≡ total_length self.now.shapes }
     {
         &self.shapes
     }

@@ -2,6 +2,7 @@
 
 ghost use Rattle.std.specs.Prelude.{◌≡◌, ◌+◌, ◌<◌, ◌≤◌, ◌^◌, length};
 ghost use Rattle.sequence_header.specs.Bytes.{header_len};
+ghost use Rattle.slice_geometry.specs.Frames.{frame_of};
 ghost use Rattle.slice_geometry.specs.Units.{IsUnitAllowed};
 ghost use Rattle.transform_params.specs.Fields.{unit_length};
 ghost use Rattle.transform_params.specs.Views.{params_of};
@@ -42,7 +43,7 @@ pub(crate) fn write_picture_unit(
     requires shape { picture.now.shape ≡ encoder.old.shape }
     requires long { length unit.old ≡ unit_length encoder.old.params }
     requires small { length unit.old < 2 ^ 32 }
-    ensures unit { unit.new ≡ picture_unit encoder.old.params previous number (slices_of encoder.old.shape encoder.old.params picture.now.samples) }
+    ensures unit { unit.new ≡ picture_unit encoder.old.params previous number (slices_of (frame_of encoder.old.shape) encoder.old.params picture.now.samples) }
     ensures same_encoder { encoder.new ≡ encoder.old }
 {
     let mut head = [0; 13];

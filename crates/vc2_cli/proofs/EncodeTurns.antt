@@ -5,11 +5,11 @@ use Rattle.std.proofs.lemmas.List.{length-append}
 use Rattle.std.specs.Io.KnownBytes.{Appends, Consumes, IsAtEnd}
 use Rattle.vc2_io.specs.Outside.{Rose, GrewShort}
 use Rattle.vc2_io.proofs.Known.{Consumes-none, Consumes-then, Appends-none}
-use Rattle.slice_geometry.specs.declared.PictureShape.{PictureShape}
 use Rattle.slice_geometry.specs.Slicing.{slice_count}
 use Rattle.sequence_header.specs.Bytes.{header_len}
 use Rattle.transform_params.specs.Fields.{unit_length}
-use Rattle.picture_codec.specs.Samples.{PictureSamples, frame_of}
+use Rattle.slice_geometry.specs.Frames.{Frame, frame_of}
+use Rattle.picture_codec.specs.Samples.{PictureSamples}
 use Rattle.picture_codec.specs.Encoding.{slices_of}
 use Rattle.raw_video.specs.RawParse.{raw_length, RawFront, Shown, Over, LargeAt, CutAt, TooLong, raw_front}
 use Rattle.raw_video.specs.Reading.{ReadsFront, RawCause, RawReaderSeen, reader_after}
@@ -27,21 +27,21 @@ use Rattle.stream_units.specs.declared.reason.Reason.{Reason}
 use Rattle.stream_units.specs.declared.reason.Reason.TheVariants as reasons
 use Rattle.stream_units.specs.declared.write_stop.WriteStop.{WriteStop}
 use Rattle.stream_units.specs.declared.write_stop.WriteStop.TheVariants as stops
-use Rattle.stream_units.specs.Streams.{limit}
+use Rattle.stream_units.specs.Streams.{limit, frame_under}
 use Rattle.stream_units.specs.Encoded.{Settings, header_unit, picture_unit, end_unit}
 use Rattle.stream_units.specs.Writer.{WriterState, total_length, pictures_among, next_place, next_previous, next_number, plain_shape, picture_shape, started, after_picture, HasRoom, WritesPicture, WriteCause, Wrote, PictureStops}
 use Rattle.stream_units.proofs.WrittenShapes.{total_push, pictures_push, last_push, plain_length, picture_length, one_more}
 use Rattle.vc2_cli.specs.declared.status.Ending.{Ending}
 use Rattle.vc2_cli.specs.declared.status.Ending.TheVariants.{Done, Refused}
 use Rattle.vc2_cli.specs.Running.{IsDone, Runs, Change, Closes}
-use Rattle.vc2_cli.specs.Encode.{Encoding, raw_place, first_length, stream_place, previous_at, number_at, has_room, is_half, refused_at, closing, step_by, encode_machine, ClosesBy, told_of_fault, told_of_stop}
-use Rattle.vc2_cli.specs.EncodeTurn.{IsBehind, Goes}
+use Rattle.vc2_cli.specs.Encode.{raw_size, raw_place, first_length, stream_place, previous_at, number_at, has_room, is_half, refused_at, closing, step_by, encode_machine, ClosesBy, told_of_fault, told_of_stop}
+use Rattle.vc2_cli.specs.EncodeTurn.{IsBehind, HasRead, Goes}
 use Rattle.vc2_cli.proofs.Encoding.{encode_laws, none_short, none_due}
 use Rattle.vc2_cli.proofs.Exits.{cause_then}
 
 -- ---- the writer behind n pictures
 
-pub behind_first : (e : Encoding) (w : WriterState) → w ≡ started e.settings → IsBehind e 0 w
+pub behind_first : (e : Asked) (w : WriterState) → w ≡ started e → IsBehind e 0 w
 behind_first e w new = subst (IsBehind e 0) (sym new) (record {
   settings = refl;
   unended = refl;
@@ -51,7 +51,7 @@ behind_first e w new = subst (IsBehind e 0) (sym new) (record {
   pictures = refl;
 })
 
-behind_after : (e : Encoding) (n : ℕ) (w : WriterState) → 1 ≤ slice_count e.settings.params.slicing → IsBehind e n w → IsBehind e (suc n) (after_picture w)
+behind_after : (e : Asked) (n : ℕ) (w : WriterState) → 1 ≤ slice_count e.params.slicing → IsBehind e n w → IsBehind e (suc n) (after_picture w)
 behind_after e n w some b =
     let u = picture_shape w.settings.params (next_place w) in
     let long = picture_length w.settings.params (next_place w) in
@@ -60,7 +60,7 @@ behind_after e n w some b =
       settings = b.settings;
       unended = b.unended;
       going = b.going;
-      place = total_push w.shapes u ∙ ap (λ (k : ℕ). next_place w + k) (long ∙ same) ∙ ap (λ (k : ℕ). k + unit_length e.settings.params) b.place ∙ one_unit (first_length e) n (unit_length e.settings.params);
+      place = total_push w.shapes u ∙ ap (λ (k : ℕ). next_place w + k) (long ∙ same) ∙ ap (λ (k : ℕ). k + unit_length e.params) b.place ∙ one_unit (first_length e) n (unit_length e.params);
       previous = last_push 0 w.shapes u ∙ long ∙ same;
       pictures = omega (arith, pictures_push w.shapes u, one_more u.slices (subst (λ (s : Settings). 1 ≤ slice_count s.params.slicing) (sym b.settings) some), b.pictures);
     }
@@ -68,34 +68,37 @@ behind_after e n w some b =
     one_unit : (first n unit : ℕ) → (first + n * unit) + unit ≡ first + suc n * unit
     one_unit first n unit = grind arith
 
-pub behind_next : (e : Encoding) (n : ℕ) (w w' : WriterState) → 1 ≤ slice_count e.settings.params.slicing → IsBehind e n w → w' ≡ after_picture w → IsBehind e (n + 1) w'
+pub behind_next : (e : Asked) (n : ℕ) (w w' : WriterState) → 1 ≤ slice_count e.params.slicing → IsBehind e n w → w' ≡ after_picture w → IsBehind e (n + 1) w'
 behind_next e n w w' some b after =
     let one : suc n ≡ n + 1 = omega arith in
     subst (λ (k : ℕ). IsBehind e k w') one (subst (IsBehind e (suc n)) (sym after) (behind_after e n w some b))
 
 -- the unit of the next picture
-abbrev unit_at : Encoding → ℕ → PictureSamples → List ℕ
-unit_at e n p = picture_unit e.settings.params (previous_at e n) (number_at e n) (slices_of e.shape e.settings.params p)
+abbrev unit_at : Asked → ℕ → PictureSamples → List ℕ
+unit_at e n p = picture_unit e.params (previous_at e n) (number_at e n) (slices_of (frame_under e.parts) e.params p)
 
-unit_is : (e : Encoding) (n : ℕ) (w : WriterState) (shape : PictureShape) (p : PictureSamples) → IsBehind e n w → shape ≡ e.shape → picture_unit w.settings.params (next_previous w) (next_number w) (slices_of shape w.settings.params p) ≡ unit_at e n p
-unit_is e n w shape p b same =
-    ap (λ (x : PictureShape). picture_unit w.settings.params (next_previous w) (next_number w) (slices_of x w.settings.params p)) same
-    ∙ ap (λ (k : ℕ). picture_unit w.settings.params k (next_number w) (slices_of e.shape w.settings.params p)) b.previous
-    ∙ ap (λ (k : ℕ). picture_unit w.settings.params (previous_at e n) ((w.settings.first + k) % 2 ^ 32) (slices_of e.shape w.settings.params p)) b.pictures
-    ∙ ap (λ (s : Settings). picture_unit s.params (previous_at e n) ((s.first + n) % 2 ^ 32) (slices_of e.shape s.params p)) b.settings
+-- the unit that the writer writes
+abbrev unit_of : WriterState → PictureSamples → List ℕ
+unit_of w p = picture_unit w.settings.params (next_previous w) (next_number w) (slices_of (frame_under w.settings.parts) w.settings.params p)
 
-with_place : (e : Encoding) (n : ℕ) (w : WriterState) → IsBehind e n w → next_place w + unit_length w.settings.params + 13 ≡ stream_place e n + unit_length e.settings.params + 13
+unit_is : (e : Asked) (n : ℕ) (w : WriterState) (p : PictureSamples) → IsBehind e n w → unit_of w p ≡ unit_at e n p
+unit_is e n w p b =
+    ap (λ (k : ℕ). picture_unit w.settings.params k (next_number w) (slices_of (frame_under w.settings.parts) w.settings.params p)) b.previous
+    ∙ ap (λ (k : ℕ). picture_unit w.settings.params (previous_at e n) ((w.settings.first + k) % 2 ^ 32) (slices_of (frame_under w.settings.parts) w.settings.params p)) b.pictures
+    ∙ ap (λ (s : Settings). picture_unit s.params (previous_at e n) ((s.first + n) % 2 ^ 32) (slices_of (frame_under s.parts) s.params p)) b.settings
+
+with_place : (e : Asked) (n : ℕ) (w : WriterState) → IsBehind e n w → next_place w + unit_length w.settings.params + 13 ≡ stream_place e n + unit_length e.params + 13
 with_place e n w b = ap (λ (k : ℕ). k + unit_length w.settings.params + 13) b.place ∙ ap (λ (s : Settings). stream_place e n + unit_length s.params + 13) b.settings
 
-room_is : (e : Encoding) (n : ℕ) (w : WriterState) → IsBehind e n w → HasRoom w → has_room e n ≡ true
-room_is e n w b room = le-leb (stream_place e n + unit_length e.settings.params + 13) limit (subst (λ (k : ℕ). k ≤ limit) (with_place e n w b) room)
+room_is : (e : Asked) (n : ℕ) (w : WriterState) → IsBehind e n w → HasRoom w → has_room e n ≡ true
+room_is e n w b room = le-leb (stream_place e n + unit_length e.params + 13) limit (subst (λ (k : ℕ). k ≤ limit) (with_place e n w b) room)
 
-no_room_is : (e : Encoding) (n : ℕ) (w : WriterState) → IsBehind e n w → (HasRoom w → ⊥) → has_room e n ≡ false
+no_room_is : (e : Asked) (n : ℕ) (w : WriterState) → IsBehind e n w → (HasRoom w → ⊥) → has_room e n ≡ false
 no_room_is e n w b none = by (has_room e n) refl
   where
     by : (room : Bool) → has_room e n ≡ room → room ≡ false
     by false t = refl
-    by true t = absurd (none (subst (λ (k : ℕ). k ≤ limit) (sym (with_place e n w b)) (leb-true (stream_place e n + unit_length e.settings.params + 13) limit t)))
+    by true t = absurd (none (subst (λ (k : ℕ). k ≤ limit) (sym (with_place e n w b)) (leb-true (stream_place e n + unit_length e.params + 13) limit t)))
 
 -- ---- the loop
 
@@ -111,13 +114,12 @@ refused_done result place reason ending told is done = let same : refused_at pla
 nothing_more : (rest : Option (List ℕ)) (taken more : List ℕ) → IsAtEnd rest → rest ≡ Some more → taken ++ more ≡ taken
 nothing_more rest taken more over told = let none = subst IsAtEnd told over in let nil : more ≡ [] = none in ap (λ (l : List ℕ). taken ++ l) nil ∙ append-nil taken
 
-pub goes_first : (e : Encoding) (rest out0 out1 : Option (List ℕ)) (reader : RawReaderSeen) (shape : PictureShape) (w : WriterState) → 0 < raw_length (frame_of e.shape) → reader ≡ record { shape = e.shape; place = 0; refused = false } → shape ≡ e.shape → w ≡ started e.settings
-    → Appends out0 out1 (header_unit e.settings.parts) → Goes e 0 rest rest out0 out1 reader shape w
-goes_first e rest out0 out1 reader shape w some new same start wrote =
-    let none : 0 ≡ raw_place e 0 = no_bytes (raw_length (frame_of e.shape)) in
+pub goes_first : (e : Asked) (rest out0 out1 : Option (List ℕ)) (r : RawReaderSeen) (w : WriterState) → 0 < raw_size e → frame_of r.shape ≡ frame_under e.parts → r.place ≡ 0 → r.refused ≡ false → w ≡ started e
+    → Appends out0 out1 (header_unit e.parts) → Goes e 0 rest rest out0 out1 r w
+goes_first e rest out0 out1 r w some frame at open start wrote =
+    let none : 0 ≡ raw_place e 0 = no_bytes (raw_size e) in
     record {
-      reader_is = new ∙ ap (λ (k : ℕ). record { shape = e.shape; place = k; refused = false }) none;
-      shape_is = same;
+      reader = record { frame = frame; place = at ∙ none; open = open };
       writer = behind_first e w start;
       taken = [];
       total = none;
@@ -129,42 +131,45 @@ goes_first e rest out0 out1 reader shape w some new same start wrote =
     no_bytes : (size : ℕ) → 0 ≡ 0 * size
     no_bytes size = omega arith
 
-module _ (e : Encoding) (n : ℕ) (rest0 rest1 out0 out1 : Option (List ℕ)) (reader : RawReaderSeen) (shape : PictureShape) (w : WriterState) (some : 0 < raw_length (frame_of e.shape)) (goes : Goes e n rest0 rest1 out0 out1 reader shape w) where
+module _ (e : Asked) (n : ℕ) (rest0 rest1 out0 out1 : Option (List ℕ)) (reader : RawReaderSeen) (w : WriterState) (some : 0 < raw_size e) (goes : Goes e n rest0 rest1 out0 out1 reader w) where
   laws : IsMachine (encode_machine e)
   laws = encode_laws e some
 
   -- what the reader read stands in front
-  at_place : (rest2 : Option (List ℕ)) (p : PictureSamples) (result : Result RawStep RawFault) → ReadsFront (frame_of reader.shape) reader.place rest1 rest2 p result → ReadsFront (frame_of e.shape) (raw_place e n) rest1 rest2 p result
-  at_place rest2 p result r = subst (λ (x : RawReaderSeen). ReadsFront (frame_of x.shape) x.place rest1 rest2 p result) goes.reader_is r
+  at_place : (rest2 : Option (List ℕ)) (p : PictureSamples) (result : Result RawStep RawFault) → ReadsFront (frame_of reader.shape) reader.place rest1 rest2 p result → ReadsFront (frame_under e.parts) (raw_place e n) rest1 rest2 p result
+  at_place rest2 p result r = subst (λ (k : ℕ). ReadsFront (frame_under e.parts) k rest1 rest2 p result) goes.reader.place (subst (λ (f : Frame). ReadsFront f reader.place rest1 rest2 p result) goes.reader.frame r)
 
-  most_taken : (rest2 : Option (List ℕ)) (p : PictureSamples) (result : Result RawStep RawFault) → ReadsFront (frame_of e.shape) (raw_place e n) rest1 rest2 p result → TakesAtMost (2 ^ 40 + 1) rest0 rest2
+  most_taken : (rest2 : Option (List ℕ)) (p : PictureSamples) (result : Result RawStep RawFault) → ReadsFront (frame_under e.parts) (raw_place e n) rest1 rest2 p result → TakesAtMost (2 ^ 40 + 1) rest0 rest2
   most_taken rest2 p result r = (goes.taken ++ r.taken, omega (arith, length-append goes.taken r.taken, goes.total, r.limit), Consumes-then rest0 rest1 rest2 goes.taken r.taken goes.took r.took)
 
-  module _ (rest2 : Option (List ℕ)) (p : PictureSamples) (r : ReadsFront (frame_of e.shape) (raw_place e n) rest1 rest2 p (Ok steps.Picture)) where
+  module _ (rest2 : Option (List ℕ)) (p : PictureSamples) (r : ReadsFront (frame_under e.parts) (raw_place e n) rest1 rest2 p (Ok steps.Picture)) where
     step_shown : (more : List ℕ) → has_room e n ≡ true → (encode_machine e).step n (r.taken ++ more) ≡ Whole (length r.taken) (unit_at e n p) (n + 1)
     step_shown more room =
         ap (step_by e n) (r.front.2 more)
         ∙ whole (has_room e n) room
       where
-        whole : (room : Bool) → room ≡ true → cond room (Whole (raw_length (frame_of e.shape)) (unit_at e n p) (n + 1)) (Ends (refused_at (raw_place e n) reasons.StreamTooLong) []) ≡ Whole (length r.taken) (unit_at e n p) (n + 1)
+        whole : (room : Bool) → room ≡ true → cond room (Whole (raw_size e) (unit_at e n p) (n + 1)) (Ends (refused_at (raw_place e n) reasons.StreamTooLong) []) ≡ Whole (length r.taken) (unit_at e n p) (n + 1)
         whole false t = absurd cc
         whole true t = ap (λ (k : ℕ). Whole k (unit_at e n p) (n + 1)) (sym r.front.0)
 
     some_taken : 0 < length r.taken
     some_taken = omega (arith, some, r.front.0)
 
-    pub goes_more : (out2 : Option (List ℕ)) (reader' : RawReaderSeen) (shape' : PictureShape) (w' : WriterState) → 1 ≤ slice_count e.settings.params.slicing → reader' ≡ reader_after reader (Ok steps.Picture) → shape' ≡ shape
-        → WritesPicture w w' (slices_of shape w.settings.params p) out1 out2 (Ok tt) → Goes e (n + 1) rest0 rest2 out0 out2 reader' shape' w'
-    goes_more out2 reader' shape' w' slices after same wrote =
-        let text : Appends out1 out2 (unit_at e n p) = subst (λ (l : List ℕ). Appends out1 out2 l) (unit_is e n w shape p goes.writer goes.shape_is) wrote.wrote in
+    pub goes_more : (out2 : Option (List ℕ)) (reader' : RawReaderSeen) (w' : WriterState) → 1 ≤ slice_count e.params.slicing → reader' ≡ reader_after reader (Ok steps.Picture)
+        → WritesPicture w w' (slices_of (frame_under w.settings.parts) w.settings.params p) out1 out2 (Ok tt) → Goes e (n + 1) rest0 rest2 out0 out2 reader' w'
+    goes_more out2 reader' w' slices after wrote =
+        let text : Appends out1 out2 (unit_at e n p) = subst (λ (l : List ℕ). Appends out1 out2 l) (unit_is e n w p goes.writer) wrote.wrote in
         let room = room_is e n w goes.writer wrote.why in
         record {
-          reader_is = after ∙ ap (λ (x : RawReaderSeen). reader_after x (Ok steps.Picture)) goes.reader_is ∙ ap (λ (k : ℕ). record { shape = e.shape; place = k; refused = false }) (next_place_is n (raw_length (frame_of e.shape)));
-          shape_is = same ∙ goes.shape_is;
+          reader = subst (HasRead e (n + 1)) (sym after) (record {
+            frame = goes.reader.frame;
+            place = ap (λ (k : ℕ). k + raw_length (frame_of reader.shape)) goes.reader.place ∙ ap (λ (f : Frame). raw_place e n + raw_length f) goes.reader.frame ∙ next_place_is n (raw_size e);
+            open = goes.reader.open;
+          });
           writer = behind_next e n w w' slices goes.writer wrote.after;
           taken = goes.taken ++ r.taken;
-          total = length-append goes.taken r.taken ∙ ap (λ (k : ℕ). k + length r.taken) goes.total ∙ ap (λ (k : ℕ). raw_place e n + k) r.front.0 ∙ next_place_is n (raw_length (frame_of e.shape));
-          most = subst (λ (k : ℕ). k ≤ 2 ^ 40) (next_place_is n (raw_length (frame_of e.shape))) r.front.1;
+          total = length-append goes.taken r.taken ∙ ap (λ (k : ℕ). k + length r.taken) goes.total ∙ ap (λ (k : ℕ). raw_place e n + k) r.front.0 ∙ next_place_is n (raw_size e);
+          most = subst (λ (k : ℕ). k ≤ 2 ^ 40) (next_place_is n (raw_size e)) r.front.1;
           took = Consumes-then rest0 rest1 rest2 goes.taken r.taken goes.took r.took;
           holds = holds_more laws rest2 out2 r.taken r.taken [] (unit_at e n p) (n + 1) goes.holds r.took (sym (append-nil r.taken)) some_taken (λ more fits. step_shown more room) text;
         }
@@ -174,10 +179,10 @@ module _ (e : Encoding) (n : ℕ) (rest0 rest1 out0 out1 : Option (List ℕ)) (r
 
     -- its unit was not written
     pub runs_stopped : (out2 : Option (List ℕ)) (w' : WriterState) (place src0 src1 src2 to0 to1 to2 : ℕ) (stop : WriteStop) → place ≡ reader.place → src1 ≡ src0 → src2 ≡ src1 → to1 ≡ to0
-        → WritesPicture w w' (slices_of shape w.settings.params p) out1 out2 (Err stop) → WriteCause {X = Unit {0}} to1 to2 (Err stop)
+        → WritesPicture w w' (slices_of (frame_under w.settings.parts) w.settings.params p) out1 out2 (Err stop) → WriteCause {X = Unit {0}} to1 to2 (Err stop)
         → Runs (encode_machine e) IsDone (record { was = rest0; is = rest2; faults_were = src0; faults_are = src2 }) (record { was = out0; is = out2; faults_were = to0; faults_are = to2 }) (told_of_stop place stop)
     runs_stopped out2 w' place src0 src1 src2 to0 to1 to2 stops.OutFault at steady read steady_out wrote why =
-        let short : GrewShort out1 out2 (unit_at e n p) = subst (λ (l : List ℕ). GrewShort out1 out2 l) (unit_is e n w shape p goes.writer goes.shape_is) wrote.wrote in
+        let short : GrewShort out1 out2 (unit_at e n p) = subst (λ (l : List ℕ). GrewShort out1 out2 l) (unit_is e n w p goes.writer) wrote.wrote in
         record {
           ran = holds_out_fault laws rest2 out2 r.taken r.taken [] (unit_at e n p) (n + 1) goes.holds r.took (sym (append-nil r.taken)) some_taken (λ more fits. step_shown more (room_is e n w goes.writer wrote.why)) (none_due e n r.taken r.most) short;
           limit = most_taken rest2 p (Ok steps.Picture) r;
@@ -186,7 +191,7 @@ module _ (e : Encoding) (n : ℕ) (rest0 rest1 out0 out1 : Option (List ℕ)) (r
         }
     runs_stopped out2 w' place src0 src1 src2 to0 to1 to2 stops.StreamTooLong at steady read steady_out wrote why =
         let none = no_room_is e n w goes.writer wrote.why in
-        let here : place ≡ raw_place e n = at ∙ ap (λ (x : RawReaderSeen). x.place) goes.reader_is in
+        let here : place ≡ raw_place e n = at ∙ goes.reader.place in
         record {
           ran = holds_ended laws rest2 out2 r.taken [] (refused_at place reasons.StreamTooLong) goes.holds r.took
               (λ more told. ap (step_by e n) (r.front.2 more) ∙ too_long (has_room e n) none ∙ ap (λ (k : ℕ). Ends (refused_at k reasons.StreamTooLong) []) (sym here))
@@ -196,7 +201,7 @@ module _ (e : Encoding) (n : ℕ) (rest0 rest1 out0 out1 : Option (List ℕ)) (r
           end = λ ending e done. refused_done (told_of_stop place stops.StreamTooLong) place reasons.StreamTooLong ending refl e done;
         }
       where
-        too_long : (room : Bool) → room ≡ false → cond room (Whole (raw_length (frame_of e.shape)) (unit_at e n p) (n + 1)) (Ends (refused_at (raw_place e n) reasons.StreamTooLong) []) ≡ Ends (refused_at (raw_place e n) reasons.StreamTooLong) []
+        too_long : (room : Bool) → room ≡ false → cond room (Whole (raw_size e) (unit_at e n p) (n + 1)) (Ends (refused_at (raw_place e n) reasons.StreamTooLong) []) ≡ Ends (refused_at (raw_place e n) reasons.StreamTooLong) []
         too_long true t = absurd cc
         too_long false t = refl
     runs_stopped out2 w' place src0 src1 src2 to0 to1 to2 stops.MatrixTooSteep at steady read steady_out wrote why = absurd wrote.why
@@ -209,7 +214,7 @@ module _ (e : Encoding) (n : ℕ) (rest0 rest1 out0 out1 : Option (List ℕ)) (r
 
   -- there is no next picture
   pub runs_refused : (rest2 : Option (List ℕ)) (p : PictureSamples) (src0 src1 src2 to0 to1 : ℕ) (fault : RawFault) → src1 ≡ src0 → to1 ≡ to0
-      → ReadsFront (frame_of e.shape) (raw_place e n) rest1 rest2 p (Err fault) → RawCause {X = RawStep} src1 src2 (Err fault)
+      → ReadsFront (frame_under e.parts) (raw_place e n) rest1 rest2 p (Err fault) → RawCause {X = RawStep} src1 src2 (Err fault)
       → Runs (encode_machine e) IsDone (record { was = rest0; is = rest2; faults_were = src0; faults_are = src2 }) (record { was = out0; is = out1; faults_were = to0; faults_are = to1 }) (told_of_fault fault)
   runs_refused rest2 p src0 src1 src2 to0 to1 (faults.SampleTooLarge at) steady steady_out r why = record {
     ran = holds_ended laws rest2 out1 r.taken [] (refused_at at reasons.SampleTooLarge) goes.holds r.took (λ more told. ap (step_by e n) (r.front more)) (Appends-none out1 out1 refl);
@@ -237,11 +242,11 @@ module _ (e : Encoding) (n : ℕ) (rest0 rest1 out0 out1 : Option (List ℕ)) (r
   }
 
   -- the input is over
-  module _ (rest2 : Option (List ℕ)) (p : PictureSamples) (r : ReadsFront (frame_of e.shape) (raw_place e n) rest1 rest2 p (Ok steps.End)) where
-    over : (more : List ℕ) → rest2 ≡ Some more → (encode_machine e).step n (r.taken ++ more) ≡ closing (is_half e.settings.parts.coding n) (raw_place e n) (previous_at e n)
+  module _ (rest2 : Option (List ℕ)) (p : PictureSamples) (r : ReadsFront (frame_under e.parts) (raw_place e n) rest1 rest2 p (Ok steps.End)) where
+    over : (more : List ℕ) → rest2 ≡ Some more → (encode_machine e).step n (r.taken ++ more) ≡ closing (is_half e.parts.coding n) (raw_place e n) (previous_at e n)
     over more told = ap (λ (l : List ℕ). (encode_machine e).step n l) (nothing_more rest2 r.taken more r.front.1 told) ∙ ap (step_by e n) r.front.2
 
-    ran_closed : (out2 : Option (List ℕ)) (ending : Ending) (last : List ℕ) (result : Result Ending Halt) → closing (is_half e.settings.parts.coding n) (raw_place e n) (previous_at e n) ≡ Ends ending last → Closes ending last out1 out2 result
+    ran_closed : (out2 : Option (List ℕ)) (ending : Ending) (last : List ℕ) (result : Result Ending Halt) → closing (is_half e.parts.coding n) (raw_place e n) (previous_at e n) ≡ Ends ending last → Closes ending last out1 out2 result
         → Ran (encode_machine e) rest0 rest2 out0 out2 result
     ran_closed out2 ending last (Ok told) is c = subst (λ (x : Ending). Ran (encode_machine e) rest0 rest2 out0 out2 (Ok x)) (sym c.0)
         (holds_ended laws rest2 out2 r.taken last ending goes.holds r.took (λ more same. over more same ∙ is) c.1)
@@ -250,24 +255,24 @@ module _ (e : Encoding) (n : ℕ) (rest0 rest1 out0 out1 : Option (List ℕ)) (r
     ran_closed out2 ending last (Err halts.NoMemory) is c =
         subst (λ (o : Option (List ℕ)). Ran (encode_machine e) rest0 rest2 out0 o (Err halts.NoMemory)) (sym c) (holds_no_memory laws rest2 r.taken goes.holds r.took (none_due e n r.taken r.most))
 
-    pub runs_closed : (out2 : Option (List ℕ)) (coding pictures place src0 src1 src2 to0 to1 to2 : ℕ) (result : Result Ending Halt) → coding ≡ e.settings.parts.coding → pictures ≡ n → place ≡ reader.place → src1 ≡ src0 → src2 ≡ src1 → to1 ≡ to0
+    pub runs_closed : (out2 : Option (List ℕ)) (coding pictures place src0 src1 src2 to0 to1 to2 : ℕ) (result : Result Ending Halt) → coding ≡ e.parts.coding → pictures ≡ n → place ≡ reader.place → src1 ≡ src0 → src2 ≡ src1 → to1 ≡ to0
         → ClosesBy (closing (is_half coding pictures) place (next_previous w)) out1 out2 result → HaltHasCause 0 0 to1 to2 result
         → Runs (encode_machine e) IsDone (record { was = rest0; is = rest2; faults_were = src0; faults_are = src2 }) (record { was = out0; is = out2; faults_were = to0; faults_are = to2 }) result
     runs_closed out2 coding pictures place src0 src1 src2 to0 to1 to2 result same count at steady read steady_out closes why = record {
-      ran = by (closing (is_half e.settings.parts.coding n) (raw_place e n) (previous_at e n)) refl (subst (λ (s : Step ℕ Ending). ClosesBy s out1 out2 result) here closes);
+      ran = by (closing (is_half e.parts.coding n) (raw_place e n) (previous_at e n)) refl (subst (λ (s : Step ℕ Ending). ClosesBy s out1 out2 result) here closes);
       limit = most_taken rest2 p (Ok steps.End) r;
       cause = cause_then src0 src2 to0 to1 to2 result (read ∙ steady) steady_out why;
       end = λ ending e done. r.front.1;
     }
       where
-        here : closing (is_half coding pictures) place (next_previous w) ≡ closing (is_half e.settings.parts.coding n) (raw_place e n) (previous_at e n)
+        here : closing (is_half coding pictures) place (next_previous w) ≡ closing (is_half e.parts.coding n) (raw_place e n) (previous_at e n)
         here =
             ap (λ (k : ℕ). closing (is_half k pictures) place (next_previous w)) same
-            ∙ ap (λ (k : ℕ). closing (is_half e.settings.parts.coding k) place (next_previous w)) count
-            ∙ ap (λ (k : ℕ). closing (is_half e.settings.parts.coding n) k (next_previous w)) (at ∙ ap (λ (x : RawReaderSeen). x.place) goes.reader_is)
-            ∙ ap (λ (k : ℕ). closing (is_half e.settings.parts.coding n) (raw_place e n) k) goes.writer.previous
+            ∙ ap (λ (k : ℕ). closing (is_half e.parts.coding k) place (next_previous w)) count
+            ∙ ap (λ (k : ℕ). closing (is_half e.parts.coding n) k (next_previous w)) (at ∙ goes.reader.place)
+            ∙ ap (λ (k : ℕ). closing (is_half e.parts.coding n) (raw_place e n) k) goes.writer.previous
 
-        by : (s : Step ℕ Ending) → closing (is_half e.settings.parts.coding n) (raw_place e n) (previous_at e n) ≡ s → ClosesBy s out1 out2 result → Ran (encode_machine e) rest0 rest2 out0 out2 result
+        by : (s : Step ℕ Ending) → closing (is_half e.parts.coding n) (raw_place e n) (previous_at e n) ≡ s → ClosesBy s out1 out2 result → Ran (encode_machine e) rest0 rest2 out0 out2 result
         by (Ends ending last) is c = ran_closed out2 ending last result is c
         by (Whole size text left) is c = absurd c
 

@@ -2,15 +2,18 @@
 use Rattle.std.proofs.Common.{◌≡◌, ℕ, zero, suc, ◌+◌, ◌-◌, ◌*◌, ◌%◌, ◌^◌, ◌<◌, ◌≤◌, cond, ltb, eqb, leb, Bool, true, false, List, [], ◌∷◌, ◌++◌, length, take, drop, Option, Some, None, Result, Ok, Err, refl, sym, ap, ◌∙◌, arith, eq-eqb}
 use Rattle.std.proofs.lemmas.Bool.{eqb-true}
 use Rattle.std.proofs.lemmas.List.{length-take, length-append, take-append-le}
-use Rattle.picture_codec.specs.Pictures.{Frame}
-use Rattle.picture_codec.specs.Samples.{PictureSamples, frame_of}
+use Rattle.slice_geometry.specs.Frames.{Frame}
+use Rattle.picture_codec.specs.Samples.{PictureSamples}
 use Rattle.raw_video.specs.RawText.{is_wide}
 use Rattle.raw_video.specs.RawParse.{raw_length, samples_in, sample_bounds, first_large, picture_from, RawFront, Shown, Over, LargeAt, CutAt, TooLong, front_of, raw_front}
 use Rattle.vc2_run.specs.Walk.{Step, Ends, Whole, IsMachine, NoneWhole}
 use Rattle.vc2_run.specs.Window.{NoneDue}
 use Rattle.vc2_run.proofs.Walks.{none_if}
 use Rattle.vc2_cli.specs.declared.status.Ending.{Ending}
-use Rattle.vc2_cli.specs.Encode.{Encoding, raw_place, has_room, closing, is_half, step_by, encode_machine}
+use Rattle.stream_units.specs.Streams.{frame_under}
+use Rattle.channel_schedule.specs.declared.schedule.Schedule.{Schedule}
+use Rattle.vc2_words.specs.Settings.{Asked}
+use Rattle.vc2_cli.specs.Encode.{raw_place, has_room, closing, is_half, step_by, encode_machine}
 
 -- ---- a picture in front
 
@@ -60,43 +63,43 @@ shown_stays f place bytes more s h =
 -- ---- the machine
 
 -- a whole unit is a picture in front
-record IsPicture (e : Encoding) (front : RawFront) (size : ℕ) : Type 0 where
+record IsPicture (e : Asked) (front : RawFront) (size : ℕ) : Type 0 where
   p : PictureSamples
   is : front ≡ Shown p
-  long : size ≡ raw_length (frame_of e.shape)
+  long : size ≡ raw_length (frame_under e.parts)
 
 with_room : (room : Bool) (size size' : ℕ) (text text' : List ℕ) (left left' : ℕ) (ending : Ending) → cond room (Whole size text left) (Ends ending []) ≡ Whole size' text' left' → size' ≡ size
 with_room true size size' text text' left left' ending e = let same : size ≡ size' = cc in sym same
 with_room false size size' text text' left left' ending e = absurd cc
 
-half_ends : (half : Bool) (place previous size left : ℕ) (text : List ℕ) → closing half place previous ≡ Whole size text left → ⊥
-half_ends true place previous size left text e = cc
-half_ends false place previous size left text e = cc
+half_ends : (half : Bool) (place previous : ℕ) (schedule : Schedule) (size left : ℕ) (text : List ℕ) → closing half place previous schedule ≡ Whole size text left → ⊥
+half_ends true place previous schedule size left text e = cc
+half_ends false place previous schedule size left text e = cc
 
-is_picture : (e : Encoding) (n : ℕ) (front : RawFront) (size left : ℕ) (text : List ℕ) → step_by e n front ≡ Whole size text left → IsPicture e front size
-is_picture e n (Shown p) size left text h = record { p = p; is = refl; long = with_room (has_room e n) (raw_length (frame_of e.shape)) size _ text _ left _ h }
-is_picture e n Over size left text h = absurd (half_ends _ _ _ size left text h)
+is_picture : (e : Asked) (n : ℕ) (front : RawFront) (size left : ℕ) (text : List ℕ) → step_by e n front ≡ Whole size text left → IsPicture e front size
+is_picture e n (Shown p) size left text h = record { p = p; is = refl; long = with_room (has_room e n) (raw_length (frame_under e.parts)) size _ text _ left _ h }
+is_picture e n Over size left text h = absurd (half_ends _ _ _ _ size left text h)
 is_picture e n (LargeAt place) size left text h = absurd cc
 is_picture e n (CutAt place) size left text h = absurd cc
 is_picture e n TooLong size left text h = absurd cc
 
 -- a picture has a byte
-pub encode_laws : (e : Encoding) → 0 < raw_length (frame_of e.shape) → IsMachine (encode_machine e)
+pub encode_laws : (e : Asked) → 0 < raw_length (frame_under e.parts) → IsMachine (encode_machine e)
 encode_laws e some = record {
-  some = λ n bytes size text left h. omega (arith, some, (is_picture e n (raw_front (frame_of e.shape) (raw_place e n) bytes) size left text h).long);
+  some = λ n bytes size text left h. omega (arith, some, (is_picture e n (raw_front (frame_under e.parts) (raw_place e n) bytes) size left text h).long);
   inside = λ n bytes size text left h.
-      let s = is_picture e n (raw_front (frame_of e.shape) (raw_place e n) bytes) size left text h in
-      omega (arith, s.long, shown_length (frame_of e.shape) (raw_place e n) bytes s.p s.is);
+      let s = is_picture e n (raw_front (frame_under e.parts) (raw_place e n) bytes) size left text h in
+      omega (arith, s.long, shown_length (frame_under e.parts) (raw_place e n) bytes s.p s.is);
   stable = λ n bytes more size text left h.
-      let s = is_picture e n (raw_front (frame_of e.shape) (raw_place e n) bytes) size left text h in
-      ap (step_by e n) (shown_stays (frame_of e.shape) (raw_place e n) bytes more s.p s.is) ∙ ap (step_by e n) (sym s.is) ∙ h;
+      let s = is_picture e n (raw_front (frame_under e.parts) (raw_place e n) bytes) size left text h in
+      ap (step_by e n) (shown_stays (frame_under e.parts) (raw_place e n) bytes more s.p s.is) ∙ ap (step_by e n) (sym s.is) ∙ h;
 }
 
 -- fewer bytes than a picture's are no unit
-pub none_short : (e : Encoding) (n : ℕ) (bytes : List ℕ) → length bytes < raw_length (frame_of e.shape) → NoneWhole ((encode_machine e).step n bytes)
+pub none_short : (e : Asked) (n : ℕ) (bytes : List ℕ) → length bytes < raw_length (frame_under e.parts) → NoneWhole ((encode_machine e).step n bytes)
 none_short e n bytes few = none_if ((encode_machine e).step n bytes) (λ size text left h.
-    let s = is_picture e n (raw_front (frame_of e.shape) (raw_place e n) bytes) size left text h in
-    omega (arith, few, shown_length (frame_of e.shape) (raw_place e n) bytes s.p s.is))
+    let s = is_picture e n (raw_front (frame_under e.parts) (raw_place e n) bytes) size left text h in
+    omega (arith, few, shown_length (frame_under e.parts) (raw_place e n) bytes s.p s.is))
 
-pub none_due : (e : Encoding) (n : ℕ) (bytes : List ℕ) → length bytes ≤ raw_length (frame_of e.shape) → NoneDue (encode_machine e) n bytes
+pub none_due : (e : Asked) (n : ℕ) (bytes : List ℕ) → length bytes ≤ raw_length (frame_under e.parts) → NoneDue (encode_machine e) n bytes
 none_due e n bytes most long = none_short e n (take (length bytes - 4096) bytes) (omega (arith, most, long, length-take (length bytes - 4096) bytes))

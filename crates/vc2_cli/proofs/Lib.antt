@@ -3,6 +3,7 @@ pub mod Parts
 pub mod WorkedRows
 pub mod HeaderRuns
 pub mod Decoding
+pub mod Flat
 pub mod Encoding
 pub mod EncodeTurns
 pub mod Chaining

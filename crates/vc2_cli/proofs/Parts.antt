@@ -1,12 +1,12 @@
 -- What stands after a status, part by part, as the clauses of `run` have it.
-use Rattle.std.proofs.Common.{◌≡◌, ℕ, List, Option, None, Some, IfSome, Result, Ok, Err, refl, sym, subst, ◌∙◌}
+use Rattle.std.proofs.Common.{◌≡◌, ℕ, List, Option, None, Some, IfSome, Result, Ok, Err, refl, sym, ap, subst, ◌∙◌, cond, Bool, true, false}
 use Rattle.std.specs.Prelude.{IfErr, MatchResult}
 use Rattle.std.specs.Io.KnownBytes.{Appends, Keeps}
 use Rattle.vc2_io.specs.Outside.{GrewShort}
 use Rattle.vc2_cli.specs.declared.status.Status.{Status}
 use Rattle.vc2_cli.specs.declared.status.Status.TheVariants as st
 use Rattle.vc2_cli.specs.declared.status.Ending.{Ending}
-use Rattle.vc2_cli.specs.declared.status.Ending.TheVariants.{Done, Decoded, Accepted, Scheduled, Refused}
+use Rattle.vc2_cli.specs.declared.status.Ending.TheVariants.{Done, Decoded, Accepted, Scheduled, Encoded, Refused}
 use Rattle.channel_schedule.specs.declared.schedule.Schedule.{Schedule}
 use Rattle.channel_schedule.specs.declared.schedule.Outcome.TheVariants as outcomes
 use Rattle.channel_schedule.specs.Rates.{IsSchedule}
@@ -14,7 +14,14 @@ use Rattle.vc2_words.specs.declared.keys.WordFault.{WordFault}
 use Rattle.vc2_words.specs.declared.words.Command.{Command}
 use Rattle.vc2_words.specs.Commands.{AskedCommand, chain, header, decode, check, encode, trial, seen, asked_by}
 use Rattle.vc2_words.proofs.Settled.{words_say}
-use Rattle.vc2_cli.specs.Words.{seen_words}
+use Rattle.vc2_words.specs.declared.keys.WordFault.TheVariants.{SettingsRefused}
+use Rattle.vc2_words.specs.declared.keys.Rule.TheVariants.{MatrixTooSteep}
+use Rattle.vc2_words.specs.Settings.{Asked}
+use Rattle.vc2_words.specs.Lawful.{AreLawful}
+use Rattle.stream_units.specs.Writer.{IsSteepUnder}
+use Rattle.vc2_cli.specs.Encode.{written_under}
+use Rattle.vc2_cli.specs.Words.{seen_words, is_flat, unless_steep, checked, words_ask}
+use Rattle.vc2_cli.proofs.Flat.{flat_is_steep}
 use Rattle.vc2_cli.specs.Reply.{Reply, Breaks, Stops, StopsShort, IsStatusOf, command_reply, command_due, status_of, ReadsAll}
 use Rattle.vc2_cli.specs.Settled.{Settles}
 
@@ -37,6 +44,7 @@ own_ending (Accepted pictures slices bytes) = tt
 own_ending (Scheduled pictures slices bytes outcomes.Runs) = tt
 own_ending (Scheduled pictures slices bytes (outcomes.Late slot have need)) = tt
 own_ending (Scheduled pictures slices bytes (outcomes.Overfull slot fill size)) = tt
+own_ending (Encoded schedule) = tt
 own_ending (Refused refusal) = tt
 
 own : (command : Result AskedCommand WordFault) (input : List ℕ) → IsOwn (command_reply command input).status
@@ -46,19 +54,62 @@ own (Ok header) input = own_ending _
 own (Ok decode) input = own_ending _
 own (Ok (check None)) input = own_ending _
 own (Ok (check (Some schedule))) input = own_ending _
-own (Ok (encode settings)) input = tt
+own (Ok (encode settings)) input = own_ending _
 own (Ok (trial settings part)) input = tt
 
 -- ---- the words
 
--- what was read is what the words ask for
-pub words_are : (words : List (List ℕ)) (command : Result Command WordFault) → MatchResult command (λ told. asked_by words ≡ Ok (seen told)) (λ fault. asked_by words ≡ Err fault) → seen_words command ≡ asked_by words
-words_are words (Ok command) is = sym is
-words_are words (Err fault) is = sym is
+-- what was read, and passed the last rule, is what the words ask for
+pub words_are : (words : List (List ℕ)) (read command : Result Command WordFault) → MatchResult read (λ told. asked_by words ≡ Ok (seen told)) (λ fault. asked_by words ≡ Err fault) → seen_words command ≡ checked (seen_words read) → seen_words command ≡ words_ask words
+words_are words (Ok told) command is same = same ∙ ap checked (sym is)
+words_are words (Err fault) command is same = same ∙ ap checked (sym is)
+
+-- what passes the last rule was read, and is not too steep
+steep_or : (s : Asked) (asked told : AskedCommand) → unless_steep s asked ≡ Ok told → (asked ≡ told) × (is_flat s ≡ true)
+steep_or s asked told = by (is_flat s) refl
+  where
+    fine : AskedCommand → Result AskedCommand WordFault
+    fine c = Ok c
+
+    by : (flat : Bool) → is_flat s ≡ flat → cond flat (fine asked) (Err (SettingsRefused MatrixTooSteep)) ≡ fine told → (asked ≡ told) × (is_flat s ≡ true)
+    by true t e = (cc, t)
+    by false t e = absurd cc
+
+check_was : (read : Result AskedCommand WordFault) (schedule : Option Schedule) → checked read ≡ Ok (check schedule) → read ≡ Ok (check schedule)
+check_was (Ok (encode s)) schedule e = let was = steep_or s (encode s) (check schedule) e in absurd (let w : encode s ≡ check schedule = was.0 in cc)
+check_was (Ok (trial s part)) schedule e = let was = steep_or s (trial s part) (check schedule) e in absurd (let w : trial s part ≡ check schedule = was.0 in cc)
+check_was (Ok chain) schedule e = e
+check_was (Ok header) schedule e = e
+check_was (Ok decode) schedule e = e
+check_was (Ok (check other)) schedule e = e
+check_was (Err fault) schedule e = e
+
+encode_was : (read : Result AskedCommand WordFault) (s : Asked) → checked read ≡ Ok (encode s) → (read ≡ Ok (encode s)) × (is_flat s ≡ true)
+encode_was (Ok (encode t)) s e =
+    let was = steep_or t (encode t) (encode s) e in
+    let w : encode t ≡ encode s = was.0 in
+    let same : t ≡ s = cc in
+    (ap (λ (x : Asked). asked_encode x) same, subst (λ (x : Asked). is_flat x ≡ true) same was.1)
+  where
+    asked_encode : Asked → Result AskedCommand WordFault
+    asked_encode x = Ok (encode x)
+encode_was (Ok (trial t part)) s e = let was = steep_or t (trial t part) (encode s) e in absurd (let w : trial t part ≡ encode s = was.0 in cc)
+encode_was (Ok chain) s e = absurd cc
+encode_was (Ok header) s e = absurd cc
+encode_was (Ok decode) s e = absurd cc
+encode_was (Ok (check other)) s e = absurd cc
+encode_was (Err fault) s e = absurd cc
 
 -- a schedule that was read is lawful
-pub schedule_is : (words : List (List ℕ)) (command : Result Command WordFault) (schedule : Schedule) → seen_words command ≡ asked_by words → seen_words command ≡ Ok (check (Some schedule)) → IsSchedule schedule
-schedule_is words command schedule same is = words_say words (check (Some schedule)) (sym same ∙ is)
+pub schedule_is : (words : List (List ℕ)) (command : Result Command WordFault) (schedule : Schedule) → seen_words command ≡ words_ask words → seen_words command ≡ Ok (check (Some schedule)) → IsSchedule schedule
+schedule_is words command schedule same is = words_say words (check (Some schedule)) (check_was (asked_by words) (Some schedule) (sym same ∙ is))
+
+-- settings that were read are lawful, and their matrix is not too steep
+pub settings_are : (words : List (List ℕ)) (command : Result Command WordFault) (s : Asked) → seen_words command ≡ words_ask words → seen_words command ≡ Ok (encode s) → AreLawful s × IsSteepUnder (written_under s)
+settings_are words command s same is =
+    let was = encode_was (asked_by words) s (sym same ∙ is) in
+    let lawful : AreLawful s = words_say words (encode s) was.0 in
+    (lawful, flat_is_steep s lawful.params was.1)
 
 -- their fault is the one that was read
 pub fault_is : (command : Result Command WordFault) (asked : Result AskedCommand WordFault) (P : WordFault → Type 0) → seen_words command ≡ asked → IfErr command P → IfErr asked P

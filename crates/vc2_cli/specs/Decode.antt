@@ -2,7 +2,8 @@
 use Rattle.std.specs.Prelude.{◌≡◌, ℕ, ◌+◌, List, [], length, ◌++◌, ◌∷◌, Option, Some, None}
 use Rattle.slice_geometry.specs.Slicing.{slice_count}
 use Rattle.slice_geometry.specs.declared.unit_list.UnitShape.{UnitShape}
-use Rattle.picture_codec.specs.Samples.{PictureSeen, frame_of, picture_of}
+use Rattle.slice_geometry.specs.Frames.{frame_of}
+use Rattle.picture_codec.specs.Samples.{PictureSeen, picture_of}
 use Rattle.raw_video.specs.RawText.{raw_text}
 use Rattle.vc2_run.specs.Walk.{Machine}
 use Rattle.unit_table.specs.Fronts.{Between, Command, machine_of}

@@ -1,9 +1,7 @@
 -- The command `encode`: a unit of its input is a raw picture, whose text is the picture's unit.
-use Rattle.std.specs.Prelude.{ℕ, zero, suc, ◌+◌, ◌*◌, ◌%◌, ◌^◌, ◌==◌, ◌&&◌, nat_le, Bool, List, [], Option, Result, Ok, Err, if◌then◌else◌}
+use Rattle.std.specs.Prelude.{ℕ, zero, suc, ◌+◌, ◌*◌, ◌%◌, ◌^◌, ◌==◌, ◌&&◌, nat_le, Bool, List, [], ◌∷◌, ◌++◌, Option, Result, Ok, Err, if◌then◌else◌}
 use Rattle.sequence_header.specs.Bytes.{header_len}
-use Rattle.slice_geometry.specs.declared.PictureShape.{PictureShape}
 use Rattle.transform_params.specs.Fields.{unit_length}
-use Rattle.picture_codec.specs.Samples.{frame_of}
 use Rattle.picture_codec.specs.Encoding.{slices_of}
 use Rattle.raw_video.specs.RawParse.{raw_length, RawFront, Shown, Over, LargeAt, CutAt, TooLong, raw_front}
 use Rattle.raw_video.specs.declared.reader.RawFault.{RawFault}
@@ -13,44 +11,62 @@ use Rattle.vc2_run.specs.declared.Halt.{Halt}
 use Rattle.vc2_run.specs.declared.Halt.TheVariants as halts
 use Rattle.stream_units.specs.declared.reason.Reason.{Reason}
 use Rattle.stream_units.specs.declared.reason.Reason.TheVariants.{HalfFrame, StreamTooLong, SampleTooLarge, RawTruncated}
-use Rattle.stream_units.specs.Streams.{limit}
+use Rattle.stream_units.specs.Streams.{limit, frame_under}
 use Rattle.stream_units.specs.Encoded.{Settings, header_unit, picture_unit, end_unit}
+use Rattle.stream_units.specs.Writer.{plain_shape, picture_shape}
+use Rattle.slice_geometry.specs.declared.unit_list.UnitShape.{UnitShape}
+use Rattle.channel_schedule.specs.declared.schedule.Schedule.{Schedule}
+use Rattle.channel_schedule.specs.Plans.{plan_of}
+use Rattle.vc2_words.specs.Settings.{Asked}
 use Rattle.stream_units.specs.declared.write_stop.WriteStop.{WriteStop}
 use Rattle.stream_units.specs.declared.write_stop.WriteStop.TheVariants as stops
 use Rattle.vc2_cli.specs.Running.{Closes}
 use Rattle.vc2_cli.specs.declared.status.Ending.{Ending}
-use Rattle.vc2_cli.specs.declared.status.Ending.TheVariants.{Done, Refused}
+use Rattle.vc2_cli.specs.declared.status.Ending.TheVariants.{Done, Encoded, Refused}
+use Rattle.vc2_cli.specs.Scheduled.{shapes_in}
 
--- what is written, and the shape of the pictures that are read
-pub record Encoding : Type 0 where
-  pub settings : Settings
-  pub shape : PictureShape
+-- what the stream is written under
+abbrev pub written_under : Asked → Settings
+written_under s = record { parts = s.parts; params = s.params; first = s.first }
 
 -- ---- behind n pictures
 
--- the bytes of the raw pictures
-abbrev pub raw_place : Encoding → ℕ → ℕ
-raw_place e n = n * raw_length (frame_of e.shape)
+-- the bytes of a raw picture
+abbrev pub raw_size : Asked → ℕ
+raw_size s = raw_length (frame_under s.parts)
 
-abbrev pub first_length : Encoding → ℕ
-first_length e = 13 + header_len e.settings.parts
+-- the bytes of the raw pictures
+abbrev pub raw_place : Asked → ℕ → ℕ
+raw_place s n = n * raw_size s
+
+abbrev pub first_length : Asked → ℕ
+first_length s = 13 + header_len s.parts
 
 -- the bytes of the stream
-abbrev pub stream_place : Encoding → ℕ → ℕ
-stream_place e n = first_length e + n * unit_length e.settings.params
+abbrev pub stream_place : Asked → ℕ → ℕ
+stream_place s n = first_length s + n * unit_length s.params
 
 -- the length of the last unit
-abbrev pub previous_at : Encoding → ℕ → ℕ
-previous_at e zero = first_length e
-previous_at e (suc n) = unit_length e.settings.params
+abbrev pub previous_at : Asked → ℕ → ℕ
+previous_at s zero = first_length s
+previous_at s (suc n) = unit_length s.params
 
 -- the next picture's number
-abbrev pub number_at : Encoding → ℕ → ℕ
-number_at e n = (e.settings.first + n) % 2 ^ 32
+abbrev pub number_at : Asked → ℕ → ℕ
+number_at s n = (s.first + n) % 2 ^ 32
 
 -- the next picture's unit and the end fit before the limit
-abbrev pub has_room : Encoding → ℕ → Bool
-has_room e n = nat_le (stream_place e n + unit_length e.settings.params + 13) limit
+abbrev pub has_room : Asked → ℕ → Bool
+has_room s n = nat_le (stream_place s n + unit_length s.params + 13) limit
+
+-- the units of the stream, by their lengths
+abbrev pub shapes_at : Asked → ℕ → List UnitShape
+shapes_at s zero = plain_shape 0 (first_length s) ∷ []
+shapes_at s (suc n) = shapes_at s n ++ picture_shape s.params (stream_place s n) ∷ []
+
+-- the least schedule of units that end at this place and the end unit behind them
+abbrev pub ended_plan : Asked → List UnitShape → ℕ → Schedule
+ended_plan s units place = plan_of (shapes_in (units ++ plain_shape place 13 ∷ []) (place + 13)) s.rate
 
 -- the pictures are fields, and the last frame has only one
 abbrev pub is_half : ℕ → ℕ → Bool
@@ -62,25 +78,25 @@ abbrev pub refused_at : ℕ → Reason → Ending
 refused_at place reason = Refused (record { place = place; reason = reason })
 
 -- the end of the input at this place, behind a unit of so many bytes
-abbrev pub closing : (half : Bool) (place previous : ℕ) → Step ℕ Ending
-closing half place previous = if half then Ends (refused_at place HalfFrame) [] else Ends Done (end_unit previous)
+abbrev pub closing : (half : Bool) (place previous : ℕ) → Schedule → Step ℕ Ending
+closing half place previous schedule = if half then Ends (refused_at place HalfFrame) [] else Ends (Encoded schedule) (end_unit previous)
 
 -- A picture is read whole before the stream's length is asked. Half a frame is asked at the input's end.
-abbrev pub step_by : Encoding → ℕ → RawFront → Step ℕ Ending
-step_by e n (Shown p) =
-    if has_room e n then Whole (raw_length (frame_of e.shape)) (picture_unit e.settings.params (previous_at e n) (number_at e n) (slices_of e.shape e.settings.params p)) (n + 1)
-    else Ends (refused_at (raw_place e n) StreamTooLong) []
-step_by e n Over = closing (is_half e.settings.parts.coding n) (raw_place e n) (previous_at e n)
-step_by e n (LargeAt place) = Ends (refused_at place SampleTooLarge) []
-step_by e n (CutAt place) = Ends (refused_at place RawTruncated) []
-step_by e n TooLong = Ends (refused_at limit StreamTooLong) []
+abbrev pub step_by : Asked → ℕ → RawFront → Step ℕ Ending
+step_by s n (Shown p) =
+    if has_room s n then Whole (raw_size s) (picture_unit s.params (previous_at s n) (number_at s n) (slices_of (frame_under s.parts) s.params p)) (n + 1)
+    else Ends (refused_at (raw_place s n) StreamTooLong) []
+step_by s n Over = closing (is_half s.parts.coding n) (raw_place s n) (previous_at s n) (ended_plan s (shapes_at s n) (stream_place s n))
+step_by s n (LargeAt place) = Ends (refused_at place SampleTooLarge) []
+step_by s n (CutAt place) = Ends (refused_at place RawTruncated) []
+step_by s n TooLong = Ends (refused_at limit StreamTooLong) []
 
 -- The first unit is written before anything is read; the state is the number of pictures.
-abbrev pub encode_machine : Encoding → Machine ℕ Ending
-encode_machine e = record {
-  opening = header_unit e.settings.parts;
+abbrev pub encode_machine : Asked → Machine ℕ Ending
+encode_machine s = record {
+  opening = header_unit s.parts;
   start = 0;
-  step = λ n bytes. step_by e n (raw_front (frame_of e.shape) (raw_place e n) bytes);
+  step = λ n bytes. step_by s n (raw_front (frame_under s.parts) (raw_place s n) bytes);
   endless = Done;
 }
 

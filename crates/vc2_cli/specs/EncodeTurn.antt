@@ -1,28 +1,36 @@
 -- The loop of `encode` between two turns.
 use Rattle.std.specs.Prelude.{◌≡◌, ◌≤◌, ◌^◌, ℕ, Bool, false, List, [], length, Option, None}
 use Rattle.std.specs.Io.KnownBytes.{Consumes}
-use Rattle.slice_geometry.specs.declared.PictureShape.{PictureShape}
+use Rattle.slice_geometry.specs.Frames.{frame_of}
 use Rattle.raw_video.specs.Reading.{RawReaderSeen}
 use Rattle.vc2_run.specs.Window.{Holds}
+use Rattle.stream_units.specs.Streams.{frame_under}
+use Rattle.vc2_words.specs.Settings.{Asked}
 use Rattle.stream_units.specs.Writer.{WriterState, next_place, next_previous, pictures_among}
-use Rattle.vc2_cli.specs.Encode.{Encoding, raw_place, stream_place, previous_at, encode_machine}
+use Rattle.vc2_cli.specs.Encode.{written_under, raw_place, stream_place, previous_at, shapes_at, encode_machine}
 
 -- the writer behind n pictures
-pub record IsBehind (e : Encoding) (n : ℕ) (w : WriterState) : Type 0 where
-  pub settings : w.settings ≡ e.settings
+pub record IsBehind (s : Asked) (n : ℕ) (w : WriterState) : Type 0 where
+  pub settings : w.settings ≡ written_under s
   pub unended : w.ended ≡ false
   pub going : w.stop ≡ None
-  pub place : next_place w ≡ stream_place e n
-  pub previous : next_previous w ≡ previous_at e n
+  pub shapes : w.shapes ≡ shapes_at s n
+  pub place : next_place w ≡ stream_place s n
+  pub previous : next_previous w ≡ previous_at s n
   pub pictures : pictures_among w.shapes ≡ n
 
+-- the reader behind n pictures
+pub record HasRead (s : Asked) (n : ℕ) (r : RawReaderSeen) : Type 0 where
+  pub frame : frame_of r.shape ≡ frame_under s.parts
+  pub place : r.place ≡ raw_place s n
+  pub open : r.refused ≡ false
+
 -- n pictures are read and written
-pub record Goes (e : Encoding) (n : ℕ) (rest0 rest1 out0 out1 : Option (List ℕ)) (reader : RawReaderSeen) (shape : PictureShape) (w : WriterState) : Type 0 where
-  pub reader_is : reader ≡ record { shape = e.shape; place = raw_place e n; refused = false }
-  pub shape_is : shape ≡ e.shape
-  pub writer : IsBehind e n w
+pub record Goes (s : Asked) (n : ℕ) (rest0 rest1 out0 out1 : Option (List ℕ)) (r : RawReaderSeen) (w : WriterState) : Type 0 where
+  pub reader : HasRead s n r
+  pub writer : IsBehind s n w
   pub taken : List ℕ
-  pub total : length taken ≡ raw_place e n
-  pub most : raw_place e n ≤ 2 ^ 40
+  pub total : length taken ≡ raw_place s n
+  pub most : raw_place s n ≤ 2 ^ 40
   pub took : Consumes rest0 rest1 taken
-  pub holds : Holds (encode_machine e) rest0 rest1 out0 out1 [] n
+  pub holds : Holds (encode_machine s) rest0 rest1 out0 out1 [] n

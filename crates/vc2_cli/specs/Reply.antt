@@ -7,18 +7,20 @@ use Rattle.channel_schedule.specs.declared.schedule.Outcome.{Outcome}
 use Rattle.channel_schedule.specs.declared.schedule.Outcome.TheVariants as outcomes
 use Rattle.vc2_words.specs.declared.keys.WordFault.{WordFault}
 use Rattle.vc2_words.specs.declared.keys.WordFault.TheVariants.{UnknownCommand}
-use Rattle.vc2_words.specs.Commands.{AskedCommand, chain, header, decode, check, encode, trial, asked_by}
+use Rattle.vc2_words.specs.Commands.{AskedCommand, chain, header, decode, check, encode, trial}
 use Rattle.vc2_cli.specs.declared.status.ScheduleFault.{ScheduleFault}
 use Rattle.vc2_cli.specs.declared.status.ScheduleFault.TheVariants.{Late, Overfull}
 use Rattle.vc2_cli.specs.declared.status.Status.{Status}
 use Rattle.vc2_cli.specs.declared.status.Status.TheVariants as status
 use Rattle.vc2_cli.specs.declared.status.Ending.{Ending}
 use Rattle.vc2_cli.specs.declared.status.Ending.TheVariants as ending
-use Rattle.vc2_cli.specs.Texts.{refusal_line, usage_line, decoded_line, fault_line}
+use Rattle.vc2_cli.specs.Texts.{refusal_line, usage_line, decoded_line, schedule_line, fault_line}
 use Rattle.vc2_cli.specs.Chain.{chain_machine}
 use Rattle.vc2_cli.specs.First.{header_machine, behind_first}
 use Rattle.vc2_cli.specs.Decode.{decode_machine, check_machine}
 use Rattle.vc2_cli.specs.Scheduled.{replay_machine}
+use Rattle.vc2_cli.specs.Encode.{encode_machine}
+use Rattle.vc2_cli.specs.Words.{words_ask}
 
 -- a status with its texts for `out` and `note`, and what is left of the input where the status is `Done` or `Schedule`
 pub record Reply : Type 0 where
@@ -46,6 +48,7 @@ status_of ending.Done = status.Done
 status_of (ending.Decoded pictures bytes) = status.Done
 status_of (ending.Accepted pictures slices bytes) = status.Done
 status_of (ending.Scheduled pictures slices bytes outcome) = schedule_status (fault_of outcome)
+status_of (ending.Encoded schedule) = status.Done
 status_of (ending.Refused refusal) = status.Refused refusal
 
 abbrev pub note_of : Ending → List ℕ
@@ -53,6 +56,7 @@ note_of ending.Done = []
 note_of (ending.Decoded pictures bytes) = decoded_line pictures bytes
 note_of (ending.Accepted pictures slices bytes) = []
 note_of (ending.Scheduled pictures slices bytes outcome) = schedule_note (fault_of outcome)
+note_of (ending.Encoded schedule) = schedule_line schedule
 note_of (ending.Refused refusal) = refusal_line refusal
 
 -- the reply by a run's answer, of a command that leaves so much of its input
@@ -71,7 +75,7 @@ command_reply (Ok header) input = reply_of (behind_first input) (answer_to heade
 command_reply (Ok decode) input = reply_of [] (answer_to decode_machine input)
 command_reply (Ok (check None)) input = reply_of [] (answer_to check_machine input)
 command_reply (Ok (check (Some schedule))) input = reply_of [] (answer_to (replay_machine schedule) input)
-command_reply (Ok (encode settings)) input = usage_reply UnknownCommand input
+command_reply (Ok (encode settings)) input = reply_of [] (answer_to (encode_machine settings) input)
 command_reply (Ok (trial settings part)) input = usage_reply UnknownCommand input
 
 -- the text for `out` that is due once these bytes were taken
@@ -82,15 +86,15 @@ command_due (Ok header) taken = due header_machine taken
 command_due (Ok decode) taken = due decode_machine taken
 command_due (Ok (check None)) taken = due check_machine taken
 command_due (Ok (check (Some schedule))) taken = due (replay_machine schedule) taken
-command_due (Ok (encode settings)) taken = []
+command_due (Ok (encode settings)) taken = due (encode_machine settings) taken
 command_due (Ok (trial settings part)) taken = []
 
 -- the same by the words
 abbrev pub reply_to : List (List ℕ) → List ℕ → Reply
-reply_to words input = command_reply (asked_by words) input
+reply_to words input = command_reply (words_ask words) input
 
 abbrev pub due_to : List (List ℕ) → List ℕ → List ℕ
-due_to words taken = command_due (asked_by words) taken
+due_to words taken = command_due (words_ask words) taken
 
 -- a status that is told once all of the input that the command reads was read
 abbrev pub ReadsAll : Status → Type 0

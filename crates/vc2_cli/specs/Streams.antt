@@ -1,7 +1,7 @@
 -- What `decode` and `check` reply to a stream, and to an input that is refused.
 use Rattle.std.specs.Prelude.{◌≡◌, ◌<◌, ℕ, List, [], length, map, Ok, None}
 use Rattle.std.specs.List.{AllByRecursion, flat_map}
-use Rattle.picture_codec.specs.Pictures.{Frame}
+use Rattle.slice_geometry.specs.Frames.{Frame}
 use Rattle.picture_codec.specs.Samples.{PictureSamples}
 use Rattle.raw_video.specs.RawText.{raw_text}
 use Rattle.stream_units.specs.declared.reason.Refusal.{Refusal}

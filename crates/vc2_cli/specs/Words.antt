@@ -1,10 +1,35 @@
--- What is seen of words that were read.
-use Rattle.std.specs.Prelude.{Result, Ok, Err}
+-- The words: what is seen of them where they were read, and their last rule.
+use Rattle.std.specs.Prelude.{ℕ, ◌+◌, ◌*◌, nat_le, max, Bool, List, Result, Ok, Err, if◌then◌else◌}
+use Rattle.std.specs.List.{list_all}
+use Rattle.sequence_header.specs.Coding.{luma_depth, colour_depth}
 use Rattle.vc2_words.specs.declared.keys.WordFault.{WordFault}
+use Rattle.vc2_words.specs.declared.keys.WordFault.TheVariants.{SettingsRefused}
+use Rattle.vc2_words.specs.declared.keys.Rule.TheVariants.{MatrixTooSteep}
 use Rattle.vc2_words.specs.declared.words.Command.{Command}
-use Rattle.vc2_words.specs.Commands.{AskedCommand, seen}
+use Rattle.vc2_words.specs.Settings.{Asked}
+use Rattle.vc2_words.specs.Commands.{AskedCommand, encode, trial, seen, asked_by}
 
 -- the command that they ask for, or their fault
 abbrev pub seen_words : Result Command WordFault → Result AskedCommand WordFault
 seen_words (Ok command) = Ok (seen command)
 seen_words (Err fault) = Err fault
+
+-- ---- the last rule of settings: each entry of the matrix leaves index 127 so coarse that every slice can be written
+
+abbrev pub greater_depth : Asked → ℕ
+greater_depth s = max (luma_depth s.parts) (colour_depth s.parts)
+
+abbrev pub is_flat : Asked → Bool
+is_flat s = list_all (λ entry. nat_le (entry + 4 * (greater_depth s + 2 + 3 * s.params.slicing.depth)) 127) s.params.matrix.entries
+
+abbrev pub unless_steep : Asked → AskedCommand → Result AskedCommand WordFault
+unless_steep s command = if is_flat s then Ok command else Err (SettingsRefused MatrixTooSteep)
+
+abbrev pub checked : Result AskedCommand WordFault → Result AskedCommand WordFault
+checked (Ok (encode s)) = unless_steep s (encode s)
+checked (Ok (trial s part)) = unless_steep s (trial s part)
+checked other = other
+
+-- the words' command, or their first fault
+abbrev pub words_ask : List (List ℕ) → Result AskedCommand WordFault
+words_ask words = checked (asked_by words)

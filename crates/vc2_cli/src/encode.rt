@@ -1,48 +1,31 @@
 // The command `encode`.
-ghost use Rattle.std.specs.Prelude.{◌≡◌, ◌<◌, ◌≤◌, ◌^◌, ◌%◌, None, false, Ok, ℕ, List, Option};
-ghost use Rattle.picture_codec.specs.Samples.{frame_of};
-ghost use Rattle.raw_video.specs.RawParse.{raw_length};
+ghost use Rattle.std.specs.Prelude.{◌≡◌, ◌+◌, ◌<◌, ◌≤◌, ◌^◌, ◌%◌, ◌++◌, ◌∷◌, [], None, false, true, Ok, ℕ, List, Option};
+ghost use Rattle.slice_geometry.specs.Frames.{frame_of};
 ghost use Rattle.slice_geometry.specs.Slicing.{slice_count};
-ghost use Rattle.vc2_cli.specs.EncodeTurn.{Goes};
+ghost use Rattle.slice_geometry.specs.Units.{IsUnitAllowed};
 ghost use Rattle.sequence_header.specs.Coding.{IsShapeOf};
-ghost use Rattle.slice_geometry.specs.declared.PictureShape.{PictureShape};
-ghost use Rattle.transform_params.specs.Views.{params_of};
+ghost use Rattle.channel_schedule.specs.Rates.{IsRate};
+ghost use Rattle.vc2_words.specs.Settings.{Asked};
+ghost use Rattle.vc2_words.specs.Shown.{shown};
+ghost use Rattle.vc2_words.specs.Lawful.{AreLawful};
 ghost use Rattle.vc2_run.specs.Ran.{HaltHasCause};
-ghost use Rattle.picture_codec.specs.Encoding.{slices_of, IsSteepFor};
-ghost use Rattle.stream_units.specs.Writer.{next_previous};
+ghost use Rattle.stream_units.specs.Writer.{next_place, next_previous, IsSteepUnder};
 ghost use Rattle.vc2_cli.specs.Running.{IsDone, Runs, change};
-ghost use Rattle.vc2_cli.specs.Encode.{Encoding, encode_machine, refused_at, is_half, closing, ClosesBy, told_of_fault, told_of_stop};
+ghost use Rattle.vc2_cli.specs.Encode.{written_under, raw_size, encode_machine, refused_at, is_half, ended_plan, closing, ClosesBy, told_of_fault, told_of_stop};
+ghost use Rattle.vc2_cli.specs.EncodeTurn.{Goes};
 
 use crate::status::Ending;
-use picture_codec::{EncoderFault, Picture, PictureEncoder};
+use channel_schedule::plan;
+use picture_codec::Picture;
 use raw_video::{RawFault, RawReader, RawStep};
-use sequence_header::SequenceHeader;
 use std::alloc::Global;
-use stream_units::{PayloadEncoder, Reason, Refusal, StreamWriter, WriteStop};
-use transform_params::TransformParams;
+use stream_units::{Reason, Refusal, StreamWriter, WriteStop};
 use vc2_io::{Sink, Source};
 use vc2_run::Halt;
+use vc2_words::Settings;
 
 // An input counts up to so many bytes.
 const LIMIT: u64 = 1 << 40;
-
-// The encoder of pictures, as the writer asks for it.
-#[derive(Drop)]
-struct Payloads {
-    encoder: PictureEncoder,
-}
-
-impl PayloadEncoder for Payloads {
-    ghost shape = { λ p. p.encoder.shape };
-
-    ghost params = { λ p. p.encoder.params };
-
-    ghost slices = { λ p. slices_of p.encoder.shape p.encoder.params };
-
-    fn encode(&mut self, picture: &Picture, number: u32, bytes: &mut [u8]) {
-        self.encoder.encode(picture, number, bytes);
-    }
-}
 
 fn refused(place: u64, reason: Reason) -> Result<Ending, Halt>
     ensures { result ≡ Ok (refused_at place reason) }
@@ -75,22 +58,24 @@ fn without_unit(stop: WriteStop, place: u64) -> Result<Ending, Halt>
 
 // The input is over at this place, behind so many pictures.
 fn finish<K: Sink>(
-    header: &SequenceHeader,
+    settings: &Settings,
     pictures: u64,
     place: u64,
     writer: &mut StreamWriter,
     out: &mut K,
 ) -> Result<Ending, Halt>
+    requires rate { IsRate settings.now.rate }
     requires open { writer.old.ended ≡ false }
     requires going { writer.old.stop ≡ None }
-    ensures closes { ClosesBy (closing (is_half header.now.coding pictures) place (next_previous writer.old)) (K.written out.old) (K.written out.new) result }
+    ensures closes { ClosesBy (closing (is_half settings.now.header.coding pictures) place (next_previous writer.old) (ended_plan (shown settings.now) writer.old.shapes (next_place writer.old)))
+        (K.written out.old) (K.written out.new) result }
     ensures cause { HaltHasCause 0 0 (K.faults out.old) (K.faults out.new) result }
 {
-    if header.parts().coding == 1 && pictures % 2 == 1 {
+    if settings.header.parts().coding == 1 && pictures % 2 == 1 {
         return refused(place, Reason::HalfFrame);
     }
     match writer.end(out) {
-        Ok(()) => Ok(Ending::Done),
+        Ok(()) => Ok(Ending::Encoded(plan(writer.shapes(), settings.rate))),
         Err(WriteStop::OutFault) => Err(Halt::OutFault),
         Err(_) => Err(Halt::NoMemory),
     }
@@ -105,36 +90,77 @@ fn most_turns() -> u64
 
 // Reads picture after picture, and writes the unit of each before the next is read.
 fn encode_pictures<S: Source, K: Sink>(
-    header: &SequenceHeader,
+    settings: &Settings,
     reader: &mut RawReader,
-    payloads: &mut Payloads,
     picture: &mut Picture,
     writer: &mut StreamWriter,
     src: &mut S,
     out: &mut K,
 ) -> Result<Ending, Halt>
+    requires rate { IsRate settings.now.rate }
     requires reader { reader.old.refused ≡ false }
     requires shape { reader.old.shape ≡ picture.old.shape }
-    requires encoder { payloads.old.encoder.shape ≡ picture.old.shape }
-    requires params { payloads.old.encoder.params ≡ writer.old.settings.params }
+    requires pictures { IsShapeOf picture.old.shape writer.old.settings.parts }
     requires unended { writer.old.ended ≡ false }
     requires going { writer.old.stop ≡ None }
-    ensures { (e : Encoding) (rest out0 : Option (List ℕ)) → 0 < raw_length (frame_of e.shape) → 1 ≤ slice_count e.settings.params.slicing → header.now ≡ e.settings.parts
-        → Goes e 0 rest (S.rest src.old) out0 (K.written out.old) reader.old picture.old.shape writer.old
-        → Runs (encode_machine e) IsDone (record { was = rest; is = S.rest src.new; faults_were = S.faults src.old; faults_are = S.faults src.new })
+    ensures { (rest out0 : Option (List ℕ)) → 0 < raw_size (shown settings.now) → 1 ≤ slice_count (shown settings.now).params.slicing
+        → Goes (shown settings.now) 0 rest (S.rest src.old) out0 (K.written out.old) reader.old writer.old
+        → Runs (encode_machine (shown settings.now)) IsDone (record { was = rest; is = S.rest src.new; faults_were = S.faults src.old; faults_are = S.faults src.new })
         (record { was = out0; is = K.written out.new; faults_were = K.faults out.old; faults_are = K.faults out.new }) result }
 {
     for turn in 0..most_turns() {
         let place = reader.place();
         match reader.next(src, picture) {
             Ok(RawStep::Picture) => {}
-            Ok(RawStep::End) => return finish(header, turn, place, writer, out),
+            Ok(RawStep::End) => return finish(settings, turn, place, writer, out),
             Err(fault) => return without_picture(fault),
         }
-        match writer.picture(payloads, picture, out) {
+        match writer.picture(picture, out) {
             Ok(()) => {}
             Err(stop) => return without_unit(stop, place),
         }
     }
     Err(Halt::NoMemory)
+}
+
+/// Reads raw video, and writes its stream: the first unit before anything is read, and the unit of each picture before
+/// the next is read.
+pub(crate) fn encode<S: Source, K: Sink>(
+    alloc: Global,
+    settings: &Settings,
+    src: &mut S,
+    out: &mut K,
+) -> Result<Ending, Halt>
+    requires lawful { AreLawful (shown settings.now) }
+    requires flat { IsSteepUnder (written_under (shown settings.now)) }
+    ensures { Runs (encode_machine (shown settings.now)) IsDone (change S.rest S.faults src.old src.new) (change K.written K.faults out.old out.new) result }
+{
+    let shape = settings.header.picture_shape();
+    let mut picture = match Picture::new(alloc, &shape) {
+        Ok(picture) => picture,
+        Err(_) => return Err(Halt::NoMemory),
+    };
+    let started = StreamWriter::start(
+        alloc,
+        &settings.header,
+        &settings.params,
+        settings.first,
+        out,
+    );
+    match started {
+        Ok(mut writer) => {
+            let mut reader = RawReader::new(&shape);
+            let result = encode_pictures(
+                settings,
+                &mut reader,
+                &mut picture,
+                &mut writer,
+                src,
+                out,
+            );
+            drop(writer);
+            result
+        }
+        Err(stop) => without_unit(stop, 0),
+    }
 }

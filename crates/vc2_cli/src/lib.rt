@@ -14,6 +14,7 @@ mod scheduled;
 mod status;
 mod texts;
 mod top;
+mod words;
 
 pub use laws::{
     one_answer, one_check_answer, one_decode_answer, one_header_answer, one_schedule_answer,

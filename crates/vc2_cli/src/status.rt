@@ -2,7 +2,7 @@
 ghost use Rattle.std.specs.Prelude.{◌≡◌};
 ghost use Rattle.vc2_cli.specs.Exit.{exit_code_of};
 
-use channel_schedule::Outcome;
+use channel_schedule::{Outcome, Schedule};
 use stream_units::Refusal;
 use vc2_words::WordFault;
 
@@ -29,6 +29,8 @@ pub enum Ending {
         bytes: u64,
         outcome: Outcome,
     },
+    /// Raw video was encoded; with this schedule the stream runs.
+    Encoded(Schedule),
     /// The input is refused.
     Refused(Refusal),
 }

@@ -6,18 +6,23 @@ ghost use Rattle.vc2_run.specs.Ran.{TakesAtMost};
 ghost use Rattle.channel_schedule.specs.declared.schedule.Schedule.{Schedule};
 ghost use Rattle.channel_schedule.specs.Rates.{IsSchedule};
 ghost use Rattle.vc2_words.specs.Commands as asked;
-ghost use Rattle.vc2_words.specs.Commands.{asked_by};
-ghost use Rattle.vc2_cli.specs.Words.{seen_words};
+ghost use Rattle.vc2_words.specs.Settings.{Asked};
+ghost use Rattle.vc2_words.specs.Lawful.{AreLawful};
+ghost use Rattle.stream_units.specs.Writer.{IsSteepUnder};
+ghost use Rattle.vc2_cli.specs.Encode.{written_under};
+ghost use Rattle.vc2_cli.specs.Words.{seen_words, words_ask};
 ghost use Rattle.vc2_cli.specs.Reply.{reply_to, due_to, command_reply, command_due, status_of, note_of, fault_of, schedule_status, schedule_note, ReadsAll, IsStatusOf, Breaks, Stops, StopsShort, HasCauses, AnswersUsage};
 ghost use Rattle.vc2_cli.specs.Settled.{Settles, Concludes, HasNoteCause, status_of_halt};
 
 use crate::chain::chain;
 use crate::check::check;
 use crate::decode::decode;
+use crate::encode::encode;
 use crate::header::header;
 use crate::scheduled::check_schedule;
 use crate::status::{Ending, ScheduleFault, Status};
-use crate::texts::{decoded_text, fault_text, refusal_text, usage_text};
+use crate::texts::{decoded_text, fault_text, refusal_text, schedule_text, usage_text};
+use crate::words::checked;
 use channel_schedule::Outcome;
 use std::alloc::{AllocError, Global};
 use vc2_io::{Sink, Source, write_whole};
@@ -71,7 +76,10 @@ fn status_of(ending: Ending) -> Status
     ensures { result ≡ status_of ending }
 {
     match ending {
-        Ending::Done | Ending::Decoded { .. } | Ending::Accepted { .. } => Status::Done,
+        Ending::Done
+        | Ending::Decoded { .. }
+        | Ending::Accepted { .. }
+        | Ending::Encoded(_) => Status::Done,
         Ending::Scheduled { outcome, .. } => schedule_status(outcome),
         Ending::Refused(refusal) => Status::Refused(refusal),
     }
@@ -84,6 +92,7 @@ fn note_text(alloc: Global, ending: &Ending) -> Result<String, AllocError>
         Ending::Done | Ending::Accepted { .. } => Ok(String::new(alloc)),
         Ending::Decoded { pictures, bytes } => decoded_text(alloc, *pictures, *bytes),
         Ending::Scheduled { outcome, .. } => schedule_note(alloc, *outcome),
+        Ending::Encoded(schedule) => schedule_text(alloc, schedule),
         Ending::Refused(refusal) => refusal_text(alloc, refusal),
     }
 }
@@ -131,7 +140,8 @@ fn answer<S: Source, K: Sink, N: Sink>(
     out: &mut K,
     note: &mut N,
 ) -> Status
-    requires { (schedule : Schedule) → seen_words command ≡ Ok (asked.check (Some schedule)) → IsSchedule schedule }
+    requires schedule { (schedule : Schedule) → seen_words command ≡ Ok (asked.check (Some schedule)) → IsSchedule schedule }
+    requires settings { (s : Asked) → seen_words command ≡ Ok (asked.encode s) → AreLawful s × IsSteepUnder (written_under s) }
     ensures settled { (input : List ℕ) → S.rest src.old ≡ Some input →
         Settles (command_reply (seen_words command) input) (command_due (seen_words command)) input (S.rest src.new)
         (K.written out.old) (K.written out.new) (N.written note.old) (N.written note.new) result }
@@ -149,7 +159,7 @@ fn answer<S: Source, K: Sink, N: Sink>(
                 None => conclude(alloc, check(alloc, src, out), note),
                 Some(schedule) => conclude(alloc, check_schedule(alloc, schedule, src, out), note),
             },
-            Command::Encode(_) => refuse(alloc, WordFault::UnknownCommand, note),
+            Command::Encode(settings) => conclude(alloc, encode(alloc, &settings, src, out), note),
             Command::Trial(_, _) => refuse(alloc, WordFault::UnknownCommand, note),
         },
         Err(fault) => refuse(alloc, fault, note),
@@ -206,9 +216,9 @@ pub fn run<S: Source, K: Sink, N: Sink>(
     ensures causes { HasCauses (S.faults src.old) (S.faults src.new) (K.faults out.old) (K.faults out.new) (N.faults note.old) (N.faults note.new) result }
 
     // Whatever is told: words that are refused are refused, nothing is read, and nothing is written to `out`.
-    ensures usage { IfErr (asked_by (map string_bytes words.now)) (λ fault. AnswersUsage fault (N.written note.old) (N.written note.new) result
+    ensures usage { IfErr (words_ask (map string_bytes words.now)) (λ fault. AnswersUsage fault (N.written note.old) (N.written note.new) result
         × (S.rest src.new ≡ S.rest src.old) × (K.written out.new ≡ K.written out.old)) }
 {
-    let command = read_words(words);
+    let command = checked(read_words(words));
     answer(alloc, command, src, out, note)
 }

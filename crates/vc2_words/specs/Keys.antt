@@ -13,7 +13,8 @@ name_of word =
     if bytes_eq word (codes "header") then Some names.Header else (
     if bytes_eq word (codes "decode") then Some names.Decode else (
     if bytes_eq word (codes "check") then Some names.Check else (
-    None))))
+    if bytes_eq word (codes "encode") then Some names.Encode else (
+    None)))))
 
 -- the key of a text
 abbrev pub key_of : List ℕ → Option Key

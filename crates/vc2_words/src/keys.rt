@@ -73,6 +73,7 @@ pub fn name_of(word: &str) -> Option<Name>
         "header" => Some(Name::Header),
         "decode" => Some(Name::Decode),
         "check" => Some(Name::Check),
+        "encode" => Some(Name::Encode),
         _ => None,
     }
 }

@@ -1,4 +1,7 @@
 use Rattle.std.proofs.Common.{◌≡◌, ◌+◌, ◌/◌, ◌%◌, min, arith, ap, ◌∙◌}
+use Rattle.channel_schedule.specs.declared.schedule.Schedule.{Schedule}
+use Rattle.channel_schedule.specs.Plans.{plan_delay}
+use Rattle.channel_schedule.proofs.Unique.{one_plan}
 use Rattle.channel_schedule.proofs.Leads.{ceil_low, plan_in_time, plan_least}
 use Rattle.channel_schedule.proofs.planning.plan.Goals as goal
 
@@ -20,3 +23,11 @@ returns-clause-plan c =
       least = plan_least c.args.shapes.now c.args.rate c.lead.result c.div_ceil-delay.result c.requires is c.lead.ensures.most;
       most = c.fill-size.ensures;
     }
+
+pub returns-clause-value : goal.returns-clause-value
+returns-clause-value c =
+    let shapes = c.args.shapes.now in
+    let rate = c.args.rate in
+    let same = (one_plan shapes rate c.requires c.lead.ensures.in_turn).only c.div_ceil-delay.result c.fill-size.result (returns-clause-plan c) in
+    ap (λ n. let s : Schedule = record { rate = rate; delay = n; size = c.fill-size.result } in s) same.0
+    ∙ ap (λ n. let s : Schedule = record { rate = rate; delay = plan_delay shapes rate; size = n } in s) same.1

@@ -6,7 +6,8 @@ use Rattle.slice_geometry.specs.declared.Size.{Size}
 use Rattle.slice_geometry.specs.declared.PictureShape.{PictureShape}
 use Rattle.slice_geometry.specs.Geometry.{padded_length}
 use Rattle.picture_codec.specs.Pictures.{size_of, depth_of}
-use Rattle.picture_codec.specs.Samples.{SampleRows, frame_of, shown, bits_of}
+use Rattle.slice_geometry.specs.Frames.{frame_of}
+use Rattle.picture_codec.specs.Samples.{SampleRows, shown, bits_of}
 use Rattle.picture_codec.specs.Encoding.{centred}
 use Rattle.picture_codec.proofs.Sizes.{padded_whole}
 use Rattle.picture_codec.proofs.AnalysedBands.{centred_within, centred_cells, shift_small, sizes_stay, holds_component}

@@ -1,6 +1,6 @@
 use Rattle.std.proofs.Common.{◌+◌, ◌%◌, ◌/◌, ◌++◌, ◌∷◌, [], sym, subst, ◌∙◌, arith}
 use Rattle.std.proofs.lemmas.List.{length-append}
-use Rattle.picture_codec.specs.Samples.{frame_of}
+use Rattle.slice_geometry.specs.Frames.{frame_of}
 use Rattle.picture_codec.specs.Decoding.{Decoding, HasTaken, stack_of}
 use Rattle.picture_codec.proofs.Taking.{took_none, took_more}
 use Rattle.picture_codec.proofs.Steps.{column_in, number_is}

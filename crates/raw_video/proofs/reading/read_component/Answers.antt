@@ -3,7 +3,8 @@ use Rattle.std.proofs.lemmas.List.{length-take}
 use Rattle.std.proofs.lemmas.Result.{err_from_is_err_and}
 use Rattle.slice_geometry.specs.declared.PictureShape.{PictureShape}
 use Rattle.picture_codec.specs.Pictures.{depth_of}
-use Rattle.picture_codec.specs.Samples.{PictureSeen, SampleRows, frame_of, shown, with_run, width_of, height_of, bits_of}
+use Rattle.slice_geometry.specs.Frames.{frame_of}
+use Rattle.picture_codec.specs.Samples.{PictureSeen, SampleRows, shown, with_run, width_of, height_of, bits_of}
 use Rattle.raw_video.specs.RawText.{is_wide}
 use Rattle.raw_video.specs.Reading.{ReadsSamples}
 use Rattle.raw_video.proofs.ComponentTurns.{piece_more, piece_halted, piece_below, run_front, run_long, put_here, put_others}

@@ -1,7 +1,7 @@
 use Rattle.std.proofs.Common.{◌≡◌, Bool, List, ℕ, ap, ◌∙◌}
 use Rattle.std.proofs.lemmas.Result.{on_ok_weaker, on_err_weaker}
 use Rattle.vc2_io.proofs.Known.{Appends-along}
-use Rattle.picture_codec.specs.Samples.{frame_of}
+use Rattle.slice_geometry.specs.Frames.{frame_of}
 use Rattle.raw_video.specs.RawText.{is_wide, text_of}
 use Rattle.vc2_io.proofs.Short.{GrewShort-along}
 use Rattle.raw_video.proofs.Pieces.{OnErr-always, Appends-picture, GrewShort-luma, GrewShort-c1, GrewShort-c2}

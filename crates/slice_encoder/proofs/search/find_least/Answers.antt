@@ -71,7 +71,7 @@ returns-clause-least c =
     let l = c.loop-index in
     record {
       most = omega arith;
-      fit = coarsest_tried j a.bytes a.sx a.sy a.kept.now c.requires.ready c.requires.steep;
+      fit = coarsest_tried j a.bytes a.sx a.sy a.kept.now a.shape.now.luma_depth_fits a.shape.now.colour_depth_fits c.requires.ready c.requires.steep;
       least = λ i lt. l.invariant.refuted i (omega arith);
     }
 

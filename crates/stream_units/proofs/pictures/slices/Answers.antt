@@ -2,7 +2,7 @@ use Rattle.std.proofs.Common.{◌+◌, ℕ, List, length, arith, sym, ap, subst,
 use Rattle.std.proofs.lemmas.List.{length-drop}
 use Rattle.slice_geometry.specs.Slicing.{IsAllowed, bytes_before, total_bytes}
 use Rattle.slice_geometry.proofs.Shares.{bytes_before-zero}
-use Rattle.picture_codec.specs.Samples.{frame_of}
+use Rattle.slice_geometry.specs.Frames.{frame_of}
 use Rattle.stream_units.proofs.PictureTurns.{field_short, field_lost, slices_start, slice_asked, slice_broken, slice_taken, slice_place, slices_done, all_bytes}
 use Rattle.stream_units.proofs.pictures.slices.Goals as goal
 

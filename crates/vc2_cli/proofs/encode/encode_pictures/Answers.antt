@@ -1,5 +1,5 @@
 use Rattle.std.proofs.Common.{rules, ◌≡◌, ◌<◌, ◌≤◌, ◌^◌, ◌%◌, None, false, Ok, ℕ, List, Option, ◌+◌, ◌-◌, ◌*◌, length, ◌/◌, Bool, true, nat_eq, nat_lt, [], ◌∷◌, ◌++◌, slice_index_or, slice_set, bit_and, bit_or, Fits, w8, w32, w64, Bor, MutBor}
-use Rattle.picture_codec.specs.Samples.{frame_of}
+use Rattle.slice_geometry.specs.Frames.{frame_of}
 use Rattle.raw_video.specs.RawParse.{raw_length}
 use Rattle.slice_geometry.specs.Slicing.{slice_count}
 use Rattle.vc2_cli.specs.EncodeTurn.{Goes}

@@ -1,5 +1,5 @@
 use Rattle.std.proofs.Common.{◌≡◌, ◌<◌, ◌≤◌, ◌^◌, ◌%◌, None, false, Ok, ℕ, List, Option, ◌+◌, ◌-◌, ◌*◌, length}
-use Rattle.picture_codec.specs.Samples.{frame_of}
+use Rattle.slice_geometry.specs.Frames.{frame_of}
 use Rattle.raw_video.specs.RawParse.{raw_length}
 use Rattle.slice_geometry.specs.Slicing.{slice_count}
 use Rattle.vc2_cli.specs.EncodeTurn.{Goes}

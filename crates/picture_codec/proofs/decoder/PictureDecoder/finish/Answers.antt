@@ -1,7 +1,8 @@
 use Rattle.std.proofs.Common.{◌≡◌, ℕ, sym, ap, subst, ◌∙◌, arith, List}
 use Rattle.slice_geometry.specs.declared.PictureShape.{PictureShape}
 use Rattle.slice_geometry.specs.Slicing.{slice_count, slice_bytes}
-use Rattle.picture_codec.specs.Samples.{frame_of, picture_of}
+use Rattle.slice_geometry.specs.Frames.{frame_of}
+use Rattle.picture_codec.specs.Samples.{picture_of}
 use Rattle.picture_codec.specs.Decoding.{Decoding, AreTaken, HasTaken, wanted_of, synthesised_picture}
 use Rattle.picture_codec.proofs.Whole.{unit_is, wanted_none}
 use Rattle.picture_codec.proofs.decoder.PictureDecoder.finish.Goals as goal

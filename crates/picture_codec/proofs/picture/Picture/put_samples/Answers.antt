@@ -3,7 +3,8 @@ use Rattle.std.specs.List.{All}
 use Rattle.slice_geometry.specs.declared.Component.{Component}
 use Rattle.slice_geometry.specs.declared.PictureShape.{PictureShape}
 use Rattle.picture_codec.specs.Pictures.{depth_of}
-use Rattle.picture_codec.specs.Samples.{AreSamples, PictureSeen, frame_of}
+use Rattle.slice_geometry.specs.Frames.{frame_of}
+use Rattle.picture_codec.specs.Samples.{AreSamples, PictureSeen}
 use Rattle.picture_codec.proofs.Runs.{run_fits}
 use Rattle.picture_codec.proofs.picture.Picture.put_samples.Goals as goal
 

@@ -1,6 +1,6 @@
 use Rattle.std.proofs.Common.{◌≡◌, ◌∙◌, Ok, ap, sym, subst, arith}
 use Rattle.slice_geometry.specs.declared.PictureShape.{PictureShape}
-use Rattle.picture_codec.specs.Samples.{frame_of}
+use Rattle.slice_geometry.specs.Frames.{frame_of}
 use Rattle.raw_video.specs.RawParse.{raw_length}
 use Rattle.raw_video.specs.Reading.{RawReaderSeen, ReadsFront}
 use Rattle.raw_video.proofs.reader.RawReader.next.Goals as goal

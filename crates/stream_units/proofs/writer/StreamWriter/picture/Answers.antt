@@ -2,13 +2,15 @@ use Rattle.std.proofs.Common.{◌≡◌, ◌+◌, ◌%◌, [], ◌∷◌, ◌++�
 use Rattle.std.specs.Io.KnownBytes.{Appends}
 use Rattle.std.proofs.lemmas.List.{length-take, length-append, length-drop}
 use Rattle.vc2_io.specs.Outside.{GrewShort}
+use Rattle.slice_geometry.specs.Frames.{frame_of}
 use Rattle.slice_geometry.specs.Units as shapes
 use Rattle.transform_params.specs.Views.{params_of}
 use Rattle.sequence_header.specs.Coding.{IsShapeOf}
 use Rattle.picture_codec.specs.Encoding.{slices_of}
 use Rattle.stream_units.specs.declared.write_stop.WriteStop.TheVariants.{OutFault}
+use Rattle.stream_units.specs.Streams.{frame_under}
 use Rattle.stream_units.specs.Encoded.{picture_unit}
-use Rattle.stream_units.proofs.SameShapes.{one_shape}
+use Rattle.stream_units.proofs.SameShapes.{one_shape, frame_is}
 use Rattle.stream_units.specs.WriterInside.{Encodes}
 use Rattle.stream_units.specs.Writer.{WriterState, WritesPicture, picture_shape, total_length, next_number, next_previous}
 use Rattle.stream_units.proofs.WrittenShapes.{sound_picture, sound_kept, picture_length}
@@ -44,8 +46,7 @@ returns-clause-picture g c no_stop =
     let out0 = g.K.Sink.written c.args.sink.now in
     let out1 = g.K.Sink.written c.write_whole.new.sink in
     let p = params_of c.self.inside.params in
-    let slices = slices_of c.args.picture.now.shape p c.args.picture.now.samples in
-    let shape = one_shape c.self.inside.header c.self.inside.encoder.shape c.args.picture.now.shape c.self.invariant.2.shape (subst (λ (w : WriterState). IsShapeOf c.args.picture.now.shape w.settings.parts) (sym c.self.view_is) c.requires.shape) in
+    let slices = slices_of (frame_under c.self.inside.header) p c.args.picture.now.samples in
     let units = c.self.inside.shapes.units in
     let old : WriterState = record { settings = record { parts = c.self.inside.header; params = p; first = c.self.inside.first }; shapes = units; ended = c.self.inside.ended; stop = c.self.inside.stop } in
     let new : WriterState = record old { shapes = c.push.new.self.units } in
@@ -53,8 +54,8 @@ returns-clause-picture g c no_stop =
     c.push.ensures.units ∙ ap (λ l. l ++ c.picture_shape-shape.result ∷ []) c.reserve.ensures.units
     ∙ ap (λ u. units ++ u ∷ []) (c.picture_shape-shape.ensures.shape ∙ ap (picture_shape p) (c.place-2.ensures.value ∙ c.self.invariant.0.place ∙ c.self.invariant.0.total)) in
     let unit : c.write_picture_unit.new.unit ≡ picture_unit p (next_previous old) (next_number old) slices =
-    c.write_picture_unit.ensures.unit ∙ ap (λ q. picture_unit q c.previous.result c.self.inside.number (slices_of c.self.inside.encoder.shape q c.args.picture.now.samples)) c.self.invariant.2.params
-    ∙ ap (λ z. picture_unit p c.previous.result c.self.inside.number (slices_of z p c.args.picture.now.samples)) shape
+    c.write_picture_unit.ensures.unit ∙ ap (λ q. picture_unit q c.previous.result c.self.inside.number (slices_of (frame_of c.self.inside.encoder.shape) q c.args.picture.now.samples)) c.self.invariant.2.params
+    ∙ ap (λ z. picture_unit p c.previous.result c.self.inside.number (slices_of z p c.args.picture.now.samples)) (frame_is c.self.inside.header c.self.inside.encoder.shape c.self.invariant.2.shape)
     ∙ ap (λ n. picture_unit p n c.self.inside.number slices) (c.previous.ensures ∙ c.self.invariant.0.previous)
     ∙ ap (λ n. picture_unit p (next_previous old) n slices) c.self.invariant.0.number_is in
     let here : WritesPicture old new slices out0 out1 (Ok tt) = record {
@@ -62,21 +63,20 @@ returns-clause-picture g c no_stop =
       after = ap (λ l. record old { shapes = l }) list;
       why = omega (arith, c.if-place-from-gt-LIMIT.false, c.place.ensures.value, c.self.invariant.0.place, c.self.invariant.0.total, c.from.ensures, c.unit_len-size.ensures.value);
     } in
-    subst (λ (w : WriterState). WritesPicture w new (slices_of c.args.picture.now.shape w.settings.params c.args.picture.now.samples) out0 out1 (Ok tt)) c.self.view_is here
+    subst (λ (w : WriterState). WritesPicture w new (slices_of (frame_under w.settings.parts) w.settings.params c.args.picture.now.samples) out0 out1 (Ok tt)) c.self.view_is here
 
 pub returns-in-Err-clause-picture : goal.returns-in-Err-clause-picture
 returns-in-Err-clause-picture g c no_stop =
     let out0 = g.K.Sink.written c.args.sink.now in
     let out1 = g.K.Sink.written c.write_whole.new.sink in
     let p = params_of c.self.inside.params in
-    let slices = slices_of c.args.picture.now.shape p c.args.picture.now.samples in
-    let shape = one_shape c.self.inside.header c.self.inside.encoder.shape c.args.picture.now.shape c.self.invariant.2.shape (subst (λ (w : WriterState). IsShapeOf c.args.picture.now.shape w.settings.parts) (sym c.self.view_is) c.requires.shape) in
+    let slices = slices_of (frame_under c.self.inside.header) p c.args.picture.now.samples in
     let units = c.self.inside.shapes.units in
     let old : WriterState = record { settings = record { parts = c.self.inside.header; params = p; first = c.self.inside.first }; shapes = units; ended = c.self.inside.ended; stop = c.self.inside.stop } in
     let new : WriterState = record old { shapes = c.reserve.new.self.units; stop = Some OutFault } in
     let unit : c.write_picture_unit.new.unit ≡ picture_unit p (next_previous old) (next_number old) slices =
-    c.write_picture_unit.ensures.unit ∙ ap (λ q. picture_unit q c.previous.result c.self.inside.number (slices_of c.self.inside.encoder.shape q c.args.picture.now.samples)) c.self.invariant.2.params
-    ∙ ap (λ z. picture_unit p c.previous.result c.self.inside.number (slices_of z p c.args.picture.now.samples)) shape
+    c.write_picture_unit.ensures.unit ∙ ap (λ q. picture_unit q c.previous.result c.self.inside.number (slices_of (frame_of c.self.inside.encoder.shape) q c.args.picture.now.samples)) c.self.invariant.2.params
+    ∙ ap (λ z. picture_unit p c.previous.result c.self.inside.number (slices_of z p c.args.picture.now.samples)) (frame_is c.self.inside.header c.self.inside.encoder.shape c.self.invariant.2.shape)
     ∙ ap (λ n. picture_unit p n c.self.inside.number slices) (c.previous.ensures ∙ c.self.invariant.0.previous)
     ∙ ap (λ n. picture_unit p (next_previous old) n slices) c.self.invariant.0.number_is in
     let here : WritesPicture old new slices out0 out1 (Err OutFault) = record {
@@ -84,4 +84,4 @@ returns-in-Err-clause-picture g c no_stop =
       after = ap (λ l. record new { shapes = l }) c.reserve.ensures.units;
       why = omega (arith, c.if-place-from-gt-LIMIT.false, c.place.ensures.value, c.self.invariant.0.place, c.self.invariant.0.total, c.from.ensures, c.unit_len-size.ensures.value);
     } in
-    subst (λ (w : WriterState). WritesPicture w new (slices_of c.args.picture.now.shape w.settings.params c.args.picture.now.samples) out0 out1 (Err OutFault)) c.self.view_is here
+    subst (λ (w : WriterState). WritesPicture w new (slices_of (frame_under w.settings.parts) w.settings.params c.args.picture.now.samples) out0 out1 (Err OutFault)) c.self.view_is here

@@ -1,0 +1,30 @@
+-- The last rule of the words is the encoder's: the matrix leaves index 127 coarse enough.
+use Rattle.std.proofs.Common.{◌≡◌, ℕ, ◌+◌, ◌*◌, ◌<◌, ◌≤◌, leb, Bool, true, false, List, length, get_or, subst, sym, ap, ◌∙◌, arith}
+use Rattle.std.proofs.lemmas.Bool.{le-leb, leb-true}
+use Rattle.std.proofs.lemmas.List.Sums.{AllPass-from_list_all, list_all-from_AllPass}
+use Rattle.std.proofs.lemmas.Grind.{get_or_default_zero}
+use Rattle.planes.specs.Subbands.{band_index}
+use Rattle.slice_geometry.specs.SliceOrder.{level_of, orient_of}
+use Rattle.slice_geometry.proofs.NumberedBands.{band-exists, index-numbered}
+use Rattle.slice_decoder.proofs.Whole.{is_band}
+use Rattle.transform_params.specs.Fields.{IsLawful}
+use Rattle.vc2_words.specs.Settings.{Asked}
+use Rattle.stream_units.specs.Writer.{IsSteepUnder}
+use Rattle.vc2_cli.specs.Encode.{written_under}
+use Rattle.vc2_cli.specs.Words.{greater_depth, is_flat}
+
+module _ (s : Asked) (f : IsLawful s.params) where
+  abbrev leaves_room : ℕ → Bool
+  leaves_room entry = leb (entry + 4 * (greater_depth s + 2 + 3 * s.params.slicing.depth)) 127
+
+  pub flat_is_steep : is_flat s ≡ true → IsSteepUnder (written_under s)
+  flat_is_steep flat level orient exists =
+      let b = is_band s.params.slicing.depth level orient exists in
+      leb-true _ 127 (AllPass-from_list_all leaves_room s.params.matrix.entries flat (band_index level orient) 0 (omega (arith, b.below, f.count)))
+
+  pub steep_is_flat : IsSteepUnder (written_under s) → is_flat s ≡ true
+  steep_is_flat steep = list_all-from_AllPass leaves_room s.params.matrix.entries (λ k d inside.
+      let there : get_or s.params.matrix.entries (band_index (level_of k) (orient_of k)) 0 + 4 * (greater_depth s + 2 + 3 * s.params.slicing.depth) ≤ 127
+      = steep (level_of k) (orient_of k) (band-exists s.params.slicing.depth k (omega (arith, inside, f.count))) in
+      let here : get_or s.params.matrix.entries k 0 + 4 * (greater_depth s + 2 + 3 * s.params.slicing.depth) ≤ 127 = subst (λ (i : ℕ). get_or s.params.matrix.entries i 0 + 4 * (greater_depth s + 2 + 3 * s.params.slicing.depth) ≤ 127) (index-numbered k) there in
+      le-leb _ 127 (subst (λ (v : ℕ). v + 4 * (greater_depth s + 2 + 3 * s.params.slicing.depth) ≤ 127) (sym (get_or_default_zero s.params.matrix.entries k d inside)) here))
