@@ -5,7 +5,9 @@ use Rattle.std.proofs.lemmas.List.{length-append}
 use Rattle.std.specs.Io.KnownBytes.{Appends, Consumes, IsAtEnd}
 use Rattle.vc2_io.specs.Outside.{Rose, GrewShort}
 use Rattle.vc2_io.proofs.Known.{Consumes-none, Consumes-then, Appends-none}
+use Rattle.slice_geometry.specs.declared.unit_list.UnitShape.{UnitShape}
 use Rattle.slice_geometry.specs.Slicing.{slice_count}
+use Rattle.vc2_words.specs.Settings.{Asked}
 use Rattle.sequence_header.specs.Bytes.{header_len}
 use Rattle.transform_params.specs.Fields.{unit_length}
 use Rattle.slice_geometry.specs.Frames.{Frame, frame_of}
@@ -34,18 +36,23 @@ use Rattle.stream_units.proofs.WrittenShapes.{total_push, pictures_push, last_pu
 use Rattle.vc2_cli.specs.declared.status.Ending.{Ending}
 use Rattle.vc2_cli.specs.declared.status.Ending.TheVariants.{Done, Refused}
 use Rattle.vc2_cli.specs.Running.{IsDone, Runs, Change, Closes}
-use Rattle.vc2_cli.specs.Encode.{raw_size, raw_place, first_length, stream_place, previous_at, number_at, has_room, is_half, refused_at, closing, step_by, encode_machine, ClosesBy, told_of_fault, told_of_stop}
+use Rattle.vc2_cli.specs.Encode.{written_under, raw_size, raw_place, first_length, stream_place, previous_at, number_at, has_room, is_half, refused_at, shapes_at, ended_plan, closing, step_by, encode_machine, ClosesBy, told_of_fault, told_of_stop}
 use Rattle.vc2_cli.specs.EncodeTurn.{IsBehind, HasRead, Goes}
 use Rattle.vc2_cli.proofs.Encoding.{encode_laws, none_short, none_due}
 use Rattle.vc2_cli.proofs.Exits.{cause_then}
 
 -- ---- the writer behind n pictures
 
-pub behind_first : (e : Asked) (w : WriterState) → w ≡ started e → IsBehind e 0 w
+-- what the input's end comes to
+abbrev pub closes_at : Asked → ℕ → Step ℕ Ending
+closes_at e n = closing (is_half e.parts.coding n) (raw_place e n) (previous_at e n) (ended_plan e (shapes_at e n) (stream_place e n))
+
+pub behind_first : (e : Asked) (w : WriterState) → w ≡ started (written_under e) → IsBehind e 0 w
 behind_first e w new = subst (IsBehind e 0) (sym new) (record {
   settings = refl;
   unended = refl;
   going = refl;
+  shapes = refl;
   place = omega (arith, plain_length 0 (first_length e));
   previous = plain_length 0 (first_length e);
   pictures = refl;
@@ -60,6 +67,7 @@ behind_after e n w some b =
       settings = b.settings;
       unended = b.unended;
       going = b.going;
+      shapes = ap (λ (l : List UnitShape). l ++ u ∷ []) b.shapes ∙ ap (λ (s : Settings). shapes_at e n ++ picture_shape s.params (next_place w) ∷ []) b.settings ∙ ap (λ (k : ℕ). shapes_at e n ++ picture_shape e.params k ∷ []) b.place;
       place = total_push w.shapes u ∙ ap (λ (k : ℕ). next_place w + k) (long ∙ same) ∙ ap (λ (k : ℕ). k + unit_length e.params) b.place ∙ one_unit (first_length e) n (unit_length e.params);
       previous = last_push 0 w.shapes u ∙ long ∙ same;
       pictures = omega (arith, pictures_push w.shapes u, one_more u.slices (subst (λ (s : Settings). 1 ≤ slice_count s.params.slicing) (sym b.settings) some), b.pictures);
@@ -114,7 +122,7 @@ refused_done result place reason ending told is done = let same : refused_at pla
 nothing_more : (rest : Option (List ℕ)) (taken more : List ℕ) → IsAtEnd rest → rest ≡ Some more → taken ++ more ≡ taken
 nothing_more rest taken more over told = let none = subst IsAtEnd told over in let nil : more ≡ [] = none in ap (λ (l : List ℕ). taken ++ l) nil ∙ append-nil taken
 
-pub goes_first : (e : Asked) (rest out0 out1 : Option (List ℕ)) (r : RawReaderSeen) (w : WriterState) → 0 < raw_size e → frame_of r.shape ≡ frame_under e.parts → r.place ≡ 0 → r.refused ≡ false → w ≡ started e
+pub goes_first : (e : Asked) (rest out0 out1 : Option (List ℕ)) (r : RawReaderSeen) (w : WriterState) → 0 < raw_size e → frame_of r.shape ≡ frame_under e.parts → r.place ≡ 0 → r.refused ≡ false → w ≡ started (written_under e)
     → Appends out0 out1 (header_unit e.parts) → Goes e 0 rest rest out0 out1 r w
 goes_first e rest out0 out1 r w some frame at open start wrote =
     let none : 0 ≡ raw_place e 0 = no_bytes (raw_size e) in
@@ -243,10 +251,10 @@ module _ (e : Asked) (n : ℕ) (rest0 rest1 out0 out1 : Option (List ℕ)) (read
 
   -- the input is over
   module _ (rest2 : Option (List ℕ)) (p : PictureSamples) (r : ReadsFront (frame_under e.parts) (raw_place e n) rest1 rest2 p (Ok steps.End)) where
-    over : (more : List ℕ) → rest2 ≡ Some more → (encode_machine e).step n (r.taken ++ more) ≡ closing (is_half e.parts.coding n) (raw_place e n) (previous_at e n)
+    over : (more : List ℕ) → rest2 ≡ Some more → (encode_machine e).step n (r.taken ++ more) ≡ closes_at e n
     over more told = ap (λ (l : List ℕ). (encode_machine e).step n l) (nothing_more rest2 r.taken more r.front.1 told) ∙ ap (step_by e n) r.front.2
 
-    ran_closed : (out2 : Option (List ℕ)) (ending : Ending) (last : List ℕ) (result : Result Ending Halt) → closing (is_half e.parts.coding n) (raw_place e n) (previous_at e n) ≡ Ends ending last → Closes ending last out1 out2 result
+    ran_closed : (out2 : Option (List ℕ)) (ending : Ending) (last : List ℕ) (result : Result Ending Halt) → closes_at e n ≡ Ends ending last → Closes ending last out1 out2 result
         → Ran (encode_machine e) rest0 rest2 out0 out2 result
     ran_closed out2 ending last (Ok told) is c = subst (λ (x : Ending). Ran (encode_machine e) rest0 rest2 out0 out2 (Ok x)) (sym c.0)
         (holds_ended laws rest2 out2 r.taken last ending goes.holds r.took (λ more same. over more same ∙ is) c.1)
@@ -255,24 +263,25 @@ module _ (e : Asked) (n : ℕ) (rest0 rest1 out0 out1 : Option (List ℕ)) (read
     ran_closed out2 ending last (Err halts.NoMemory) is c =
         subst (λ (o : Option (List ℕ)). Ran (encode_machine e) rest0 rest2 out0 o (Err halts.NoMemory)) (sym c) (holds_no_memory laws rest2 r.taken goes.holds r.took (none_due e n r.taken r.most))
 
-    pub runs_closed : (out2 : Option (List ℕ)) (coding pictures place src0 src1 src2 to0 to1 to2 : ℕ) (result : Result Ending Halt) → coding ≡ e.parts.coding → pictures ≡ n → place ≡ reader.place → src1 ≡ src0 → src2 ≡ src1 → to1 ≡ to0
-        → ClosesBy (closing (is_half coding pictures) place (next_previous w)) out1 out2 result → HaltHasCause 0 0 to1 to2 result
+    closes_here : (pictures place : ℕ) → pictures ≡ n → place ≡ reader.place → closing (is_half e.parts.coding pictures) place (next_previous w) (ended_plan e w.shapes (next_place w)) ≡ closes_at e n
+    closes_here pictures place count at =
+        ap (λ (k : ℕ). closing (is_half e.parts.coding k) place (next_previous w) (ended_plan e w.shapes (next_place w))) count
+        ∙ ap (λ (k : ℕ). closing (is_half e.parts.coding n) k (next_previous w) (ended_plan e w.shapes (next_place w))) (at ∙ goes.reader.place)
+        ∙ ap (λ (k : ℕ). closing (is_half e.parts.coding n) (raw_place e n) k (ended_plan e w.shapes (next_place w))) goes.writer.previous
+        ∙ ap (λ (l : List UnitShape). closing (is_half e.parts.coding n) (raw_place e n) (previous_at e n) (ended_plan e l (next_place w))) goes.writer.shapes
+        ∙ ap (λ (k : ℕ). closing (is_half e.parts.coding n) (raw_place e n) (previous_at e n) (ended_plan e (shapes_at e n) k)) goes.writer.place
+
+    pub runs_closed : (out2 : Option (List ℕ)) (pictures place src0 src1 src2 to0 to1 to2 : ℕ) (result : Result Ending Halt) → pictures ≡ n → place ≡ reader.place → src1 ≡ src0 → src2 ≡ src1 → to1 ≡ to0
+        → ClosesBy (closing (is_half e.parts.coding pictures) place (next_previous w) (ended_plan e w.shapes (next_place w))) out1 out2 result → HaltHasCause 0 0 to1 to2 result
         → Runs (encode_machine e) IsDone (record { was = rest0; is = rest2; faults_were = src0; faults_are = src2 }) (record { was = out0; is = out2; faults_were = to0; faults_are = to2 }) result
-    runs_closed out2 coding pictures place src0 src1 src2 to0 to1 to2 result same count at steady read steady_out closes why = record {
-      ran = by (closing (is_half e.parts.coding n) (raw_place e n) (previous_at e n)) refl (subst (λ (s : Step ℕ Ending). ClosesBy s out1 out2 result) here closes);
+    runs_closed out2 pictures place src0 src1 src2 to0 to1 to2 result count at steady read steady_out closes why = record {
+      ran = by (closes_at e n) refl (subst (λ (s : Step ℕ Ending). ClosesBy s out1 out2 result) (closes_here pictures place count at) closes);
       limit = most_taken rest2 p (Ok steps.End) r;
       cause = cause_then src0 src2 to0 to1 to2 result (read ∙ steady) steady_out why;
       end = λ ending e done. r.front.1;
     }
       where
-        here : closing (is_half coding pictures) place (next_previous w) ≡ closing (is_half e.parts.coding n) (raw_place e n) (previous_at e n)
-        here =
-            ap (λ (k : ℕ). closing (is_half k pictures) place (next_previous w)) same
-            ∙ ap (λ (k : ℕ). closing (is_half e.parts.coding k) place (next_previous w)) count
-            ∙ ap (λ (k : ℕ). closing (is_half e.parts.coding n) k (next_previous w)) (at ∙ goes.reader.place)
-            ∙ ap (λ (k : ℕ). closing (is_half e.parts.coding n) (raw_place e n) k) goes.writer.previous
-
-        by : (s : Step ℕ Ending) → closing (is_half e.parts.coding n) (raw_place e n) (previous_at e n) ≡ s → ClosesBy s out1 out2 result → Ran (encode_machine e) rest0 rest2 out0 out2 result
+        by : (s : Step ℕ Ending) → closes_at e n ≡ s → ClosesBy s out1 out2 result → Ran (encode_machine e) rest0 rest2 out0 out2 result
         by (Ends ending last) is c = ran_closed out2 ending last result is c
         by (Whole size text left) is c = absurd c
 
