@@ -2,6 +2,10 @@
 #![tactic(auto)]
 
 #[cfg(test)]
+mod encode_call;
+#[cfg(test)]
+mod encoding;
+#[cfg(test)]
 mod failing;
 #[cfg(test)]
 mod hexadecimal;
