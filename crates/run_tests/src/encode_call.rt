@@ -75,12 +75,22 @@ pub(crate) struct Encoding<'a> {
 }
 
 impl<'a> Encoding<'a> {
-    fn check(&self, rt: &impl Abort, alloc: Global, pieces: &[usize]) -> Result<(), Fail> {
+    // The run, read in these pieces.
+    fn run(
+        &self,
+        alloc: Global,
+        pieces: &[usize],
+        sinks: &mut Sinks,
+    ) -> Result<Status, AllocError> {
         let raw = bytes_of(alloc, self.raw)?;
-        let stream = bytes_of(alloc, self.stream)?;
         let mut src = MemSource::new(raw.as_slice(), pieces, &[]);
+        run_encode(alloc, self.operands, &mut src, sinks)
+    }
+
+    fn check(&self, rt: &impl Abort, alloc: Global, pieces: &[usize]) -> Result<(), Fail> {
+        let stream = bytes_of(alloc, self.stream)?;
         let mut sinks = Sinks::new(alloc)?;
-        let status = run_encode(alloc, self.operands, &mut src, &mut sinks)?;
+        let status = self.run(alloc, pieces, &mut sinks)?;
         let outcome = Outcome {
             status: self.status,
             out: stream.as_slice(),

@@ -61,14 +61,18 @@ const MISSING: [(&str, Key, &str); 9] = [
     ("matrix=0", Key::Matrix, "usage: MissingKey matrix\n"),
 ];
 
-#[test]
-fn nine_keys_are_needed(rt: HostRuntime) -> Result<(), Fail> {
-    for (left_out, key, note) in MISSING {
-        let words = words_without(rt.alloc(), left_out)?;
-        let fault = WordFault::MissingKey(key);
-        check_refused(&rt, rt.alloc(), left_out, &words, fault, note)?;
+fn check_missing(rt: &impl Abort, alloc: Global, table: &[(&str, Key, &str)]) -> Result<(), Fail> {
+    for (left_out, key, note) in table {
+        let words = words_without(alloc, left_out)?;
+        let fault = WordFault::MissingKey(*key);
+        check_refused(rt, alloc, left_out, &words, fault, note)?;
     }
     Ok(())
+}
+
+#[test]
+fn nine_keys_are_needed(rt: HostRuntime) -> Result<(), Fail> {
+    check_missing(&rt, rt.alloc(), &MISSING)
 }
 
 // Asserts that the last word of these is refused for its value.
@@ -211,13 +215,21 @@ const KEYS: [(&[&str], WordFault, &str); 6] = [
     ),
 ];
 
-#[test]
-fn other_keys_are_refused(rt: HostRuntime) -> Result<(), Fail> {
-    for (operands, fault, note) in KEYS {
-        let words = encode_words(rt.alloc(), operands)?;
-        check_refused(&rt, rt.alloc(), note, &words, fault, note)?;
+fn check_keys(
+    rt: &impl Abort,
+    alloc: Global,
+    table: &[(&[&str], WordFault, &str)],
+) -> Result<(), Fail> {
+    for (operands, fault, note) in table {
+        let words = encode_words(alloc, operands)?;
+        check_refused(rt, alloc, note, &words, *fault, note)?;
     }
     Ok(())
+}
+
+#[test]
+fn other_keys_are_refused(rt: HostRuntime) -> Result<(), Fail> {
+    check_keys(&rt, rt.alloc(), &KEYS)
 }
 
 // Settings that break one rule, and some that break a later one too.
@@ -289,12 +301,16 @@ fn check_broken(rt: &impl Abort, alloc: Global, operands: &[&str], rule: Rule) -
     check_refused(rt, alloc, name, &words, fault, note.as_str())
 }
 
-#[test]
-fn settings_have_rules(rt: HostRuntime) -> Result<(), Fail> {
-    for (operands, rule) in BROKEN {
-        check_broken(&rt, rt.alloc(), operands, rule)?;
+fn check_rules(rt: &impl Abort, alloc: Global, table: &[(&[&str], Rule)]) -> Result<(), Fail> {
+    for (operands, rule) in table {
+        check_broken(rt, alloc, operands, *rule)?;
     }
     Ok(())
+}
+
+#[test]
+fn settings_have_rules(rt: HostRuntime) -> Result<(), Fail> {
+    check_rules(&rt, rt.alloc(), &BROKEN)
 }
 
 // The greatest entries that pass: depths of 8, 10, 12 and 16 bits, and four levels.
@@ -330,12 +346,16 @@ const TOO_STEEP: [&[&str]; 7] = [
     ],
 ];
 
-#[test]
-fn steep_matrices_are_refused(rt: HostRuntime) -> Result<(), Fail> {
-    for operands in TOO_STEEP {
-        check_broken(&rt, rt.alloc(), operands, Rule::MatrixTooSteep)?;
+fn check_steep(rt: &impl Abort, alloc: Global, table: &[&[&str]]) -> Result<(), Fail> {
+    for operands in table {
+        check_broken(rt, alloc, operands, Rule::MatrixTooSteep)?;
     }
     Ok(())
+}
+
+#[test]
+fn steep_matrices_are_refused(rt: HostRuntime) -> Result<(), Fail> {
+    check_steep(&rt, rt.alloc(), &TOO_STEEP)
 }
 
 // Asserts that an empty input is encoded with these operands.
@@ -347,10 +367,14 @@ fn check_taken(rt: &impl Abort, alloc: Global, operands: &[&str]) -> Result<(), 
     Ok(())
 }
 
-#[test]
-fn the_steepest_matrices_are_taken(rt: HostRuntime) -> Result<(), Fail> {
-    for operands in STEEPEST {
-        check_taken(&rt, rt.alloc(), operands)?;
+fn check_all_taken(rt: &impl Abort, alloc: Global, table: &[&[&str]]) -> Result<(), Fail> {
+    for operands in table {
+        check_taken(rt, alloc, operands)?;
     }
     Ok(())
+}
+
+#[test]
+fn the_steepest_matrices_are_taken(rt: HostRuntime) -> Result<(), Fail> {
+    check_all_taken(&rt, rt.alloc(), &STEEPEST)
 }

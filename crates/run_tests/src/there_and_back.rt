@@ -31,13 +31,18 @@ struct Decoding<'a> {
 }
 
 impl<'a> Decoding<'a> {
-    fn check(&self, rt: &impl Abort, alloc: Global) -> Result<(), Fail> {
-        let decoded = bytes_of(alloc, self.decoded)?;
+    // The run of `decode` over the stream.
+    fn run(&self, alloc: Global, sinks: &mut Sinks) -> Result<Status, Fail> {
         let mut stream = Sinks::new(alloc)?;
         encoded(alloc, self.operands, self.raw, &mut stream)?;
         let mut src = MemSource::new(stream.out.bytes(), &[], &[]);
+        Ok(run_word(alloc, "decode", &mut src, sinks)?)
+    }
+
+    fn check(&self, rt: &impl Abort, alloc: Global) -> Result<(), Fail> {
+        let decoded = bytes_of(alloc, self.decoded)?;
         let mut sinks = Sinks::new(alloc)?;
-        let status = run_word(alloc, "decode", &mut src, &mut sinks)?;
+        let status = self.run(alloc, &mut sinks)?;
         let outcome = Outcome {
             status: Status::Done,
             out: decoded.as_slice(),
@@ -98,12 +103,16 @@ const DECODED: [Decoding<'static>; 5] = [
     },
 ];
 
-#[test]
-fn streams_are_decoded(rt: HostRuntime) -> Result<(), Fail> {
-    for row in DECODED {
-        row.check(&rt, rt.alloc())?;
+fn check_decoded(rt: &impl Abort, alloc: Global, table: &[Decoding]) -> Result<(), Fail> {
+    for row in table {
+        row.check(rt, alloc)?;
     }
     Ok(())
+}
+
+#[test]
+fn streams_are_decoded(rt: HostRuntime) -> Result<(), Fail> {
+    check_decoded(&rt, rt.alloc(), &DECODED)
 }
 
 // The words of `check` with a line's three parts.
@@ -403,10 +412,14 @@ const SCHEDULED: [Scheduled<'static>; 4] = [
     },
 ];
 
-#[test]
-fn printed_schedules_are_the_least_that_run(rt: HostRuntime) -> Result<(), Fail> {
-    for row in SCHEDULED {
-        row.check(&rt, rt.alloc())?;
+fn check_scheduled(rt: &impl Abort, alloc: Global, table: &[Scheduled]) -> Result<(), Fail> {
+    for row in table {
+        row.check(rt, alloc)?;
     }
     Ok(())
+}
+
+#[test]
+fn printed_schedules_are_the_least_that_run(rt: HostRuntime) -> Result<(), Fail> {
+    check_scheduled(&rt, rt.alloc(), &SCHEDULED)
 }
