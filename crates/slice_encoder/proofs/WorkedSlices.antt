@@ -36,30 +36,30 @@ two_places = picture 2 (pos 0 ∷ pos 0 ∷ []) (negsuc 6 ∷ negsuc 6 ∷ []) (
 fitting : map (λ i. fits 1 (last_lists (one_place (pos 0) (negsuc 2)) (i ∷ []) 0 0)) (0 ∷ 1 ∷ 2 ∷ 3 ∷ 4 ∷ 5 ∷ 6 ∷ 7 ∷ [])
     ≡ false ∷ true ∷ true ∷ false ∷ false ∷ false ∷ false ∷ true ∷ []
 unfolding restored_after made prediction inverse_of forward_of restored_of factor_of offset_of code_of intlog2
-fitting is = refl
+fitting = refl
 
 -- the bytes of one place
 nothing : slice_bits 1 0 (last_lists (one_place (pos 0) (pos 0)) (0 ∷ []) 0 0) ≡ bits_of (0x01 ∷ [])
 unfolding restored_after made prediction inverse_of forward_of restored_of factor_of offset_of code_of intlog2
-nothing is = refl
+nothing = refl
 
 minus_two : slice_bits 1 0 (last_lists (one_place (pos 0) (negsuc 1)) (0 ∷ []) 0 0) ≡ bits_of (0x00 ∷ [])
 unfolding restored_after made prediction inverse_of forward_of restored_of factor_of offset_of code_of intlog2
-minus_two is = refl
+minus_two = refl
 
 minus_three : slice_bits 1 1 (last_lists (one_place (pos 0) (negsuc 2)) (1 ∷ []) 0 0) ≡ bits_of (0x02 ∷ [])
 unfolding restored_after made prediction inverse_of forward_of restored_of factor_of offset_of code_of intlog2
-minus_three is = refl
+minus_three = refl
 
 -- two slices: the second is predicted by what is restored in the first
-restored_first : restored_after (c1_of (two_places)) (5 ∷ 1 ∷ []) 0 0 ≡ negsuc 5
+restored_first : restored_after (c1_of two_places) (5 ∷ 1 ∷ []) 0 0 ≡ negsuc 5
 unfolding restored_after made prediction inverse_of forward_of restored_of factor_of offset_of
-restored_first is = refl
+restored_first = refl
 
-first_slice : slice_bits 1 5 (last_lists (two_places) (5 ∷ []) 0 0) ≡ bits_of (0x0A ∷ [])
+first_slice : slice_bits 1 5 (last_lists two_places (5 ∷ []) 0 0) ≡ bits_of (0x0A ∷ [])
 unfolding restored_after made prediction inverse_of forward_of restored_of factor_of offset_of code_of intlog2
-first_slice is = refl
+first_slice = refl
 
-second_slice : slice_bits 1 1 (last_lists (two_places) (5 ∷ 1 ∷ []) 1 0) ≡ bits_of (0x03 ∷ [])
+second_slice : slice_bits 1 1 (last_lists two_places (5 ∷ 1 ∷ []) 1 0) ≡ bits_of (0x03 ∷ [])
 unfolding restored_after made prediction inverse_of forward_of restored_of factor_of offset_of code_of intlog2
-second_slice is = refl
+second_slice = refl

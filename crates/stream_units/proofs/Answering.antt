@@ -176,7 +176,7 @@ joined {W} command plain z' v es c' front ending s here ends =
     ∙ ap (λ l. record { ending = ending; text = command.opening ++ l; last = last }) (append-nil (texts plain.text es))
 
 -- the last unit, which ends the stream, in front of bytes
-last-front : (z : Past) (t : List ℕ) (last : Entry) (behind : Cursor) → Stand (unit_rows z) last.fields (bytes_at z.place t) last.unit behind → ends last.unit behind ≡ true → front_of units z t ≡ Finishes (length t) last.unit
+pub last-front : (z : Past) (t : List ℕ) (last : Entry) (behind : Cursor) → Stand (unit_rows z) last.fields (bytes_at z.place t) last.unit behind → ends last.unit behind ≡ true → front_of units z t ≡ Finishes (length t) last.unit
 last-front z t last behind f e =
     let g = stands_front z t last.fields last.unit behind f in
     g.front ∙ (rw e (ap (λ n. Finishes n last.unit) (omega (arith, g.inside, ap (λ (l : List ℕ). length l) (g.whole e), length-drop g.size t))))

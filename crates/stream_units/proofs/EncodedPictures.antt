@@ -23,7 +23,7 @@ picture_is_sliced parts p shape s f is steep have =
     subst (λ (g : Frame). IsSliced parts p (slices_of g p s)) (frame_is parts shape is)
     (chosen_are_sliced parts p.wavelet (coded_from (frame_of shape) p s) f.allowed (coded_is_given shape p s f have) steep is.luma is.colour).0
 
-all_sliced : (parts : HeaderParts) (p : Params) (shape : PictureShape) (pictures : List PictureSamples) → IsLawful p → IsShapeOf shape parts → IsSteepFor shape p → AllByRecursion (HaveShape shape) pictures
+pub all_sliced : (parts : HeaderParts) (p : Params) (shape : PictureShape) (pictures : List PictureSamples) → IsLawful p → IsShapeOf shape parts → IsSteepFor shape p → AllByRecursion (HaveShape shape) pictures
     → AllByRecursion (IsSliced parts p) (map (slices_of (frame_under parts) p) pictures)
 all_sliced parts p shape [] f is steep have = tt
 all_sliced parts p shape (s ∷ pictures) f is steep have = (picture_is_sliced parts p shape s f is steep have.0, all_sliced parts p shape pictures f is steep have.1)

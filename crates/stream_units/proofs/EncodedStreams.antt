@@ -58,6 +58,14 @@ picture_fits parts p previous number slices f =
     (fit_append (to_be_bytes w32 number) (params_bytes p ++ concat slices) (word_fits number)
     (fit_append (params_bytes p) (concat slices) (bytes_of-fit (written (written_params.fields_of p) ++ zeros_to_byte_end (bit_length p))) (slices_fit parts p 0 slices f.each)))
 
+units_fit : (parts : HeaderParts) (p : Params) (previous number : ℕ) (pictures : List (List (List ℕ))) → AllByRecursion (IsSliced parts p) pictures → Fit (units_behind p previous number pictures)
+units_fit parts p previous number [] f = head_fits (record { code = EndOfSequence; next = 0; previous = previous })
+units_fit parts p previous number (slices ∷ pictures) f =
+    fit_append (picture_unit p previous number slices) (units_behind p (unit_length p) (number_after number) pictures) (picture_fits parts p previous number slices f.0) (units_fit parts p (unit_length p) (number_after number) pictures f.1)
+
+pub encoded_fits : (s : Settings) (pictures : List (List (List ℕ))) → AllByRecursion (IsSliced s.parts s.params) pictures → Fit (encoded s pictures)
+encoded_fits s pictures f = fit_append (header_unit s.parts) (units_behind s.params (13 + header_len s.parts) s.first pictures) (header_fits s.parts) (units_fit s.parts s.params (13 + header_len s.parts) s.first pictures f)
+
 -- ---- a unit before others
 
 -- from a state on the bytes are these units and the end
@@ -83,7 +91,7 @@ place_after z (Picture parts number params slices) bytes = refl
 place_after z Skipped bytes = refl
 place_after z End bytes = refl
 
-stands : (z : Past) (unit : DataUnit) (bytes more : List ℕ) → Moves units (body_rows z) z.place bytes (done unit) → unit_behind unit ≡ Inner
+pub stands : (z : Past) (unit : DataUnit) (bytes more : List ℕ) → Moves units (body_rows z) z.place bytes (done unit) → unit_behind unit ≡ Inner
     → (vs : List Value) × Stand (unit_rows z) vs (bytes_at z.place (bytes ++ more)) unit (bytes_at (z.place + length bytes) more)
 unfolding unit_rows tail_rows
 stands z unit bytes more m inner =
@@ -117,22 +125,27 @@ end_there : (place : ℕ) → read reason_of (tail_rows (unit_behind End) End) (
 unfolding tail_rows read ◌>>=◌ no_more field_at spelled
 end_there place = refl
 
-found_end : (z : Past) (bytes : List ℕ) → Moves units (body_rows z) z.place bytes (done End) → Found z bytes []
+pub end_stands : (z : Past) (bytes : List ℕ) → Moves units (body_rows z) z.place bytes (done End) → (vs : List Value) × Stand (unit_rows z) vs (bytes_at z.place bytes) End (bytes_at (z.place + length bytes) [])
 unfolding unit_rows
-found_end z bytes m =
+end_stands z bytes m =
     let behind = bytes_at (z.place + length bytes) [] in
     let here : bytes_at z.place (bytes ++ []) ≡ bytes_at z.place bytes = ap (bytes_at z.place) (append-nil bytes) in
     let s = found_fields reason_of (unit_rows z) (bytes_at z.place (bytes ++ [])) End behind
     (then_ok reason_of (body_rows z) (λ made. tail_rows (unit_behind made) made) (bytes_at z.place (bytes ++ [])) behind End (Ok (End, behind)) (m.moves [] ∙ read-done reason_of End behind) (end_there (z.place + length bytes))) in
+    (s.0, subst (λ c. Stand (unit_rows z) s.0 c End behind) here s.1)
+
+found_end : (z : Past) (bytes : List ℕ) → Moves units (body_rows z) z.place bytes (done End) → Found z bytes []
+found_end z bytes m =
+    let s = end_stands z bytes m in
     record {
       entries = [];
       last = record { fields = s.0; unit = End };
       stream = record {
         left = z;
         mid = bytes_at z.place bytes;
-        behind = behind;
+        behind = bytes_at (z.place + length bytes) [];
         units = (refl, refl);
-        end = subst (λ c. Stand (unit_rows z) s.0 c End behind) here s.1;
+        end = s.1;
         last_one = refl;
       };
       units = refl;
@@ -142,14 +155,14 @@ found_end z bytes m =
 -- ---- between two units
 
 -- the state behind a unit of so many bytes, before the picture of this number
-record Going (parts : HeaderParts) (z : Past) (previous number : ℕ) : Type 0 where
-  first : First
-  there : z.first ≡ Some first
-  of : first.parts ≡ parts
-  true_one : previous ≡ z.previous
-  holds : first_broken (number_rules z number) ≡ None
+pub record Going (parts : HeaderParts) (z : Past) (previous number : ℕ) : Type 0 where
+  pub first : First
+  pub there : z.first ≡ Some first
+  pub of : first.parts ≡ parts
+  pub true_one : previous ≡ z.previous
+  pub holds : first_broken (number_rules z number) ≡ None
 
-picture_code : (z : Past) (first : First) → z.first ≡ Some first → first_broken (code_rules z LowDelayPicture) ≡ None
+pub picture_code : (z : Past) (first : First) → z.first ≡ Some first → first_broken (code_rules z LowDelayPicture) ≡ None
 picture_code z first there = rw there refl
 
 whole_frame : (fields odd : Bool) → (fields ≡ true → odd ≡ false) → not (true && fields && odd) ≡ true
@@ -157,7 +170,7 @@ whole_frame true true h = sym (h refl)
 whole_frame true false h = refl
 whole_frame false odd h = refl
 
-end_code : (z : Past) (first : First) → z.first ≡ Some first → (first.parts.coding ≡ 1 → z.pictures % 2 ≡ 0) → first_broken (code_rules z EndOfSequence) ≡ None
+pub end_code : (z : Past) (first : First) → z.first ≡ Some first → (first.parts.coding ≡ 1 → z.pictures % 2 ≡ 0) → first_broken (code_rules z EndOfSequence) ≡ None
 end_code z first there even =
     rw (there, whole_frame (first.parts.coding == 1) (z.pictures % 2 == 1) (λ e. ne_eqb (z.pictures % 2) 1 (λ (q : z.pictures % 2 ≡ 1). omega (arith, q, even (eqb-true first.parts.coding 1 e))))) refl
 
@@ -170,7 +183,7 @@ first_order true same odd h = rw (h refl) refl
 first_order false same odd h = refl
 
 -- the state behind a picture
-going_on : (parts : HeaderParts) (p : Params) (z : Past) (previous number : ℕ) (slices : List (List ℕ)) → IsLawful p → IsSliced parts p slices → Going parts z previous number
+pub going_on : (parts : HeaderParts) (p : Params) (z : Past) (previous number : ℕ) (slices : List (List ℕ)) → IsLawful p → IsSliced parts p slices → Going parts z previous number
     → (g : Going parts z previous number) → Going parts (after z (Picture g.first.parts number p slices) (picture_unit p previous number slices)) (unit_length p) (number_after number)
 going_on parts p z previous number slices f s h g = record {
   first = g.first;
@@ -192,20 +205,23 @@ pictures_found parts p f few (slices ∷ pictures) z previous number short fits 
     subst (λ q. Found z (unit ++ units_behind p (unit_length p) (number_after number) pictures) (Picture q number p slices ∷ pictures_under parts p (number_after number) pictures)) g.of
     (found_more z (Picture g.first.parts number p slices) unit (units_behind p (unit_length p) (number_after number) pictures) (pictures_under parts p (number_after number) pictures) m refl (picture_fits parts p previous number slices s.0) others)
 
+-- and behind the first unit
+pub going_first : (s : Settings) → AreLawful s → Going s.parts (after nothing_yet (Sequence s.parts) (header_unit s.parts)) (13 + header_len s.parts) s.first
+going_first s f = record {
+  first = record { parts = s.parts; payload = drop 13 (header_unit s.parts) };
+  there = refl;
+  of = refl;
+  true_one = sym (length-header_unit s.parts);
+  holds = first_order (s.parts.coding == 1) (s.first == (0 + 1) % 2 ^ 32) (s.first % 2 == 1) (λ e. ne_eqb (s.first % 2) 1 (λ (q : s.first % 2 ≡ 1). omega (arith, q, f.even (eqb-true s.parts.coding 1 e))));
+}
+
 -- the law
 pub encoded_stream : (s : Settings) (pictures : List (List (List ℕ))) → AreLawful s → AllByRecursion (IsSliced s.parts s.params) pictures → (s.parts.coding ≡ 1 → length pictures % 2 ≡ 0)
     → length (encoded s pictures) ≤ limit → IsStreamOf (encoded s pictures) (units_of s pictures)
 encoded_stream s pictures f sliced even within =
     let unit = header_unit s.parts in
     let start = after nothing_yet (Sequence s.parts) unit in
-    let first : First = record { parts = s.parts; payload = drop 13 unit } in
-    let going : Going s.parts start (13 + header_len s.parts) s.first = record {
-      first = first;
-      there = refl;
-      of = refl;
-      true_one = sym (length-header_unit s.parts);
-      holds = first_order (s.parts.coding == 1) (s.first == (0 + 1) % 2 ^ 32) (s.first % 2 == 1) (λ e. ne_eqb (s.first % 2) 1 (λ (q : s.first % 2 ≡ 1). omega (arith, q, f.even (eqb-true s.parts.coding 1 e))));
-    } in
+    let going : Going s.parts start (13 + header_len s.parts) s.first = going_first s f in
     let few = unit_small s.params f.params in
     let small : 13 + header_len s.parts < 2 ^ 32 = omega (arith, header_short s.parts f.header) in
     let others = pictures_found s.parts s.params f.params few pictures start (13 + header_len s.parts) s.first small f.first going sliced (λ e. omega (arith, even e)) in

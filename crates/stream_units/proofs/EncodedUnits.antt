@@ -29,6 +29,9 @@ use Rattle.stream_units.proofs.EncodedParts.{moves_head, moves_header, moves_che
 pub length-header_unit : (parts : HeaderParts) → length (header_unit parts) ≡ 13 + header_len parts
 length-header_unit parts = omega (arith, length-append (head_bytes (record { code = SequenceHeader; next = 13 + header_len parts; previous = 0 })) (header_bytes parts), length-filled (header_bits parts))
 
+pub length-end_unit : (previous : ℕ) → length (end_unit previous) ≡ 13
+length-end_unit previous = refl
+
 -- slices from slice n on have the bytes between
 length-slices : (parts : HeaderParts) (p : Params) (n : ℕ) (slices : List (List ℕ)) → IsLawful p → AreSlices parts p n slices → bytes_before p.slicing.a p.slicing.b n + length (concat slices) ≡ bytes_before p.slicing.a p.slicing.b (n + length slices)
 length-slices parts p n [] f s =

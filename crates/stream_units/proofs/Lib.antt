@@ -27,6 +27,7 @@ pub mod EncodedPieces
 pub mod EncodedParts
 pub mod EncodedUnits
 pub mod EncodedStreams
+pub mod EncodedAnswers
 pub mod WorkedEncoding
 pub mod WrittenShapes
 pub mod WriterCalls

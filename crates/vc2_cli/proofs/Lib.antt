@@ -6,6 +6,8 @@ pub mod Decoding
 pub mod Flat
 pub mod Encoding
 pub mod EncodeTurns
+pub mod EncodeReplies
+pub mod EncodeChecked
 pub mod Chaining
 pub mod StreamReplies
 pub mod Exits

@@ -18,7 +18,7 @@ mod words;
 
 pub use laws::{
     one_answer, one_check_answer, one_decode_answer, one_header_answer, one_schedule_answer,
-    streams_have_replies,
+    pictures_go_there_and_back, streams_have_replies,
 };
 pub use status::{Ending, ScheduleFault, Status, exit_code};
 pub use stream_units::{Reason, Refusal};

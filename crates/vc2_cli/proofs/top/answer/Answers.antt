@@ -14,6 +14,10 @@ use Rattle.vc2_cli.specs.Decode.{decode_machine, check_machine}
 use Rattle.vc2_cli.proofs.Decoding.{decode_laws, check_laws}
 use Rattle.vc2_cli.specs.Scheduled.{replay_machine}
 use Rattle.vc2_cli.proofs.Replaying.{replay_laws}
+use Rattle.vc2_words.specs.Shown.{shown}
+use Rattle.vc2_cli.specs.Encode.{encode_machine}
+use Rattle.vc2_cli.proofs.Encoding.{encode_laws}
+use Rattle.vc2_cli.proofs.EncodeReplies.{some_size}
 use Rattle.vc2_cli.proofs.Settling.{at_end, settled, settled_usage}
 use Rattle.vc2_cli.proofs.top.answer.Goals as goal
 
@@ -68,22 +72,34 @@ returns-in-Some-clause-settled g c = λ input e.
     (at_end (rest c.check_schedule.new.src) c.check_schedule.result c.check_schedule.ensures.end) c.check_schedule.ensures.ran c.conclude-in-Some.ensures.told)
 
 pub check_schedule-requires : goal.check_schedule-requires
-check_schedule-requires g c = c.requires c.in-Some.schedule (ap seen_words (c.in-Ok.is ∙ ap Ok (c.in-Check.is ∙ ap Check c.in-Some.is)))
+check_schedule-requires g c = c.requires.schedule c.in-Some.schedule (ap seen_words (c.in-Ok.is ∙ ap Ok (c.in-Check.is ∙ ap Check c.in-Some.is)))
 
 pub returns-in-Header-clause-limit : goal.returns-in-Header-clause-limit
 returns-in-Header-clause-limit g c = let few = c.header.ensures.limit in (few.0, omega (arith, few.1), few.2)
 
 pub returns-in-Encode-clause-settled : goal.returns-in-Encode-clause-settled
 returns-in-Encode-clause-settled g c = λ input e.
-    subst (λ (r : Result Command WordFault). Settles (command_reply (seen_words r) input) (command_due (seen_words r)) input (g.S.Source.rest c.args.src.now) (g.K.Sink.written c.args.out.now) (g.K.Sink.written c.args.out.now)
-    (g.N.Sink.written c.args.note.now) (g.N.Sink.written c.refuse.new.note) c.refuse.result) (sym (c.in-Ok.is ∙ ap Ok c.in-Encode.is))
-    (settled_usage UnknownCommand input (g.S.Source.rest c.args.src.now) (g.K.Sink.written c.args.out.now) (g.N.Sink.written c.args.note.now) (g.N.Sink.written c.refuse.new.note) c.refuse.result e c.refuse.ensures.told)
+    let rest = g.S.Source.rest in
+    let out = g.K.Sink.written in
+    let note = g.N.Sink.written in
+    let asked = shown c.in-Encode.settings in
+    let settings = c.requires.settings asked (ap seen_words (c.in-Ok.is ∙ ap Ok c.in-Encode.is)) in
+    subst (λ (r : Result Command WordFault). Settles (command_reply (seen_words r) input) (command_due (seen_words r)) input (rest c.encode.new.src) (out c.args.out.now) (out c.encode.new.out) (note c.args.note.now) (note c.conclude-in-Encode.new.note) c.conclude-in-Encode.result)
+    (sym (c.in-Ok.is ∙ ap Ok c.in-Encode.is))
+    (settled (encode_machine asked) (encode_laws asked (some_size asked settings.0.header)) [] (rest c.args.src.now) (rest c.encode.new.src) (out c.args.out.now) (out c.encode.new.out) (note c.args.note.now) (note c.conclude-in-Encode.new.note) input c.encode.result c.conclude-in-Encode.result e
+    (at_end (rest c.encode.new.src) c.encode.result c.encode.ensures.end) c.encode.ensures.ran c.conclude-in-Encode.ensures.told)
+
+pub encode-requires-clause-lawful : goal.encode-requires-clause-lawful
+encode-requires-clause-lawful g c = (c.requires.settings (shown c.in-Encode.settings) (ap seen_words (c.in-Ok.is ∙ ap Ok c.in-Encode.is))).0
+
+pub encode-requires-clause-flat : goal.encode-requires-clause-flat
+encode-requires-clause-flat g c = (c.requires.settings (shown c.in-Encode.settings) (ap seen_words (c.in-Ok.is ∙ ap Ok c.in-Encode.is))).1
 
 pub returns-in-Trial-clause-settled : goal.returns-in-Trial-clause-settled
 returns-in-Trial-clause-settled g c = λ input e.
     subst (λ (r : Result Command WordFault). Settles (command_reply (seen_words r) input) (command_due (seen_words r)) input (g.S.Source.rest c.args.src.now) (g.K.Sink.written c.args.out.now) (g.K.Sink.written c.args.out.now)
-    (g.N.Sink.written c.args.note.now) (g.N.Sink.written c.refuse-in-Trial.new.note) c.refuse-in-Trial.result) (sym (c.in-Ok.is ∙ ap Ok c.in-Trial.is))
-    (settled_usage UnknownCommand input (g.S.Source.rest c.args.src.now) (g.K.Sink.written c.args.out.now) (g.N.Sink.written c.args.note.now) (g.N.Sink.written c.refuse-in-Trial.new.note) c.refuse-in-Trial.result e c.refuse-in-Trial.ensures.told)
+    (g.N.Sink.written c.args.note.now) (g.N.Sink.written c.refuse.new.note) c.refuse.result) (sym (c.in-Ok.is ∙ ap Ok c.in-Trial.is))
+    (settled_usage UnknownCommand input (g.S.Source.rest c.args.src.now) (g.K.Sink.written c.args.out.now) (g.N.Sink.written c.args.note.now) (g.N.Sink.written c.refuse.new.note) c.refuse.result e c.refuse.ensures.told)
 
 pub returns-in-Err-clause-settled : goal.returns-in-Err-clause-settled
 returns-in-Err-clause-settled g c = λ input e.

@@ -1,0 +1,159 @@
+-- Whole pictures are encoded to their stream.
+use Rattle.std.proofs.Common.{◌≡◌, ℕ, zero, suc, ◌+◌, ◌-◌, ◌*◌, ◌%◌, ◌^◌, ◌<◌, ◌≤◌, cond, eqb, Bool, true, false, List, [], ◌∷◌, ◌++◌, length, map, drop, Ok, refl, sym, ap, subst, ◌∙◌, arith, append_assoc, ne_eqb, eqb-true}
+use Rattle.std.specs.List.{AllByRecursion}
+use Rattle.std.proofs.lemmas.Bool.{le-leb}
+use Rattle.std.proofs.lemmas.List.{length-append}
+use Rattle.std.proofs.Math.Seq.{drop-append_seam}
+use Rattle.sequence_header.specs.declared.parts.HeaderParts.{HeaderParts}
+use Rattle.sequence_header.specs.Coding.{IsShapeOf, luma_size, colour_size, luma_depth, colour_depth}
+use Rattle.sequence_header.specs.Checking.{Passes}
+use Rattle.sequence_header.proofs.Shapes.{luma_fits, colour_fits, depth_fits, excursions}
+use Rattle.slice_geometry.specs.declared.PictureShape.{PictureShape}
+use Rattle.slice_geometry.specs.Frames.{Frame, frame_of}
+use Rattle.transform_params.specs.Fields.{unit_length}
+use Rattle.picture_codec.specs.Samples.{PictureSamples}
+use Rattle.picture_codec.specs.Encoding.{slices_of}
+use Rattle.raw_video.specs.RawText.{is_wide, raw_text}
+use Rattle.raw_video.specs.RawParse.{raw_length, sample_size, IsOfFrame, RawFront, Shown, raw_front, raw_texts}
+use Rattle.raw_video.proofs.Fronts.{front_over}
+use Rattle.raw_video.proofs.ReadBack.{length_raw, picture_back}
+use Rattle.vc2_run.specs.Walk.{Answer, Step, Ends, Whole, answer_from, answer_to, after_step, before}
+use Rattle.vc2_run.proofs.Walks.{answer_step}
+use Rattle.stream_units.specs.declared.reason.Reason.TheVariants.{StreamTooLong}
+use Rattle.stream_units.specs.Streams.{limit, frame_under}
+use Rattle.stream_units.specs.Encoded.{header_unit, picture_unit, end_unit, number_after, units_behind}
+use Rattle.stream_units.proofs.SameShapes.{frame_is}
+use Rattle.channel_schedule.specs.declared.schedule.Schedule.{Schedule}
+use Rattle.vc2_words.specs.Settings.{Asked}
+use Rattle.vc2_cli.specs.declared.status.Ending.{Ending}
+use Rattle.vc2_cli.specs.declared.status.Ending.TheVariants.{Encoded}
+use Rattle.vc2_cli.specs.Encode.{raw_size, raw_place, first_length, stream_place, previous_at, number_at, has_room, is_half, refused_at, shapes_at, ended_plan, closing, step_by, encode_machine}
+use Rattle.vc2_cli.specs.EncodeReply.{raw_input, stream_of, MayBeWritten, encoded_reply, AreEncoded}
+use Rattle.vc2_cli.specs.Reply.{reply_of}
+use Rattle.vc2_cli.proofs.Encoding.{encode_laws}
+
+-- a picture has a byte
+pub some_raw : (shape : PictureShape) → 0 < raw_length (frame_of shape)
+some_raw shape = product (is_wide (frame_of shape)) shape.luma.h shape.luma.w (shape.colour.h * shape.colour.w) shape.luma_fits.some_rows shape.luma_fits.some_columns
+  where
+    area : (h w : ℕ) → 1 ≤ h → 1 ≤ w → 1 ≤ h * w
+    area h w a b = grind arith
+
+    product : (wide : Bool) (h w colour : ℕ) → 1 ≤ h → 1 ≤ w → 0 < sample_size wide * (h * w + 2 * colour)
+    product true h w colour a b = omega (arith, area h w a b)
+    product false h w colour a b = omega (arith, area h w a b)
+
+-- the shape of a header's pictures
+abbrev pub header_shape : (p : HeaderParts) → Passes p → PictureShape
+header_shape p q = record {
+  luma = luma_size p;
+  colour = colour_size p;
+  luma_depth = luma_depth p;
+  colour_depth = colour_depth p;
+  luma_fits = luma_fits p q;
+  colour_fits = colour_fits p q;
+  luma_depth_fits = depth_fits _ (excursions p.signal q.signal).some_luma (excursions p.signal q.signal).luma;
+  colour_depth_fits = depth_fits _ (excursions p.signal q.signal).some_colour (excursions p.signal q.signal).colour;
+}
+
+pub header_has : (p : HeaderParts) (q : Passes p) → IsShapeOf (header_shape p q) p
+header_has p q = record { luma = refl; colour = refl; luma_depth = refl; colour_depth = refl }
+
+pub some_size : (s : Asked) → Passes s.parts → 0 < raw_size s
+some_size s q = subst (λ (f : Frame). 0 < raw_length f) (frame_is s.parts (header_shape s.parts q) (header_has s.parts q)) (some_raw (header_shape s.parts q))
+
+-- ---- the walk over whole pictures
+
+module _ (s : Asked) (q : Passes s.parts) where
+  few : (frame_under s.parts).luma_depth ≤ 16
+  few = (header_shape s.parts q).luma_depth_fits.most
+
+  fewer : (frame_under s.parts).colour_depth ≤ 16
+  fewer = (header_shape s.parts q).colour_depth_fits.most
+
+  -- what is written of the pictures from picture n on
+  texts : ℕ → List PictureSamples → List ℕ
+  texts n [] = []
+  texts n (p ∷ ps) = picture_unit s.params (previous_at s n) (number_at s n) (slices_of (frame_under s.parts) s.params p) ++ texts (suc n) ps
+
+  abbrev answer : ℕ → ℕ → List PictureSamples → Answer Ending
+  answer n m ps = record { ending = Encoded (ended_plan s (shapes_at s m) (stream_place s m)); text = texts n ps; last = end_unit (previous_at s m) }
+
+  -- behind the picture n
+  next_place : (n size : ℕ) → n * size + size ≡ suc n * size
+  next_place n size = grind arith
+
+  at_most : (n m size : ℕ) → n ≤ m → n * size ≤ m * size
+  at_most n m size le = grind arith
+
+  room : (n m : ℕ) → suc n ≤ m → stream_place s m + 13 ≤ limit → has_room s n ≡ true
+  room n m le fits = le-leb (stream_place s n + unit_length s.params + 13) limit (omega (arith, fits, at_most (suc n) m (unit_length s.params) le, next_place n (unit_length s.params)))
+
+  closed : (half : Bool) (place previous : ℕ) (schedule : Schedule) (next : ℕ → ℕ → Answer Ending) → half ≡ false → after_step (closing half place previous schedule) next ≡ record { ending = Encoded schedule; text = []; last = end_unit previous }
+  closed true place previous schedule next e = absurd cc
+  closed false place previous schedule next e = refl
+
+  with_room : (room : Bool) (size : ℕ) (text : List ℕ) (left : ℕ) (ending : Ending) (next : ℕ → ℕ → Answer Ending) → room ≡ true → after_step (cond room (Whole size text left) (Ends ending [])) next ≡ before text (next size left)
+  with_room true size text left ending next e = refl
+  with_room false size text left ending next e = absurd cc
+
+  pub answered : (n m : ℕ) (ps : List PictureSamples) → m ≡ n + length ps → AllByRecursion (IsOfFrame (frame_under s.parts)) ps → is_half s.parts.coding m ≡ false → raw_place s n + length (raw_texts (frame_under s.parts) ps) ≤ 2 ^ 40
+      → stream_place s m + 13 ≤ limit → answer_from (encode_machine s) n (raw_texts (frame_under s.parts) ps) ≡ answer n m ps
+  answered n m [] e each whole inside fits =
+      let go_on = λ (size left : ℕ). answer_from (encode_machine s) left (drop size []) in
+      let here : n ≡ m = omega (arith, e) in
+      answer_step (encode_machine s) (encode_laws s (some_size s q)) n []
+      ∙ ap (λ (front : RawFront). after_step (step_by s n front) go_on) (front_over (frame_under s.parts) (raw_place s n) (some_size s q))
+      ∙ closed (is_half s.parts.coding n) (raw_place s n) (previous_at s n) (ended_plan s (shapes_at s n) (stream_place s n)) go_on (ap (is_half s.parts.coding) here ∙ whole)
+      ∙ ap (λ (k : ℕ). answer n k []) here
+  answered n m (p ∷ ps) e each whole inside fits =
+      let g = frame_under s.parts in
+      let text = raw_text g p in
+      let rest = raw_texts g ps in
+      let go_on = λ (size left : ℕ). answer_from (encode_machine s) left (drop size (text ++ rest)) in
+      let unit = picture_unit s.params (previous_at s n) (number_at s n) (slices_of g s.params p) in
+      let long : length text ≡ raw_size s = length_raw g p each.0 in
+      let both : length (text ++ rest) ≡ length text + length rest = length-append text rest in
+      let dropped : drop (raw_size s) (text ++ rest) ≡ rest = ap (λ (k : ℕ). drop k (text ++ rest)) (sym long) ∙ drop-append_seam text rest in
+      let next : n + 1 ≡ suc n = omega arith in
+      answer_step (encode_machine s) (encode_laws s (some_size s q)) n (text ++ rest)
+      ∙ ap (λ (front : RawFront). after_step (step_by s n front) go_on) (picture_back g p each.0 few fewer (raw_place s n) rest (omega (arith, inside, both, long)))
+      ∙ with_room (has_room s n) (raw_size s) unit (n + 1) (refused_at (raw_place s n) StreamTooLong) go_on (room n m (omega (arith, e)) fits)
+      ∙ ap (before unit)
+      (ap (answer_from (encode_machine s) (n + 1)) dropped
+      ∙ ap (λ (k : ℕ). answer_from (encode_machine s) k rest) next
+      ∙ answered (suc n) m ps (omega (arith, e)) each.1 whole (omega (arith, inside, both, long, next_place n (raw_size s))) fits)
+
+  -- what is written is the units behind the first
+  after_number : (n : ℕ) → number_after (number_at s n) ≡ number_at s (suc n)
+  after_number n = omega arith
+
+  pub units_are : (n m : ℕ) (ps : List PictureSamples) → m ≡ n + length ps
+      → texts n ps ++ end_unit (previous_at s m) ≡ units_behind s.params (previous_at s n) (number_at s n) (map (slices_of (frame_under s.parts) s.params) ps)
+  units_are n m [] e = ap (λ (k : ℕ). end_unit (previous_at s k)) (omega (arith, e))
+  units_are n m (p ∷ ps) e =
+      let unit = picture_unit s.params (previous_at s n) (number_at s n) (slices_of (frame_under s.parts) s.params p) in
+      append_assoc unit (texts (suc n) ps) (end_unit (previous_at s m))
+      ∙ ap (λ (l : List ℕ). unit ++ l) (units_are (suc n) m ps (omega (arith, e)))
+      ∙ ap (λ (k : ℕ). unit ++ units_behind s.params (unit_length s.params) k (map (slices_of (frame_under s.parts) s.params) ps)) (sym (after_number n))
+
+  whole_frames : (coding n : ℕ) → (coding ≡ 1 → n % 2 ≡ 0) → is_half coding n ≡ false
+  whole_frames coding n even = by (eqb coding 1) refl
+    where
+      by : (fields : Bool) → eqb coding 1 ≡ fields → cond fields (eqb (n % 2) 1) false ≡ false
+      by false t = refl
+      by true t = ne_eqb (n % 2) 1 (λ e. omega (arith, e, even (eqb-true coding 1 t)))
+
+  out_is : (pictures : List PictureSamples) → s.first < 2 ^ 32 → (header_unit s.parts ++ texts 0 pictures) ++ end_unit (previous_at s (length pictures)) ≡ stream_of s pictures
+  out_is pictures fits =
+      append_assoc (header_unit s.parts) (texts 0 pictures) (end_unit (previous_at s (length pictures)))
+      ∙ ap (λ (l : List ℕ). header_unit s.parts ++ l) (units_are 0 (length pictures) pictures refl)
+      ∙ ap (λ (k : ℕ). header_unit s.parts ++ units_behind s.params (first_length s) k (map (slices_of (frame_under s.parts) s.params) pictures)) (omega (arith, fits))
+
+  pub encoded_all : (pictures : List PictureSamples) → s.first < 2 ^ 32 → MayBeWritten s pictures → reply_of [] (answer_to (encode_machine s) (raw_input s pictures)) ≡ encoded_reply s pictures
+  encoded_all pictures fits m =
+      ap (λ (a : Answer Ending). reply_of [] (before (header_unit s.parts) a)) (answered 0 (length pictures) pictures refl m.each (whole_frames s.parts.coding (length pictures) m.even) (omega (arith, m.raw)) m.stream)
+      ∙ ap (λ (l : List ℕ). record (encoded_reply s pictures) { out = l }) (out_is pictures fits)
+
+pub are_encoded : (s : Asked) (pictures : List PictureSamples) → AreEncoded s pictures
+are_encoded s pictures settings m = encoded_all s settings.lawful.header.passes pictures settings.lawful.first m

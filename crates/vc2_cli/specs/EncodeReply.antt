@@ -1,0 +1,79 @@
+-- What `encode` replies to whole pictures, and `decode` to what it wrote.
+use Rattle.std.specs.Prelude.{◌≡◌, ◌≤◌, ◌%◌, ◌^◌, ◌+◌, ℕ, List, [], length, map, Some, Ok, ◌*◌}
+use Rattle.std.specs.List.{AllByRecursion}
+use Rattle.slice_geometry.specs.Slicing.{slice_count}
+use Rattle.picture_codec.specs.Samples.{PictureSamples, picture_of}
+use Rattle.picture_codec.specs.Encoding.{slices_of}
+use Rattle.raw_video.specs.RawParse.{IsOfFrame, raw_texts}
+use Rattle.stream_units.specs.Streams.{limit, frame_under}
+use Rattle.channel_schedule.specs.declared.schedule.Schedule.{Schedule}
+use Rattle.channel_schedule.specs.declared.schedule.Outcome.TheVariants.{Runs}
+use Rattle.channel_schedule.specs.Rates.{IsRate}
+use Rattle.stream_units.specs.Encoded.{AreLawful}
+use Rattle.stream_units.specs.Writer.{IsSteepUnder}
+use Rattle.stream_units.specs.EncodedPictures.{encoded_pictures}
+use Rattle.vc2_words.specs.Settings.{Asked}
+use Rattle.vc2_words.specs.Commands.{decode, check, encode}
+use Rattle.vc2_cli.specs.declared.status.Status.TheVariants as status
+use Rattle.vc2_cli.specs.Texts.{decoded_line, schedule_line, replayed_lines}
+use Rattle.vc2_cli.specs.Reply.{Reply, command_reply}
+use Rattle.vc2_cli.specs.Encode.{written_under, stream_place, shapes_at, ended_plan}
+
+-- raw pictures, of the header's sizes and depths
+abbrev pub raw_input : Asked → List PictureSamples → List ℕ
+raw_input s pictures = raw_texts (frame_under s.parts) pictures
+
+-- their stream
+abbrev pub stream_of : Asked → List PictureSamples → List ℕ
+stream_of s pictures = encoded_pictures (written_under s) pictures
+
+-- the pictures that a decoder makes of it
+abbrev pub decoded_of : Asked → List PictureSamples → List PictureSamples
+decoded_of s pictures = map (λ p. picture_of (frame_under s.parts) s.params (slices_of (frame_under s.parts) s.params p)) pictures
+
+-- settings that a stream is written with
+pub record AreSettings (s : Asked) : Type 0 where
+  pub lawful : AreLawful (written_under s)
+  pub rate : IsRate s.rate
+  pub flat : IsSteepUnder (written_under s)
+
+-- Whole pictures that may be written: whatever their samples are, where pictures are fields of an even number, and within 2 ^ 40 bytes.
+pub record MayBeWritten (s : Asked) (pictures : List PictureSamples) : Type 0 where
+  pub each : AllByRecursion (IsOfFrame (frame_under s.parts)) pictures
+  pub even : s.parts.coding ≡ 1 → length pictures % 2 ≡ 0
+  pub raw : length (raw_input s pictures) ≤ 2 ^ 40
+  pub stream : stream_place s (length pictures) + 13 ≤ limit
+
+-- the least schedule with which the stream runs
+abbrev pub plan_for : Asked → List PictureSamples → Schedule
+plan_for s pictures = ended_plan s (shapes_at s (length pictures)) (stream_place s (length pictures))
+
+-- the bytes of the stream
+abbrev pub stream_length : Asked → List PictureSamples → ℕ
+stream_length s pictures = stream_place s (length pictures) + 13
+
+-- `encode` writes the whole stream, and tells that schedule
+abbrev pub encoded_reply : Asked → List PictureSamples → Reply
+encoded_reply s pictures = record { status = status.Done; rest = []; out = stream_of s pictures; note = schedule_line (plan_for s pictures) }
+
+abbrev pub AreEncoded : Asked → List PictureSamples → Type 0
+AreEncoded s pictures = AreSettings s → MayBeWritten s pictures → command_reply (Ok (encode s)) (raw_input s pictures) ≡ encoded_reply s pictures
+
+-- `check` of that stream with that schedule tells that it runs
+abbrev pub replayed_reply : Asked → List PictureSamples → Reply
+replayed_reply s pictures = record {
+  status = status.Done;
+  rest = [];
+  out = replayed_lines (length pictures) (length pictures * slice_count s.params.slicing) (stream_length s pictures) Runs;
+  note = [];
+}
+
+abbrev pub TheScheduleRuns : Asked → List PictureSamples → Type 0
+TheScheduleRuns s pictures = AreSettings s → MayBeWritten s pictures → command_reply (Ok (check (Some (plan_for s pictures)))) (stream_of s pictures) ≡ replayed_reply s pictures
+
+-- `decode` of that stream writes the pictures that its slices make
+abbrev pub decoded_reply : Asked → List PictureSamples → Reply
+decoded_reply s pictures = record { status = status.Done; rest = []; out = raw_input s (decoded_of s pictures); note = decoded_line (length pictures) (stream_length s pictures) }
+
+abbrev pub AreDecoded : Asked → List PictureSamples → Type 0
+AreDecoded s pictures = AreSettings s → MayBeWritten s pictures → command_reply (Ok decode) (stream_of s pictures) ≡ decoded_reply s pictures
