@@ -18,7 +18,7 @@ invariant-loop-turn g l =
     let rest = g.S.Source.rest in
     let written = g.K.Sink.written in
     record {
-      open : l.reader.refused ≡ false;
+      unrefused : l.reader.refused ≡ false;
       shape : l.reader.shape ≡ l.picture.shape;
       encoder : l.payloads.encoder.shape ≡ l.picture.shape;
       params : l.payloads.encoder.params ≡ l.writer.settings.params;
