@@ -2,6 +2,14 @@
 #![tactic(auto)]
 
 #[cfg(test)]
+mod encode_call;
+#[cfg(test)]
+mod encode_failing;
+#[cfg(test)]
+mod encode_words;
+#[cfg(test)]
+mod encoding;
+#[cfg(test)]
 mod failing;
 #[cfg(test)]
 mod hexadecimal;
@@ -21,5 +29,7 @@ mod stream_bytes;
 mod streams;
 #[cfg(test)]
 mod texts;
+#[cfg(test)]
+mod there_and_back;
 #[cfg(test)]
 mod top_call;

@@ -47,7 +47,7 @@ impl Model for StreamWriter {
     ghost use Rattle.transform_params.specs.Views.{params_of};
     ghost use Rattle.transform_params.specs.Fields.{unit_length};
     ghost use Rattle.stream_units.specs.Streams.{frame_under};
-ghost use Rattle.stream_units.specs.Writer.{WriterState};
+    ghost use Rattle.stream_units.specs.Writer.{WriterState};
     ghost use Rattle.stream_units.specs.WriterInside.{IsSound, Encodes};
 
     ghost Value = { WriterState };

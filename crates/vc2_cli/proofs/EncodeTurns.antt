@@ -124,10 +124,10 @@ nothing_more rest taken more over told = let none = subst IsAtEnd told over in l
 
 pub goes_first : (e : Asked) (rest out0 out1 : Option (List ℕ)) (r : RawReaderSeen) (w : WriterState) → 0 < raw_size e → frame_of r.shape ≡ frame_under e.parts → r.place ≡ 0 → r.refused ≡ false → w ≡ started (written_under e)
     → Appends out0 out1 (header_unit e.parts) → Goes e 0 rest rest out0 out1 r w
-goes_first e rest out0 out1 r w some frame at open start wrote =
+goes_first e rest out0 out1 r w some frame at unrefused start wrote =
     let none : 0 ≡ raw_place e 0 = no_bytes (raw_size e) in
     record {
-      reader = record { frame = frame; place = at ∙ none; open = open };
+      reader = record { frame = frame; place = at ∙ none; unrefused = unrefused };
       writer = behind_first e w start;
       taken = [];
       total = none;
@@ -172,7 +172,7 @@ module _ (e : Asked) (n : ℕ) (rest0 rest1 out0 out1 : Option (List ℕ)) (read
           reader = subst (HasRead e (n + 1)) (sym after) (record {
             frame = goes.reader.frame;
             place = ap (λ (k : ℕ). k + raw_length (frame_of reader.shape)) goes.reader.place ∙ ap (λ (f : Frame). raw_place e n + raw_length f) goes.reader.frame ∙ next_place_is n (raw_size e);
-            open = goes.reader.open;
+            unrefused = goes.reader.unrefused;
           });
           writer = behind_next e n w w' slices goes.writer wrote.after;
           taken = goes.taken ++ r.taken;

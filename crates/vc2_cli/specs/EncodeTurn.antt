@@ -23,7 +23,7 @@ pub record IsBehind (s : Asked) (n : ℕ) (w : WriterState) : Type 0 where
 pub record HasRead (s : Asked) (n : ℕ) (r : RawReaderSeen) : Type 0 where
   pub frame : frame_of r.shape ≡ frame_under s.parts
   pub place : r.place ≡ raw_place s n
-  pub open : r.refused ≡ false
+  pub unrefused : r.refused ≡ false
 
 -- n pictures are read and written
 pub record Goes (s : Asked) (n : ℕ) (rest0 rest1 out0 out1 : Option (List ℕ)) (r : RawReaderSeen) (w : WriterState) : Type 0 where

@@ -76,10 +76,8 @@ fn status_of(ending: Ending) -> Status
     ensures { result ≡ status_of ending }
 {
     match ending {
-        Ending::Done
-        | Ending::Decoded { .. }
-        | Ending::Accepted { .. }
-        | Ending::Encoded(_) => Status::Done,
+        Ending::Done | Ending::Decoded { .. } | Ending::Accepted { .. } | Ending::Encoded(_) =>
+            Status::Done,
         Ending::Scheduled { outcome, .. } => schedule_status(outcome),
         Ending::Refused(refusal) => Status::Refused(refusal),
     }

@@ -12,7 +12,7 @@ invariant-loop-turn g l =
     let written = g.K.Sink.written in
     let asked = shown l.settings in
     record {
-      open : l.reader.refused ≡ false;
+      unrefused : l.reader.refused ≡ false;
       shape : l.reader.shape ≡ l.picture.shape;
       pictures : IsShapeOf l.picture.shape l.writer.settings.parts;
       unended : l.writer.ended ≡ false;
