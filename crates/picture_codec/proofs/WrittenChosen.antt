@@ -106,7 +106,7 @@ module _ (j : CodedPicture) (allowed : IsAllowed j.slicing) (given : AreGiven j)
       let share = share_of_slice j n in
       let lists_at : ℕ → Lists = λ i. lists_of_slice j n (chosen j n ++ i ∷ []) in
       let enough : fits share (lists_at 127) ≡ true =
-      coarsest j (chosen j n) share (n % j.slicing.slices_x) (n / j.slicing.slices_x) (record { luma = given.luma.small; c1 = given.c1.small; c2 = given.c2.small }) steep (chosen_indices j n) (length-chosen j n ∙ sym (number_is j.slicing n lt)) in
+      coarsest j (chosen j n) share (n % j.slicing.slices_x) (n / j.slicing.slices_x) (record { luma_bits = given.luma_bits; colour_bits = given.colour_bits; luma = given.luma.small; c1 = given.c1.small; c2 = given.c2.small }) steep (chosen_indices j n) (length-chosen j n ∙ sym (number_is j.slicing n lt)) in
       ap (λ l. fits share (lists_of_slice j n l)) (chosen_next j n) ∙ first_fits share lists_at 127 0 enough
 
   text_length : (n : ℕ) → n < slice_count j.slicing → length (slice_bits (share_of_slice j n) (get_or (chosen j (suc n)) n 0) (lists_of_slice j n (chosen j (suc n)))) ≡ 8 * share_of_slice j n

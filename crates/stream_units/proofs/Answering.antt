@@ -123,7 +123,7 @@ pub record Stood {W E : Type 0} (command : Command Past Reason DataUnit W E) (pl
 before-before : {E : Type 0} (a b : List ℕ) (x : Answer E) → before a (before b x) ≡ before (a ++ b) x
 before-before a b x = ap (λ l. record { ending = x.ending; text = l; last = x.last }) (sym (append_assoc a b x.text))
 
-laws_of : {W E : Type 0} (command : Command Past Reason DataUnit W E) → IsMachine (machine command)
+pub laws_of : {W E : Type 0} (command : Command Past Reason DataUnit W E) → IsMachine (machine command)
 laws_of command = machine_laws limit past_limit units nothing_yet command units_laws
 
 one-more : {W E : Type 0} (command : Command Past Reason DataUnit W E) (plain : IsPlain command) (z : Past) (own : W) (v : List ℕ) (unit : DataUnit) (size : ℕ) → front_within limit past_limit units z v ≡ Stands size unit
