@@ -98,12 +98,12 @@ module _ (s : Asked) (schedule : Schedule) (f : IsLawful s.params) where
       ∙ ap (λ (k : ℕ). let u : UnitShape = record { start = place; head = k; slices = slice_count s.params.slicing; a = s.params.slicing.a; b = s.params.slicing.b } in u) (omega (arith, long))
 
   -- a command behind n pictures
-  record Stands (n : ℕ) (z : Past) (own : Replayed) : Type 0 where
-    place : z.place ≡ stream_place s n
-    pictures : z.pictures ≡ n
-    of : own.schedule ≡ schedule
-    slices : own.slices ≡ n * slice_count s.params.slicing
-    shapes : own.shapes ≡ shapes_at s n
+  pub record Stands (n : ℕ) (z : Past) (own : Replayed) : Type 0 where
+    pub place : z.place ≡ stream_place s n
+    pub pictures : z.pictures ≡ n
+    pub of : own.schedule ≡ schedule
+    pub slices : own.slices ≡ n * slice_count s.params.slicing
+    pub shapes : own.shapes ≡ shapes_at s n
 
   counted : (n size : ℕ) → n * size + size ≡ suc n * size
   counted n size = grind arith
@@ -151,7 +151,7 @@ module _ (s : Asked) (schedule : Schedule) (f : IsLawful s.params) where
       let here : n ≡ m = omega (arith, e) in
       let long : length (end_unit previous) ≡ 13 = length-end_unit previous in
       last_unit (replaying schedule) z own (end_unit previous)
-      (moves_end_unit z g.first previous g.there g.true_one short (end_code z g.first g.there (λ c. omega (arith, b.pictures, e, even (ap (λ (q : HeaderParts). q.coding) (sym g.of) ∙ c))))) (omega (arith, b.place, long, within, here))
+      (moves_end_unit z g.first previous g.there g.true_one short (end_code z g.first g.there (λ c. omega (arith, b.pictures, e, even (ap (λ (q : HeaderParts). q.coding) (sym g.of) ∙ c))))) (omega (arith, b.place, long, subst (λ (k : ℕ). stream_place s k + 13 ≤ limit) (sym here) within))
       ∙ ap (λ (x : Ending). let a : Answer Ending = record { ending = x; text = []; last = last_line x } in a) (finished_is n z own (end_unit previous) long b)
       ∙ ap answer here
   walked (slices ∷ pictures) parts z own n m previous number short fits g sliced even e within b =
@@ -256,7 +256,7 @@ counted_pictures (x ∷ es) parts p number (slices ∷ found) e =
     let both : (x.unit ∷ map (λ (e : Entry). e.unit) es) ≡ (Picture parts number p slices ∷ pictures_under parts p (number_after number) found) = e in
     let head : x.unit ≡ Picture parts number p slices = cc in
     let tail : map (λ (e : Entry). e.unit) es ≡ pictures_under parts p (number_after number) found = cc in
-    ap (λ (u : DataUnit). pictures_in u + total pictures_in es) head ∙ ap (λ (k : ℕ). 1 + k) (counted_pictures es parts p (number_after number) found tail)
+    omega (arith, ap (λ (u : DataUnit). pictures_in u) head, counted_pictures es parts p (number_after number) found tail)
 
 count_all : (es : List Entry) (s : Settings) (found : List (List (List ℕ))) → map (λ (e : Entry). e.unit) es ≡ units_of s found → total pictures_in es ≡ length found
 count_all [] s found e = absurd cc
@@ -264,7 +264,7 @@ count_all (x ∷ es) s found e =
     let both : (x.unit ∷ map (λ (e : Entry). e.unit) es) ≡ (Sequence s.parts ∷ pictures_under s.parts s.params s.first found) = e in
     let head : x.unit ≡ Sequence s.parts = cc in
     let tail : map (λ (e : Entry). e.unit) es ≡ pictures_under s.parts s.params s.first found = cc in
-    ap (λ (u : DataUnit). pictures_in u + total pictures_in es) head ∙ counted_pictures es s.parts s.params s.first found tail
+    omega (arith, ap (λ (u : DataUnit). pictures_in u) head, counted_pictures es s.parts s.params s.first found tail)
 
 pub are_decoded : (s : Asked) (pictures : List PictureSamples) → AreDecoded s pictures
 are_decoded s pictures settings may =

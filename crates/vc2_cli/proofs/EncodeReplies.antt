@@ -1,5 +1,6 @@
 -- Whole pictures are encoded to their stream.
 use Rattle.std.proofs.Common.{◌≡◌, ℕ, zero, suc, ◌+◌, ◌-◌, ◌*◌, ◌%◌, ◌^◌, ◌<◌, ◌≤◌, cond, eqb, Bool, true, false, List, [], ◌∷◌, ◌++◌, length, map, drop, Ok, refl, sym, ap, subst, ◌∙◌, arith, append_assoc, ne_eqb, eqb-true}
+use Rattle.std.specs.Prelude.{◌&&◌}
 use Rattle.std.specs.List.{AllByRecursion}
 use Rattle.std.proofs.lemmas.Bool.{le-leb}
 use Rattle.std.proofs.lemmas.List.{length-append}
@@ -10,7 +11,8 @@ use Rattle.sequence_header.specs.Checking.{Passes}
 use Rattle.sequence_header.proofs.Shapes.{luma_fits, colour_fits, depth_fits, excursions}
 use Rattle.slice_geometry.specs.declared.PictureShape.{PictureShape}
 use Rattle.slice_geometry.specs.Frames.{Frame, frame_of}
-use Rattle.transform_params.specs.Fields.{unit_length}
+use Rattle.slice_geometry.specs.Slicing.{slice_count}
+use Rattle.transform_params.specs.Fields.{unit_length, IsLawful}
 use Rattle.picture_codec.specs.Samples.{PictureSamples}
 use Rattle.picture_codec.specs.Encoding.{slices_of}
 use Rattle.raw_video.specs.RawText.{is_wide, raw_text}
@@ -62,6 +64,13 @@ header_has p q = record { luma = refl; colour = refl; luma_depth = refl; colour_
 pub some_size : (s : Asked) → Passes s.parts → 0 < raw_size s
 some_size s q = subst (λ (f : Frame). 0 < raw_length f) (frame_is s.parts (header_shape s.parts q) (header_has s.parts q)) (some_raw (header_shape s.parts q))
 
+-- a picture has a slice
+pub some_slices : (s : Asked) → IsLawful s.params → 1 ≤ slice_count s.params.slicing
+some_slices s f = product s.params.slicing.slices_x s.params.slicing.slices_y f.allowed.slices.some_across f.allowed.slices.some_down
+  where
+    product : (x y : ℕ) → 1 ≤ x → 1 ≤ y → 1 ≤ x * y
+    product x y a b = grind arith
+
 -- ---- the walk over whole pictures
 
 module _ (s : Asked) (q : Passes s.parts) where
@@ -72,7 +81,7 @@ module _ (s : Asked) (q : Passes s.parts) where
   fewer = (header_shape s.parts q).colour_depth_fits.most
 
   -- what is written of the pictures from picture n on
-  texts : ℕ → List PictureSamples → List ℕ
+  abbrev pub texts : ℕ → List PictureSamples → List ℕ
   texts n [] = []
   texts n (p ∷ ps) = picture_unit s.params (previous_at s n) (number_at s n) (slices_of (frame_under s.parts) s.params p) ++ texts (suc n) ps
 
@@ -140,19 +149,19 @@ module _ (s : Asked) (q : Passes s.parts) where
   whole_frames : (coding n : ℕ) → (coding ≡ 1 → n % 2 ≡ 0) → is_half coding n ≡ false
   whole_frames coding n even = by (eqb coding 1) refl
     where
-      by : (fields : Bool) → eqb coding 1 ≡ fields → cond fields (eqb (n % 2) 1) false ≡ false
+      by : (fields : Bool) → eqb coding 1 ≡ fields → (fields && eqb (n % 2) 1) ≡ false
       by false t = refl
       by true t = ne_eqb (n % 2) 1 (λ e. omega (arith, e, even (eqb-true coding 1 t)))
 
   out_is : (pictures : List PictureSamples) → s.first < 2 ^ 32 → (header_unit s.parts ++ texts 0 pictures) ++ end_unit (previous_at s (length pictures)) ≡ stream_of s pictures
   out_is pictures fits =
       append_assoc (header_unit s.parts) (texts 0 pictures) (end_unit (previous_at s (length pictures)))
-      ∙ ap (λ (l : List ℕ). header_unit s.parts ++ l) (units_are 0 (length pictures) pictures refl)
+      ∙ ap (λ (l : List ℕ). header_unit s.parts ++ l) (units_are 0 (length pictures) pictures (omega arith))
       ∙ ap (λ (k : ℕ). header_unit s.parts ++ units_behind s.params (first_length s) k (map (slices_of (frame_under s.parts) s.params) pictures)) (omega (arith, fits))
 
   pub encoded_all : (pictures : List PictureSamples) → s.first < 2 ^ 32 → MayBeWritten s pictures → reply_of [] (answer_to (encode_machine s) (raw_input s pictures)) ≡ encoded_reply s pictures
   encoded_all pictures fits m =
-      ap (λ (a : Answer Ending). reply_of [] (before (header_unit s.parts) a)) (answered 0 (length pictures) pictures refl m.each (whole_frames s.parts.coding (length pictures) m.even) (omega (arith, m.raw)) m.stream)
+      ap (λ (a : Answer Ending). reply_of [] (before (header_unit s.parts) a)) (answered 0 (length pictures) pictures (omega arith) m.each (whole_frames s.parts.coding (length pictures) m.even) (omega (arith, m.raw)) m.stream)
       ∙ ap (λ (l : List ℕ). record (encoded_reply s pictures) { out = l }) (out_is pictures fits)
 
 pub are_encoded : (s : Asked) (pictures : List PictureSamples) → AreEncoded s pictures

@@ -6,7 +6,12 @@ use Rattle.std.specs.Io.KnownBytes.{Appends, Consumes, IsAtEnd}
 use Rattle.vc2_io.specs.Outside.{Rose, GrewShort}
 use Rattle.vc2_io.proofs.Known.{Consumes-none, Consumes-then, Appends-none}
 use Rattle.slice_geometry.specs.declared.unit_list.UnitShape.{UnitShape}
+use Rattle.slice_geometry.specs.Units.{UnitList}
 use Rattle.slice_geometry.specs.Slicing.{slice_count}
+use Rattle.channel_schedule.specs.declared.schedule.Rate.{Rate}
+use Rattle.channel_schedule.specs.declared.schedule.Schedule.{Schedule}
+use Rattle.channel_schedule.specs.Plans.{plan_of}
+use Rattle.vc2_cli.specs.Scheduled.{shapes_in}
 use Rattle.vc2_words.specs.Settings.{Asked}
 use Rattle.sequence_header.specs.Bytes.{header_len}
 use Rattle.transform_params.specs.Fields.{unit_length}
@@ -31,15 +36,15 @@ use Rattle.stream_units.specs.declared.write_stop.WriteStop.{WriteStop}
 use Rattle.stream_units.specs.declared.write_stop.WriteStop.TheVariants as stops
 use Rattle.stream_units.specs.Streams.{limit, frame_under}
 use Rattle.stream_units.specs.Encoded.{Settings, header_unit, picture_unit, end_unit}
-use Rattle.stream_units.specs.Writer.{WriterState, total_length, pictures_among, next_place, next_previous, next_number, plain_shape, picture_shape, started, after_picture, HasRoom, WritesPicture, WriteCause, Wrote, PictureStops}
+use Rattle.stream_units.specs.Writer.{WriterState, total_length, pictures_among, next_place, next_previous, next_number, plain_shape, picture_shape, started, after_picture, after_end, HasRoom, WritesPicture, WriteCause, Starts, IsSteepUnder, Wrote, PictureStops}
 use Rattle.stream_units.proofs.WrittenShapes.{total_push, pictures_push, last_push, plain_length, picture_length, one_more}
 use Rattle.vc2_cli.specs.declared.status.Ending.{Ending}
-use Rattle.vc2_cli.specs.declared.status.Ending.TheVariants.{Done, Refused}
+use Rattle.vc2_cli.specs.declared.status.Ending.TheVariants.{Done, Encoded, Refused}
 use Rattle.vc2_cli.specs.Running.{IsDone, Runs, Change, Closes}
 use Rattle.vc2_cli.specs.Encode.{written_under, raw_size, raw_place, first_length, stream_place, previous_at, number_at, has_room, is_half, refused_at, shapes_at, ended_plan, closing, step_by, encode_machine, ClosesBy, told_of_fault, told_of_stop}
 use Rattle.vc2_cli.specs.EncodeTurn.{IsBehind, HasRead, Goes}
 use Rattle.vc2_cli.proofs.Encoding.{encode_laws, none_short, none_due}
-use Rattle.vc2_cli.proofs.Exits.{cause_then}
+use Rattle.vc2_cli.proofs.Exits.{takes_none, cause_then}
 
 -- ---- the writer behind n pictures
 
@@ -80,6 +85,19 @@ pub behind_next : (e : Asked) (n : ℕ) (w w' : WriterState) → 1 ≤ slice_cou
 behind_next e n w w' some b after =
     let one : suc n ≡ n + 1 = omega arith in
     subst (λ (k : ℕ). IsBehind e k w') one (subst (IsBehind e (suc n)) (sym after) (behind_after e n w some b))
+
+-- the plan is of the units alone
+pub planned : (list : UnitList) (rate : Rate) (units : List UnitShape) (total : ℕ) → list.units ≡ units → list.total ≡ total → plan_of list rate ≡ plan_of (shapes_in units total) rate
+planned list rate units total u t = ap (λ (l : List UnitShape). plan_of (shapes_in l list.total) rate) u ∙ ap (λ (k : ℕ). plan_of (shapes_in units k) rate) t
+
+-- the bytes of the units and the end
+pub with_end : (w : WriterState) → total_length (after_end w).shapes ≡ next_place w + 13
+with_end w = total_push w.shapes (plain_shape (next_place w) 13) ∙ ap (λ (k : ℕ). next_place w + k) (plain_length (next_place w) 13)
+
+-- the run is over, and all was written
+pub closes_ended : (half : Bool) (place previous : ℕ) (schedule told : Schedule) (out0 out1 : Option (List ℕ)) → half ≡ false → told ≡ schedule → Appends out0 out1 (end_unit previous) → ClosesBy (closing half place previous schedule) out0 out1 (Ok (Encoded told))
+closes_ended true place previous schedule told out0 out1 none same wrote = absurd cc
+closes_ended false place previous schedule told out0 out1 none same wrote = (ap (λ (x : Schedule). Encoded x) same, wrote)
 
 -- the unit of the next picture
 abbrev unit_at : Asked → ℕ → PictureSamples → List ℕ
@@ -122,6 +140,24 @@ refused_done result place reason ending told is done = let same : refused_at pla
 nothing_more : (rest : Option (List ℕ)) (taken more : List ℕ) → IsAtEnd rest → rest ≡ Some more → taken ++ more ≡ taken
 nothing_more rest taken more over told = let none = subst IsAtEnd told over in let nil : more ≡ [] = none in ap (λ (l : List ℕ). taken ++ l) nil ∙ append-nil taken
 
+-- no writer was made
+pub runs_unopened : (e : Asked) (rest out0 out1 : Option (List ℕ)) (src to0 to1 : ℕ) (stop : WriteStop) → IsSteepUnder (written_under e) → Starts (written_under e) out0 out1 (Err stop) → WriteCause {X = WriterState} to0 to1 (Err stop)
+    → Runs (encode_machine e) IsDone (record { was = rest; is = rest; faults_were = src; faults_are = src }) (record { was = out0; is = out1; faults_were = to0; faults_are = to1 }) (told_of_stop 0 stop)
+runs_unopened e rest out0 out1 src to0 to1 stops.OutFault flat starts why = record {
+  ran = ran_unopened (encode_machine e) rest out0 out1 starts.1;
+  limit = takes_none rest;
+  cause = (refl, why.0, why.1);
+  end = λ ending e done. absurd cc;
+}
+runs_unopened e rest out0 out1 src to0 to1 stops.MatrixTooSteep flat starts why = absurd (starts.0 flat)
+runs_unopened e rest out0 out1 src to0 to1 stops.StreamTooLong flat starts why = absurd starts
+runs_unopened e rest out0 out1 src to0 to1 stops.NoMemory flat starts why = record {
+  ran = ran_unbegun (encode_machine e) rest out0 out1 starts;
+  limit = takes_none rest;
+  cause = (refl, why);
+  end = λ ending e done. absurd cc;
+}
+
 pub goes_first : (e : Asked) (rest out0 out1 : Option (List ℕ)) (r : RawReaderSeen) (w : WriterState) → 0 < raw_size e → frame_of r.shape ≡ frame_under e.parts → r.place ≡ 0 → r.refused ≡ false → w ≡ started (written_under e)
     → Appends out0 out1 (header_unit e.parts) → Goes e 0 rest rest out0 out1 r w
 goes_first e rest out0 out1 r w some frame at unrefused start wrote =
@@ -144,7 +180,7 @@ module _ (e : Asked) (n : ℕ) (rest0 rest1 out0 out1 : Option (List ℕ)) (read
   laws = encode_laws e some
 
   -- what the reader read stands in front
-  at_place : (rest2 : Option (List ℕ)) (p : PictureSamples) (result : Result RawStep RawFault) → ReadsFront (frame_of reader.shape) reader.place rest1 rest2 p result → ReadsFront (frame_under e.parts) (raw_place e n) rest1 rest2 p result
+  pub at_place : (rest2 : Option (List ℕ)) (p : PictureSamples) (result : Result RawStep RawFault) → ReadsFront (frame_of reader.shape) reader.place rest1 rest2 p result → ReadsFront (frame_under e.parts) (raw_place e n) rest1 rest2 p result
   at_place rest2 p result r = subst (λ (k : ℕ). ReadsFront (frame_under e.parts) k rest1 rest2 p result) goes.reader.place (subst (λ (f : Frame). ReadsFront f reader.place rest1 rest2 p result) goes.reader.frame r)
 
   most_taken : (rest2 : Option (List ℕ)) (p : PictureSamples) (result : Result RawStep RawFault) → ReadsFront (frame_under e.parts) (raw_place e n) rest1 rest2 p result → TakesAtMost (2 ^ 40 + 1) rest0 rest2

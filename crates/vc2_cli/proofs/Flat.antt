@@ -1,5 +1,5 @@
 -- The last rule of the words is the encoder's: the matrix leaves index 127 coarse enough.
-use Rattle.std.proofs.Common.{◌≡◌, ℕ, ◌+◌, ◌*◌, ◌<◌, ◌≤◌, leb, Bool, true, false, List, length, get_or, subst, sym, ap, ◌∙◌, arith}
+use Rattle.std.proofs.Common.{◌≡◌, ℕ, ◌+◌, ◌*◌, ◌<◌, ◌≤◌, leb, Bool, true, false, List, length, get_or, subst, sym, ap, refl, ◌∙◌, arith}
 use Rattle.std.proofs.lemmas.Bool.{le-leb, leb-true}
 use Rattle.std.proofs.lemmas.List.Sums.{AllPass-from_list_all, list_all-from_AllPass}
 use Rattle.std.proofs.lemmas.Grind.{get_or_default_zero}
@@ -9,6 +9,7 @@ use Rattle.slice_geometry.proofs.NumberedBands.{band-exists, index-numbered}
 use Rattle.slice_decoder.proofs.Whole.{is_band}
 use Rattle.transform_params.specs.Fields.{IsLawful}
 use Rattle.vc2_words.specs.Settings.{Asked}
+use Rattle.slice_encoder.specs.Laws.{IsSteepOk}
 use Rattle.stream_units.specs.Writer.{IsSteepUnder}
 use Rattle.vc2_cli.specs.Encode.{written_under}
 use Rattle.vc2_cli.specs.Words.{greater_depth, is_flat}
@@ -28,3 +29,19 @@ module _ (s : Asked) (f : IsLawful s.params) where
       = steep (level_of k) (orient_of k) (band-exists s.params.slicing.depth k (omega (arith, inside, f.count))) in
       let here : get_or s.params.matrix.entries k 0 + 4 * (greater_depth s + 2 + 3 * s.params.slicing.depth) ≤ 127 = subst (λ (i : ℕ). get_or s.params.matrix.entries i 0 + 4 * (greater_depth s + 2 + 3 * s.params.slicing.depth) ≤ 127) (index-numbered k) there in
       le-leb _ 127 (subst (λ (v : ℕ). v + 4 * (greater_depth s + 2 + 3 * s.params.slicing.depth) ≤ 127) (sym (get_or_default_zero s.params.matrix.entries k d inside)) here))
+
+-- a test that is true exactly where the encoder's rule holds
+pub flat_answer : (s : Asked) → IsLawful s.params → (depth signal : ℕ) (result : Bool) → depth ≡ s.params.slicing.depth → signal ≡ greater_depth s → (result ≡ true → IsSteepOk depth signal s.params.matrix)
+    → (IsSteepOk depth signal s.params.matrix → result ≡ true) → result ≡ is_flat s
+flat_answer s f depth signal result deep great to from = by result (is_flat s) refl refl
+  where
+    there : IsSteepOk depth signal s.params.matrix → IsSteepUnder (written_under s)
+    there ok = subst (λ (k : ℕ). IsSteepOk k (greater_depth s) s.params.matrix) deep (subst (λ (k : ℕ). IsSteepOk depth k s.params.matrix) great ok)
+
+    here : IsSteepUnder (written_under s) → IsSteepOk depth signal s.params.matrix
+    here ok = subst (λ (k : ℕ). IsSteepOk depth k s.params.matrix) (sym great) (subst (λ (k : ℕ). IsSteepOk k (greater_depth s) s.params.matrix) (sym deep) ok)
+
+    by : (a b : Bool) → result ≡ a → is_flat s ≡ b → result ≡ is_flat s
+    by true b e q = e ∙ sym (steep_is_flat s f (there (to e)))
+    by false true e q = absurd (let w : false ≡ true = sym e ∙ from (here (flat_is_steep s f q)) in cc)
+    by false false e q = e ∙ sym q

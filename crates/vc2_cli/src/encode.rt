@@ -56,6 +56,13 @@ fn without_unit(stop: WriteStop, place: u64) -> Result<Ending, Halt>
     }
 }
 
+// Whether the pictures are fields, and the last frame has only one.
+fn is_half(coding: u32, pictures: u64) -> bool
+    ensures { result ≡ is_half coding pictures }
+{
+    coding == 1 && pictures % 2 == 1
+}
+
 // The input is over at this place, behind so many pictures.
 fn finish<K: Sink>(
     settings: &Settings,
@@ -71,7 +78,7 @@ fn finish<K: Sink>(
         (K.written out.old) (K.written out.new) result }
     ensures cause { HaltHasCause 0 0 (K.faults out.old) (K.faults out.new) result }
 {
-    if settings.header.parts().coding == 1 && pictures % 2 == 1 {
+    if is_half(settings.header.parts().coding, pictures) {
         return refused(place, Reason::HalfFrame);
     }
     match writer.end(out) {

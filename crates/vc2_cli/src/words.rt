@@ -37,9 +37,13 @@ pub(crate) fn checked(command: Result<Command, WordFault>) -> Result<Command, Wo
     ensures { seen_words result ≡ words.checked (seen_words command) }
 {
     match command {
-        Ok(Command::Encode(settings)) => unless_steep(&settings, Command::Encode(settings)),
+        Ok(Command::Encode(settings)) => {
+            let command = Command::Encode(settings);
+            unless_steep(&settings, command)
+        }
         Ok(Command::Trial(settings, part)) => {
-            unless_steep(&settings, Command::Trial(settings, part))
+            let command = Command::Trial(settings, part);
+            unless_steep(&settings, command)
         }
         other => other,
     }
