@@ -13,7 +13,6 @@ use Rattle.planes.specs.Subbands.{BandStack, BandExists, band_of, band_index, su
 use Rattle.slice_geometry.specs.declared.Size.{Size}
 use Rattle.slice_geometry.specs.Slicing.{Slicing}
 use Rattle.slice_geometry.specs.Geometry.{padded_length, band_size}
-use Rattle.slice_encoder.specs.Laws.{most_coefficient}
 use Rattle.lifting.specs.declared.Wavelet.{Wavelet}
 use Rattle.lifting.specs.Transform.{Coefficients, analysis}
 use Rattle.lifting.specs.Ranges.{GridWithin, SameInside, SameBands, BandsWithin}
@@ -22,7 +21,7 @@ use Rattle.lifting.proofs.Levels as levels
 use Rattle.lifting.proofs.Inside.{analysis_same}
 use Rattle.lifting.proofs.GivenBack.{held_bounded}
 use Rattle.transform_params.specs.Params.{Params}
-use Rattle.picture_codec.specs.Samples.{SampleRows, sample_at}
+use Rattle.picture_codec.specs.Samples.{SampleRows}
 use Rattle.picture_codec.specs.Encoding.{centred, raster_from, level_bands, bands_from, analysed_bands}
 use Rattle.picture_codec.specs.EncoderInside.{IsWhole, AreWhole, HaveBandSizes, HoldComponent}
 use Rattle.slice_encoder.proofs.Made.{zero_within}

@@ -1,5 +1,5 @@
 -- The slices of a picture, each at its least index after those before it.
-use Rattle.std.proofs.Common.{◌≡◌, ℕ, zero, suc, ◌+◌, ◌-◌, ◌*◌, ◌/◌, ◌%◌, ◌<◌, ◌≤◌, ◌^◌, Bool, true, false, cond, List, [], ◌∷◌, ◌++◌, length, get_or, take, map, inl, inr, refl, sym, ap, subst, ◌∙◌, arith, add-one}
+use Rattle.std.proofs.Common.{◌≡◌, ℕ, zero, suc, ◌+◌, ◌*◌, ◌/◌, ◌%◌, ◌<◌, ◌≤◌, Bool, true, false, cond, List, [], ◌∷◌, ◌++◌, length, get_or, take, map, inl, inr, refl, sym, ap, subst, ◌∙◌, arith, add-one}
 use Rattle.std.specs.List.{All, concat, flat_map, range_with_len}
 use borrow.Rule.Slice.PartMut.{put_mid, post_of}
 use Rattle.std.proofs.lemmas.Slice.{take-put_mid}
@@ -7,21 +7,21 @@ use Rattle.std.proofs.Math.Path.{fun_ext}
 use Rattle.std.proofs.lemmas.Bool.{cases_lt, cases_eq}
 use Rattle.std.proofs.lemmas.List.{length-append, length-take-le, get_or-append-add, get_or_append_left, get_or_past}
 use Rattle.std.proofs.lemmas.List.Elements.{All-nil, All-cons, All-append}
-use Rattle.bit_codes.specs.Bits.{bits_of, bytes_of}
+use Rattle.bit_codes.specs.Bits.{bytes_of}
 use Rattle.field_rows.proofs.Filled.{bytes_by_bits}
 use Rattle.planes.specs.declared.ThreePlanes.{ThreePlanes}
 use Rattle.planes.specs.declared.Trio.{Trio}
 use Rattle.slice_geometry.specs.declared.PictureShape.{PictureShape}
 use Rattle.slice_geometry.specs.declared.SliceHead.{SliceHead}
-use Rattle.slice_geometry.specs.Slicing.{Slicing, AreSlicesAllowed, slice_count, slice_number, slice_bytes}
+use Rattle.slice_geometry.specs.Slicing.{Slicing, AreSlicesAllowed, slice_count}
 use Rattle.quant_factors.specs.Weights.{Weights}
 use Rattle.slice_encoder.specs.Choice.{fits, IsLeast, slice_bits}
 use Rattle.slice_encoder.specs.Chosen.{first_fit, least_index, lists_of_slice, share_of_slice, chosen, written_slice, written_slices}
 use Rattle.slice_encoder.specs.Encoded.{IsEncodedAfter}
 use Rattle.slice_encoder.specs.Laws.{IsIndex}
 use Rattle.slice_encoder.specs.Ready.{coded_picture, AreGiven, AreReady}
-use Rattle.slice_encoder.specs.Trials.{CodedPicture, Lists, last_lists, AreKept}
-use Rattle.slice_encoder.specs.Tries.{AreTried, IsTried, KeptHasSize, KeptHaveSizes, IsNext}
+use Rattle.slice_encoder.specs.Trials.{CodedPicture, Lists, AreKept}
+use Rattle.slice_encoder.specs.Tries.{AreTried, KeptHaveSizes, IsNext}
 use Rattle.slice_encoder.proofs.Coarsest.{last_index}
 use Rattle.slice_encoder.proofs.Listed.{flat_more}
 use Rattle.slice_encoder.proofs.Onward.{next_ready}

@@ -1,9 +1,9 @@
 -- The coefficients of every picture are such that it can be written.
-use Rattle.std.proofs.Common.{◌≡◌, ℕ, zero, suc, ◌+◌, ◌-◌, ◌*◌, ◌/◌, ◌^◌, ◌<◌, ◌≤◌, List, [], length, get_or, map, inl, inr, refl, sym, ap, subst, ◌∙◌, arith, ℤ}
+use Rattle.std.proofs.Common.{◌≡◌, ℕ, zero, suc, ◌+◌, ◌-◌, ◌*◌, ◌/◌, ◌^◌, ◌<◌, ◌≤◌, [], length, get_or, map, inl, inr, refl, sym, ap, subst, ◌∙◌, arith, ℤ}
 use Rattle.std.specs.List.{range_with_len}
 use Rattle.std.proofs.lemmas.List.FromFn.{get_or-map-range_with_len, length-map-range_with_len}
 use Rattle.planes.specs.Numbers.{Within}
-use Rattle.planes.specs.Raster.{Raster, Grid, height, row_of, at}
+use Rattle.planes.specs.Raster.{Raster, Grid, height, at}
 use Rattle.planes.specs.Subbands.{BandStack, BandExists, band_of, subband_length, HaveSizes}
 use Rattle.slice_geometry.specs.declared.Size.{Size}
 use Rattle.slice_geometry.specs.declared.PictureShape.{PictureShape}
@@ -12,14 +12,14 @@ use Rattle.slice_geometry.specs.Geometry.{padded_length, band_size}
 use Rattle.lifting.specs.declared.Wavelet.{Wavelet}
 use Rattle.lifting.specs.Transform.{Coefficients, analysis}
 use Rattle.lifting.specs.Ranges.{SameBands}
-use Rattle.lifting.specs.Bands.{coefficients_of, lowest, HoldAnalysis}
+use Rattle.lifting.specs.Bands.{coefficients_of, HoldAnalysis}
 use Rattle.lifting.proofs.Levels as levels
 use Rattle.lifting.proofs.Inside.{analysis_same}
 use Rattle.transform_params.specs.Params.{Params}
 use Rattle.transform_params.specs.Fields.{IsLawful}
-use Rattle.slice_encoder.specs.Ready.{IsGiven, AreGiven}
+use Rattle.slice_encoder.specs.Ready.{AreGiven}
 use Rattle.slice_encoder.specs.Laws.{most_coefficient}
-use Rattle.picture_codec.specs.Samples.{SampleRows, PictureSamples, AreSamples, HaveShape}
+use Rattle.picture_codec.specs.Samples.{SampleRows, PictureSamples, HaveShape}
 use Rattle.picture_codec.specs.Encoding.{centred, raster_from, bands_from, analysed_bands, coded_from}
 use Rattle.picture_codec.specs.EncoderInside.{IsWhole, AreWhole}
 use Rattle.picture_codec.proofs.Sizes.{padded_whole}

@@ -1,18 +1,17 @@
 -- Pictures whose quantisers are all 0 are given back.
-use Rattle.std.proofs.Common.{◌≡◌, ◌∙◌, sym, ap, subst, refl, ℕ, zero, suc, ◌+◌, ◌-◌, ◌*◌, ◌^◌, ◌<◌, ◌≤◌, List, get_or, inl, inr, arith, ℤ, pos}
+use Rattle.std.proofs.Common.{◌≡◌, ◌∙◌, sym, ap, subst, refl, ℕ, zero, suc, ◌+◌, ◌-◌, ◌*◌, ◌^◌, ◌<◌, ◌≤◌, inl, inr, arith, pos}
 use Rattle.std.specs.Prelude.{◌-ℤ◌, ◌+ℤ◌, neg_ℤ, unsigned_abs, min}
 use Rattle.std.specs.Int.{int_min, int_max}
 use Rattle.std.proofs.lemmas.Int.{ints, int_max_is, int_min_is}
 use Rattle.std.proofs.Math.Nat.{pow-suc}
 use Rattle.planes.specs.Raster.{Grid, at}
-use Rattle.planes.specs.Subbands.{BandStack, BandExists, band_of}
-use Rattle.dc_prediction.specs.Prediction.{restored}
+use Rattle.planes.specs.Subbands.{BandExists, band_of}
 use Rattle.slice_geometry.specs.declared.Size.{Size}
 use Rattle.slice_geometry.specs.declared.Component.{Component}
 use Rattle.slice_geometry.specs.declared.Component.TheVariants.{Luma, C1, C2}
 use Rattle.slice_geometry.specs.declared.PictureShape.{PictureShape}
 use Rattle.slice_geometry.specs.Slicing.{slice_count, slice_number}
-use Rattle.slice_geometry.specs.Geometry.{band_size, padded_length, holding}
+use Rattle.slice_geometry.specs.Geometry.{band_size, holding}
 use Rattle.lifting.specs.Transform.{Coefficients, synthesis, analysis}
 use Rattle.lifting.specs.Ranges.{SameBands}
 use Rattle.lifting.proofs.Inside.{synthesis_same}
@@ -21,7 +20,7 @@ use Rattle.transform_params.specs.Params.{Params}
 use Rattle.transform_params.specs.Fields.{IsLawful}
 use Rattle.slice_encoder.specs.Chosen.{chosen, written_slices}
 use Rattle.slice_encoder.specs.Trials.{CodedPicture}
-use Rattle.picture_codec.specs.Pictures.{size_of, depth_of, coefficient, coefficients, sample_of, sample}
+use Rattle.picture_codec.specs.Pictures.{size_of, coefficients, sample_of, sample}
 use Rattle.slice_geometry.specs.Frames.{frame_of}
 use Rattle.picture_codec.specs.Samples.{SampleRows, PictureSamples, HaveShape, AreSamples, component_of, sample_at}
 use Rattle.picture_codec.specs.Encoding.{centred, bands_from, coded_from, slices_of, IsSteepFor}

@@ -1,18 +1,18 @@
 -- The slices that are chosen for a picture were written, each at its index in its share of bytes.
-use Rattle.std.proofs.Common.{◌≡◌, ◌∙◌, sym, ap, subst, refl, ℕ, zero, suc, ◌+◌, ◌-◌, ◌*◌, ◌/◌, ◌%◌, ◌<◌, ◌≤◌, Bool, true, false, cond, List, [], ◌∷◌, ◌++◌, length, get_or, take, map, replicate, mul_comm, arith}
+use Rattle.std.proofs.Common.{◌≡◌, ◌∙◌, sym, ap, subst, refl, ℕ, zero, suc, ◌+◌, ◌-◌, ◌*◌, ◌/◌, ◌%◌, ◌<◌, ◌≤◌, Bool, true, false, cond, [], ◌∷◌, ◌++◌, length, get_or, take, replicate, mul_comm, arith}
 use Rattle.std.specs.Prelude.{max}
-use Rattle.std.specs.List.{AllByRecursion, range_with_len}
+use Rattle.std.specs.List.{AllByRecursion}
 use Rattle.std.proofs.Math.Nat.{mul-le-mul_right}
 use Rattle.std.proofs.Math.Seq.{take-length}
 use Rattle.std.proofs.lemmas.Nat.{mod-mul-add, div-mul-add}
 use Rattle.std.proofs.lemmas.List.{length-append, length-take, length-replicate, take-append-le, get_or-take}
 use Rattle.std.proofs.lemmas.List.FromFn.{get_or-map-range_with_len}
-use Rattle.bit_codes.specs.Bits.{bits_of, bytes_of, digits_below}
+use Rattle.bit_codes.specs.Bits.{digits_below}
 use Rattle.bit_codes.proofs.ByteLemmas.{bits_of-bytes_of, length-bytes_of, bytes_of-fit}
 use Rattle.bit_codes.proofs.CodeOf.{length-digits_below}
 use Rattle.bounded_blocks.specs.Writing.{codes_of, need}
 use Rattle.bounded_blocks.proofs.Needs.{need-most}
-use Rattle.slice_geometry.specs.Slicing.{IsAllowed, slice_count, slice_number, slice_bytes, length_bits}
+use Rattle.slice_geometry.specs.Slicing.{IsAllowed, slice_count, slice_number, length_bits}
 use Rattle.slice_geometry.proofs.LengthBits.{length_bits-fit}
 use Rattle.slice_geometry.proofs.Shares.{some_share}
 use Rattle.slice_encoder.specs.Choice.{fits, slice_bits}
@@ -24,7 +24,7 @@ use Rattle.slice_encoder.proofs.Coarsest.{coarsest}
 use Rattle.slice_encoder.proofs.SliceBits.{fit_from}
 use Rattle.picture_codec.specs.Written.{IsWritten, AreWritten}
 use Rattle.picture_codec.proofs.ChosenSlices.{chosen_next, length-chosen, chosen_indices}
-use Rattle.picture_codec.proofs.Steps.{column_in, row_in, number_is}
+use Rattle.picture_codec.proofs.Steps.{number_is}
 
 -- ---- the bits of a slice
 

@@ -1,5 +1,5 @@
 -- What an encoder keeps from picture to picture, and what it finds of one.
-use Rattle.std.specs.Prelude.{◌≡◌, ℕ, ◌<◌, ◌≤◌, length, ℤ}
+use Rattle.std.specs.Prelude.{◌≡◌, ℕ, ◌<◌, length, ℤ}
 use Rattle.planes.specs.declared.Trio.{Trio}
 use Rattle.planes.specs.declared.ThreePlanes.{ThreePlanes}
 use Rattle.planes.specs.Numbers.{Within}

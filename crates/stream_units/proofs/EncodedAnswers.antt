@@ -1,10 +1,10 @@
 -- What a command over the units makes of a unit that an encoder writes.
-use Rattle.std.proofs.Common.{◌≡◌, ℕ, ◌+◌, ◌-◌, ◌*◌, ◌≤◌, true, false, List, [], ◌++◌, length, take, drop, refl, sym, ap, ◌∙◌, arith}
+use Rattle.std.proofs.Common.{◌≡◌, ℕ, ◌+◌, ◌≤◌, List, [], ◌++◌, length, take, drop, refl, ap, ◌∙◌, arith}
 use Rattle.std.proofs.Math.Seq.{drop-append_seam}
-use Rattle.std.proofs.lemmas.List.{length-append, take_at, take_all}
+use Rattle.std.proofs.lemmas.List.{take_at, take_all}
 use Rattle.bit_codes.specs.Bits.{Cursor}
-use Rattle.field_rows.specs.Rows.{Value, done, is_nil}
-use Rattle.vc2_run.specs.Walk.{Ends, Answer, answer_from, after_step, before}
+use Rattle.field_rows.specs.Rows.{done, is_nil}
+use Rattle.vc2_run.specs.Walk.{Ends, answer_from, after_step, before}
 use Rattle.vc2_run.proofs.Walks.{answer_step}
 use Rattle.unit_table.specs.Grammar.{Inner, ends_by, bytes_at}
 use Rattle.unit_table.specs.Begun.{Moves}

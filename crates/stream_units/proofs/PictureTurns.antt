@@ -16,7 +16,7 @@ use Rattle.slice_geometry.specs.declared.PictureShape.{PictureShape}
 use Rattle.slice_geometry.specs.Slicing.{IsAllowed, slice_count, bytes_before, slice_bytes, total_bytes}
 use Rattle.slice_geometry.proofs.Shares.{bytes_before-rises}
 use Rattle.sequence_header.specs.declared.parts.HeaderParts.{HeaderParts}
-use Rattle.sequence_header.specs.Coding.{IsShapeOf, luma_size, colour_size, luma_depth}
+use Rattle.sequence_header.specs.Coding.{IsShapeOf}
 use Rattle.transform_params.specs.declared.faults.TransformReason.{TransformReason}
 use Rattle.transform_params.specs.declared.faults.TransformReason.TheVariants as transforms
 use Rattle.transform_params.specs.Params as params

@@ -1,28 +1,26 @@
 -- `check` with the schedule of what was encoded runs.
-use Rattle.std.proofs.Common.{◌≡◌, ℕ, zero, suc, ◌+◌, ◌-◌, ◌*◌, ◌%◌, ◌^◌, ◌<◌, ◌≤◌, Bool, true, false, List, [], ◌∷◌, ◌++◌, length, map, drop, Some, None, Ok, refl, sym, ap, subst, ◌∙◌, arith, append_assoc, append-nil, lit≤}
+use Rattle.std.proofs.Common.{◌≡◌, ℕ, zero, suc, ◌+◌, ◌-◌, ◌*◌, ◌%◌, ◌^◌, ◌<◌, ◌≤◌, List, [], ◌∷◌, ◌++◌, length, map, refl, sym, ap, subst, ◌∙◌, arith, lit≤}
 use Rattle.std.specs.List.{AllByRecursion}
 use Rattle.std.proofs.lemmas.List.{length-append, length-map}
 use Rattle.slice_geometry.specs.declared.Size.{Size}
 use Rattle.slice_geometry.specs.declared.PictureShape.{PictureShape}
 use Rattle.slice_geometry.specs.Frames.{Frame, frame_of}
 use Rattle.slice_geometry.specs.declared.unit_list.UnitShape.{UnitShape}
-use Rattle.slice_geometry.specs.Units as shapes
 use Rattle.slice_geometry.specs.Units.{IsUnitAllowed, StandInTurn}
 use Rattle.slice_geometry.specs.Slicing.{slice_count, total_bytes}
 use Rattle.slice_geometry.proofs.UnitLemmas.{in_turn-push}
 use Rattle.sequence_header.specs.declared.parts.HeaderParts.{HeaderParts}
 use Rattle.sequence_header.specs.Coding.{IsShapeOf}
-use Rattle.sequence_header.specs.Bytes.{header_len}
 use Rattle.sequence_header.proofs.Bounds.{header_short}
 use Rattle.transform_params.specs.Params.{Params}
-use Rattle.transform_params.specs.Fields.{byte_length, unit_length, IsLawful}
+use Rattle.transform_params.specs.Fields.{unit_length, IsLawful}
 use Rattle.transform_params.proofs.Bounds.{unit_small}
 use Rattle.channel_schedule.specs.declared.schedule.Schedule.{Schedule}
 use Rattle.channel_schedule.specs.declared.schedule.Outcome.{Outcome}
 use Rattle.channel_schedule.specs.declared.schedule.Outcome.TheVariants.{Runs}
 use Rattle.channel_schedule.specs.Rates.{IsRate}
 use Rattle.channel_schedule.specs.Courses.{course_of, count_in, outcome_from}
-use Rattle.channel_schedule.specs.Plans.{plan_of, plan_delay, plan_size}
+use Rattle.channel_schedule.specs.Plans.{plan_delay, plan_size}
 use Rattle.channel_schedule.proofs.Unique.{plan_found, plan_replays, one_outcome}
 use Rattle.picture_codec.specs.Samples.{SampleRows, PictureSamples, AreSamples, HaveShape, picture_of}
 use Rattle.picture_codec.specs.Encoding.{slices_of}
@@ -31,11 +29,10 @@ use Rattle.picture_codec.proofs.Tables.{positive}
 use Rattle.raw_video.specs.RawText.{raw_text}
 use Rattle.raw_video.specs.RawParse.{AreRows, IsOfFrame, raw_texts}
 use Rattle.vc2_run.specs.Walk.{Answer, answer_from, answer_to, before}
-use Rattle.unit_table.specs.Fronts.{Between}
 use Rattle.stream_units.specs.Units.{Past, nothing_yet, DataUnit, Sequence, Picture, End, after}
 use Rattle.stream_units.specs.Streams.{Entry, total, pictures_of, limit, frame_under}
 use Rattle.stream_units.specs.Turns.{shape_of}
-use Rattle.stream_units.specs.Encoded.{Settings, header_unit, picture_unit, end_unit, number_after, units_behind, encoded, pictures_under, units_of, IsSliced}
+use Rattle.stream_units.specs.Encoded.{Settings, header_unit, picture_unit, end_unit, number_after, units_behind, pictures_under, units_of, IsSliced}
 use Rattle.stream_units.specs.Writer.{plain_shape, picture_shape}
 use Rattle.stream_units.proofs.WrittenShapes.{plain_length, picture_length}
 use Rattle.stream_units.proofs.EncodedUnits.{length-header_unit, length-picture_unit, length-end_unit, moves_header_unit, moves_picture_unit, moves_end_unit}
@@ -56,7 +53,7 @@ use Rattle.vc2_cli.specs.EncodeReply.{raw_input, stream_of, decoded_of, plan_for
 use Rattle.vc2_cli.specs.Texts.{decoded_line}
 use Rattle.vc2_cli.proofs.StreamReplies.{is_decoded}
 use Rattle.vc2_cli.proofs.EncodeReplies.{header_shape, header_has}
-use Rattle.vc2_cli.specs.Encode.{written_under, first_length, stream_place, previous_at, number_at, shapes_at, ended_plan}
+use Rattle.vc2_cli.specs.Encode.{written_under, first_length, stream_place, shapes_at, ended_plan}
 
 -- ---- the units stand one after another
 

@@ -1,5 +1,5 @@
 -- Whole pictures are encoded to their stream.
-use Rattle.std.proofs.Common.{◌≡◌, ℕ, zero, suc, ◌+◌, ◌-◌, ◌*◌, ◌%◌, ◌^◌, ◌<◌, ◌≤◌, cond, eqb, Bool, true, false, List, [], ◌∷◌, ◌++◌, length, map, drop, Ok, refl, sym, ap, subst, ◌∙◌, arith, append_assoc, ne_eqb, eqb-true}
+use Rattle.std.proofs.Common.{◌≡◌, ℕ, suc, ◌+◌, ◌*◌, ◌%◌, ◌^◌, ◌<◌, ◌≤◌, cond, eqb, Bool, true, false, List, [], ◌∷◌, ◌++◌, length, map, drop, refl, sym, ap, subst, ◌∙◌, arith, append_assoc, ne_eqb, eqb-true}
 use Rattle.std.specs.Prelude.{◌&&◌}
 use Rattle.std.specs.List.{AllByRecursion}
 use Rattle.std.proofs.lemmas.Bool.{le-leb}
@@ -16,10 +16,10 @@ use Rattle.transform_params.specs.Fields.{unit_length, IsLawful}
 use Rattle.picture_codec.specs.Samples.{PictureSamples}
 use Rattle.picture_codec.specs.Encoding.{slices_of}
 use Rattle.raw_video.specs.RawText.{is_wide, raw_text}
-use Rattle.raw_video.specs.RawParse.{raw_length, sample_size, IsOfFrame, RawFront, Shown, raw_front, raw_texts}
+use Rattle.raw_video.specs.RawParse.{raw_length, sample_size, IsOfFrame, RawFront, raw_texts}
 use Rattle.raw_video.proofs.Fronts.{front_over}
 use Rattle.raw_video.proofs.ReadBack.{length_raw, picture_back}
-use Rattle.vc2_run.specs.Walk.{Answer, Step, Ends, Whole, answer_from, answer_to, after_step, before}
+use Rattle.vc2_run.specs.Walk.{Answer, Ends, Whole, answer_from, answer_to, after_step, before}
 use Rattle.vc2_run.proofs.Walks.{answer_step}
 use Rattle.stream_units.specs.declared.reason.Reason.TheVariants.{StreamTooLong}
 use Rattle.stream_units.specs.Streams.{limit, frame_under}

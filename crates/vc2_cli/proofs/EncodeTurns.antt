@@ -1,8 +1,8 @@
 -- The turns of the loop of `encode`.
-use Rattle.std.proofs.Common.{◌≡◌, ℕ, zero, suc, ◌+◌, ◌-◌, ◌*◌, ◌%◌, ◌^◌, ◌<◌, ◌≤◌, cond, ltb, leb, Bool, true, false, List, [], ◌∷◌, ◌++◌, length, Option, Some, None, Result, Ok, Err, refl, sym, ap, subst, ◌∙◌, arith, append-nil}
+use Rattle.std.proofs.Common.{◌≡◌, ℕ, suc, ◌+◌, ◌*◌, ◌%◌, ◌^◌, ◌<◌, ◌≤◌, cond, Bool, true, false, List, [], ◌∷◌, ◌++◌, length, Option, Some, Result, Ok, Err, refl, sym, ap, subst, ◌∙◌, arith, append-nil}
 use Rattle.std.proofs.lemmas.Bool.{le-leb, leb-true}
 use Rattle.std.proofs.lemmas.List.{length-append}
-use Rattle.std.specs.Io.KnownBytes.{Appends, Consumes, IsAtEnd}
+use Rattle.std.specs.Io.KnownBytes.{Appends, IsAtEnd}
 use Rattle.vc2_io.specs.Outside.{Rose, GrewShort}
 use Rattle.vc2_io.proofs.Known.{Consumes-none, Consumes-then, Appends-none}
 use Rattle.slice_geometry.specs.declared.unit_list.UnitShape.{UnitShape}
@@ -13,20 +13,18 @@ use Rattle.channel_schedule.specs.declared.schedule.Schedule.{Schedule}
 use Rattle.channel_schedule.specs.Plans.{plan_of}
 use Rattle.vc2_cli.specs.Scheduled.{shapes_in}
 use Rattle.vc2_words.specs.Settings.{Asked}
-use Rattle.sequence_header.specs.Bytes.{header_len}
 use Rattle.transform_params.specs.Fields.{unit_length}
 use Rattle.slice_geometry.specs.Frames.{Frame, frame_of}
 use Rattle.picture_codec.specs.Samples.{PictureSamples}
 use Rattle.picture_codec.specs.Encoding.{slices_of}
-use Rattle.raw_video.specs.RawParse.{raw_length, RawFront, Shown, Over, LargeAt, CutAt, TooLong, raw_front}
+use Rattle.raw_video.specs.RawParse.{raw_length}
 use Rattle.raw_video.specs.Reading.{ReadsFront, RawCause, RawReaderSeen, reader_after}
 use Rattle.raw_video.specs.declared.reader.RawStep.{RawStep}
 use Rattle.raw_video.specs.declared.reader.RawStep.TheVariants as steps
 use Rattle.raw_video.specs.declared.reader.RawFault.{RawFault}
 use Rattle.raw_video.specs.declared.reader.RawFault.TheVariants as faults
-use Rattle.vc2_run.specs.Walk.{Step, Ends, Whole, IsMachine, NoneWhole}
+use Rattle.vc2_run.specs.Walk.{Step, Ends, Whole, IsMachine}
 use Rattle.vc2_run.specs.Ran.{Ran, TakesAtMost, HaltHasCause}
-use Rattle.vc2_run.specs.Window.{Holds, NoneDue}
 use Rattle.vc2_run.specs.declared.Halt.{Halt}
 use Rattle.vc2_run.specs.declared.Halt.TheVariants as halts
 use Rattle.vc2_run.proofs.Windows.{holds_opened, ran_unopened, ran_unbegun, holds_more, holds_lost, holds_no_memory, holds_out_fault, holds_ended, holds_last_fault}
@@ -36,11 +34,11 @@ use Rattle.stream_units.specs.declared.write_stop.WriteStop.{WriteStop}
 use Rattle.stream_units.specs.declared.write_stop.WriteStop.TheVariants as stops
 use Rattle.stream_units.specs.Streams.{limit, frame_under}
 use Rattle.stream_units.specs.Encoded.{Settings, header_unit, picture_unit, end_unit}
-use Rattle.stream_units.specs.Writer.{WriterState, total_length, pictures_among, next_place, next_previous, next_number, plain_shape, picture_shape, started, after_picture, after_end, HasRoom, WritesPicture, WriteCause, Starts, IsSteepUnder, Wrote, PictureStops}
+use Rattle.stream_units.specs.Writer.{WriterState, total_length, next_place, next_previous, next_number, plain_shape, picture_shape, started, after_picture, after_end, HasRoom, WritesPicture, WriteCause, Starts, IsSteepUnder}
 use Rattle.stream_units.proofs.WrittenShapes.{total_push, pictures_push, last_push, plain_length, picture_length, one_more}
 use Rattle.vc2_cli.specs.declared.status.Ending.{Ending}
-use Rattle.vc2_cli.specs.declared.status.Ending.TheVariants.{Done, Encoded, Refused}
-use Rattle.vc2_cli.specs.Running.{IsDone, Runs, Change, Closes}
+use Rattle.vc2_cli.specs.declared.status.Ending.TheVariants.{Encoded}
+use Rattle.vc2_cli.specs.Running.{IsDone, Runs, Closes}
 use Rattle.vc2_cli.specs.Encode.{written_under, raw_size, raw_place, first_length, stream_place, previous_at, number_at, has_room, is_half, refused_at, shapes_at, ended_plan, closing, step_by, encode_machine, ClosesBy, told_of_fault, told_of_stop}
 use Rattle.vc2_cli.specs.EncodeTurn.{IsBehind, HasRead, Goes}
 use Rattle.vc2_cli.proofs.Encoding.{encode_laws, none_short, none_due}

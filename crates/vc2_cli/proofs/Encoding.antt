@@ -1,19 +1,19 @@
 -- `encode` goes through its input picture by picture.
-use Rattle.std.proofs.Common.{◌≡◌, ℕ, zero, suc, ◌+◌, ◌-◌, ◌*◌, ◌%◌, ◌^◌, ◌<◌, ◌≤◌, cond, ltb, eqb, leb, Bool, true, false, List, [], ◌∷◌, ◌++◌, length, take, drop, Option, Some, None, Result, Ok, Err, refl, sym, ap, ◌∙◌, arith, eq-eqb}
+use Rattle.std.proofs.Common.{◌≡◌, ℕ, zero, suc, ◌+◌, ◌-◌, ◌^◌, ◌<◌, ◌≤◌, cond, ltb, eqb, Bool, true, false, List, [], ◌∷◌, ◌++◌, length, take, Option, Some, None, refl, sym, ap, ◌∙◌, arith, eq-eqb}
 use Rattle.std.proofs.lemmas.Bool.{eqb-true}
-use Rattle.std.proofs.lemmas.List.{length-take, length-append, take-append-le}
+use Rattle.std.proofs.lemmas.List.{length-take, take-append-le}
 use Rattle.slice_geometry.specs.Frames.{Frame}
 use Rattle.picture_codec.specs.Samples.{PictureSamples}
 use Rattle.raw_video.specs.RawText.{is_wide}
 use Rattle.raw_video.specs.RawParse.{raw_length, samples_in, sample_bounds, first_large, picture_from, RawFront, Shown, Over, LargeAt, CutAt, TooLong, front_of, raw_front}
-use Rattle.vc2_run.specs.Walk.{Step, Ends, Whole, IsMachine, NoneWhole}
+use Rattle.vc2_run.specs.Walk.{Ends, Whole, IsMachine, NoneWhole}
 use Rattle.vc2_run.specs.Window.{NoneDue}
 use Rattle.vc2_run.proofs.Walks.{none_if}
 use Rattle.vc2_cli.specs.declared.status.Ending.{Ending}
 use Rattle.stream_units.specs.Streams.{frame_under}
 use Rattle.channel_schedule.specs.declared.schedule.Schedule.{Schedule}
 use Rattle.vc2_words.specs.Settings.{Asked}
-use Rattle.vc2_cli.specs.Encode.{raw_place, has_room, closing, is_half, step_by, encode_machine}
+use Rattle.vc2_cli.specs.Encode.{raw_place, has_room, closing, step_by, encode_machine}
 
 -- ---- a picture in front
 

@@ -1,5 +1,5 @@
 -- The loop of `encode` between two turns.
-use Rattle.std.specs.Prelude.{◌≡◌, ◌≤◌, ◌^◌, ℕ, Bool, false, List, [], length, Option, None}
+use Rattle.std.specs.Prelude.{◌≡◌, ◌≤◌, ◌^◌, ℕ, false, List, [], length, Option, None}
 use Rattle.std.specs.Io.KnownBytes.{Consumes}
 use Rattle.slice_geometry.specs.Frames.{frame_of}
 use Rattle.raw_video.specs.Reading.{RawReaderSeen}

@@ -1,13 +1,12 @@
-use Rattle.std.proofs.Common.{◌≡◌, ℕ, ◌-◌, ◌^◌, ◌<◌, ◌≤◌, refl, sym, ap, subst, ◌∙◌, arith, get_or}
-use Rattle.planes.specs.Numbers.{Within}
-use Rattle.planes.specs.Raster.{Raster, height, at}
+use Rattle.std.proofs.Common.{◌≡◌, ℕ, ◌-◌, ◌^◌, ◌<◌, ◌≤◌, sym, ap, ◌∙◌, arith}
+use Rattle.planes.specs.Raster.{height, at}
 use Rattle.planes.proofs.Floors.{wider}
 use Rattle.slice_geometry.specs.declared.Size.{Size}
 use Rattle.slice_geometry.specs.declared.PictureShape.{PictureShape}
 use Rattle.slice_geometry.specs.Geometry.{padded_length}
 use Rattle.picture_codec.specs.Pictures.{size_of, depth_of}
 use Rattle.slice_geometry.specs.Frames.{frame_of}
-use Rattle.picture_codec.specs.Samples.{SampleRows, shown, bits_of}
+use Rattle.picture_codec.specs.Samples.{shown}
 use Rattle.picture_codec.specs.Encoding.{centred}
 use Rattle.picture_codec.proofs.Sizes.{padded_whole}
 use Rattle.picture_codec.proofs.AnalysedBands.{centred_within, centred_cells, shift_small, sizes_stay, holds_component}

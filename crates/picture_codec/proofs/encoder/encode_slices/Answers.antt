@@ -1,11 +1,11 @@
-use Rattle.std.proofs.Common.{◌≡◌, ◌≤◌, ◌<◌, ◌+◌, ◌-◌, ◌*◌, ◌/◌, ◌%◌, ◌^◌, ℕ, refl, sym, ap, subst, ◌∙◌, arith, length, get_or, add-one, rules}
+use Rattle.std.proofs.Common.{◌≡◌, ◌≤◌, ◌<◌, ◌+◌, ◌-◌, ◌/◌, ◌%◌, refl, sym, ap, ◌∙◌, arith, length, rules}
 use Rattle.std.proofs.lemmas.Slice.{overwrites}
-use Rattle.slice_geometry.specs.Slicing.{bytes_before, slice_bytes, total_bytes, slice_count}
-use Rattle.slice_geometry.proofs.Shares.{bytes_before-rises, bytes_before-zero, some_share, share_most}
-use Rattle.slice_encoder.specs.Chosen.{chosen, written_slice, written_slices}
-use Rattle.slice_encoder.specs.Ready.{coded_picture, AreReady}
-use Rattle.slice_encoder.specs.Trials.{CodedPicture, AreKept}
-use Rattle.picture_codec.proofs.ChosenSlices.{chosen_none, slice_ready, is_next, sizes_kept, kept_on, bytes_are, one_slice_more, part_fits, kept_none}
+use Rattle.slice_geometry.specs.Slicing.{slice_count}
+use Rattle.slice_geometry.proofs.Shares.{bytes_before-rises, bytes_before-zero, share_most}
+use Rattle.slice_encoder.specs.Chosen.{chosen, written_slice}
+use Rattle.slice_encoder.specs.Ready.{coded_picture}
+use Rattle.slice_encoder.specs.Trials.{CodedPicture}
+use Rattle.picture_codec.proofs.ChosenSlices.{slice_ready, is_next, sizes_kept, kept_on, bytes_are, one_slice_more, part_fits, kept_none}
 use Rattle.picture_codec.proofs.encoder.encode_slices.Goals as goal
 
 pub loop-n-init : goal.loop-n-init

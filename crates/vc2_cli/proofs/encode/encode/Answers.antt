@@ -1,4 +1,4 @@
-use Rattle.std.proofs.Common.{◌≡◌, ℕ, Result, sym, ap, subst, ◌∙◌}
+use Rattle.std.proofs.Common.{ℕ, Result, sym, ap, subst, ◌∙◌}
 use Rattle.slice_geometry.specs.Frames.{frame_of}
 use Rattle.raw_video.specs.Reading.{RawReaderSeen}
 use Rattle.vc2_run.specs.declared.Halt.{Halt}

@@ -1,5 +1,4 @@
-use Rattle.std.proofs.Common.{◌≡◌, ◌∙◌, ◌++◌, ◌∷◌, [], sym, ap}
-use Rattle.slice_geometry.specs.declared.unit_list.UnitShape.{UnitShape}
+use Rattle.std.proofs.Common.{◌∙◌, sym, ap}
 use Rattle.sequence_header.specs.declared.parts.HeaderParts.{HeaderParts}
 use Rattle.vc2_words.specs.Shown.{shown}
 use Rattle.stream_units.specs.Writer.{WriterState, total_length, next_place, next_previous}

@@ -1,4 +1,3 @@
-use Rattle.std.proofs.Common.{◌≡◌}
 use Rattle.planes.specs.Subbands.{BandStack}
 use Rattle.planes.proofs.BandLemmas.{HaveSizes-zero}
 use Rattle.slice_geometry.specs.declared.Size.{Size}
