@@ -1,5 +1,6 @@
 -- `check` with the schedule of what was encoded runs.
 use Rattle.std.proofs.Common.{◌≡◌, ℕ, zero, suc, ◌+◌, ◌-◌, ◌*◌, ◌%◌, ◌^◌, ◌<◌, ◌≤◌, List, [], ◌∷◌, ◌++◌, length, map, refl, sym, ap, subst, ◌∙◌, arith, lit≤}
+use Rattle.std.specs.Prelude.{min, Result}
 use Rattle.std.specs.List.{AllByRecursion}
 use Rattle.std.proofs.lemmas.List.{length-append, length-map}
 use Rattle.slice_geometry.specs.declared.Size.{Size}
@@ -19,9 +20,10 @@ use Rattle.channel_schedule.specs.declared.schedule.Schedule.{Schedule}
 use Rattle.channel_schedule.specs.declared.schedule.Outcome.{Outcome}
 use Rattle.channel_schedule.specs.declared.schedule.Outcome.TheVariants.{Runs}
 use Rattle.channel_schedule.specs.Rates.{IsRate}
-use Rattle.channel_schedule.specs.Courses.{course_of, count_in, outcome_from}
-use Rattle.channel_schedule.specs.Plans.{plan_delay, plan_size}
-use Rattle.channel_schedule.proofs.Unique.{plan_found, plan_replays, one_outcome}
+use Rattle.channel_schedule.specs.Courses.{course_of, count_in, held, outcome_from}
+use Rattle.channel_schedule.specs.Plans.{lead_of, greatest, plan_delay, plan_size}
+use Rattle.channel_schedule.proofs.Unique.{greatest-is, plan_found, plan_replays, one_outcome}
+use Rattle.channel_schedule.proofs.Leads.{lead_low, ceil_low}
 use Rattle.picture_codec.specs.Samples.{SampleRows, PictureSamples, AreSamples, HaveShape, picture_of}
 use Rattle.picture_codec.specs.Encoding.{slices_of}
 use Rattle.picture_codec.proofs.Runs.{below-all}
@@ -46,7 +48,11 @@ use Rattle.vc2_cli.specs.declared.status.Ending.{Ending}
 use Rattle.vc2_cli.specs.declared.status.Ending.TheVariants.{Scheduled}
 use Rattle.vc2_cli.specs.Decode.{last_line}
 use Rattle.vc2_cli.specs.Scheduled.{Replayed, nothing_replayed, shapes_in, outcome_of, replaying, replay_machine}
-use Rattle.vc2_cli.specs.Reply.{reply_of}
+use Rattle.vc2_words.specs.declared.keys.WordFault.{WordFault}
+use Rattle.vc2_words.specs.Commands.{AskedCommand}
+use Rattle.vc2_cli.specs.Reply.{reply_of, command_reply}
+use Rattle.vc2_cli.specs.ScheduleWords.{HasWords}
+use Rattle.vc2_cli.proofs.ScheduleWords.{line_is_read}
 use Rattle.vc2_cli.specs.Streams as streams
 use Rattle.vc2_cli.specs.Streams.{pictures_in}
 use Rattle.vc2_cli.specs.EncodeReply.{raw_input, stream_of, decoded_of, plan_for, stream_length, MayBeWritten, AreSettings, replayed_reply, TheScheduleRuns, decoded_reply, AreDecoded}
@@ -235,8 +241,28 @@ module _ (s : Asked) (pictures : List PictureSamples) (settings : AreSettings s)
       ∙ ap (before []) walk)
       ∙ ap (λ (o : Outcome). let e : Ending = Scheduled (length pictures) (length pictures * slice_count s.params.slicing) (stream_place s (length pictures) + 13) o in reply_of [] (record { ending = e; text = []; last = last_line e })) (plan_runs s (length pictures) f settings.rate)
 
+-- its numbers are such that words can have
+held_low : (total came gone : ℕ) → min total came - gone ≤ total
+held_low total came gone = omega arith
+
+plan_has_words : (s : Asked) (pictures : List PictureSamples) → AreSettings s → MayBeWritten s pictures → HasWords (plan_for s pictures)
+plan_has_words s pictures settings may =
+    let n = length pictures in
+    let list = shapes_in (shapes_at s n ++ plain_shape (stream_place s n) 13 ∷ []) (stream_place s n + 13) in
+    let in_turn = all_in_turn s settings.lawful.params n in
+    let lead = (greatest-is (lead_of list s.rate) (count_in list)).least (2 ^ 72) (λ k lt. lead_low list s.rate k in_turn may.stream settings.slots) in
+    let held_most = (greatest-is (held (course_of list s.rate (plan_delay list s.rate))) (count_in list)).least (stream_place s n + 13) (λ k lt. held_low _ _ _) in
+    record {
+      lawful = record { rate = settings.rate; short = omega (arith, ceil_low (greatest (lead_of list s.rate) (count_in list)) s.rate.num settings.rate.some_bytes, lead) };
+      bytes = settings.bytes;
+      slots = settings.slots;
+      size = omega (arith, held_most, may.stream);
+    }
+
 pub the_schedule_runs : (s : Asked) (pictures : List PictureSamples) → TheScheduleRuns s pictures
-the_schedule_runs s pictures settings may = replayed s pictures settings may
+the_schedule_runs s pictures settings may =
+    ap (λ (c : Result AskedCommand WordFault). command_reply c (stream_of s pictures)) (line_is_read (plan_for s pictures) (plan_has_words s pictures settings may)).asked
+    ∙ replayed s pictures settings may
 
 -- ---- and the pictures that are decoded
 

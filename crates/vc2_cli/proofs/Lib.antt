@@ -8,6 +8,7 @@ pub mod Encoding
 pub mod EncodeTurns
 pub mod EncodeReplies
 pub mod EncodeChecked
+pub mod ScheduleWords
 pub mod Chaining
 pub mod StreamReplies
 pub mod Exits

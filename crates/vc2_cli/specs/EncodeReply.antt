@@ -1,5 +1,5 @@
 -- What `encode` replies to whole pictures, and `decode` to what it wrote.
-use Rattle.std.specs.Prelude.{◌≡◌, ◌≤◌, ◌%◌, ◌^◌, ◌+◌, ℕ, List, [], length, map, Some, Ok, ◌*◌}
+use Rattle.std.specs.Prelude.{◌≡◌, ◌≤◌, ◌%◌, ◌^◌, ◌+◌, ℕ, List, [], length, map, Ok, ◌*◌, ◌<◌}
 use Rattle.std.specs.List.{AllByRecursion}
 use Rattle.slice_geometry.specs.Slicing.{slice_count}
 use Rattle.picture_codec.specs.Samples.{PictureSamples, picture_of}
@@ -13,10 +13,11 @@ use Rattle.stream_units.specs.Encoded.{AreLawful}
 use Rattle.stream_units.specs.Writer.{IsSteepUnder}
 use Rattle.stream_units.specs.EncodedPictures.{encoded_pictures}
 use Rattle.vc2_words.specs.Settings.{Asked}
-use Rattle.vc2_words.specs.Commands.{decode, check, encode}
+use Rattle.vc2_words.specs.Commands.{decode, encode}
 use Rattle.vc2_cli.specs.declared.status.Status.TheVariants as status
 use Rattle.vc2_cli.specs.Texts.{decoded_line, schedule_line, replayed_lines}
-use Rattle.vc2_cli.specs.Reply.{Reply, command_reply}
+use Rattle.vc2_cli.specs.Reply.{Reply, command_reply, reply_to}
+use Rattle.vc2_cli.specs.ScheduleWords.{words_of}
 use Rattle.vc2_cli.specs.Encode.{written_under, stream_place, shapes_at, ended_plan}
 
 -- raw pictures, of the header's sizes and depths
@@ -31,10 +32,12 @@ stream_of s pictures = encoded_pictures (written_under s) pictures
 abbrev pub decoded_of : Asked → List PictureSamples → List PictureSamples
 decoded_of s pictures = map (λ p. picture_of (frame_under s.parts) s.params (slices_of (frame_under s.parts) s.params p)) pictures
 
--- settings that a stream is written with
+-- settings that a stream is written with, the rate being of numbers that words can have
 pub record AreSettings (s : Asked) : Type 0 where
   pub lawful : AreLawful (written_under s)
   pub rate : IsRate s.rate
+  pub bytes : s.rate.num < 2 ^ 32
+  pub slots : s.rate.den < 2 ^ 32
   pub flat : IsSteepUnder (written_under s)
 
 -- Whole pictures that may be written: whatever their samples are, where pictures are fields of an even number, and within 2 ^ 40 bytes.
@@ -59,7 +62,7 @@ encoded_reply s pictures = record { status = status.Done; rest = []; out = strea
 abbrev pub AreEncoded : Asked → List PictureSamples → Type 0
 AreEncoded s pictures = AreSettings s → MayBeWritten s pictures → command_reply (Ok (encode s)) (raw_input s pictures) ≡ encoded_reply s pictures
 
--- `check` of that stream with that schedule tells that it runs
+-- `check` of that stream, by the words of the line that `encode` tells, writes that it runs
 abbrev pub replayed_reply : Asked → List PictureSamples → Reply
 replayed_reply s pictures = record {
   status = status.Done;
@@ -69,7 +72,7 @@ replayed_reply s pictures = record {
 }
 
 abbrev pub TheScheduleRuns : Asked → List PictureSamples → Type 0
-TheScheduleRuns s pictures = AreSettings s → MayBeWritten s pictures → command_reply (Ok (check (Some (plan_for s pictures)))) (stream_of s pictures) ≡ replayed_reply s pictures
+TheScheduleRuns s pictures = AreSettings s → MayBeWritten s pictures → reply_to (words_of (plan_for s pictures)) (stream_of s pictures) ≡ replayed_reply s pictures
 
 -- `decode` of that stream writes the pictures that its slices make
 abbrev pub decoded_reply : Asked → List PictureSamples → Reply

@@ -7,6 +7,7 @@ pub mod Encode
 pub mod EncodeTurn
 pub mod Reply
 pub mod Streams
+pub mod ScheduleWords
 pub mod EncodeReply
 pub mod Settled
 pub mod Exit

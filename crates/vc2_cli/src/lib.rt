@@ -17,8 +17,8 @@ mod top;
 mod words;
 
 pub use laws::{
-    one_answer, one_check_answer, one_decode_answer, one_encode_answer, one_header_answer,
-    one_schedule_answer, pictures_go_there_and_back, streams_have_replies,
+    lines_are_read, one_answer, one_check_answer, one_decode_answer, one_encode_answer,
+    one_header_answer, one_schedule_answer, pictures_go_there_and_back, streams_have_replies,
 };
 pub use status::{Ending, ScheduleFault, Status, exit_code};
 pub use stream_units::{Reason, Refusal};
