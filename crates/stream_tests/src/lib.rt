@@ -16,3 +16,5 @@ mod refusals;
 mod smallest;
 #[cfg(test)]
 mod sources;
+#[cfg(test)]
+mod writing;
