@@ -18,3 +18,8 @@ pub mod Rooms
 pub mod Least
 pub mod WorkedSlices
 pub mod SamePicture
+pub mod CountedBits
+pub mod LowBounds
+pub mod WorkedLowNeeds
+pub mod Counting
+pub mod FirstCandidates

@@ -6,6 +6,7 @@ pub mod Tries
 pub mod RectTrials
 pub mod Listing
 pub mod Laws
+pub mod LowNeeds
 pub mod Ready
 pub mod Buffers
 pub mod Encoded

@@ -4,10 +4,13 @@ ghost use Rattle.std.specs.Prelude.{◌≡◌, ℕ, ◌^◌, ◌<◌, ◌≤◌,
 ghost use Rattle.slice_encoder.specs.Laws.{IsSteepOk};
 ghost use Rattle.slice_encoder.specs.Trials.{AreKept};
 ghost use Rattle.slice_encoder.specs.Tries.{AreTried, IsNext, tried_lists};
-ghost use Rattle.slice_encoder.specs.Ready.{coded_picture, AreReady};
+ghost use Rattle.slice_encoder.specs.LowNeeds.{lower_of, IsFirstCandidate};
+ghost use Rattle.slice_encoder.specs.Ready.{coded_picture, AreReady, AreGiven};
 ghost use Rattle.slice_encoder.specs.Encoded as encoded;
 ghost use Rattle.slice_encoder.specs.Encoded.{IsEncoded, IsEncodedAfter, trial_of, IsTriedAfter};
 
+use crate::bounding::{Lower, lower_at};
+use crate::candidates::find_candidate;
 use crate::packing::put_slice;
 use crate::room::most_places;
 use crate::search::{find_least, share_of, try_at};
@@ -107,6 +110,55 @@ impl SliceEncoder {
             colour_need: trying.colour_need,
             fits: trying.fits,
         }
+    }
+
+    /// How many bits the slice in column sx and row sy needs at least at a quantisation index from 0 to 127, whatever is
+    /// restored before it.
+    pub fn lower(
+        &self,
+        matrix: &Matrix,
+        sx: u32,
+        sy: u32,
+        qindex: u32,
+        coefficients: &Trio,
+    ) -> Lower
+        requires index { qindex ≤ 127 }
+        requires across { sx < self.now.slicing.slices_x }
+        requires down { sy < self.now.slicing.slices_y }
+        requires given { AreGiven (coded_picture self.now.slicing self.now.shape matrix.now coefficients.now) }
+        ensures { result ≡ lower_of (coded_picture self.now.slicing self.now.shape matrix.now coefficients.now) sx sy qindex }
+    {
+        lower_at(
+            &self.layout,
+            &self.shape,
+            matrix,
+            sx,
+            sy,
+            qindex,
+            coefficients,
+        )
+    }
+
+    /// The least quantisation index at which the slice in column sx and row sy may fit into its share of bytes. At no
+    /// index below it the slice fits, whatever is restored before it.
+    pub fn first_candidate(&self, matrix: &Matrix, sx: u32, sy: u32, coefficients: &Trio) -> u32
+        requires across { sx < self.now.slicing.slices_x }
+        requires down { sy < self.now.slicing.slices_y }
+        requires given { AreGiven (coded_picture self.now.slicing self.now.shape matrix.now coefficients.now) }
+        requires steep { IsSteepOk self.now.slicing.depth (max self.now.shape.luma_depth self.now.shape.colour_depth) matrix.now }
+        ensures { IsFirstCandidate (encoded.share_of self.now.slicing sx sy)
+            (lower_of (coded_picture self.now.slicing self.now.shape matrix.now coefficients.now) sx sy) result }
+    {
+        let bytes = share_of(&self.layout, sx, sy);
+        find_candidate(
+            &self.layout,
+            &self.shape,
+            matrix,
+            sx,
+            sy,
+            bytes,
+            coefficients,
+        )
     }
 
     /// Writes the slice in column sx and row sy, in exactly as many bytes as it is given, at the least quantisation index

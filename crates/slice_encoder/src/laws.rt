@@ -7,6 +7,7 @@ ghost use Rattle.slice_encoder.specs.Tries.{TrialsGoOn};
 ghost use Rattle.slice_encoder.specs.Ready.{NextIsReady};
 ghost use Rattle.slice_encoder.specs.Trials.{Lists};
 ghost use Rattle.slice_encoder.specs.Laws.{EarlierIndicesAlone, RestoredStaysNear, CoarsestFits, HasOneLeast};
+ghost use Rattle.slice_encoder.specs.LowNeeds.{LowerIsNoGreater, LowerFalls, MayNotFit};
 
 /// Each rule makes exactly one band.
 pub fn one_band_is_made()
@@ -42,4 +43,12 @@ pub fn next_is_ready()
 /// Where the coarsest index fits, a slice has exactly one least index at which it fits.
 pub fn one_least_index()
     ensures { (bytes : ℕ) (at_index : ℕ → Lists) → HasOneLeast bytes at_index }
+{}
+
+/// What is counted of a slice outside its lowest subbands is no more than it needs, whatever is restored, and doesn't
+/// rise with the index. So an index that may not fit doesn't fit, and neither does any below it.
+pub fn low_needs_are_lower()
+    ensures no_greater { LowerIsNoGreater }
+    ensures falls { LowerFalls }
+    ensures refutes { MayNotFit }
 {}

@@ -5,7 +5,10 @@
 //! what later slices are predicted from.
 #![tactic(auto)]
 
+mod bounding;
+mod candidates;
 mod encoder;
+mod fitting;
 pub mod laws;
 mod listing;
 mod packing;
@@ -15,5 +18,6 @@ mod search;
 mod steep;
 mod trying;
 
+pub use bounding::Lower;
 pub use encoder::{SliceEncoder, Trial};
 pub use steep::steep_ok;

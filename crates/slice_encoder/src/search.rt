@@ -1,7 +1,7 @@
 // The least index at which a slice fits.
 
 ghost use Rattle.std.specs.Prelude.{◌≡◌, ◌+◌, ◌*◌, ◌^◌, ◌<◌, ◌≤◌, max, length};
-ghost use Rattle.slice_encoder.specs.Choice.{needs_fit, IsLeast};
+ghost use Rattle.slice_encoder.specs.Choice.{IsLeast};
 ghost use Rattle.slice_geometry.specs.Slicing.{slice_bytes, slice_number};
 ghost use Rattle.bounded_blocks.specs.Writing.{need};
 ghost use Rattle.slice_encoder.specs.Laws.{AreSmall, IsSteepOk};
@@ -9,11 +9,13 @@ ghost use Rattle.slice_encoder.specs.Tries.{AreTried, tried_lists};
 ghost use Rattle.slice_encoder.specs.Buffers.{HasRoom, Holds};
 ghost use Rattle.slice_encoder.specs.Ready.{coded_picture, AreReady};
 
+use crate::candidates::find_candidate;
+use crate::fitting::do_fit;
 use crate::trying::{list_colour, list_luma, try_lowest};
 use bounded_blocks::Need;
 use planes::{ThreePlanes, Trio};
 use quant_factors::Matrix;
-use slice_geometry::{Layout, PictureShape, length_bits};
+use slice_geometry::{Layout, PictureShape};
 
 /// How many values of luma and of colour a trial listed, what they need, and whether they fit.
 #[derive(Clone, Copy)]
@@ -23,18 +25,6 @@ pub struct Trying {
     pub luma_need: u64,
     pub colour_need: u64,
     pub fits: bool,
-}
-
-// Whether needs fit into so many bytes.
-fn do_fit(bytes: u32, luma: u64, colour: u64) -> bool
-    requires some { 1 ≤ bytes }
-    requires most { bytes ≤ 2 ^ 28 }
-    requires luma_small { luma ≤ 2 ^ 40 }
-    requires colour_small { colour ≤ 2 ^ 40 }
-    ensures { result ≡ needs_fit bytes luma colour }
-{
-    let m = length_bits(bytes);
-    luma <= (1 << m) - 1 && luma + colour <= 8 * u64::from(bytes) - 7 - u64::from(m)
 }
 
 // The bytes of a slice.
@@ -149,7 +139,7 @@ pub fn try_at(
     }
 }
 
-// Tries the indices from 0 on, and keeps the trial of the first that fits.
+// Tries the indices from the first candidate on, and keeps the trial of the first that fits.
 pub fn find_least(
     layout: &Layout,
     shape: &PictureShape,
@@ -171,7 +161,8 @@ pub fn find_least(
     ensures holds { Holds (tried_lists (coded_picture layout.now shape.now matrix.now coefficients.now) kept.old sx sy result.0) bytes result.1 luma.new colour.new }
     ensures kept { AreTried (coded_picture layout.now shape.now matrix.now coefficients.now) sx sy result.0 kept.old kept.new }
 {
-    for index in 0..127 {
+    let first = find_candidate(layout, shape, matrix, sx, sy, bytes, coefficients);
+    for index in first..127 {
         let trying = try_at(
             layout,
             shape,

@@ -1,17 +1,32 @@
 use Rattle.std.proofs.Common.{◌∙◌, true, false, refl, arith}
-use Rattle.slice_encoder.specs.Trials.{CodedPicture}
-use Rattle.slice_encoder.specs.Tries.{tried_lists}
+use Rattle.planes.specs.Raster.{at}
+use Rattle.slice_encoder.specs.Trials.{CodedPicture, luma_of, c1_of, c2_of}
+use Rattle.slice_encoder.specs.Tries.{tried, tried_lists}
 use Rattle.slice_encoder.specs.Choice.{fits}
 use Rattle.slice_encoder.specs.Ready.{coded_picture}
 use Rattle.slice_encoder.proofs.Again.{all_tried_again, all_tried_keep, all_keep_nothing, coarsest_tried}
+use Rattle.slice_encoder.proofs.FirstCandidates.{ready_given}
+use Rattle.slice_encoder.proofs.LowBounds.{refutes}
 use Rattle.slice_encoder.proofs.Searching.{ready_again, holds_again, fit_again, refuted_more}
 use Rattle.slice_encoder.proofs.search.find_least.Goals as goal
+
+pub find_candidate-first-requires-clause-given : goal.find_candidate-first-requires-clause-given
+find_candidate-first-requires-clause-given c =
+    let a = c.args in
+    let j : CodedPicture = coded_picture a.layout.now a.shape.now a.matrix.now a.coefficients.now in
+    ready_given j a.sx a.sy a.kept.now a.shape.now.luma_depth_fits a.shape.now.colour_depth_fits c.requires.ready
 
 pub loop-index-init : goal.loop-index-init
 loop-index-init c =
     let a = c.args in
     let j : CodedPicture = coded_picture a.layout.now a.shape.now a.matrix.now a.coefficients.now in
-    record { luma_length = refl; colour_length = refl; keeps = all_keep_nothing j a.sx a.sy a.kept.now; refuted = λ i lt. absurd (omega arith) }
+    record {
+      luma_length = refl;
+      colour_length = refl;
+      keeps = all_keep_nothing j a.sx a.sy a.kept.now;
+      refuted = λ i lt.
+          refutes j (tried (luma_of j) a.sx a.sy i (at a.kept.now.luma)) (tried (c1_of j) a.sx a.sy i (at a.kept.now.c1)) (tried (c2_of j) a.sx a.sy i (at a.kept.now.c2)) a.bytes a.sx a.sy i i (omega arith) (omega (arith, c.find_candidate-first.ensures.most)) (c.find_candidate-first.ensures.least i lt);
+    }
 
 pub try_at-trying-requires-clause-ready : goal.try_at-trying-requires-clause-ready
 try_at-trying-requires-clause-ready c =

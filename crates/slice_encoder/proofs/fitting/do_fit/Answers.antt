@@ -5,7 +5,7 @@ use Rattle.std.proofs.lemmas.Bool.{lt-leb}
 use Rattle.slice_geometry.specs.Slicing.{length_bits}
 use Rattle.slice_geometry.proofs.LengthBits.{length_bits-most, length_bits-fit}
 use Rattle.slice_encoder.proofs.SliceBits.{two_least}
-use Rattle.slice_encoder.proofs.search.do_fit.Goals as goal
+use Rattle.slice_encoder.proofs.fitting.do_fit.Goals as goal
 
 pub overflow_shl-m : goal.overflow_shl-m
 overflow_shl-m c = omega (arith, c.length_bits-m.ensures, length_bits-most c.args.bytes c.requires.most)
