@@ -1,3 +1,4 @@
 pub mod Tables
+pub mod Reciprocals
 pub mod QuantLemmas
 pub mod Quantisers

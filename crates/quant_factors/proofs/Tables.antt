@@ -2,7 +2,7 @@
 use Rattle.std.proofs.Common.{◌≡◌, ℕ, zero, suc, ◌+◌, ◌*◌, ◌^◌, ◌<◌, ◌≤◌, Bool, true, false, ◌&&◌, eqb, get_or, sym, subst, inl, inr, arith}
 use Rattle.std.proofs.Math.Dec.{T, leb, leb→le, eqb→eq}
 use Rattle.std.proofs.lemmas.Bool.{cases_eq}
-use Rattle.quant_factors.specs.declared.TheConstants.{FACTORS}
+use Rattle.quant_factors.specs.declared.TheConstants.{FACTORS, RECIPROCALS}
 use Rattle.quant_factors.specs.Factors.{factor_of, offset_of}
 
 -- the test passes at each index below n
@@ -45,3 +45,13 @@ offset_most i lt = leb→le _ _ (passed (λ k. leb (2 * offset_of k) (factor_of 
 pub offset_least : (i : ℕ) → i < 128 → factor_of i ≤ 2 * offset_of i + 2
 unfolding factor_of offset_of
 offset_least i lt = leb→le _ _ (passed (λ k. leb (factor_of k) (2 * offset_of k + 2)) 128 tt i lt)
+
+-- a reciprocal is 2 ^ 64 over the factor, rounded up
+pub reciprocal_least : (i : ℕ) → i < 128 → 2 ^ 64 ≤ factor_of i * get_or RECIPROCALS i 0
+unfolding factor_of
+reciprocal_least i lt = leb→le _ _ (passed (λ k. leb (2 ^ 64) (factor_of k * get_or RECIPROCALS k 0)) 128 tt i lt)
+
+pub reciprocal_most : (i : ℕ) → i < 128 → factor_of i * get_or RECIPROCALS i 0 ≤ 2 ^ 64 + factor_of i
+unfolding factor_of
+reciprocal_most i lt = leb→le _ _ (passed (λ k. leb (factor_of k * get_or RECIPROCALS k 0) (2 ^ 64 + factor_of k)) 128 tt i lt)
+
