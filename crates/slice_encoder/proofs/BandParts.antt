@@ -22,15 +22,15 @@ use Rattle.slice_encoder.proofs.Listed.{flat_more, next_row, turned}
 
 -- ---- lists of lists
 
-map_append : {X Y : Type 0} (f : X → Y) (xs ys : List X) → map f (xs ++ ys) ≡ map f xs ++ map f ys
+pub map_append : {X Y : Type 0} (f : X → Y) (xs ys : List X) → map f (xs ++ ys) ≡ map f xs ++ map f ys
 map_append f [] ys = refl
 map_append f (x ∷ xs) ys = ap (λ t. f x ∷ t) (map_append f xs ys)
 
-map_joined : {X Y Z : Type 0} (f : Y → Z) (g : X → List Y) (h : X → List Z) → ((x : X) → map f (g x) ≡ h x) → (xs : List X) → map f (flat_map g xs) ≡ flat_map h xs
+pub map_joined : {X Y Z : Type 0} (f : Y → Z) (g : X → List Y) (h : X → List Z) → ((x : X) → map f (g x) ≡ h x) → (xs : List X) → map f (flat_map g xs) ≡ flat_map h xs
 map_joined f g h same [] = refl
 map_joined f g h same (x ∷ xs) = map_append f (g x) (flat_map g xs) ∙ ap (λ t. t ++ map f (flat_map g xs)) (same x) ∙ ap (λ t. h x ++ t) (map_joined f g h same xs)
 
-map_map : {X Y Z : Type 0} (f : Y → Z) (g : X → Y) (h : X → Z) → ((x : X) → f (g x) ≡ h x) → (xs : List X) → map f (map g xs) ≡ map h xs
+pub map_map : {X Y Z : Type 0} (f : Y → Z) (g : X → Y) (h : X → Z) → ((x : X) → f (g x) ≡ h x) → (xs : List X) → map f (map g xs) ≡ map h xs
 map_map f g h same [] = refl
 map_map f g h same (x ∷ xs) = ap (λ t. t ∷ map f (map g xs)) (same x) ∙ ap (λ t. h x ∷ t) (map_map f g h same xs)
 
@@ -42,7 +42,7 @@ rect_listed f g level orient r same =
 
 -- ---- one band
 
-either_same : (b : Bool) (x x' y y' : ℤ) → (b ≡ true → x ≡ x') → y ≡ y' → cond b x y ≡ cond b x' y'
+pub either_same : (b : Bool) (x x' y y' : ℤ) → (b ≡ true → x ≡ x') → y ≡ y' → cond b x y ≡ cond b x' y'
 either_same true x x' y y' h k = h refl
 either_same false x x' y y' h k = k
 
@@ -106,20 +106,6 @@ length_rect g r =
     )
 
 module _ (c : CodedComponent) (kept : Raster ℤ) (index sx sy : ℕ) where
-  pub parts_more : (k : ℕ) → parts_before c kept index sx sy (k + 1) ≡ parts_before c kept index sx sy k ++ band_part c kept index sx sy k
-  parts_more k = flat_more (band_part c kept index sx sy) 0 k k (omega arith)
-
-  parts_grow : (n m : ℕ) → length (parts_before c kept index sx sy n) ≤ length (parts_before c kept index sx sy (n + m))
-  parts_grow n zero = let same : n + 0 ≡ n = omega arith in omega (arith, ap (λ (k : ℕ). length (parts_before c kept index sx sy k)) same)
-  parts_grow n (suc m) =
-      let next : n + suc m ≡ n + m + 1 = omega arith in
-      omega (arith, parts_grow n m, ap (λ (k : ℕ). length (parts_before c kept index sx sy k)) next, ap (λ (t : List ℤ). length t) (parts_more (n + m)), length-append (parts_before c kept index sx sy (n + m)) (band_part c kept index sx sy (n + m)))
-
-  pub parts_within : (k n : ℕ) → k ≤ n → length (parts_before c kept index sx sy k) ≤ length (parts_before c kept index sx sy n)
-  parts_within k n le =
-      let whole : k + (n - k) ≡ n = omega arith in
-      omega (arith, parts_grow k (n - k), ap (λ (j : ℕ). length (parts_before c kept index sx sy j)) whole)
-
   pub part_here : (k level q : ℕ) (rect : Rect) (band : Raster ℤ) → level ≡ level_of k → rect ≡ level_rect c.slicing c.size sx sy (level_of k) → band ≡ numbered c.bands k → q ≡ band_quantiser c.matrix index (level_of k) (orient_of k)
       → rect_values (band_value band kept level q) rect ≡ band_part c kept index sx sy k
   part_here k level q rect band hl hr hb hq =
@@ -130,11 +116,11 @@ module _ (c : CodedComponent) (kept : Raster ℤ) (index sx sy : ℕ) where
 
 -- ---- two components in turn
 
-joined_joined : {X Y Z : Type 0} (f : Y → List Z) (g : X → List Y) (h : X → List Z) → ((x : X) → flat_map f (g x) ≡ h x) → (xs : List X) → flat_map f (flat_map g xs) ≡ flat_map h xs
+pub joined_joined : {X Y Z : Type 0} (f : Y → List Z) (g : X → List Y) (h : X → List Z) → ((x : X) → flat_map f (g x) ≡ h x) → (xs : List X) → flat_map f (flat_map g xs) ≡ flat_map h xs
 joined_joined f g h same [] = refl
 joined_joined f g h same (x ∷ xs) = flat_map-append f (g x) (flat_map g xs) ∙ ap (λ t. t ++ flat_map f (flat_map g xs)) (same x) ∙ ap (λ t. h x ++ t) (joined_joined f g h same xs)
 
-joined_map : {X Y Z : Type 0} (f : Y → List Z) (g : X → Y) (h : X → List Z) → ((x : X) → f (g x) ≡ h x) → (xs : List X) → flat_map f (map g xs) ≡ flat_map h xs
+pub joined_map : {X Y Z : Type 0} (f : Y → List Z) (g : X → Y) (h : X → List Z) → ((x : X) → f (g x) ≡ h x) → (xs : List X) → flat_map f (map g xs) ≡ flat_map h xs
 joined_map f g h same [] = refl
 joined_map f g h same (x ∷ xs) = ap (λ t. t ++ flat_map f (map g xs)) (same x) ∙ ap (λ t. h x ++ t) (joined_map f g h same xs)
 
@@ -166,7 +152,7 @@ module _ (c1 c2 : CodedComponent) (kept1 kept2 : Raster ℤ) (index sx sy : ℕ)
       (range_with_len r.x0 (r.x1 - r.x0)))
       (range_with_len r.y0 (r.y1 - r.y0))
 
-  pair_here : (k level orient : ℕ) → level_of k ≡ level → orient_of k ≡ orient → flat_map pair_of (rect_places level orient (level_rect c1.slicing c1.size sx sy level)) ≡ part k
+  pub pair_here : (k level orient : ℕ) → level_of k ≡ level → orient_of k ≡ orient → flat_map pair_of (rect_places level orient (level_rect c1.slicing c1.size sx sy level)) ≡ part k
   pair_here k level orient hl ho =
       subst (λ (l : ℕ). flat_map pair_of (rect_places l orient (level_rect c1.slicing c1.size sx sy l)) ≡ part k) hl
       (subst (λ (o : ℕ). flat_map pair_of (rect_places (level_of k) o (level_rect c1.slicing c1.size sx sy (level_of k))) ≡ part k) ho (pair_numbered k))
@@ -192,20 +178,6 @@ module _ (c1 c2 : CodedComponent) (kept1 kept2 : Raster ℤ) (index sx sy : ℕ)
       ∙ ap (λ t. t ++ part (3 * level + 3)) (flat_more part 0 (3 * level + 1 + 1) (3 * level + 2) (omega arith) ∙ ap (λ t. t ++ part (3 * level + 2)) (flat_more part 0 (3 * level + 1) (3 * level + 1) (omega arith)))
       ∙ append_assoc (before ++ part (3 * level + 1)) (part (3 * level + 2)) (part (3 * level + 3))
       ∙ append_assoc before (part (3 * level + 1)) (part (3 * level + 2) ++ part (3 * level + 3)))
-
-  pub pairs_more : (k : ℕ) → pairs_before c1 c2 kept1 kept2 index sx sy (k + 1) ≡ pairs_before c1 c2 kept1 kept2 index sx sy k ++ pair_part c1 c2 kept1 kept2 index sx sy k
-  pairs_more k = flat_more part 0 k k (omega arith)
-
-  pairs_grow : (n m : ℕ) → length (pairs_before c1 c2 kept1 kept2 index sx sy n) ≤ length (pairs_before c1 c2 kept1 kept2 index sx sy (n + m))
-  pairs_grow n zero = let same : n + 0 ≡ n = omega arith in omega (arith, ap (λ (k : ℕ). length (pairs_before c1 c2 kept1 kept2 index sx sy k)) same)
-  pairs_grow n (suc m) =
-      let next : n + suc m ≡ n + m + 1 = omega arith in
-      omega (arith, pairs_grow n m, ap (λ (k : ℕ). length (pairs_before c1 c2 kept1 kept2 index sx sy k)) next, ap (λ (t : List ℤ). length t) (pairs_more (n + m)), length-append (pairs_before c1 c2 kept1 kept2 index sx sy (n + m)) (part (n + m)))
-
-  pub pairs_within : (k n : ℕ) → k ≤ n → length (pairs_before c1 c2 kept1 kept2 index sx sy k) ≤ length (pairs_before c1 c2 kept1 kept2 index sx sy n)
-  pairs_within k n le =
-      let whole : k + (n - k) ≡ n = omega arith in
-      omega (arith, pairs_grow k (n - k), ap (λ (j : ℕ). length (pairs_before c1 c2 kept1 kept2 index sx sy j)) whole)
 
   pub pair_part_here : (k level q : ℕ) (rect : Rect) (one two : Raster ℤ) → c2.matrix ≡ c1.matrix → level ≡ level_of k → rect ≡ level_rect c1.slicing c1.size sx sy (level_of k) → one ≡ numbered c1.bands k → two ≡ numbered c2.bands k → q ≡ band_quantiser c1.matrix index (level_of k) (orient_of k)
       → pair_values (band_value one kept1 level q) (band_value two kept2 level q) rect ≡ pair_part c1 c2 kept1 kept2 index sx sy k

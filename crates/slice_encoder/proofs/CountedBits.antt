@@ -107,7 +107,7 @@ pub record NeedsMost (counted needed : ℕ) : Type 0 where
   pub none : needed ≡ 0 → counted ≡ 0
   pub most : counted ≤ needed + 3
 
-one_code : (v : ℤ) → NeedsMost (counted_bits v) (need_of (signed_code_of v))
+pub one_code : (v : ℤ) → NeedsMost (counted_bits v) (need_of (signed_code_of v))
 one_code (pos zero) = record { none = λ e. refl; most = omega arith }
 one_code (pos (suc n)) = let few = few_in_code n false in record { none = λ e. absurd (omega (arith, few.0)); most = few.1 }
 one_code (negsuc n) = let few = few_in_code n true in record { none = λ e. absurd (omega (arith, few.0)); most = few.1 }

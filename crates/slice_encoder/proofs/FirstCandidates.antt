@@ -1,15 +1,12 @@
 -- The candidates of a slice, and what a picture that is ready gives.
-use Rattle.std.proofs.Common.{◌≡◌, subst, ℕ, zero, suc, max, true, List, [], ◌∷◌, ◌++◌, replicate, get_or, arith, ℤ}
+use Rattle.std.proofs.Common.{◌≡◌, subst, ℕ, zero, suc, max, true, List, [], ◌∷◌, ◌++◌, replicate, get_or, arith}
 use Rattle.std.specs.List.{All}
 use Rattle.std.proofs.lemmas.List.{length-replicate}
 use Rattle.std.proofs.lemmas.List.Elements.{All-nil, All-cons}
-use Rattle.planes.specs.declared.ThreePlanes.{ThreePlanes}
-use Rattle.planes.specs.Raster.{Raster}
-use Rattle.slice_geometry.specs.Shape.{IsDepth}
 use Rattle.slice_geometry.specs.Slicing.{slice_number}
-use Rattle.slice_encoder.specs.Trials.{CodedComponent, CodedPicture, luma_of, c1_of, c2_of, restored_after}
+use Rattle.slice_encoder.specs.Trials.{CodedPicture, luma_of, c1_of, c2_of, restored_after}
 use Rattle.slice_encoder.specs.Laws.{IsIndex, IsSteepOk, IsPicture}
-use Rattle.slice_encoder.specs.Ready.{IsReady, AreReady, IsGiven, AreGiven}
+use Rattle.slice_encoder.specs.Ready.{AreGiven}
 use Rattle.slice_encoder.specs.LowNeeds.{lower_of, may_fit}
 use Rattle.slice_encoder.proofs.Coarsest.{coarsest, last_index}
 use Rattle.slice_encoder.proofs.LowBounds.{no_greater, less_fits}
@@ -29,17 +26,3 @@ last_may j bytes sx sy given steep =
     let fit = coarsest j indices bytes sx sy picture steep (all_zero n) (length-replicate n 0) in
     let low = no_greater j (restored_after (luma_of j) next) (restored_after (c1_of j) next) (restored_after (c2_of j) next) index sx sy in
     subst (λ (k : ℕ). may_fit bytes (lower_of j sx sy k) ≡ true) (last_index indices n 127 (length-replicate n 0)) (less_fits bytes _ _ _ _ low.0 low.1 fit)
-
-component_given : (c : CodedComponent) (d sx sy : ℕ) (kept : Raster ℤ) → IsReady c d sx sy kept → IsGiven c d
-component_given c d sx sy kept ready = record { depth = ready.depth; sizes = ready.sizes; small = ready.small }
-
--- what is ready is given
-pub ready_given : (j : CodedPicture) (sx sy : ℕ) (kept : ThreePlanes) → IsDepth j.frame.luma_depth → IsDepth j.frame.colour_depth → AreReady j sx sy kept → AreGiven j
-ready_given j sx sy kept luma_bits colour_bits ready = record {
-  entries = ready.entries;
-  luma_bits = luma_bits;
-  colour_bits = colour_bits;
-  luma = component_given (luma_of j) j.frame.luma_depth sx sy kept.luma ready.luma;
-  c1 = component_given (c1_of j) j.frame.colour_depth sx sy kept.c1 ready.c1;
-  c2 = component_given (c2_of j) j.frame.colour_depth sx sy kept.c2 ready.c2;
-}

@@ -6,6 +6,7 @@ pub mod Continues
 pub mod Onward
 pub mod PlaceByPlace
 pub mod Listed
+pub mod Gathers
 pub mod SliceBits
 pub mod Again
 pub mod Searching
@@ -20,6 +21,8 @@ pub mod WorkedSlices
 pub mod SamePicture
 pub mod CountedBits
 pub mod LowBounds
+pub mod Reaches
+pub mod GatheredLists
 pub mod WorkedLowNeeds
 pub mod Counting
 pub mod FirstCandidates

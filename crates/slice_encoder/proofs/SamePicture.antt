@@ -1,19 +1,18 @@
 -- Pictures whose coefficients are the same inside their bands are written alike: what lies outside is never looked at.
-use Rattle.std.proofs.Common.{◌≡◌, ◌∙◌, sym, ap, refl, ℕ, zero, suc, ◌+◌, ◌-◌, ◌*◌, ◌/◌, ◌%◌, ◌<◌, ◌≤◌, true, false, cond, List, [], ◌∷◌, ◌++◌, get_or, map, eqb, arith, inl, inr, ℤ}
+use Rattle.std.proofs.Common.{◌≡◌, ◌∙◌, ap, refl, ℕ, zero, suc, ◌-◌, ◌<◌, ◌≤◌, true, false, cond, List, [], ◌∷◌, ◌++◌, get_or, eqb, arith, inl, inr, ℤ}
 use Rattle.std.specs.Prelude.{Bool}
-use Rattle.std.specs.List.{All, flat_map, range_with_len}
-use Rattle.std.proofs.Math.Path.{fun_ext}
+use Rattle.std.specs.List.{All}
 use Rattle.std.proofs.lemmas.Bool.{eqb-true}
 use Rattle.std.proofs.lemmas.List.Elements.{All-nil, All-cons, All-head, All-tail, All-append, All-weaker}
 use Rattle.planes.specs.declared.Trio.{Trio}
-use Rattle.planes.specs.Raster.{Grid, at}
+use Rattle.planes.specs.Raster.{at}
 use Rattle.planes.specs.Rect.{IsInRect}
 use Rattle.planes.specs.Subbands.{BandStack, BandExists, band_of}
 use Rattle.dc_prediction.specs.Prediction.{prediction}
 use Rattle.dc_prediction.proofs.PredictionLemmas.{prediction_same}
 use Rattle.slice_geometry.specs.declared.Size.{Size}
 use Rattle.slice_geometry.specs.declared.PictureShape.{PictureShape}
-use Rattle.slice_geometry.specs.Slicing.{Slicing, AreSlicesAllowed, slice_count, slice_number}
+use Rattle.slice_geometry.specs.Slicing.{Slicing, slice_number}
 use Rattle.slice_geometry.specs.Geometry.{band_size}
 use Rattle.slice_geometry.specs.SliceOrder.{level_rect}
 use Rattle.slice_geometry.proofs.RectsInBands.{end_inside}
@@ -21,7 +20,7 @@ use Rattle.quant_factors.specs.Weights.{Weights, band_quantiser}
 use Rattle.quant_factors.specs.Factors.{forward_of}
 use Rattle.slice_encoder.specs.Loop.{restored_value, residual_of}
 use Rattle.slice_encoder.specs.Order.{Place, rect_places, places_of}
-use Rattle.slice_encoder.specs.Trials.{CodedComponent, coefficient, slice_holding, restored_after, value_of, luma_list, colour_list, CodedPicture, luma_of, c1_of, c2_of, lists, last_lists}
+use Rattle.slice_encoder.specs.Trials.{CodedComponent, coefficient, slice_holding, restored_after, value_of, CodedPicture, luma_of, c1_of, c2_of, last_lists}
 use Rattle.slice_encoder.specs.Ready.{coded_picture}
 use Rattle.slice_encoder.proofs.Made.{made_same}
 use Rattle.slice_encoder.proofs.Continues.{all_inside, map_same, joined_same}

@@ -1,5 +1,5 @@
 -- Worked slices by the definitions alone, by evaluation.
-use Rattle.std.proofs.Common.{◌≡◌, ℕ, true, false, List, [], ◌∷◌, map, refl, ℤ, pos, negsuc, lit≤}
+use Rattle.std.proofs.Common.{◌≡◌, ℕ, true, false, List, [], ◌∷◌, map, refl, ℤ, pos, negsuc}
 use Rattle.planes.specs.Subbands.{BandStack}
 use Rattle.bit_codes.specs.Bits.{bits_of}
 use Rattle.bit_codes.specs.Codes.{code_of, intlog2}

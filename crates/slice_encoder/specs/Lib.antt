@@ -7,6 +7,8 @@ pub mod RectTrials
 pub mod Listing
 pub mod Laws
 pub mod LowNeeds
+pub mod Gathering
+pub mod GatheredSlices
 pub mod Ready
 pub mod Buffers
 pub mod Encoded

@@ -6,6 +6,8 @@ use Rattle.std.specs.Vec.{vec_len}
 use Rattle.slice_geometry.specs.declared.PictureShape.{PictureShape}
 use Rattle.slice_geometry.specs.Slicing.{Slicing}
 use Rattle.slice_geometry.specs.SliceOrder.{place_count}
+use Rattle.slice_encoder.specs.declared.gathered.GatheredSlice.{GatheredSlice}
+use Rattle.slice_encoder.specs.GatheredSlices.{CanHoldAll}
 
 -- there is room for the values of each slice
 pub record HasRoomForAll (s : Slicing) (shape : PictureShape) (lumas colours : Vec ℤ Global) : Type 0 where
@@ -13,3 +15,9 @@ pub record HasRoomForAll (s : Slicing) (shape : PictureShape) (lumas colours : V
   pub colour : (sx sy : ℕ) → sx < s.slices_x → sy < s.slices_y → 2 * place_count s shape.colour sx sy ≤ vec_len colours
   pub few_luma : vec_len lumas ≤ 2 ^ 32
   pub few_colour : vec_len colours ≤ 2 ^ 32
+
+-- Its buffers have room, and it looks for an index from one that there is.
+pub record IsUsable (s : Slicing) (shape : PictureShape) (gathered : GatheredSlice) (near : ℕ) (lumas colours : Vec ℤ Global) : Type 0 where
+  pub holds : CanHoldAll s shape gathered
+  pub index : near ≤ 127
+  pub room : HasRoomForAll s shape lumas colours

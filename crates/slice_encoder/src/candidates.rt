@@ -1,12 +1,14 @@
 // The first index that may fit.
 
-ghost use Rattle.std.specs.Prelude.{◌≡◌, ◌^◌, ◌<◌, ◌≤◌, max};
+ghost use Rattle.std.specs.Prelude.{◌≡◌, ◌^◌, ◌<◌, ◌≤◌, max, true};
 ghost use Rattle.slice_encoder.specs.Laws.{IsSteepOk};
 ghost use Rattle.slice_encoder.specs.LowNeeds.{lower_of, may_fit, IsFirstCandidate};
+ghost use Rattle.slice_encoder.specs.GatheredSlices.{gathered_low};
 ghost use Rattle.slice_encoder.specs.Ready.{coded_picture, AreGiven};
 
 use crate::bounding::lower_at;
 use crate::fitting::do_fit;
+use crate::gathered::GatheredSlice;
 use planes::Trio;
 use quant_factors::Matrix;
 use slice_geometry::{Layout, PictureShape};
@@ -61,6 +63,65 @@ pub fn find_candidate(
             end = middle;
         } else {
             start = middle + 1;
+        }
+    }
+    start
+}
+
+// The next index to look at from a start to before an end: at first one wanted, later the middle.
+fn probe(start: u32, end: u32, wanted: u32, step: u32) -> u32
+    requires some { start < end }
+    requires most { end ≤ 127 }
+    ensures low { start ≤ result }
+    ensures high { result < end }
+{
+    if step > 16 {
+        (start + end) / 2
+    } else if wanted < start {
+        start
+    } else if wanted < end {
+        wanted
+    } else {
+        end - 1
+    }
+}
+
+// The step after a step.
+fn longer(step: u32) -> u32
+    requires { step ≤ 32 }
+    ensures { result ≤ 32 }
+{
+    if step > 16 { step } else { 2 * step }
+}
+
+// The first index that may fit by how far the codes of what was gathered reach. It is looked for from an index near it,
+// in steps that double, and then by halves: none below the start may fit, and the end may.
+pub fn find_first(gathered: &GatheredSlice, matrix: &Matrix, bytes: u32, near: u32) -> u32
+    requires some { 1 ≤ bytes }
+    requires most { bytes ≤ 2 ^ 28 }
+    requires near { near ≤ 127 }
+    requires luma { matrix.now.depth ≡ gathered.now.luma.depth }
+    requires c1 { matrix.now.depth ≡ gathered.now.c1.depth }
+    requires c2 { matrix.now.depth ≡ gathered.now.c2.depth }
+    requires last { may_fit bytes (gathered_low gathered.now matrix.now 127) ≡ true }
+    ensures { IsFirstCandidate bytes (gathered_low gathered.now matrix.now) result }
+{
+    let mut start = 0;
+    let mut end = 127;
+    let mut wanted = near;
+    let mut step = 1;
+    while start < end {
+        let index = probe(start, end, wanted, step);
+        let low = gathered.low(matrix, index);
+        let may = do_fit(bytes, low.luma, low.colour);
+        let taken = step;
+        step = longer(step);
+        if may {
+            end = index;
+            wanted = index.saturating_sub(taken);
+        } else {
+            start = index + 1;
+            wanted = index + taken;
         }
     }
     start

@@ -11,6 +11,7 @@ ghost use Rattle.slice_encoder.specs.Encoded.{IsEncoded, IsEncodedAfter, trial_o
 
 use crate::bounding::{Lower, lower_at};
 use crate::candidates::find_candidate;
+use crate::gathered::GatheredSlice;
 use crate::packing::put_slice;
 use crate::room::most_places;
 use crate::search::{find_least, share_of, try_at};
@@ -36,19 +37,22 @@ pub struct Trial {
 pub struct SliceEncoder {
     layout: Layout,
     shape: PictureShape,
+    gathered: GatheredSlice,
+    // The index of the slice before, from which that of the next one is looked for.
+    near: u32,
     luma: Vec<i64>,
     colour: Vec<i64>,
 }
 
 impl Model for SliceEncoder {
     ghost use Rattle.slice_encoder.specs.Encoded.{EncoderSeen};
-    ghost use Rattle.slice_encoder.specs.Room.{HasRoomForAll};
+    ghost use Rattle.slice_encoder.specs.Room.{IsUsable};
 
     ghost Value = { EncoderSeen };
 
     ghost view = { λ e. record { slicing = e.layout; shape = e.shape } };
 
-    ghost invariant = { λ e. HasRoomForAll e.layout e.shape e.luma e.colour };
+    ghost invariant = { λ e. IsUsable e.layout e.shape e.gathered e.near e.luma e.colour };
 }
 
 impl SliceEncoder {
@@ -60,11 +64,14 @@ impl SliceEncoder {
     ) -> Result<SliceEncoder, NoMemory>
         ensures { IfOk result (λ e. e ≡ record { slicing = layout.now; shape = shape.now }) }
     {
+        let gathered = GatheredSlice::new(alloc, layout, shape)?;
         let luma = Vec::from_elem(alloc, 0i64, most_places(layout, shape.luma))?;
         let colour = Vec::from_elem(alloc, 0i64, 2 * most_places(layout, shape.colour))?;
         Ok(SliceEncoder {
             layout: *layout,
             shape: *shape,
+            gathered,
+            near: 0,
             luma,
             colour,
         })
@@ -92,6 +99,8 @@ impl SliceEncoder {
             → IsTriedAfter (coded_picture self.old.slicing self.old.shape matrix.now coefficients.now) indices sx sy qindex result kept.new }
     {
         let bytes = share_of(&self.layout, sx, sy);
+        self.gathered
+            .gather(&self.layout, &self.shape, matrix, sx, sy, coefficients);
         let trying = try_at(
             &self.layout,
             &self.shape,
@@ -101,6 +110,7 @@ impl SliceEncoder {
             qindex,
             bytes,
             coefficients,
+            &self.gathered,
             kept,
             &mut self.luma,
             &mut self.colour,
@@ -183,6 +193,8 @@ impl SliceEncoder {
             → AreKept (coded_picture self.old.slicing self.old.shape matrix.now coefficients.now) indices kept.old
             → IsEncodedAfter (coded_picture self.old.slicing self.old.shape matrix.now coefficients.now) indices sx sy bytes.new result kept.new }
     {
+        self.gathered
+            .gather(&self.layout, &self.shape, matrix, sx, sy, coefficients);
         let (index, trying) = find_least(
             &self.layout,
             &self.shape,
@@ -191,10 +203,13 @@ impl SliceEncoder {
             sy,
             bytes.len() as u32,
             coefficients,
+            &self.gathered,
+            self.near,
             kept,
             &mut self.luma,
             &mut self.colour,
         );
+        self.near = index;
         put_slice(
             bytes,
             index,

@@ -9,6 +9,7 @@ mod bounding;
 mod candidates;
 mod encoder;
 mod fitting;
+mod gathered;
 pub mod laws;
 mod listing;
 mod packing;

@@ -7,10 +7,12 @@ ghost use Rattle.bounded_blocks.specs.Writing.{need};
 ghost use Rattle.slice_encoder.specs.Laws.{AreSmall, IsSteepOk};
 ghost use Rattle.slice_encoder.specs.Tries.{AreTried, tried_lists};
 ghost use Rattle.slice_encoder.specs.Buffers.{HasRoom, Holds};
+ghost use Rattle.slice_encoder.specs.GatheredSlices.{AreAllGathered};
 ghost use Rattle.slice_encoder.specs.Ready.{coded_picture, AreReady};
 
-use crate::candidates::find_candidate;
+use crate::candidates::find_first;
 use crate::fitting::do_fit;
+use crate::gathered::GatheredSlice;
 use crate::trying::{list_colour, list_luma, try_lowest};
 use bounded_blocks::Need;
 use planes::{ThreePlanes, Trio};
@@ -57,6 +59,7 @@ pub fn try_at(
     index: u32,
     bytes: u32,
     coefficients: &Trio,
+    gathered: &GatheredSlice,
     kept: &mut ThreePlanes,
     luma: &mut [i64],
     colour: &mut [i64],
@@ -65,6 +68,7 @@ pub fn try_at(
     requires some { 1 ≤ bytes }
     requires most { bytes ≤ 2 ^ 28 }
     requires ready { AreReady (coded_picture layout.now shape.now matrix.now coefficients.now) sx sy kept.old }
+    requires gathered { AreAllGathered (coded_picture layout.now shape.now matrix.now coefficients.now) sx sy gathered.now }
     requires room { HasRoom (coded_picture layout.now shape.now matrix.now coefficients.now) sx sy (length luma.old) (length colour.old) }
     ensures holds { Holds (tried_lists (coded_picture layout.now shape.now matrix.now coefficients.now) kept.old sx sy index) bytes result luma.new colour.new }
     ensures kept { AreTried (coded_picture layout.now shape.now matrix.now coefficients.now) sx sy index kept.old kept.new }
@@ -111,6 +115,7 @@ pub fn try_at(
         sy,
         index,
         &coefficients.luma,
+        &gathered.luma,
         &kept.luma,
         luma,
     );
@@ -121,10 +126,9 @@ pub fn try_at(
         sx,
         sy,
         index,
-        &coefficients.c1,
-        &coefficients.c2,
-        &kept.c1,
-        &kept.c2,
+        coefficients,
+        gathered,
+        kept,
         colour,
     );
     let luma_need = need_of_values(&luma[..lumas]);
@@ -148,6 +152,8 @@ pub fn find_least(
     sy: u32,
     bytes: u32,
     coefficients: &Trio,
+    gathered: &GatheredSlice,
+    near: u32,
     kept: &mut ThreePlanes,
     luma: &mut [i64],
     colour: &mut [i64],
@@ -155,13 +161,15 @@ pub fn find_least(
     requires some { 1 ≤ bytes }
     requires most { bytes ≤ 2 ^ 28 }
     requires ready { AreReady (coded_picture layout.now shape.now matrix.now coefficients.now) sx sy kept.old }
+    requires gathered { AreAllGathered (coded_picture layout.now shape.now matrix.now coefficients.now) sx sy gathered.now }
+    requires near { near ≤ 127 }
     requires steep { IsSteepOk layout.now.depth (max shape.now.luma_depth shape.now.colour_depth) matrix.now }
     requires room { HasRoom (coded_picture layout.now shape.now matrix.now coefficients.now) sx sy (length luma.old) (length colour.old) }
     ensures least { IsLeast bytes (tried_lists (coded_picture layout.now shape.now matrix.now coefficients.now) kept.old sx sy) result.0 }
     ensures holds { Holds (tried_lists (coded_picture layout.now shape.now matrix.now coefficients.now) kept.old sx sy result.0) bytes result.1 luma.new colour.new }
     ensures kept { AreTried (coded_picture layout.now shape.now matrix.now coefficients.now) sx sy result.0 kept.old kept.new }
 {
-    let first = find_candidate(layout, shape, matrix, sx, sy, bytes, coefficients);
+    let first = find_first(gathered, matrix, bytes, near);
     for index in first..127 {
         let trying = try_at(
             layout,
@@ -172,6 +180,7 @@ pub fn find_least(
             index,
             bytes,
             coefficients,
+            gathered,
             kept,
             luma,
             colour,
@@ -189,6 +198,7 @@ pub fn find_least(
         127,
         bytes,
         coefficients,
+        gathered,
         kept,
         luma,
         colour,

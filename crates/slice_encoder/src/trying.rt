@@ -10,10 +10,12 @@ ghost use Rattle.slice_geometry.specs.Shape.{IsSize, IsDepth};
 ghost use Rattle.slice_encoder.specs.Tries.{IsTried};
 ghost use Rattle.slice_encoder.specs.Buffers.{coded_component};
 ghost use Rattle.slice_encoder.specs.Ready.{IsReady};
+ghost use Rattle.slice_encoder.specs.Gathering.{AreGathered};
 
+use crate::gathered::{Gathered, GatheredSlice};
 use crate::listing::{list_pair, list_rect};
 use crate::rect_trials::try_rect;
-use planes::{Bands, Orient, Plane};
+use planes::{Bands, Orient, Plane, ThreePlanes, Trio};
 use quant_factors::Matrix;
 use slice_geometry::{Layout, Size};
 
@@ -47,7 +49,7 @@ pub fn try_lowest(
 }
 
 // The level of band number k, and the number of its orientation.
-fn band_numbered(k: u32) -> (u32, u32)
+pub fn band_numbered(k: u32) -> (u32, u32)
     requires { k ≤ 12 }
     ensures level { result.0 ≡ level_of k }
     ensures orient { result.1 ≡ orient_of k }
@@ -57,7 +59,7 @@ fn band_numbered(k: u32) -> (u32, u32)
 }
 
 // The orientation of a number.
-fn orient_numbered(number: u32) -> Orient
+pub fn orient_numbered(number: u32) -> Orient
     requires { number ≤ 3 }
     ensures { orient_number result ≡ number }
 {
@@ -78,6 +80,7 @@ pub fn list_luma(
     sy: u32,
     index: u32,
     coefficients: &Bands,
+    gathered: &Gathered,
     kept: &Plane,
     out: &mut [i64],
 ) -> usize
@@ -88,27 +91,15 @@ pub fn list_luma(
     requires entries { matrix.now.depth ≡ layout.now.depth }
     requires depth { coefficients.now.depth ≡ layout.now.depth }
     requires can { CanListAll (coded_component layout.now size matrix.now coefficients.now) sx sy kept.now }
+    requires gathered { AreGathered layout.now size coefficients.now sx sy gathered.now }
     requires room { length (luma_list (coded_component layout.now size matrix.now coefficients.now) (at kept.now) index sx sy) ≤ length out.old }
     ensures most { result ≤ length out.old }
     ensures listed { take result out.new ≡ luma_list (coded_component layout.now size matrix.now coefficients.now) (at kept.now) index sx sy }
 {
-    let mut place = 0;
-    for k in 0..3 * layout.depth() + 1 {
-        let (level, orient) = band_numbered(k);
-        let rect = layout.band_rect(size, level, sx, sy);
-        let quantiser = matrix.quantiser(index, level, orient_numbered(orient));
-        list_rect(
-            coefficients.band(level, orient),
-            kept,
-            level,
-            rect,
-            quantiser,
-            out,
-            place,
-        );
-        place += (rect.x1 - rect.x0) as usize * (rect.y1 - rect.y0) as usize;
-    }
-    place
+    let rect = layout.band_rect(size, 0, sx, sy);
+    let quantiser = matrix.quantiser(index, 0, Orient::Ll);
+    list_rect(coefficients.band(0, 0), kept, 0, rect, quantiser, out, 0);
+    gathered.list(matrix, index, out)
 }
 
 // Lists the slice's values of two components in turn, and tells how many they are.
@@ -119,10 +110,9 @@ pub fn list_colour(
     sx: u32,
     sy: u32,
     index: u32,
-    first: &Bands,
-    second: &Bands,
-    first_kept: &Plane,
-    second_kept: &Plane,
+    coefficients: &Trio,
+    gathered: &GatheredSlice,
+    kept: &ThreePlanes,
     out: &mut [i64],
 ) -> usize
     requires index { index ≤ 127 }
@@ -130,33 +120,30 @@ pub fn list_colour(
     requires across { sx < layout.now.slices_x }
     requires down { sy < layout.now.slices_y }
     requires entries { matrix.now.depth ≡ layout.now.depth }
-    requires first_depth { first.now.depth ≡ layout.now.depth }
-    requires second_depth { second.now.depth ≡ layout.now.depth }
-    requires first_can { CanListAll (coded_component layout.now size matrix.now first.now) sx sy first_kept.now }
-    requires second_can { CanListAll (coded_component layout.now size matrix.now second.now) sx sy second_kept.now }
-    requires room { length (colour_list (coded_component layout.now size matrix.now first.now) (coded_component layout.now size matrix.now second.now)
-        (at first_kept.now) (at second_kept.now) index sx sy) ≤ length out.old }
+    requires first_depth { coefficients.now.c1.depth ≡ layout.now.depth }
+    requires second_depth { coefficients.now.c2.depth ≡ layout.now.depth }
+    requires first_can { CanListAll (coded_component layout.now size matrix.now coefficients.now.c1) sx sy kept.now.c1 }
+    requires second_can { CanListAll (coded_component layout.now size matrix.now coefficients.now.c2) sx sy kept.now.c2 }
+    requires first_gathered { AreGathered layout.now size coefficients.now.c1 sx sy gathered.now.c1 }
+    requires second_gathered { AreGathered layout.now size coefficients.now.c2 sx sy gathered.now.c2 }
+    requires room { length (colour_list (coded_component layout.now size matrix.now coefficients.now.c1) (coded_component layout.now size matrix.now coefficients.now.c2)
+        (at kept.now.c1) (at kept.now.c2) index sx sy) ≤ length out.old }
     ensures most { result ≤ length out.old }
-    ensures listed { take result out.new ≡ colour_list (coded_component layout.now size matrix.now first.now) (coded_component layout.now size matrix.now second.now)
-        (at first_kept.now) (at second_kept.now) index sx sy }
+    ensures listed { take result out.new ≡ colour_list (coded_component layout.now size matrix.now coefficients.now.c1) (coded_component layout.now size matrix.now coefficients.now.c2)
+        (at kept.now.c1) (at kept.now.c2) index sx sy }
 {
-    let mut place = 0;
-    for k in 0..3 * layout.depth() + 1 {
-        let (level, orient) = band_numbered(k);
-        let rect = layout.band_rect(size, level, sx, sy);
-        let quantiser = matrix.quantiser(index, level, orient_numbered(orient));
-        list_pair(
-            first.band(level, orient),
-            second.band(level, orient),
-            first_kept,
-            second_kept,
-            level,
-            rect,
-            quantiser,
-            out,
-            place,
-        );
-        place += 2 * ((rect.x1 - rect.x0) as usize * (rect.y1 - rect.y0) as usize);
-    }
-    place
+    let rect = layout.band_rect(size, 0, sx, sy);
+    let quantiser = matrix.quantiser(index, 0, Orient::Ll);
+    list_pair(
+        coefficients.c1.band(0, 0),
+        coefficients.c2.band(0, 0),
+        &kept.c1,
+        &kept.c2,
+        0,
+        rect,
+        quantiser,
+        out,
+        0,
+    );
+    gathered.c1.list_pair(&gathered.c2, matrix, index, out)
 }

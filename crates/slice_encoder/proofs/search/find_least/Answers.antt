@@ -5,16 +5,16 @@ use Rattle.slice_encoder.specs.Tries.{tried, tried_lists}
 use Rattle.slice_encoder.specs.Choice.{fits}
 use Rattle.slice_encoder.specs.Ready.{coded_picture}
 use Rattle.slice_encoder.proofs.Again.{all_tried_again, all_tried_keep, all_keep_nothing, coarsest_tried}
-use Rattle.slice_encoder.proofs.FirstCandidates.{ready_given}
-use Rattle.slice_encoder.proofs.LowBounds.{refutes}
+use Rattle.slice_encoder.proofs.GatheredLists.{fit_may, low_refutes}
 use Rattle.slice_encoder.proofs.Searching.{ready_again, holds_again, fit_again, refuted_more}
 use Rattle.slice_encoder.proofs.search.find_least.Goals as goal
 
-pub find_candidate-first-requires-clause-given : goal.find_candidate-first-requires-clause-given
-find_candidate-first-requires-clause-given c =
+pub find_first-first-requires-clause-last : goal.find_first-first-requires-clause-last
+find_first-first-requires-clause-last c =
     let a = c.args in
     let j : CodedPicture = coded_picture a.layout.now a.shape.now a.matrix.now a.coefficients.now in
-    ready_given j a.sx a.sy a.kept.now a.shape.now.luma_depth_fits a.shape.now.colour_depth_fits c.requires.ready
+    fit_may j a.sx a.sy a.gathered.now c.requires.gathered a.bytes 127 (tried (luma_of j) a.sx a.sy 127 (at a.kept.now.luma)) (tried (c1_of j) a.sx a.sy 127 (at a.kept.now.c1)) (tried (c2_of j) a.sx a.sy 127 (at a.kept.now.c2))
+    (coarsest_tried j a.bytes a.sx a.sy a.kept.now a.shape.now.luma_depth_fits a.shape.now.colour_depth_fits c.requires.ready c.requires.steep)
 
 pub loop-index-init : goal.loop-index-init
 loop-index-init c =
@@ -25,7 +25,7 @@ loop-index-init c =
       colour_length = refl;
       keeps = all_keep_nothing j a.sx a.sy a.kept.now;
       refuted = λ i lt.
-          refutes j (tried (luma_of j) a.sx a.sy i (at a.kept.now.luma)) (tried (c1_of j) a.sx a.sy i (at a.kept.now.c1)) (tried (c2_of j) a.sx a.sy i (at a.kept.now.c2)) a.bytes a.sx a.sy i i (omega arith) (omega (arith, c.find_candidate-first.ensures.most)) (c.find_candidate-first.ensures.least i lt);
+          low_refutes j a.sx a.sy a.gathered.now c.requires.gathered a.bytes i (tried (luma_of j) a.sx a.sy i (at a.kept.now.luma)) (tried (c1_of j) a.sx a.sy i (at a.kept.now.c1)) (tried (c2_of j) a.sx a.sy i (at a.kept.now.c2)) (c.find_first-first.ensures.least i lt);
     }
 
 pub try_at-trying-requires-clause-ready : goal.try_at-trying-requires-clause-ready

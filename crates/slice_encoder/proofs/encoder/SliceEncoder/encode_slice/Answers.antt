@@ -5,6 +5,7 @@ use Rattle.slice_geometry.specs.declared.SliceHead.{SliceHead}
 use Rattle.slice_encoder.specs.Trials.{CodedPicture}
 use Rattle.slice_encoder.specs.Tries.{AreTried, tried_lists}
 use Rattle.slice_encoder.specs.Choice.{IsLeast, slice_bits}
+use Rattle.slice_encoder.specs.Laws.{AreSmall}
 use Rattle.slice_encoder.specs.Ready.{coded_picture}
 use Rattle.slice_encoder.specs.Encoded.{IsEncoded, EncoderSeen}
 use Rattle.slice_encoder.proofs.Encoding.{encoded_after, bits_as}
@@ -12,6 +13,20 @@ use Rattle.slice_encoder.proofs.encoder.SliceEncoder.encode_slice.Goals as goal
 
 front : (n : ℕ) (xs ys : List ℤ) → n ≡ length xs → take n (xs ++ ys) ≡ xs
 front n xs ys e = ap (λ (k : ℕ). take k (xs ++ ys)) e ∙ take-append_seam xs ys
+
+pub put_slice-requires-clause-luma_small : goal.put_slice-requires-clause-luma_small
+put_slice-requires-clause-luma_small c =
+    let found = c.find_least-index in
+    let e = c.self.inside in
+    let is : take found.result.1.luma c.deref.result.now ≡ _ = ap (take found.result.1.luma) (c.deref.ensures.value ∙ front (e.luma.len) found.new.luma _ (omega (arith, found.auto.luma, c.deref_mut.ensures.len))) ∙ found.ensures.holds.luma in
+    subst (λ (vs : List ℤ). AreSmall vs) (sym is) found.ensures.holds.luma_small
+
+pub put_slice-requires-clause-colour_small : goal.put_slice-requires-clause-colour_small
+put_slice-requires-clause-colour_small c =
+    let found = c.find_least-index in
+    let e = c.self.inside in
+    let is : take found.result.1.colour c.deref-2.result.now ≡ _ = ap (take found.result.1.colour) (c.deref-2.ensures.value ∙ front (e.colour.len) found.new.colour _ (omega (arith, found.auto.colour, c.deref_mut-2.ensures.len))) ∙ found.ensures.holds.colour in
+    subst (λ (vs : List ℤ). AreSmall vs) (sym is) found.ensures.holds.colour_small
 
 pub returns-clause-slice : goal.returns-clause-slice
 returns-clause-slice c =

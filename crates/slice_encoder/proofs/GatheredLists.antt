@@ -1,0 +1,135 @@
+-- What is listed of gathered coefficients are the lists of the slice, and what they need is bounded so.
+use Rattle.std.proofs.Common.{◌≡◌, ◌∙◌, refl, sym, ap, subst, ℕ, ◌+◌, ◌-◌, ◌*◌, ◌<◌, ◌≤◌, Bool, true, false, List, [], ◌∷◌, ◌++◌, length, take, arith, ℤ}
+use Rattle.std.specs.Prelude.{slice_index}
+use Rattle.std.specs.List.{flat_map, range_with_len}
+use Rattle.planes.specs.Raster.{Raster, Grid, at}
+use Rattle.planes.specs.declared.Rect.{Rect}
+use Rattle.quant_factors.specs.Weights.{Weights, band_quantiser}
+use Rattle.slice_geometry.specs.SliceOrder.{level_rect, area, place_count, level_of, orient_of, numbered}
+use Rattle.slice_encoder.specs.declared.bounding.Lower.{Lower}
+use Rattle.slice_encoder.specs.declared.gathered.GatheredSlice.{GatheredSlice}
+use Rattle.slice_encoder.specs.Trials.{CodedComponent, luma_list, colour_list, CodedPicture, luma_of, c1_of, c2_of, lists}
+use Rattle.slice_encoder.specs.Choice.{needs_fit, fits}
+use Rattle.slice_encoder.specs.LowNeeds.{may_fit}
+use Rattle.slice_encoder.specs.Listing.{band_part, pair_part}
+use Rattle.slice_encoder.specs.Gathering.{raw_part, raw_before, GatheredBands, AreGathered, piece_of, quantised, quantised_piece, in_turn, high_part, high_reach, gathered_reach, behind_lowest, reach, reach_of}
+use Rattle.slice_encoder.specs.GatheredSlices.{AreAllGathered, gathered_low}
+use Rattle.std.proofs.lemmas.List.{length-append}
+use Rattle.planes.specs.Subbands.{BandStack}
+use Rattle.slice_geometry.specs.declared.Size.{Size}
+use Rattle.slice_geometry.specs.Slicing.{Slicing}
+use Rattle.slice_encoder.proofs.BandParts.{length_rect}
+use Rattle.slice_encoder.proofs.LowBounds.{less_fits, more_does_not_fit}
+use Rattle.slice_encoder.proofs.Gathers.{first_count, raw_count, raw_within}
+use Rattle.slice_encoder.proofs.Reaches.{flat_same, bands_fall, lowest_rises, luma_parts, colour_parts, high_pair, reach_no_greater}
+
+module _ (c : CodedComponent) (index sx sy : ℕ) (g : GatheredBands) (gathered : AreGathered c.slicing c.size c.bands sx sy g) where
+  pub first_end : slice_index g.ends 0 ≡ area (level_rect c.slicing c.size sx sy 0)
+  first_end = gathered.ends 0 (omega arith) ∙ first_count c.slicing c.size c.bands sx sy
+
+  pub last_end : slice_index g.ends (3 * g.depth) ≡ place_count c.slicing c.size sx sy
+  last_end = ap (λ (n : ℕ). slice_index g.ends (3 * n)) gathered.depth ∙ gathered.ends (3 * c.slicing.depth) (omega arith) ∙ raw_count c.slicing c.size c.bands sx sy c.slicing.depth
+
+  pub first_within : area (level_rect c.slicing c.size sx sy 0) ≤ place_count c.slicing c.size sx sy
+  first_within =
+      omega (
+        arith,
+        first_count c.slicing c.size c.bands sx sy,
+        raw_count c.slicing c.size c.bands sx sy c.slicing.depth,
+        raw_within c.slicing c.size c.bands sx sy 1 (3 * c.slicing.depth + 1) (omega arith),
+      )
+
+  piece_here : (k : ℕ) → 1 ≤ k → k < 1 + 3 * c.slicing.depth → quantised_piece g c.matrix index k ≡ high_part c index sx sy k
+  piece_here k some lt = ap (quantised (band_quantiser c.matrix index (level_of k) (orient_of k))) (gathered.pieces k some (omega arith))
+
+  pub pieces_are : flat_map (quantised_piece g c.matrix index) (range_with_len 1 (3 * g.depth)) ≡ flat_map (high_part c index sx sy) (range_with_len 1 (3 * c.slicing.depth))
+  pieces_are =
+      ap (λ (n : ℕ). flat_map (quantised_piece g c.matrix index) (range_with_len 1 (3 * n))) gathered.depth
+      ∙ flat_same (quantised_piece g c.matrix index) (high_part c index sx sy) 1 (3 * c.slicing.depth) piece_here
+
+  pub reach_is : gathered_reach g c.matrix index ≡ high_reach c index sx sy
+  reach_is = ap (λ (t : List ℤ). reach t 0) pieces_are
+
+-- the lowest subband's values, and what is listed behind them
+pub luma_listed : (c : CodedComponent) (index sx sy : ℕ) (g : GatheredBands) (kept : Raster ℤ) (all lowest out : List ℤ) (count : ℕ) → AreGathered c.slicing c.size c.bands sx sy g → all ≡ take (slice_index g.ends 0) out ++ flat_map (quantised_piece g c.matrix index) (range_with_len 1 (3 * g.depth))
+    → count ≡ slice_index g.ends 0 → take count out ≡ lowest → lowest ≡ band_part c kept index sx sy 0 → all ≡ luma_list c (at kept) index sx sy
+luma_listed c index sx sy g kept all lowest out count gathered all_is count_is front lowest_is =
+    all_is
+    ∙ ap (λ (n : ℕ). take n out ++ flat_map (quantised_piece g c.matrix index) (range_with_len 1 (3 * g.depth))) (sym count_is)
+    ∙ ap (λ (t : List ℤ). t ++ flat_map (quantised_piece g c.matrix index) (range_with_len 1 (3 * g.depth))) (front ∙ lowest_is)
+    ∙ ap (λ (t : List ℤ). band_part c kept index sx sy 0 ++ t) (pieces_are c index sx sy g gathered)
+    ∙ sym (luma_parts c kept index sx sy)
+
+same_lengths : (s : Slicing) (size : Size) (a b : BandStack) (sx sy : ℕ) (ks : List ℕ) → length (flat_map (raw_part s size a sx sy) ks) ≡ length (flat_map (raw_part s size b sx sy) ks)
+same_lengths s size a b sx sy [] = refl
+same_lengths s size a b sx sy (k ∷ ks) =
+    let r : Rect = level_rect s size sx sy (level_of k) in
+    omega (
+      arith,
+      length-append (raw_part s size a sx sy k) (flat_map (raw_part s size a sx sy) ks),
+      length-append (raw_part s size b sx sy k) (flat_map (raw_part s size b sx sy) ks),
+      length_rect (at (numbered a k)) r,
+      length_rect (at (numbered b k)) r,
+      same_lengths s size a b sx sy ks,
+    )
+
+module _ (j : CodedPicture) (index sx sy : ℕ) (one two : GatheredBands) (gathered1 : AreGathered j.slicing j.frame.colour j.coefficients.c1 sx sy one) (gathered2 : AreGathered j.slicing j.frame.colour j.coefficients.c2 sx sy two) where
+  pub ends_same : (k : ℕ) → k ≤ 3 * one.depth → slice_index two.ends k ≡ slice_index one.ends k
+  ends_same k le =
+      let lt : k < 3 * j.slicing.depth + 1 = omega (arith, le, gathered1.depth) in
+      gathered2.ends k lt ∙ raw_lengths (k + 1) ∙ sym (gathered1.ends k lt)
+    where
+      raw_lengths : (n : ℕ) → length (raw_before j.slicing j.frame.colour j.coefficients.c2 sx sy n) ≡ length (raw_before j.slicing j.frame.colour j.coefficients.c1 sx sy n)
+      raw_lengths n = same_lengths j.slicing j.frame.colour j.coefficients.c2 j.coefficients.c1 sx sy (range_with_len 0 n)
+
+  pairs_here : (k : ℕ) → 1 ≤ k → k < 1 + 3 * j.slicing.depth → in_turn (quantised_piece one j.matrix index k) (quantised_piece two j.matrix index k) ≡ high_pair j index sx sy k
+  pairs_here k some lt =
+      ap (λ (t : List ℤ). in_turn t (quantised_piece two j.matrix index k)) (piece_here (c1_of j) index sx sy one gathered1 k some lt)
+      ∙ ap (in_turn (high_part (c1_of j) index sx sy k)) (piece_here (c2_of j) index sx sy two gathered2 k some lt)
+
+  pub colour_listed : (kept1 kept2 : Raster ℤ) (all lowest out : List ℤ) (count : ℕ) → all ≡ take (2 * slice_index one.ends 0) out ++ flat_map (λ k. in_turn (quantised_piece one j.matrix index k) (quantised_piece two j.matrix index k)) (range_with_len 1 (3 * one.depth))
+      → count ≡ 2 * slice_index one.ends 0 → take count out ≡ lowest → lowest ≡ pair_part (c1_of j) (c2_of j) kept1 kept2 index sx sy 0 → all ≡ colour_list (c1_of j) (c2_of j) (at kept1) (at kept2) index sx sy
+  colour_listed kept1 kept2 all lowest out count all_is count_is front lowest_is =
+      let p = λ (k : ℕ). in_turn (quantised_piece one j.matrix index k) (quantised_piece two j.matrix index k) in
+      all_is
+      ∙ ap (λ (n : ℕ). take n out ++ flat_map p (range_with_len 1 (3 * one.depth))) (sym count_is)
+      ∙ ap (λ (t : List ℤ). t ++ flat_map p (range_with_len 1 (3 * one.depth))) (front ∙ lowest_is)
+      ∙ ap (λ (n : ℕ). pair_part (c1_of j) (c2_of j) kept1 kept2 index sx sy 0 ++ flat_map p (range_with_len 1 (3 * n))) gathered1.depth
+      ∙ ap (λ (t : List ℤ). pair_part (c1_of j) (c2_of j) kept1 kept2 index sx sy 0 ++ t) (flat_same p (high_pair j index sx sy) 1 (3 * j.slicing.depth) pairs_here)
+      ∙ sym (colour_parts j kept1 kept2 index sx sy)
+
+-- ---- bounds
+
+module _ (j : CodedPicture) (sx sy : ℕ) (g : GatheredSlice) (gathered : AreAllGathered j sx sy g) where
+  pub low_is : (index : ℕ) → gathered_low g j.matrix index ≡ reach_of j sx sy index
+  low_is index =
+      ap (λ (n : ℕ). record { luma = behind_lowest n (gathered_reach g.luma j.matrix index) - 3; colour = behind_lowest (2 * slice_index g.c1.ends 0) (gathered_reach g.c1 j.matrix index + gathered_reach g.c2 j.matrix index) - 3 }) (first_end (luma_of j) index sx sy g.luma gathered.luma)
+      ∙ ap (λ (n : ℕ). record { luma = behind_lowest (area (level_rect j.slicing j.frame.luma sx sy 0)) n - 3; colour = behind_lowest (2 * slice_index g.c1.ends 0) (gathered_reach g.c1 j.matrix index + gathered_reach g.c2 j.matrix index) - 3 }) (reach_is (luma_of j) index sx sy g.luma gathered.luma)
+      ∙ ap (λ (n : ℕ). record { luma = (reach_of j sx sy index).luma; colour = behind_lowest (2 * n) (gathered_reach g.c1 j.matrix index + gathered_reach g.c2 j.matrix index) - 3 }) (first_end (c1_of j) index sx sy g.c1 gathered.c1)
+      ∙ ap (λ (n : ℕ). record { luma = (reach_of j sx sy index).luma; colour = behind_lowest (2 * area (level_rect j.slicing j.frame.colour sx sy 0)) (n + gathered_reach g.c2 j.matrix index) - 3 }) (reach_is (c1_of j) index sx sy g.c1 gathered.c1)
+      ∙ ap (λ (n : ℕ). record { luma = (reach_of j sx sy index).luma; colour = behind_lowest (2 * area (level_rect j.slicing j.frame.colour sx sy 0)) (high_reach (c1_of j) index sx sy + n) - 3 }) (reach_is (c2_of j) index sx sy g.c2 gathered.c2)
+
+  -- an index that fits may fit
+  pub fit_may : (bytes index : ℕ) (luma c1 c2 : Grid) → fits bytes (lists j luma c1 c2 index sx sy) ≡ true → may_fit bytes (gathered_low g j.matrix index) ≡ true
+  fit_may bytes index luma c1 c2 fit =
+      let low = reach_no_greater j luma c1 c2 index sx sy in
+      subst (λ (l : Lower). may_fit bytes l ≡ true) (sym (low_is index)) (less_fits bytes _ _ _ _ low.0 low.1 fit)
+
+  -- and one that may not doesn't
+  pub low_refutes : (bytes index : ℕ) (luma c1 c2 : Grid) → may_fit bytes (gathered_low g j.matrix index) ≡ false → fits bytes (lists j luma c1 c2 index sx sy) ≡ false
+  low_refutes bytes index luma c1 c2 refused =
+      let low = reach_no_greater j luma c1 c2 index sx sy in
+      more_does_not_fit bytes _ _ _ _ low.0 low.1 (subst (λ (l : Lower). may_fit bytes l ≡ false) (low_is index) refused)
+
+-- ---- whatever is gathered, the bounds don't rise with the index
+
+reach_below : (g : GatheredBands) (matrix : Weights) (i k : ℕ) → i ≤ k → k ≤ 127 → gathered_reach g matrix k ≤ gathered_reach g matrix i
+reach_below g matrix i k le most = bands_fall matrix (piece_of g) i k le most (range_with_len 1 (3 * g.depth)) 0 0 (omega arith)
+
+pub low_refuted_below : (g : GatheredSlice) (matrix : Weights) (bytes i k : ℕ) → i ≤ k → k ≤ 127 → may_fit bytes (gathered_low g matrix k) ≡ false → may_fit bytes (gathered_low g matrix i) ≡ false
+low_refuted_below g matrix bytes i k le most refused =
+    let both : gathered_reach g.c1 matrix k + gathered_reach g.c2 matrix k ≤ gathered_reach g.c1 matrix i + gathered_reach g.c2 matrix i = omega (arith, reach_below g.c1 matrix i k le most, reach_below g.c2 matrix i k le most) in
+    more_does_not_fit bytes _ _ _ _ (omega (arith, lowest_rises (slice_index g.luma.ends 0) _ _ (reach_below g.luma matrix i k le most))) (omega (arith, lowest_rises (2 * slice_index g.c1.ends 0) _ _ both)) refused
+
+pub gathered_may : (bytes : ℕ) (found low : Lower) (b : Bool) → found ≡ low → needs_fit bytes found.luma found.colour ≡ b → may_fit bytes low ≡ b
+gathered_may bytes found low b e fit = subst (λ (l : Lower). may_fit bytes l ≡ b) e fit

@@ -1,0 +1,38 @@
+use Rattle.std.proofs.Common.{◌≡◌, ◌∙◌, ℕ, ◌+◌, ◌-◌, ◌*◌, List, length, take, sym, ap, subst, arith, ℤ}
+use Rattle.std.specs.Prelude.{slice_index}
+use Rattle.slice_geometry.specs.SliceOrder.{level_of, orient_of}
+use Rattle.quant_factors.specs.Weights.{band_quantiser}
+use Rattle.quant_factors.proofs.Quantisers.{index_here}
+use Rattle.slice_encoder.specs.Gathering.{GatheredBands, IsSound, quantised, quantised_piece, in_turn}
+use Rattle.slice_encoder.proofs.Gathers.{band_listed}
+use Rattle.slice_encoder.proofs.gathered.Gathered.list_pair.Goals as goal
+
+pub loop-k-preserved : goal.loop-k-preserved
+loop-k-preserved c =
+    let a = c.args in
+    let g : GatheredBands = a.self.now in
+    let h : GatheredBands = a.second.now in
+    let l = c.loop-k in
+    let k = l.k in
+    let same_depth : c.self.inside.depth ≡ g.depth = ap (λ (v : GatheredBands). v.depth) c.self.view_is in
+    let sound : IsSound g = subst IsSound c.self.view_is c.self.invariant in
+    let rise = sound.rise k l.invariant.some (omega (arith, same_depth, c.loop-k-test.true)) in
+    let back : k + 1 - 1 ≡ k = omega arith in
+    let place : l.place + 2 * length c.band-band.result.now ≡ 2 * slice_index g.ends k = omega (arith, l.invariant.place, c.band-band.ensures.count, rise) in
+    let q : ℕ = band_quantiser a.matrix.now a.index (level_of k) (orient_of k) in
+    let index_is : c.quantiser-quantiser.result ≡ q =
+    index_here a.matrix.now a.index c.band_numbered-level.result.0 _ c.band_numbered-level.result.1 _ _ c.quantiser-quantiser.result c.band_numbered-level.ensures.level c.band_numbered-level.ensures.orient c.orient_numbered.ensures c.quantiser-quantiser.ensures
+    in
+    let new : List ℤ = in_turn (quantised c.quantiser-quantiser.result c.band-band.result.now) (quantised c.quantiser-quantiser.result c.band.result.now) in
+    let new_is : new ≡ in_turn (quantised_piece g a.matrix.now a.index k) (quantised_piece h a.matrix.now a.index k) =
+    ap (λ (i : ℕ). in_turn (quantised i c.band-band.result.now) (quantised i c.band.result.now)) index_is
+    ∙ ap (λ (vs : List ℤ). in_turn (quantised q vs) (quantised q c.band.result.now)) c.band-band.ensures.value
+    ∙ ap (λ (vs : List ℤ). in_turn (quantised_piece g a.matrix.now a.index k) (quantised q vs)) c.band.ensures.value
+    in
+    record {
+      same_length = c.quantise_pair_at.auto.out ∙ l.invariant.same_length;
+      some = omega arith;
+      place = place ∙ sym (ap (λ (j : ℕ). 2 * slice_index g.ends j) back);
+      so_far =
+          band_listed (λ j. in_turn (quantised_piece g a.matrix.now a.index j) (quantised_piece h a.matrix.now a.index j)) k (take (2 * slice_index g.ends 0) a.out.now) (take l.place l.out) _ new l.invariant.some l.invariant.so_far new_is c.quantise_pair_at.ensures;
+    }

@@ -1,0 +1,9 @@
+use Rattle.std.proofs.Common.{◌≡◌, ◌*◌, length, take}
+use Rattle.slice_encoder.specs.Gathering.{quantised, in_turn}
+use Rattle.slice_encoder.proofs.gathered.quantise_pair.Given as goal
+
+abbrev pub invariant-loop-place : goal.invariant-loop-place
+invariant-loop-place l = record {
+  same_length : length l.out ≡ length l.fn.out;
+  so_far : take (2 * l.place) l.out ≡ in_turn (quantised l.index (take l.place l.first)) (quantised l.index (take l.place l.second));
+}

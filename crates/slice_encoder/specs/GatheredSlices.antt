@@ -1,0 +1,28 @@
+-- The coefficients of a slice in all three components, gathered.
+use Rattle.std.specs.Prelude.{ℕ, ◌+◌, ◌-◌, ◌*◌, ◌<◌, ◌≤◌, length, slice_index}
+use Rattle.quant_factors.specs.Weights.{Weights}
+use Rattle.slice_geometry.specs.declared.PictureShape.{PictureShape}
+use Rattle.slice_geometry.specs.Slicing.{Slicing}
+use Rattle.slice_geometry.specs.SliceOrder.{place_count}
+use Rattle.slice_encoder.specs.declared.bounding.Lower.{Lower}
+use Rattle.slice_encoder.specs.declared.gathered.GatheredSlice.{GatheredSlice}
+use Rattle.slice_encoder.specs.Trials.{CodedPicture}
+use Rattle.slice_encoder.specs.Gathering.{AreGathered, gathered_reach, behind_lowest}
+
+pub record AreAllGathered (j : CodedPicture) (sx sy : ℕ) (g : GatheredSlice) : Type 0 where
+  pub luma : AreGathered j.slicing j.frame.luma j.coefficients.luma sx sy g.luma
+  pub c1 : AreGathered j.slicing j.frame.colour j.coefficients.c1 sx sy g.c1
+  pub c2 : AreGathered j.slicing j.frame.colour j.coefficients.c2 sx sy g.c2
+
+-- what the slice needs at least at an index
+abbrev pub gathered_low : GatheredSlice → Weights → ℕ → Lower
+gathered_low g matrix index = record {
+  luma = behind_lowest (slice_index g.luma.ends 0) (gathered_reach g.luma matrix index) - 3;
+  colour = behind_lowest (2 * slice_index g.c1.ends 0) (gathered_reach g.c1 matrix index + gathered_reach g.c2 matrix index) - 3;
+}
+
+-- there is room for each slice of a picture
+pub record CanHoldAll (s : Slicing) (shape : PictureShape) (g : GatheredSlice) : Type 0 where
+  pub luma : (sx sy : ℕ) → sx < s.slices_x → sy < s.slices_y → place_count s shape.luma sx sy ≤ length g.luma.values
+  pub c1 : (sx sy : ℕ) → sx < s.slices_x → sy < s.slices_y → place_count s shape.colour sx sy ≤ length g.c1.values
+  pub c2 : (sx sy : ℕ) → sx < s.slices_x → sy < s.slices_y → place_count s shape.colour sx sy ≤ length g.c2.values

@@ -1,0 +1,111 @@
+-- A slice's coefficients, gathered band by band in the order of its values, and how far the codes of values reach.
+use Rattle.std.specs.Prelude.{◌≡◌, ℕ, ◌+◌, ◌-◌, ◌*◌, ◌^◌, ◌<◌, ◌≤◌, ◌==◌, List, [], ◌∷◌, length, take, drop, map, slice_index, if◌then◌else◌, unsigned_abs, ℤ}
+use Rattle.std.specs.List.{All, flat_map, range_with_len}
+use Rattle.planes.specs.Numbers.{Within}
+use Rattle.planes.specs.Raster.{Raster, height, at}
+use Rattle.planes.specs.Subbands.{BandStack, HaveSizes}
+use Rattle.planes.specs.declared.Rect.{Rect}
+use Rattle.bit_codes.specs.Codes.{signed_code_of}
+use Rattle.quant_factors.specs.Factors.{forward_of}
+use Rattle.quant_factors.specs.Weights.{Weights, band_quantiser}
+use Rattle.slice_geometry.specs.declared.Size.{Size}
+use Rattle.slice_geometry.specs.Slicing.{Slicing}
+use Rattle.slice_geometry.specs.Geometry.{padded_length}
+use Rattle.slice_geometry.specs.SliceOrder.{level_rect, area, level_of, orient_of, numbered}
+use Rattle.slice_encoder.specs.declared.bounding.Lower.{Lower}
+use Rattle.slice_encoder.specs.Trials.{CodedComponent, CodedPicture, luma_of, c1_of, c2_of}
+use Rattle.slice_encoder.specs.Listing.{rect_values}
+
+-- ---- coefficients
+
+-- those of the slice in band number k, and those in all bands before it
+abbrev pub raw_part : Slicing → Size → BandStack → ℕ → ℕ → ℕ → List ℤ
+raw_part s size bands sx sy k = rect_values (at (numbered bands k)) (level_rect s size sx sy (level_of k))
+
+abbrev pub raw_before : Slicing → Size → BandStack → ℕ → ℕ → ℕ → List ℤ
+raw_before s size bands sx sy k = flat_map (raw_part s size bands sx sy) (range_with_len 0 k)
+
+-- what is gathered: the depth of the transform, where each band's values end, and the values
+pub record GatheredBands : Type 0 where
+  pub depth : ℕ
+  pub ends : List ℕ
+  pub values : List ℤ
+
+-- the values of band number k, from 1 on
+abbrev pub piece_of : GatheredBands → ℕ → List ℤ
+piece_of g k = take (slice_index g.ends k - slice_index g.ends (k - 1)) (drop (slice_index g.ends (k - 1)) g.values)
+
+pub record IsSound (g : GatheredBands) : Type 0 where
+  pub shallow : g.depth ≤ 4
+  pub rise : (k : ℕ) → 1 ≤ k → k ≤ 3 * g.depth → slice_index g.ends (k - 1) ≤ slice_index g.ends k
+  pub whole : (k : ℕ) → k ≤ 3 * g.depth → slice_index g.ends k ≤ slice_index g.ends (3 * g.depth)
+  pub inside : (k : ℕ) → k ≤ 3 * g.depth → slice_index g.ends k ≤ length g.values
+  pub small : All (Within (2 ^ 27)) g.values
+  pub few : length g.values ≤ 2 ^ 31
+
+-- It holds the slice's coefficients in these bands.
+pub record AreGathered (s : Slicing) (size : Size) (bands : BandStack) (sx sy : ℕ) (g : GatheredBands) : Type 0 where
+  pub depth : g.depth ≡ s.depth
+  pub ends : (k : ℕ) → k < 3 * s.depth + 1 → slice_index g.ends k ≡ length (raw_before s size bands sx sy (k + 1))
+  pub pieces : (k : ℕ) → 1 ≤ k → k < 3 * s.depth + 1 → piece_of g k ≡ raw_part s size bands sx sy k
+
+-- what gathering a rectangle asks for
+pub record CanGather (r : Rect) (coefficients : Raster ℤ) : Type 0 where
+  pub across : r.x0 ≤ r.x1
+  pub down : r.y0 ≤ r.y1
+  pub x_inside : r.x1 ≤ coefficients.w
+  pub y_inside : r.y1 ≤ height coefficients
+  pub small : (y x : ℕ) → Within (2 ^ 27) (at coefficients y x)
+
+-- and gathering all bands of a slice
+pub record CanGatherAll (s : Slicing) (size : Size) (bands : BandStack) : Type 0 where
+  pub depth : bands.depth ≡ s.depth
+  pub sizes : HaveSizes bands (padded_length s.depth size.w) (padded_length s.depth size.h)
+  pub small : (k y x : ℕ) → k < 3 * s.depth + 1 → Within (2 ^ 27) (at (numbered bands k) y x)
+
+-- ---- values
+
+-- coefficients, quantised
+abbrev pub quantised : ℕ → List ℤ → List ℤ
+quantised q vs = map (λ v. forward_of v q) vs
+
+abbrev pub quantised_piece : GatheredBands → Weights → ℕ → ℕ → List ℤ
+quantised_piece g matrix index k = quantised (band_quantiser matrix index (level_of k) (orient_of k)) (piece_of g k)
+
+-- one list's values and another's in turn
+abbrev pub in_turn : List ℤ → List ℤ → List ℤ
+in_turn [] ws = []
+in_turn (v ∷ vs) [] = []
+in_turn (v ∷ vs) (w ∷ ws) = v ∷ w ∷ in_turn vs ws
+
+-- ---- how far codes reach
+
+-- A value's code is counted where it isn't 0, or where something is counted behind it.
+abbrev pub with_code : ℤ → ℕ → ℕ
+with_code v behind = if unsigned_abs v + behind == 0 then 0 else length (signed_code_of v) + behind
+
+-- how many bits the codes of values take up to the last one that isn't 0
+abbrev pub reach : List ℤ → ℕ → ℕ
+reach [] behind = behind
+reach (v ∷ vs) behind = with_code v (reach vs behind)
+
+abbrev pub gathered_reach : GatheredBands → Weights → ℕ → ℕ
+gathered_reach g matrix index = reach (flat_map (quantised_piece g matrix index) (range_with_len 1 (3 * g.depth))) 0
+
+-- of the slice's values outside the lowest subband
+abbrev pub high_part : CodedComponent → ℕ → ℕ → ℕ → ℕ → List ℤ
+high_part c index sx sy k = quantised (band_quantiser c.matrix index (level_of k) (orient_of k)) (raw_part c.slicing c.size c.bands sx sy k)
+
+abbrev pub high_reach : CodedComponent → ℕ → ℕ → ℕ → ℕ
+high_reach c index sx sy = reach (flat_map (high_part c index sx sy) (range_with_len 1 (3 * c.slicing.depth))) 0
+
+-- Each value of the lowest subband in front takes a bit at least.
+abbrev pub behind_lowest : ℕ → ℕ → ℕ
+behind_lowest places bits = if bits == 0 then 0 else places + bits
+
+-- What a slice needs at least at an index, whatever is restored: a code that isn't 0 ends in three ones at most.
+abbrev pub reach_of : CodedPicture → ℕ → ℕ → ℕ → Lower
+reach_of j sx sy index = record {
+  luma = behind_lowest (area (level_rect j.slicing j.frame.luma sx sy 0)) (high_reach (luma_of j) index sx sy) - 3;
+  colour = behind_lowest (2 * area (level_rect j.slicing j.frame.colour sx sy 0)) (high_reach (c1_of j) index sx sy + high_reach (c2_of j) index sx sy) - 3;
+}

@@ -1,0 +1,372 @@
+// The coefficients of a slice in one component, gathered once for all the indices that are tried.
+
+ghost use Rattle.std.specs.Prelude.{◌≡◌, ℕ, ◌+◌, ◌-◌, ◌*◌, ◌^◌, ◌<◌, ◌≤◌, ◌++◌, length, take, slice_index, unsigned_abs, IfOk};
+ghost use Rattle.std.specs.List.{All, flat_map, range_with_len};
+ghost use Rattle.planes.specs.Numbers.{Within};
+ghost use Rattle.planes.specs.Raster.{at};
+ghost use Rattle.slice_geometry.specs.Shape.{IsSize};
+ghost use Rattle.slice_geometry.specs.SliceOrder.{area, place_count};
+ghost use Rattle.slice_encoder.specs.Listing.{rect_values};
+ghost use Rattle.slice_encoder.specs.Gathering.{raw_before, piece_of, quantised, quantised_piece, in_turn, with_code, reach, CanGather, CanGatherAll, AreGathered, gathered_reach, behind_lowest};
+ghost use Rattle.slice_encoder.specs.GatheredSlices.{AreAllGathered, gathered_low, CanHoldAll};
+ghost use Rattle.slice_encoder.specs.Ready.{coded_picture, AreGiven};
+
+use crate::bounding::Lower;
+use crate::room::most_places;
+use crate::trying::{band_numbered, orient_numbered};
+use bit_codes::sint_len;
+use planes::{Bands, NoMemory, Plane, Rect, Trio};
+use quant_factors::{Matrix, forward};
+use slice_geometry::{Layout, PictureShape, Size};
+use std::alloc::Global;
+use std::marker::Model;
+
+/// The coefficients of a slice in one component, band by band in the order of its values. Contracts see the depth of the
+/// transform, where the values of each band end, and the values; behind those of a slice stand older ones.
+#[derive(Drop)]
+pub struct Gathered {
+    depth: u32,
+    ends: [usize; 13],
+    values: Vec<i64>,
+}
+
+impl Model for Gathered {
+    ghost use Rattle.slice_encoder.specs.Gathering.{GatheredBands, IsSound};
+
+    ghost Value = { GatheredBands };
+
+    ghost view = { λ g. record { depth = g.depth; ends = g.ends; values = g.values.items } };
+
+    ghost invariant = { λ g. IsSound (record { depth = g.depth; ends = g.ends; values = g.values.items }) };
+}
+
+/// The coefficients of a slice in all three components.
+#[derive(Drop)]
+pub struct GatheredSlice {
+    pub luma: Gathered,
+    pub c1: Gathered,
+    pub c2: Gathered,
+}
+
+// Copies the coefficients of a rectangle, row by row, from a place on.
+fn gather_rect(coefficients: &Plane, rect: Rect, out: &mut [i64], from: usize)
+    requires can { CanGather rect coefficients.now }
+    requires room { from + area rect ≤ length out.old }
+    requires small { All (Within (2 ^ 27)) out.old }
+    ensures gathered { take (from + area rect) out.new ≡ take from out.old ++ rect_values (at coefficients.now) rect }
+    ensures small { All (Within (2 ^ 27)) out.new }
+{
+    let mut place = from;
+    for y in rect.y0..rect.y1 {
+        for x in rect.x0..rect.x1 {
+            out[place] = coefficients.get(y, x);
+            place += 1;
+        }
+    }
+}
+
+// Copies the slice's coefficients, and notes where each band's end.
+fn gather_bands(
+    layout: &Layout,
+    size: Size,
+    sx: u32,
+    sy: u32,
+    bands: &Bands,
+    out: &mut [i64],
+) -> [usize; 13]
+    requires size { IsSize size.w size.h }
+    requires across { sx < layout.now.slices_x }
+    requires down { sy < layout.now.slices_y }
+    requires can { CanGatherAll layout.now size bands.now }
+    requires room { place_count layout.now size sx sy ≤ length out.old }
+    requires small { All (Within (2 ^ 27)) out.old }
+    ensures ends { (k : ℕ) → k < 3 * layout.now.depth + 1 → slice_index result k ≡ length (raw_before layout.now size bands.now sx sy (k + 1)) }
+    ensures gathered { take (length (raw_before layout.now size bands.now sx sy (3 * layout.now.depth + 1))) out.new ≡ raw_before layout.now size bands.now sx sy (3 * layout.now.depth + 1) }
+    ensures small { All (Within (2 ^ 27)) out.new }
+{
+    let mut ends = [0; 13];
+    let mut place = 0;
+    for k in 0..3 * layout.depth() + 1 {
+        let (level, orient) = band_numbered(k);
+        let rect = layout.band_rect(size, level, sx, sy);
+        gather_rect(bands.band(level, orient), rect, out, place);
+        place += (rect.x1 - rect.x0) as usize * (rect.y1 - rect.y0) as usize;
+        ends[k as usize] = place;
+    }
+    ends
+}
+
+// Quantises coefficients.
+fn quantise(coefficients: &[i64], index: u32, out: &mut [i64])
+    requires index { index ≤ 127 }
+    requires same { length out.old ≡ length coefficients.now }
+    requires small { All (Within (2 ^ 27)) coefficients.now }
+    ensures { out.new ≡ quantised index coefficients.now }
+{
+    for place in 0..coefficients.len() {
+        out[place] = forward(coefficients[place], index);
+    }
+}
+
+// Quantises those of two components in turn.
+fn quantise_pair(first: &[i64], second: &[i64], index: u32, out: &mut [i64])
+    requires index { index ≤ 127 }
+    requires same { length second.now ≡ length first.now }
+    requires room { length out.old ≡ 2 * length first.now }
+    requires first_small { All (Within (2 ^ 27)) first.now }
+    requires second_small { All (Within (2 ^ 27)) second.now }
+    ensures { out.new ≡ in_turn (quantised index first.now) (quantised index second.now) }
+{
+    for place in 0..first.len() {
+        out[2 * place] = forward(first[place], index);
+        out[2 * place + 1] = forward(second[place], index);
+    }
+}
+
+// The same from a place on.
+fn quantise_at(coefficients: &[i64], index: u32, out: &mut [i64], from: usize)
+    requires index { index ≤ 127 }
+    requires room { from + length coefficients.now ≤ length out.old }
+    requires small { All (Within (2 ^ 27)) coefficients.now }
+    ensures { take (from + length coefficients.now) out.new ≡ take from out.old ++ quantised index coefficients.now }
+{
+    let end = from + coefficients.len();
+    quantise(coefficients, index, &mut out[from..end]);
+}
+
+fn quantise_pair_at(first: &[i64], second: &[i64], index: u32, out: &mut [i64], from: usize)
+    requires index { index ≤ 127 }
+    requires same { length second.now ≡ length first.now }
+    requires few { length first.now ≤ 2 ^ 31 }
+    requires room { from + 2 * length first.now ≤ length out.old }
+    requires first_small { All (Within (2 ^ 27)) first.now }
+    requires second_small { All (Within (2 ^ 27)) second.now }
+    ensures { take (from + 2 * length first.now) out.new ≡ take from out.old ++ in_turn (quantised index first.now) (quantised index second.now) }
+{
+    let end = from + 2 * first.len();
+    quantise_pair(first, second, index, &mut out[from..end]);
+}
+
+// One value more in front of what codes take.
+#[inline(always)]
+fn one_more(v: i64, behind: u64) -> u64
+    requires small { unsigned_abs v ≤ 2 ^ 36 }
+    requires few { behind ≤ 2 ^ 40 }
+    ensures value { result ≡ with_code v behind }
+    ensures most { result ≤ behind + 74 }
+{
+    if v == 0 && behind == 0 {
+        0
+    } else {
+        u64::from(sint_len(v)) + behind
+    }
+}
+
+// How far the codes of coefficients reach, from the last one to the first.
+fn reach_over(coefficients: &[i64], index: u32, behind: u64) -> u64
+    requires index { index ≤ 127 }
+    requires few { length coefficients.now ≤ 2 ^ 31 }
+    requires behind { behind ≤ 2 ^ 39 }
+    requires small { All (Within (2 ^ 27)) coefficients.now }
+    ensures value { result ≡ reach (quantised index coefficients.now) behind }
+    ensures most { result ≤ behind + 74 * length coefficients.now }
+{
+    let mut bits = behind;
+    for passed in 0..coefficients.len() {
+        let v = coefficients[coefficients.len() - 1 - passed];
+        bits = one_more(forward(v, index), bits);
+    }
+    bits
+}
+
+// The bits of codes behind so many values of the lowest subbands.
+fn behind(places: u64, bits: u64) -> u64
+    requires places { places ≤ 2 ^ 33 }
+    requires bits { bits ≤ 2 ^ 40 }
+    ensures value { result ≡ behind_lowest places bits }
+    ensures few { result ≤ places + bits }
+{
+    if bits == 0 { 0 } else { places + bits }
+}
+
+impl Gathered {
+    /// Room for the coefficients of the greatest slice of a component.
+    pub fn new(alloc: Global, layout: &Layout, size: Size) -> Result<Gathered, NoMemory>
+        requires { IsSize size.w size.h }
+        ensures { IfOk result (λ g. (sx sy : ℕ) → sx < layout.now.slices_x → sy < layout.now.slices_y → place_count layout.now size sx sy ≤ length g.values) }
+    {
+        let values = Vec::from_elem(alloc, 0i64, most_places(layout, size))?;
+        Ok(Gathered {
+            depth: 0,
+            ends: [0; 13],
+            values,
+        })
+    }
+
+    /// Gathers the coefficients of a slice.
+    pub fn gather(&mut self, layout: &Layout, size: Size, sx: u32, sy: u32, bands: &Bands)
+        requires size { IsSize size.w size.h }
+        requires across { sx < layout.now.slices_x }
+        requires down { sy < layout.now.slices_y }
+        requires can { CanGatherAll layout.now size bands.now }
+        requires room { place_count layout.now size sx sy ≤ length self.old.values }
+        ensures room { length self.new.values ≡ length self.old.values }
+        ensures gathered { AreGathered layout.now size bands.now sx sy self.new }
+    {
+        self.ends = gather_bands(layout, size, sx, sy, bands, &mut self.values);
+        self.depth = layout.depth();
+    }
+
+    /// How many values the lowest subband has.
+    pub fn lowest(&self) -> u64
+        ensures value { result ≡ slice_index self.now.ends 0 }
+        ensures few { result ≤ 2 ^ 31 }
+    {
+        let _ = &self.depth;
+        let _ = &self.values;
+        self.ends[0] as u64
+    }
+
+    // The coefficients in band number k.
+    fn band(&self, k: u32) -> &[i64]
+        requires some { 1 ≤ k }
+        requires most { k ≤ 3 * self.now.depth }
+        ensures value { result.now ≡ piece_of self.now k }
+        ensures few { length result.now ≤ 2 ^ 31 }
+        ensures count { length result.now ≡ slice_index self.now.ends k - slice_index self.now.ends (k - 1) }
+        ensures small { All (Within (2 ^ 27)) result.now }
+    {
+        let _ = &self.depth;
+        let k = k as usize;
+        &self.values[self.ends[k - 1]..self.ends[k]]
+    }
+
+    /// How far the codes of the slice's values reach at an index, but for its lowest subband.
+    pub fn reach(&self, matrix: &Matrix, index: u32) -> u64
+        requires index { index ≤ 127 }
+        requires entries { matrix.now.depth ≡ self.now.depth }
+        ensures value { result ≡ gathered_reach self.now matrix.now index }
+        ensures most { result ≤ 2 ^ 38 }
+    {
+        let mut bits = 0;
+        for passed in 0..3 * self.depth {
+            let k = 3 * self.depth - passed;
+            let (level, orient) = band_numbered(k);
+            let quantiser = matrix.quantiser(index, level, orient_numbered(orient));
+            bits = reach_over(self.band(k), quantiser, bits);
+        }
+        bits
+    }
+
+    /// Lists the slice's values behind those of the lowest subband, and tells how many there are with these.
+    pub fn list(&self, matrix: &Matrix, index: u32, out: &mut [i64]) -> usize
+        requires index { index ≤ 127 }
+        requires entries { matrix.now.depth ≡ self.now.depth }
+        requires room { slice_index self.now.ends (3 * self.now.depth) ≤ length out.old }
+        ensures count { result ≡ slice_index self.now.ends (3 * self.now.depth) }
+        ensures listed { take result out.new ≡ take (slice_index self.now.ends 0) out.old ++ flat_map (quantised_piece self.now matrix.now index) (range_with_len 1 (3 * self.now.depth)) }
+    {
+        let mut place = self.ends[0];
+        for k in 1..3 * self.depth + 1 {
+            let (level, orient) = band_numbered(k);
+            let quantiser = matrix.quantiser(index, level, orient_numbered(orient));
+            let band = self.band(k);
+            quantise_at(band, quantiser, out, place);
+            place += band.len();
+        }
+        place
+    }
+
+    /// Lists the values of two components in turn behind those of the lowest subbands, and tells how many there are with
+    /// these.
+    pub fn list_pair(
+        &self,
+        second: &Gathered,
+        matrix: &Matrix,
+        index: u32,
+        out: &mut [i64],
+    ) -> usize
+        requires index { index ≤ 127 }
+        requires entries { matrix.now.depth ≡ self.now.depth }
+        requires depth { second.now.depth ≡ self.now.depth }
+        requires ends { (k : ℕ) → k ≤ 3 * self.now.depth → slice_index second.now.ends k ≡ slice_index self.now.ends k }
+        requires room { 2 * slice_index self.now.ends (3 * self.now.depth) ≤ length out.old }
+        ensures count { result ≡ 2 * slice_index self.now.ends (3 * self.now.depth) }
+        ensures listed { take result out.new ≡ take (2 * slice_index self.now.ends 0) out.old
+            ++ flat_map (λ k. in_turn (quantised_piece self.now matrix.now index k) (quantised_piece second.now matrix.now index k)) (range_with_len 1 (3 * self.now.depth)) }
+    {
+        let _ = &second.depth;
+        let mut place = 2 * self.ends[0];
+        for k in 1..3 * self.depth + 1 {
+            let (level, orient) = band_numbered(k);
+            let quantiser = matrix.quantiser(index, level, orient_numbered(orient));
+            let band = self.band(k);
+            quantise_pair_at(band, second.band(k), quantiser, out, place);
+            place += 2 * band.len();
+        }
+        place
+    }
+}
+
+impl GatheredSlice {
+    /// Room for the coefficients of the greatest slice of a picture.
+    pub fn new(
+        alloc: Global,
+        layout: &Layout,
+        shape: &PictureShape,
+    ) -> Result<GatheredSlice, NoMemory>
+        ensures { IfOk result (λ g. CanHoldAll layout.now shape.now g) }
+    {
+        Ok(GatheredSlice {
+            luma: Gathered::new(alloc, layout, shape.luma)?,
+            c1: Gathered::new(alloc, layout, shape.colour)?,
+            c2: Gathered::new(alloc, layout, shape.colour)?,
+        })
+    }
+
+    /// Gathers the coefficients of a slice.
+    pub fn gather(
+        &mut self,
+        layout: &Layout,
+        shape: &PictureShape,
+        matrix: &Matrix,
+        sx: u32,
+        sy: u32,
+        coefficients: &Trio,
+    )
+        requires across { sx < layout.now.slices_x }
+        requires down { sy < layout.now.slices_y }
+        requires given { AreGiven (coded_picture layout.now shape.now matrix.now coefficients.now) }
+        requires room { CanHoldAll layout.now shape.now self.old }
+        ensures room { CanHoldAll layout.now shape.now self.new }
+        ensures gathered { AreAllGathered (coded_picture layout.now shape.now matrix.now coefficients.now) sx sy self.new }
+    {
+        let _ = matrix;
+        let _depth = layout.depth();
+        self.luma
+            .gather(layout, shape.luma, sx, sy, &coefficients.luma);
+        self.c1
+            .gather(layout, shape.colour, sx, sy, &coefficients.c1);
+        self.c2
+            .gather(layout, shape.colour, sx, sy, &coefficients.c2);
+    }
+
+    /// What the slice needs at least at an index, whatever is restored of it.
+    pub fn low(&self, matrix: &Matrix, index: u32) -> Lower
+        requires index { index ≤ 127 }
+        requires luma { matrix.now.depth ≡ self.now.luma.depth }
+        requires c1 { matrix.now.depth ≡ self.now.c1.depth }
+        requires c2 { matrix.now.depth ≡ self.now.c2.depth }
+        ensures value { result ≡ gathered_low self.now matrix.now index }
+        ensures few_luma { result.luma ≤ 2 ^ 40 }
+        ensures few_colour { result.colour ≤ 2 ^ 40 }
+    {
+        let luma = behind(self.luma.lowest(), self.luma.reach(matrix, index));
+        let both = self.c1.reach(matrix, index) + self.c2.reach(matrix, index);
+        let colour = behind(2 * self.c1.lowest(), both);
+        Lower {
+            luma: luma.saturating_sub(3),
+            colour: colour.saturating_sub(3),
+        }
+    }
+}
