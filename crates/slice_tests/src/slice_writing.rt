@@ -9,12 +9,12 @@ ghost use Rattle.quant_factors.specs.Weights.{Weights};
 ghost use Rattle.slice_geometry.specs.Shape.{IsSize};
 ghost use Rattle.slice_geometry.specs.SliceOrder.{level_of, orient_of};
 ghost use Rattle.slice_encoder.specs.Laws.{IsSteepOk};
-ghost use Rattle.slice_encoder.specs.Ready.{coded_picture, IsReady, AreReady};
+ghost use Rattle.slice_encoder.specs.Ready.{coded_picture, IsReady, AreReady, AreGiven};
 ghost use Rattle.slice_encoder.specs.Buffers.{coded_component};
 
 use planes::{Bands, NoMemory, Plane, ThreePlanes, Trio};
 use quant_factors::Matrix;
-use slice_encoder::{SliceEncoder, Trial, steep_ok};
+use slice_encoder::{Lower, SliceEncoder, Trial, steep_ok};
 use slice_geometry::{Layout, PictureShape, Size, SliceHead};
 use std::alloc::Global;
 use std::process::Abort;
@@ -99,7 +99,8 @@ fn can_try(
     coefficients: &Trio,
     kept: &ThreePlanes,
 ) -> bool
-    ensures { result ≡ true → AreReady (coded_picture layout.now shape.now matrix.now coefficients.now) sx sy kept.now }
+    ensures ready { result ≡ true → AreReady (coded_picture layout.now shape.now matrix.now coefficients.now) sx sy kept.now }
+    ensures given { result ≡ true → AreGiven (coded_picture layout.now shape.now matrix.now coefficients.now) }
 {
     if shape.luma_depth != 8 || shape.colour_depth != 8 {
         return false;
@@ -290,30 +291,36 @@ fn prediction_by_restored_values(rt: HostRuntime) -> Result<(), Fail> {
     Ok(())
 }
 
-fn one_level(
+/// LL 21, HL 3, LH -5 and HH 2 in one slice of so many bytes.
+fn one_level(rt: &impl Abort, alloc: Global, share: u32) -> Result<Picture, NoMemory> {
+    let mut picture = new_picture(rt, alloc, 1, 1, share, Size { w: 2, h: 2 }, 0)?;
+    for (level, orient, value) in [(0, 0, 21), (1, 1, 3), (1, 2, -5), (1, 3, 2)] {
+        put(rt, &mut picture.coefficients.luma, level, orient, 0, value);
+    }
+    Ok(picture)
+}
+
+fn encode_level(
     rt: &impl Abort,
     alloc: Global,
     share: u32,
     bytes: &mut [u8],
 ) -> Result<SliceHead, NoMemory> {
-    let mut picture = new_picture(rt, alloc, 1, 1, share, Size { w: 2, h: 2 }, 0)?;
-    for (level, orient, value) in [(0, 0, 21), (1, 1, 3), (1, 2, -5), (1, 3, 2)] {
-        put(rt, &mut picture.coefficients.luma, level, orient, 0, value);
-    }
+    let mut picture = one_level(rt, alloc, share)?;
     let head = encode(rt, alloc, &mut picture, 0, bytes)?;
     drop(picture);
     Ok(head)
 }
 
-/// LL 21, HL 3, LH -5 and HH 2 in five bytes, and in four.
+/// In five bytes, and in four.
 #[test]
 fn slices_of_one_level(rt: HostRuntime) -> Result<(), Fail> {
     let mut five = [0; 5];
-    let head = one_level(&rt, rt.alloc(), 5, &mut five)?;
+    let head = encode_level(&rt, rt.alloc(), 5, &mut five)?;
     assert_eq!(&rt; (head.qindex, head.luma_bits), (0, 26));
     assert_eq!(&rt; five, [0x00, 0xD0, 0xA4, 0x12, 0x6D]);
     let mut four = [0; 4];
-    let head = one_level(&rt, rt.alloc(), 4, &mut four)?;
+    let head = encode_level(&rt, rt.alloc(), 4, &mut four)?;
     assert_eq!(&rt; (head.qindex, head.luma_bits), (3, 20));
     assert_eq!(&rt; four, [0x07, 0x44, 0x62, 0x72]);
     Ok(())
@@ -349,6 +356,48 @@ fn tried(
     );
     drop(encoder);
     Ok(trial)
+}
+
+/// What the only slice of a picture needs at least at an index, and the first index at which it may fit.
+fn bounds(
+    rt: &impl Abort,
+    alloc: Global,
+    picture: &Picture,
+    qindex: u32,
+) -> Result<(Lower, u32), NoMemory> {
+    assert!(rt; qindex <= 127);
+    let bits = picture.shape.luma_depth.max(picture.shape.colour_depth);
+    assert!(rt;
+        picture.layout.depth() <= 1 && steep_ok(picture.layout.depth(), bits, &picture.matrix)
+    );
+    assert!(rt;
+        can_try(
+            &picture.layout,
+            &picture.shape,
+            &picture.matrix,
+            0,
+            0,
+            &picture.coefficients,
+            &picture.kept
+        )
+    );
+    let encoder = SliceEncoder::new(alloc, &picture.layout, &picture.shape)?;
+    let low = encoder.lower(&picture.matrix, 0, 0, qindex, &picture.coefficients);
+    let first = encoder.first_candidate(&picture.matrix, 0, 0, &picture.coefficients);
+    drop(encoder);
+    Ok((low, first))
+}
+
+/// In three bytes: the bound of luma falls with the index, and index 1 is the first that may do.
+#[test]
+fn bounds_of_one_level(rt: HostRuntime) -> Result<(), Fail> {
+    let picture = one_level(&rt, rt.alloc(), 3)?;
+    for (index, luma) in [(0, 13), (1, 11), (3, 9), (7, 1), (10, 0)] {
+        let found = bounds(&rt, rt.alloc(), &picture, index)?;
+        assert_eq!(&rt; found, (Lower { luma, colour: 0 }, 1));
+    }
+    drop(picture);
+    Ok(())
 }
 
 /// Whether a slice fits doesn't rise with the index: C1 is -3, and C2 is 0.

@@ -1,6 +1,6 @@
 //! Words of `encode`: values at their bounds, rules at theirs, and the settings that are read.
 
-use crate::words::{Value, add_words, expect_values, expect_words, words_of};
+use crate::words::{Row, Value, add_words, expect_rows, expect_values, expect_words, words_of};
 use channel_schedule::Rate;
 use lifting::Wavelet;
 use sequence_header::{AspectField, ColourField, HeaderParts, RateField, SignalField, SignalRange};
@@ -9,7 +9,7 @@ use std::process::Abort;
 use std::test::Fail;
 use vc2_words::{Command, Key, Rule, Settings, WordFault, read_words};
 
-const SIZES: [Value<'static>; 17] = [
+const SIZES: [Value<'static>; 18] = [
     ("size=", None),
     ("size=x", None),
     ("size=1", None),
@@ -25,15 +25,20 @@ const SIZES: [Value<'static>; 17] = [
     ("size=1x1x1", None),
     ("size=4294967296x1", None),
     ("size=1x4294967296", None),
-    ("size=1000000000000000000000x10000000000000000000000", None),
+    ("size=1000000000000000000000x1", None),
+    ("size=1x10000000000000000000000", None),
     ("size=4294967295x0", Some(Key::Sampling)),
 ];
 
-const NAMED: [Value<'static>; 25] = [
+const NAMED: [Value<'static>; 34] = [
     ("sampling=", None),
     ("sampling=0422", None),
     ("sampling=+422", None),
     ("sampling= 422", None),
+    ("sampling=01", None),
+    ("sampling=443", None),
+    ("sampling=1000000000000000000000", None),
+    ("sampling=10000000000000000000000", None),
     ("sampling=411", None),
     ("sampling=421", None),
     ("sampling=4:2:2", None),
@@ -41,7 +46,10 @@ const NAMED: [Value<'static>; 25] = [
     ("sampling=422", Some(Key::Size)),
     ("sampling=420", Some(Key::Size)),
     ("wavelet=", None),
-    ("wavelet=1", None),
+    ("wavelet=01", None),
+    ("wavelet=+1", None),
+    ("wavelet= legall", None),
+    ("wavelet=1000000000000000000000", None),
     ("wavelet=LeGall", None),
     ("wavelet=haar", None),
     ("wavelet=legall ", None),
@@ -49,7 +57,9 @@ const NAMED: [Value<'static>; 25] = [
     ("wavelet=haar-flat", Some(Key::Size)),
     ("wavelet=haar-shift", Some(Key::Size)),
     ("fields=", None),
-    ("fields=1", None),
+    ("fields=01", None),
+    ("fields=+1", None),
+    ("fields=10000000000000000000000", None),
     ("fields=Yes", None),
     ("fields= yes", None),
     ("fields=yes no", None),
@@ -91,7 +101,7 @@ const NUMBERS: [Value<'static>; 31] = [
     ("scan=10000000000000000000000", None),
 ];
 
-const PAIRS: [Value<'static>; 30] = [
+const PAIRS: [Value<'static>; 36] = [
     ("fps=", None),
     ("fps=25", None),
     ("fps=25/01", None),
@@ -103,6 +113,8 @@ const PAIRS: [Value<'static>; 30] = [
     ("fps=4294967295/4294967295", Some(Key::Size)),
     ("fps=4294967296/1", None),
     ("fps=1/4294967296", None),
+    ("fps=1000000000000000000000/1", None),
+    ("fps=1/10000000000000000000000", None),
     ("slices=", None),
     ("slices=1", None),
     ("slices=01x1", None),
@@ -112,6 +124,8 @@ const PAIRS: [Value<'static>; 30] = [
     ("slices=4294967295x4294967295", Some(Key::Size)),
     ("slices=4294967296x1", None),
     ("slices=1x4294967296", None),
+    ("slices=1000000000000000000000x1", None),
+    ("slices=1x10000000000000000000000", None),
     ("bytes=", None),
     ("bytes=1", None),
     ("bytes=01/1", None),
@@ -121,10 +135,12 @@ const PAIRS: [Value<'static>; 30] = [
     ("bytes=4294967295/4294967295", Some(Key::Size)),
     ("bytes=4294967296/1", None),
     ("bytes=1/4294967296", None),
+    ("bytes=1000000000000000000000/1", None),
+    ("bytes=1/10000000000000000000000", None),
     ("rate=0/1", None),
 ];
 
-const LISTS: [Value<'static>; 30] = [
+const LISTS: [Value<'static>; 35] = [
     ("signal=", None),
     ("signal=01", None),
     ("signal=+1", None),
@@ -146,6 +162,8 @@ const LISTS: [Value<'static>; 30] = [
     ),
     ("signal=4294967296,0,0,0", None),
     ("signal=0,0,0,4294967296", None),
+    ("signal=1000000000000000000000", None),
+    ("signal=0,0,0,10000000000000000000000", None),
     ("matrix=", None),
     ("matrix=01", None),
     ("matrix=+1", None),
@@ -156,6 +174,9 @@ const LISTS: [Value<'static>; 30] = [
     ("matrix=4294967295,4294967295", Some(Key::Size)),
     ("matrix=4294967296", None),
     ("matrix=0,4294967296", None),
+    ("matrix=0, 1", None),
+    ("matrix=0,1000000000000000000000", None),
+    ("matrix=10000000000000000000000", None),
     ("matrix=0,1,2,3,4,5,6,7,8,9,10,11,12", Some(Key::Size)),
     ("matrix=0,1,2,3,4,5,6,7,8,9,10,11,12,13", None),
 ];
@@ -193,6 +214,82 @@ const BASE: [&str; 9] = [
     "matrix=0,0,0,0",
 ];
 
+/// Their keys, in the order of the table.
+const NEEDED: [Key; 9] = [
+    Key::Size,
+    Key::Sampling,
+    Key::Fps,
+    Key::Signal,
+    Key::Wavelet,
+    Key::Depth,
+    Key::Slices,
+    Key::Bytes,
+    Key::Matrix,
+];
+
+/// Asserts which key is missed where one operand is left out, with those behind it and without them.
+fn expect_missed(rt: &impl Abort, alloc: Global, place: usize) -> Result<(), Fail> {
+    assert!(rt; place < 9);
+    let want = Err(WordFault::MissingKey(NEEDED[place]));
+    let mut words = words_of(alloc, &["encode"])?;
+    add_words(alloc, &mut words, &BASE[..place])?;
+    assert_eq!(rt; read_words(&words), want);
+    add_words(alloc, &mut words, &BASE[place + 1..])?;
+    assert_eq!(rt; read_words(&words), want);
+    drop(words);
+    Ok(())
+}
+
+#[test]
+fn operands_that_are_missed(rt: HostRuntime) -> Result<(), Fail> {
+    for place in 0..9 {
+        expect_missed(&rt, rt.alloc(), place)?;
+    }
+    Ok(())
+}
+
+/// Two words are wrong, in both orders: the first of them is told, and a wrong word before a key that is missing or a rule
+/// that is broken.
+const TWICE_WRONG: [Row<'static>; 8] = [
+    (
+        &["encode", "size=1", "depth=01"],
+        Err(WordFault::BadValue(1)),
+    ),
+    (
+        &["encode", "depth=01", "size=1"],
+        Err(WordFault::BadValue(1)),
+    ),
+    (
+        &["encode", "delay=1", "depth=01"],
+        Err(WordFault::UnknownKey(1)),
+    ),
+    (
+        &["encode", "depth=01", "delay=1"],
+        Err(WordFault::BadValue(1)),
+    ),
+    (
+        &["encode", "size=0x1", "size=1", "depth=01"],
+        Err(WordFault::RepeatedKey(2)),
+    ),
+    (
+        &["encode", "size=0x1", "depth=01", "size=1"],
+        Err(WordFault::BadValue(2)),
+    ),
+    (
+        &["encode", "first=1", "fields=yes", "depth=5"],
+        Err(WordFault::MissingKey(Key::Size)),
+    ),
+    (
+        &["encode", "size=0x0", "sampling=420", "depth=5"],
+        Err(WordFault::MissingKey(Key::Fps)),
+    ),
+];
+
+#[test]
+fn operands_that_are_wrong(rt: HostRuntime) -> Result<(), Fail> {
+    expect_rows(&rt, rt.alloc(), &TWICE_WRONG)
+}
+
 /// Other operands in two places of the base.
 type Instead<'a> = [(usize, &'a str); 2];
 
@@ -223,7 +320,7 @@ const NOTHING: Instead<'static> = [(0, "size=2x2"), (0, "size=2x2")];
 type Case<'a> = (Instead<'a>, &'a [&'a str], Option<Rule>);
 
 /// One rule is broken, or the bound of one is met.
-const RULES: [Case<'static>; 38] = [
+const RULES: [Case<'static>; 41] = [
     (NOTHING, &[], None),
     ([(0, "size=0x2"), (0, "size=0x2")], &[], Some(Rule::Size)),
     ([(0, "size=2x0"), (0, "size=2x0")], &[], Some(Rule::Size)),
@@ -251,6 +348,11 @@ const RULES: [Case<'static>; 38] = [
     ),
     ([(0, "size=2x3"), (1, "sampling=422")], &[], None),
     (
+        [(0, "size=3x2"), (1, "sampling=420")],
+        &[],
+        Some(Rule::Divide),
+    ),
+    (
         [(0, "size=2x3"), (1, "sampling=420")],
         &[],
         Some(Rule::Divide),
@@ -266,6 +368,11 @@ const RULES: [Case<'static>; 38] = [
         Some(Rule::Divide),
     ),
     (
+        [(0, "size=2x4"), (1, "sampling=420")],
+        &["fields=yes"],
+        None,
+    ),
+    (
         [(3, "signal=0,0,0,1"), (3, "signal=0,0,0,1")],
         &[],
         Some(Rule::Signal),
@@ -277,6 +384,14 @@ const RULES: [Case<'static>; 38] = [
     ),
     (
         [(3, "signal=0,65535,0,65535"), (3, "signal=0,65535,0,65535")],
+        &[],
+        None,
+    ),
+    (
+        [
+            (3, "signal=4294967295,1,4294967295,1"),
+            (3, "signal=4294967295,1,4294967295,1"),
+        ],
         &[],
         None,
     ),

@@ -91,7 +91,7 @@ const RATES: [Value<'static>; 27] = [
     ("rate=1/10000000000000000000000", None),
 ];
 
-const DELAYS: [Value<'static>; 21] = [
+const DELAYS: [Value<'static>; 23] = [
     ("delay=", None),
     ("delay=00", None),
     ("delay=01", None),
@@ -104,6 +104,8 @@ const DELAYS: [Value<'static>; 21] = [
     ("delay=1_0", None),
     ("delay=0x1", None),
     ("delay=\u{661}", None),
+    ("delay=1\u{0}", None),
+    ("delay=\u{FFFD}", None),
     ("delay=1=1", None),
     ("delay=0", Some(Key::Rate)),
     ("delay=18446744073709551617", Some(Key::Rate)),
@@ -159,7 +161,7 @@ const MOST: Answer = Ok(Command::Check(Some(Schedule {
 })));
 
 /// Words, and what is read of them.
-type Row<'a> = (&'a [&'a str], Answer);
+pub(crate) type Row<'a> = (&'a [&'a str], Answer);
 
 const SCHEDULES: [Row<'static>; 7] = [
     (&["check", "rate=1/2", "delay=0", "buffer=0"], LEAST),
@@ -179,12 +181,14 @@ const SCHEDULES: [Row<'static>; 7] = [
     ),
 ];
 
-const COMMANDS: [Row<'static>; 13] = [
+const COMMANDS: [Row<'static>; 15] = [
     (&[], Err(WordFault::NoCommand)),
     (&[""], Err(WordFault::UnknownCommand)),
     (&["Check"], Err(WordFault::UnknownCommand)),
     (&["check "], Err(WordFault::UnknownCommand)),
     (&["checks"], Err(WordFault::UnknownCommand)),
+    (&["\u{0}"], Err(WordFault::UnknownCommand)),
+    (&["check\u{FFFD}"], Err(WordFault::UnknownCommand)),
     (&["rate=1/1", "check"], Err(WordFault::UnknownCommand)),
     (&["chain"], Ok(Command::Chain)),
     (&["header"], Ok(Command::Header)),
@@ -290,7 +294,8 @@ const TWICE_WRONG: [Row<'static>; 13] = [
     ),
 ];
 
-fn expect_rows(rt: &impl Abort, alloc: Global, rows: &[Row<'_>]) -> Result<(), Fail> {
+/// Asserts what is read of each list of words.
+pub(crate) fn expect_rows(rt: &impl Abort, alloc: Global, rows: &[Row<'_>]) -> Result<(), Fail> {
     for (texts, want) in rows {
         expect_words(rt, alloc, texts, *want)?;
     }
