@@ -11,7 +11,6 @@ use Rattle.slice_geometry.specs.Slicing.{Slicing}
 use Rattle.slice_geometry.specs.Geometry.{band_size, padded_length}
 use Rattle.slice_geometry.specs.SliceOrder.{level_of, numbered}
 use Rattle.slice_geometry.proofs.NumberedBands.{number_here, before_here}
-use Rattle.slice_encoder.specs.Laws.{most_coefficient, AreCoefficients}
 use Rattle.slice_encoder.specs.Ready.{IsReady}
 use Rattle.slice_encoder.specs.Buffers.{coded_component}
 use Rattle.slice_tests.proofs.slice_writing.is_ready.Goals as goal
