@@ -1,0 +1,16 @@
+//! Tests of slices, and of the planes, blocks and predictions that they are made of. What is expected was worked out apart
+//! from the program.
+#![tactic(auto)]
+
+#[cfg(test)]
+mod block_writing;
+#[cfg(test)]
+mod blocks;
+#[cfg(test)]
+mod planes_and_bands;
+#[cfg(test)]
+mod prediction;
+#[cfg(test)]
+mod slice_writing;
+#[cfg(test)]
+mod slices;

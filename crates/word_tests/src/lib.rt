@@ -1,0 +1,7 @@
+//! Tests of words, and of the settings that they ask for. What is expected was worked out apart from the program.
+#![tactic(auto)]
+
+#[cfg(test)]
+mod settings_words;
+#[cfg(test)]
+mod words;
