@@ -6,3 +6,5 @@ pub mod Inside
 pub mod LendingRows
 pub mod Lending
 pub mod LendingBands
+pub mod LendingNarrow
+pub mod Bounded

@@ -1,8 +1,9 @@
-ghost use Rattle.std.specs.Prelude.{◌≡◌, ℕ, ◌+◌, ◌*◌, ◌/◌, ◌%◌, ◌^◌, ◌<◌, ◌≤◌, length, slice_index_or, IfOk};
+ghost use Rattle.std.specs.Prelude.{◌≡◌, ◌↔◌, ℕ, ◌+◌, ◌*◌, ◌/◌, ◌%◌, ◌^◌, ◌<◌, ◌≤◌, length, slice_index_or, IfOk, true};
 ghost use Rattle.std.specs.Borrow.{sem};
 ghost use Rattle.planes.specs.Raster.{zeros};
 ghost use Rattle.planes.specs.Subbands.{BandExists, band_index, band_of, no_band, subband_length, AreZeroBands};
 ghost use Rattle.planes.specs.LendingBands.{LendsBand};
+ghost use Rattle.planes.specs.Bounded.{AreBandsWithin};
 
 use crate::{NoMemory, Plane};
 use std::alloc::Global;
@@ -97,6 +98,19 @@ impl Bands {
         ensures most { result ≤ 4 }
     {
         self.depth
+    }
+
+    /// Whether each number of each band has a magnitude of at most `bound`.
+    pub fn within(&self, bound: i64) -> bool
+        ensures { (result ≡ true) ↔ AreBandsWithin bound self.now }
+    {
+        let _ = &self.depth;
+        for plane in self.planes.iter() {
+            if !plane.within(bound) {
+                return false;
+            }
+        }
+        true
     }
 
     /// The band of this level and orientation.

@@ -1,16 +1,19 @@
 //! Planes of signed numbers, and the subbands of a transform as planes. Rows are lent, and never copied.
 #![tactic(auto)]
 
-ghost use Rattle.std.specs.Prelude.{◌≡◌, ◌≢◌, ℕ, ◌-◌, ◌<◌, ◌≤◌, min, length, map, replicate, slice_index_or, pos, IfOk};
+ghost use Rattle.std.specs.Prelude.{◌≡◌, ◌≢◌, ◌↔◌, ℕ, ◌-◌, ◌<◌, ◌≤◌, min, length, map, replicate, slice_index_or, pos, IfOk, true};
 ghost use Rattle.std.specs.Borrow.{sem};
 ghost use Rattle.std.specs.List.{All};
 ghost use Rattle.planes.specs.Raster.{height, row_of, at, with_place, zeros, IsEdgeFilled};
 ghost use Rattle.planes.specs.Lending.{LendsRow};
+ghost use Rattle.planes.specs.Bounded.{IsWithin, IsPlaneWithin};
 
 mod band_set;
+mod narrow;
 mod row_store;
 
 pub use band_set::Bands;
+pub use narrow::{NarrowPlane, NarrowThree};
 use row_store::Rows;
 pub use row_store::Three;
 use std::alloc::{AllocError, AllocFailed, Global};
@@ -105,6 +108,27 @@ fn fill_right(row: &mut [i64], w: usize)
     for x in w..row.len() {
         row[x] = last;
     }
+}
+
+// Whether the magnitude of v is at most `bound`.
+#[inline(always)]
+fn is_within(v: &i64, bound: i64) -> bool
+    ensures { (result ≡ true) ↔ IsWithin bound v.now }
+{
+    // No magnitude is at most a number below 0: no number lies from 1 to that.
+    let least = if bound < 0 { 1 } else { -bound };
+    least <= *v && *v <= bound
+}
+
+// Whether each number of a row has a magnitude of at most `bound`. All are looked at, with no branch for each.
+fn is_row_within(row: &[i64], bound: i64) -> bool
+    ensures { (result ≡ true) ↔ ((x : ℕ) → x < length row.now → IsWithin bound (slice_index_or row.now x (pos 0))) }
+{
+    let mut all = true;
+    for value in row {
+        all = all & is_within(value, bound);
+    }
+    all
 }
 
 impl Plane {
@@ -203,6 +227,18 @@ impl Plane {
     {
         self.fill_columns(w, h);
         self.fill_rows(h);
+    }
+
+    /// Whether each number has a magnitude of at most `bound`.
+    pub(crate) fn within(&self, bound: i64) -> bool
+        ensures { (result ≡ true) ↔ IsPlaneWithin bound self.now }
+    {
+        for y in 0..self.h() {
+            if !is_row_within(self.row(y), bound) {
+                return false;
+            }
+        }
+        true
     }
 
     // Gives each place of the first h rows beyond the first w columns the number of the last of these columns.
