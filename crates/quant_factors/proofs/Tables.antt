@@ -54,4 +54,3 @@ reciprocal_least i lt = leb→le _ _ (passed (λ k. leb (2 ^ 64) (factor_of k * 
 pub reciprocal_most : (i : ℕ) → i < 128 → factor_of i * get_or RECIPROCALS i 0 ≤ 2 ^ 64 + factor_of i
 unfolding factor_of
 reciprocal_most i lt = leb→le _ _ (passed (λ k. leb (factor_of k * get_or RECIPROCALS k 0) (2 ^ 64 + factor_of k)) 128 tt i lt)
-
