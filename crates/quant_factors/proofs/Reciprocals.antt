@@ -1,7 +1,7 @@
 -- A product in place of a division.
-use Rattle.std.proofs.Common.{◌≡◌, ◌∙◌, ℕ, ◌+◌, ◌*◌, ◌/◌, ◌<◌, ◌≤◌, sym, ap, inl, inr, arith}
+use Rattle.std.proofs.Common.{◌≡◌, ℕ, ◌+◌, ◌*◌, ◌/◌, ◌<◌, ◌≤◌, inl, inr, arith}
 use Rattle.std.proofs.lemmas.Bool.{cases_lt}
-use Rattle.std.proofs.Math.Nat.{div-lt_iff_lt-mul, le-div_iff_mul-le, mul-le-mul_left, mul-le-mul_right, div-mul-le_self, lt-div-mul-add, mul_comm, mul_assoc, mul_right_comm}
+use Rattle.std.proofs.Math.Nat.{div-lt_iff_lt-mul, le-div_iff_mul-le, mul-le-mul_left, mul-le-mul_right, div-mul-le_self, lt-div-mul-add, mul_assoc, mul_right_comm}
 
 -- m is one over f in units of one over `unit`, rounded up
 module _ (unit n f m : ℕ) (some : 1 ≤ f) (least : unit ≤ f * m) (most : f * m ≤ unit + f) (few : n * f < unit) where
