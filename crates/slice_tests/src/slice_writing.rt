@@ -366,10 +366,9 @@ fn bounds(
     qindex: u32,
 ) -> Result<(Lower, u32), NoMemory> {
     assert!(rt; qindex <= 127);
+    assert!(rt; picture.matrix.depth() == picture.layout.depth() && picture.layout.depth() <= 1);
     let bits = picture.shape.luma_depth.max(picture.shape.colour_depth);
-    assert!(rt;
-        picture.layout.depth() <= 1 && steep_ok(picture.layout.depth(), bits, &picture.matrix)
-    );
+    assert!(rt; steep_ok(picture.layout.depth(), bits, &picture.matrix));
     assert!(rt;
         can_try(
             &picture.layout,
