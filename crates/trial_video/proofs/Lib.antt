@@ -1,0 +1,6 @@
+pub mod Bits
+pub mod States
+pub mod RowTurns
+pub mod Farthest
+pub mod Fits
+pub mod WorkedVideo

@@ -1,0 +1,2 @@
+pub mod Video
+pub mod Worst
