@@ -1,6 +1,5 @@
--- The low bits of a number.
-use Rattle.std.proofs.Common.{◌≡◌, ℕ, ◌-◌, ◌%◌, ◌^◌, ◌<◌, ◌≤◌, arith}
-use Rattle.std.proofs.lemmas.Nat.{and_mask}
+-- Numbers of so many bits: there is one.
 use Rattle.picture_codec.proofs.Tables.{positive}
+use Rattle.std.proofs.Math.Nat.{mod-lt}
 
-pub ruleset low_bits = (and_mask, positive)
+pub ruleset some_bits = (positive, mod-lt)

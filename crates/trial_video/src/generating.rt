@@ -38,7 +38,7 @@ impl Model for TrialVideo {
 
 // So many low bits of a number.
 #[inline(always)]
-#[tactic(auto, using(crate::proofs::Bits::low_bits))]
+#[tactic(auto, using(crate::proofs::Bits::some_bits))]
 fn low_bits(v: u64, depth: u32) -> u16
     requires { IsDepth depth }
     ensures value { result ≡ v % 2 ^ depth }
@@ -92,7 +92,32 @@ fn depth_of(shape: &PictureShape, c: Component) -> u32
     }
 }
 
-// The samples of a component of picture p, from the state before its first sample. Gives the state behind the last.
+// The samples of a component of picture p, from the state before its first sample, by way of a line as long as its rows.
+// Gives the state behind the last.
+fn fill_rows(picture: &mut Picture, c: Component, p: u64, start: u32, line: &mut [u16]) -> u32
+    requires few { p ≤ 2 ^ 40 }
+    requires start { start < 2 ^ 16 }
+    requires long { length line.old ≡ width_of picture.old c }
+    ensures same_shape { picture.new.shape ≡ picture.old.shape }
+    ensures rows { (seed first : ℕ) → start ≡ state_at seed first
+        → shown picture.new c ≡ video_rows seed p first (bits_of picture.old c) (pictures.size_of (frame_of picture.old.shape) c) }
+    ensures others { (other : Component) → other ≢ c → shown picture.new other ≡ shown picture.old other }
+    ensures state { result ≡ state_at start (height_of picture.old c * width_of picture.old c) }
+    ensures small { result < 2 ^ 16 }
+{
+    let size = size_of(picture.shape(), c);
+    let depth = depth_of(picture.shape(), c);
+    // The component has the size of the picture's shape.
+    let _ = picture.samples(c);
+    let mut state = start;
+    for y in 0..size.h {
+        state = fill_row(line, state, 2 * u64::from(y) + 3 * p, depth);
+        picture.put_samples(c, y as usize * line.len(), line);
+    }
+    state
+}
+
+// The same, with a line of its own.
 fn fill_component(picture: &mut Picture, c: Component, p: u64, start: u32) -> u32
     requires few { p ≤ 2 ^ 40 }
     requires start { start < 2 ^ 16 }
@@ -104,16 +129,8 @@ fn fill_component(picture: &mut Picture, c: Component, p: u64, start: u32) -> u3
     ensures small { result < 2 ^ 16 }
 {
     let size = size_of(picture.shape(), c);
-    let depth = depth_of(picture.shape(), c);
-    let width = size.w as usize;
     let mut row = [0u16; MOST_COLUMNS];
-    let mut state = start;
-    for y in 0..size.h {
-        let first = 2 * u64::from(y) + 3 * p;
-        state = fill_row(&mut row[..width], state, first, depth);
-        picture.put_samples(c, y as usize * width, &row[..width]);
-    }
-    state
+    fill_rows(picture, c, p, start, &mut row[..size.w as usize])
 }
 
 impl TrialVideo {
