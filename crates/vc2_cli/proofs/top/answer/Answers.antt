@@ -86,7 +86,7 @@ returns-in-Encode-clause-settled g c = λ input e.
     let settings = c.requires.settings asked (ap seen_words (c.in-Ok.is ∙ ap Ok c.in-Encode.is)) in
     subst (λ (r : Result Command WordFault). Settles (command_reply (seen_words r) input) (command_due (seen_words r)) input (rest c.encode.new.src) (out c.args.out.now) (out c.encode.new.out) (note c.args.note.now) (note c.conclude-in-Encode.new.note) c.conclude-in-Encode.result)
     (sym (c.in-Ok.is ∙ ap Ok c.in-Encode.is))
-    (settled (encode_machine asked) (encode_laws asked (some_size asked settings.0.header)) [] (rest c.args.src.now) (rest c.encode.new.src) (out c.args.out.now) (out c.encode.new.out) (note c.args.note.now) (note c.conclude-in-Encode.new.note) input c.encode.result c.conclude-in-Encode.result e
+    (settled (encode_machine asked) (encode_laws asked (some_size asked settings.0.header.passes)) [] (rest c.args.src.now) (rest c.encode.new.src) (out c.args.out.now) (out c.encode.new.out) (note c.args.note.now) (note c.conclude-in-Encode.new.note) input c.encode.result c.conclude-in-Encode.result e
     (at_end (rest c.encode.new.src) c.encode.result c.encode.ensures.end) c.encode.ensures.ran c.conclude-in-Encode.ensures.told)
 
 pub encode-requires-clause-lawful : goal.encode-requires-clause-lawful
