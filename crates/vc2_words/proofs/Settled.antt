@@ -93,10 +93,10 @@ header_passes given pictures plain none =
 
 -- ---- the rate
 
-record HasRate (rate : Rate) : Type 0 where
-  rate : IsRate rate
-  bytes : rate.num < 2 ^ 32
-  slots : rate.den < 2 ^ 32
+record HasRate (r : Rate) : Type 0 where
+  rate : IsRate r
+  bytes : r.num < 2 ^ 32
+  slots : r.den < 2 ^ 32
 
 rate_lawful : (r : Option (List ℕ)) → ((ns : List ℕ) → r ≡ Some ns → IsValue of_key.Rate ns) → (usual : Rate) → HasRate usual → HasRate (rate_or usual (rate_given r))
 rate_lawful None read usual good = good
