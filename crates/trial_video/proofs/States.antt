@@ -1,5 +1,5 @@
 -- Steps of the state.
-use Rattle.std.proofs.Common.{◌≡◌, ℕ, zero, suc, ◌+◌, ◌*◌, ◌/◌, ◌%◌, ◌^◌, ◌<◌, ap, ◌∙◌, arith}
+use Rattle.std.proofs.Common.{◌≡◌, ℕ, zero, suc, ◌+◌, ◌*◌, ◌/◌, ◌%◌, ◌^◌, ap, ◌∙◌, arith}
 use Rattle.slice_geometry.specs.Frames.{Frame}
 use Rattle.raw_video.specs.RawParse.{luma_count, colour_count}
 use Rattle.trial_video.specs.Video.{state_at, video_sample, picture_count}

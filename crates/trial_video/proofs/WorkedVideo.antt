@@ -1,9 +1,9 @@
 -- Worked rows of the video and of the difference, by evaluation.
-use Rattle.std.proofs.Common.{◌≡◌, ℕ, List, [], ◌∷◌, refl}
+use Rattle.std.proofs.Common.{◌≡◌, ℕ, [], ◌∷◌, refl}
 use Rattle.slice_geometry.specs.declared.Size.{Size}
 use Rattle.slice_geometry.specs.Frames.{Frame}
 use Rattle.picture_codec.specs.Samples.{SampleRows, PictureSamples}
-use Rattle.trial_video.specs.Video.{video, video_picture}
+use Rattle.trial_video.specs.Video.{video_picture}
 use Rattle.trial_video.specs.Worst.{worst}
 
 abbrev dot : Size

@@ -1,4 +1,4 @@
-use Rattle.std.proofs.Common.{◌≡◌, ◌≢◌, ℕ, ◌+◌, ◌*◌, ◌/◌, ◌%◌, ◌^◌, ◌<◌, ◌≤◌, List, All, length, refl, sym, ap, subst, ◌∙◌, arith}
+use Rattle.std.proofs.Common.{◌≡◌, ℕ, ◌+◌, ◌*◌, ◌/◌, ◌%◌, ◌^◌, ◌<◌, ◌≤◌, List, All, length, refl, sym, ap, subst, ◌∙◌, arith}
 use Rattle.slice_geometry.specs.declared.Size.{Size}
 use Rattle.slice_geometry.specs.declared.PictureShape.{PictureShape}
 use Rattle.slice_geometry.specs.Frames.{frame_of}
@@ -21,11 +21,14 @@ loop-y-init c =
       many =
           ap (λ (l : List ℕ). length l) (sym c.samples.ensures.value) ∙ c.samples.ensures.count
           ∙ ap (λ (n : ℕ). n * width_of c.args.picture.now c.args.c) (sym (ap (λ (z : Size). z.h) sized)) ∙ ap (λ (n : ℕ). c.size_of-size.result.h * n) (sym c.requires.long);
-      state = refl;
+      state = let none : 0 ≡ 0 * length c.args.line.now = no_rows (length c.args.line.now) in ap (state_at c.args.start) none;
       low = c.requires.start;
       done = λ y x lt across. absurd (omega (arith, lt));
       others = λ other ne. refl;
     }
+  where
+    no_rows : (n : ℕ) → 0 ≡ 0 * n
+    no_rows n = omega arith
 
 pub fill_row-state-requires-clause-short : goal.fill_row-state-requires-clause-short
 fill_row-state-requires-clause-short c =

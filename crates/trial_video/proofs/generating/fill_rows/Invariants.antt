@@ -1,4 +1,4 @@
-use Rattle.std.proofs.Common.{◌≡◌, ◌≢◌, ℕ, ◌+◌, ◌*◌, ◌/◌, ◌%◌, ◌^◌, ◌<◌, length}
+use Rattle.std.proofs.Common.{◌≡◌, ◌≢◌, ℕ, ◌*◌, ◌<◌, length}
 use Rattle.slice_geometry.specs.declared.Component.{Component}
 use Rattle.picture_codec.specs.Samples.{shown, sample_at}
 use Rattle.trial_video.specs.Video.{state_at}

@@ -1,8 +1,8 @@
-use Rattle.std.proofs.Common.{◌≡◌, ◌≢◌, ℕ, ◌+◌, ◌*◌, ◌^◌, ◌<◌, refl, sym, ap, subst, ◌∙◌}
+use Rattle.std.proofs.Common.{◌≡◌, ◌+◌, ◌*◌, sym, ap, subst, ◌∙◌}
 use Rattle.slice_geometry.specs.declared.PictureShape.{PictureShape}
 use Rattle.slice_geometry.specs.declared.Component.TheVariants.{Luma, C1, C2}
 use Rattle.slice_geometry.specs.Frames.{frame_of}
-use Rattle.picture_codec.specs.Samples.{PictureSeen, shown}
+use Rattle.picture_codec.specs.Samples.{shown}
 use Rattle.raw_video.specs.RawParse.{luma_count, colour_count}
 use Rattle.trial_video.specs.Video.{VideoSeen, state_at, video_rows, picture_count, video_picture}
 use Rattle.trial_video.proofs.States.{picture_steps}
