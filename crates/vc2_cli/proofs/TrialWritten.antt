@@ -111,7 +111,7 @@ begins s part t flat video w sink sink' frame seed given new empty room grew =
       frame = frame;
       seed = seed;
       given = given;
-      writer = behind_first s w new;
+      stands = behind_first s w new;
       room = grown.0 ∙ room ∙ sym (trial_length s part t flat);
       bytes =
           ap (λ (k : ℕ). sink'.bytes ++ units_from s 0 (pictures_from (frame_under s.parts) part.seed 0 k)) all
@@ -141,7 +141,7 @@ module _ (s : Asked) (part : TrialPart) (t : IsTrial s part) (n : ℕ) (video : 
         ap (λ (k : ℕ). units_from s n (pictures_from f part.seed n k)) left
         ∙ ap (λ (x : PictureSamples). unit_at s n x ++ units_from s (suc n) rest) (sym next_is)
         ∙ ap (λ (k : ℕ). unit_at s n p ++ units_from s k rest) next
-        ∙ ap (λ (l : List ℕ). l ++ more) (sym (unit_is s n w p b.writer))
+        ∙ ap (λ (l : List ℕ). l ++ more) (sym (unit_is s n w p b.stands))
 
     all_is : sink.bytes ++ (unit_of w p ++ more) ≡ stream_of s (trial_pictures s part)
     all_is = ap (λ (l : List ℕ). sink.bytes ++ l) (sym units_next) ∙ b.bytes
@@ -150,7 +150,7 @@ module _ (s : Asked) (part : TrialPart) (t : IsTrial s part) (n : ℕ) (video : 
     picture_fits = omega (arith, b.room, ap (λ (l : List ℕ). length l) all_is, length-append sink.bytes (unit_of w p ++ more), length-append (unit_of w p) more)
 
     pub has_room : HasRoom w
-    has_room = subst (λ (k : ℕ). k ≤ limit) (sym (with_place s n w b.writer)) (omega (arith, t.short, at_most n part.pictures (unit_length s.params) (omega (arith, lt))))
+    has_room = subst (λ (k : ℕ). k ≤ limit) (sym (with_place s n w b.stands)) (omega (arith, t.short, at_most n part.pictures (unit_length s.params) (omega (arith, lt))))
 
     pub written_more : (video' : VideoSeen) (w' : WriterState) (sink' : SinkState) → 1 ≤ slice_count s.params.slicing → video' ≡ record video { pictures = video.pictures + 1 }
         → WritesPicture w w' (slices_of (frame_under w.settings.parts) w.settings.params p) (told_of_sink sink) (told_of_sink sink') (Ok tt) → HasWritten s part (n + 1) video' w' sink'
@@ -160,7 +160,7 @@ module _ (s : Asked) (part : TrialPart) (t : IsTrial s part) (n : ℕ) (video : 
           frame = ap (λ (v : VideoSeen). frame_of v.shape) after ∙ b.frame;
           seed = ap (λ (v : VideoSeen). v.seed) after ∙ b.seed;
           given = ap (λ (v : VideoSeen). v.pictures) after ∙ ap (λ (k : ℕ). k + 1) b.given;
-          writer = behind_next s n w w' some b.writer wrote.after;
+          stands = behind_next s n w w' some b.stands wrote.after;
           room = grown.0 ∙ b.room;
           bytes = ap (λ (l : List ℕ). l ++ more) grown.1 ∙ append_assoc sink.bytes (unit_of w p) more ∙ all_is;
         }
@@ -171,7 +171,7 @@ module _ (s : Asked) (part : TrialPart) (t : IsTrial s part) (n : ℕ) (video : 
     end_is : sink.bytes ++ end_unit (next_previous w) ≡ stream_of s (trial_pictures s part)
     end_is =
         let none : part.pictures - n ≡ 0 = omega (arith, over) in
-        ap (λ (k : ℕ). sink.bytes ++ end_unit k) b.writer.previous
+        ap (λ (k : ℕ). sink.bytes ++ end_unit k) b.stands.previous
         ∙ sym (ap (λ (k : ℕ). sink.bytes ++ units_from s n (pictures_from (frame_under s.parts) part.seed n k)) none) ∙ b.bytes
 
     pub end_fits : length sink.bytes + length (end_unit (next_previous w)) ≤ sink.room
@@ -183,6 +183,6 @@ module _ (s : Asked) (part : TrialPart) (t : IsTrial s part) (n : ℕ) (video : 
     pub planned_all : (w' : WriterState) (list : UnitList) (out0 out1 : Option (List ℕ)) → WritesEnd w w' out0 out1 (Ok tt) → list.units ≡ w'.shapes → list.total ≡ total_length w'.shapes → plan_of list s.rate ≡ plan_for s (trial_pictures s part)
     planned_all w' list out0 out1 wrote units total =
         planned list s.rate (w.shapes ++ plain_shape (next_place w) 13 ∷ []) (next_place w + 13) (units ∙ ap (λ (x : WriterState). x.shapes) wrote.after) (total ∙ ap (λ (x : WriterState). total_length x.shapes) wrote.after ∙ with_end w)
-        ∙ ap (λ (l : List UnitShape). ended_plan s l (next_place w)) b.writer.shapes
-        ∙ ap (λ (k : ℕ). ended_plan s (shapes_at s n) k) b.writer.place
+        ∙ ap (λ (l : List UnitShape). ended_plan s l (next_place w)) b.stands.shapes
+        ∙ ap (λ (k : ℕ). ended_plan s (shapes_at s n) k) b.stands.place
         ∙ ap (λ (k : ℕ). ended_plan s (shapes_at s k) (stream_place s k)) (over ∙ sym (trial_count s part))

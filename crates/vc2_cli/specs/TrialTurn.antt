@@ -26,7 +26,7 @@ use Rattle.vc2_cli.specs.Trial.{Comparison, trial_pictures}
 
 -- No call of it is named to fail, and none has failed as long as there is room.
 pub record FailsWhenFull (s : SinkState) : Type 0 where
-  pub unnamed : s.failing ≡ 2 ^ 64 - 1 ∷ 2 ^ 64 - 1 ∷ 2 ^ 64 - 1 ∷ 2 ^ 64 - 1 ∷ []
+  pub unnamed : s.failing ≡ (2 ^ 64 - 1) ∷ (2 ^ 64 - 1) ∷ (2 ^ 64 - 1) ∷ (2 ^ 64 - 1) ∷ []
   pub steady : length s.bytes < s.room → s.failures ≡ 0
 
 -- What it tells: its room, and then its bytes. So a call over any sink leaves the room as it was.
@@ -54,7 +54,7 @@ pub record HasWritten (s : Asked) (part : TrialPart) (n : ℕ) (video : VideoSee
   pub frame : frame_of video.shape ≡ frame_under s.parts
   pub seed : video.seed ≡ part.seed
   pub given : video.pictures ≡ n
-  pub writer : IsBehind s n writer
+  pub stands : IsBehind s n writer
   pub room : sink.room ≡ length (stream_of s (trial_pictures s part))
   pub bytes : sink.bytes ++ units_from s n (pictures_from (frame_under s.parts) part.seed n (part.pictures - n)) ≡ stream_of s (trial_pictures s part)
 
