@@ -28,7 +28,7 @@ fn are_alike(operand: &str, other: &str) -> bool {
     }
 }
 
-fn is_among(operand: &str, operands: &[&str]) -> bool {
+pub(crate) fn is_among(operand: &str, operands: &[&str]) -> bool {
     for other in operands {
         if are_alike(operand, other) {
             return true;

@@ -33,3 +33,5 @@ mod texts;
 mod there_and_back;
 #[cfg(test)]
 mod top_call;
+#[cfg(test)]
+mod trial;

@@ -55,7 +55,8 @@ use Rattle.vc2_cli.specs.ScheduleWords.{HasWords}
 use Rattle.vc2_cli.proofs.ScheduleWords.{line_is_read}
 use Rattle.vc2_cli.specs.Streams as streams
 use Rattle.vc2_cli.specs.Streams.{pictures_in}
-use Rattle.vc2_cli.specs.EncodeReply.{raw_input, stream_of, decoded_of, plan_for, stream_length, MayBeWritten, AreSettings, replayed_reply, TheScheduleRuns, decoded_reply, AreDecoded}
+use Rattle.vc2_cli.specs.WholePictures.{raw_input, stream_of, decoded_of, plan_for, stream_length}
+use Rattle.vc2_cli.specs.EncodeReply.{MayBeWritten, AreSettings, replayed_reply, TheScheduleRuns, decoded_reply, AreDecoded}
 use Rattle.vc2_cli.specs.Texts.{decoded_line}
 use Rattle.vc2_cli.proofs.StreamReplies.{is_decoded}
 use Rattle.vc2_cli.proofs.EncodeReplies.{header_shape, header_has}
@@ -75,7 +76,7 @@ module _ (s : Asked) (f : IsLawful s.params) where
   plain_allowed : (place size : ℕ) → IsUnitAllowed (plain_shape place size)
   plain_allowed place size = record { some = lit≤ tt; byte = lit≤ tt; count = lit≤ tt; share = lit≤ tt }
 
-  next_place : (first n size : ℕ) → (first + n * size) + size ≡ first + suc n * size
+  pub next_place : (first n size : ℕ) → (first + n * size) + size ≡ first + suc n * size
   next_place first n size = grind arith
 
   in_turn : (n : ℕ) → StandInTurn 0 (shapes_at s n) (stream_place s n)
@@ -139,7 +140,7 @@ module _ (s : Asked) (schedule : Schedule) (f : IsLawful s.params) where
   at_most n m size le = grind arith
 
   -- the bytes of the units behind n pictures
-  units_length : (pictures : List (List (List ℕ))) (parts : HeaderParts) (previous number n m : ℕ) → m ≡ n + length pictures → AllByRecursion (IsSliced parts s.params) pictures → stream_place s n + length (units_behind s.params previous number pictures) ≡ stream_place s m + 13
+  pub units_length : (pictures : List (List (List ℕ))) (parts : HeaderParts) (previous number n m : ℕ) → m ≡ n + length pictures → AllByRecursion (IsSliced parts s.params) pictures → stream_place s n + length (units_behind s.params previous number pictures) ≡ stream_place s m + 13
   units_length [] parts previous number n m e sliced = ap (λ (k : ℕ). stream_place s k + length (end_unit previous)) (omega (arith, e)) ∙ ap (λ (k : ℕ). stream_place s m + k) (length-end_unit previous)
   units_length (slices ∷ pictures) parts previous number n m e sliced =
       let unit = picture_unit s.params previous number slices in

@@ -30,7 +30,8 @@ use Rattle.vc2_words.specs.Settings.{Asked}
 use Rattle.vc2_cli.specs.declared.status.Ending.{Ending}
 use Rattle.vc2_cli.specs.declared.status.Ending.TheVariants.{Encoded}
 use Rattle.vc2_cli.specs.Encode.{raw_size, raw_place, first_length, stream_place, previous_at, number_at, has_room, is_half, refused_at, shapes_at, ended_plan, closing, step_by, encode_machine}
-use Rattle.vc2_cli.specs.EncodeReply.{raw_input, stream_of, MayBeWritten, encoded_reply, AreEncoded}
+use Rattle.vc2_cli.specs.WholePictures.{raw_input, stream_of}
+use Rattle.vc2_cli.specs.EncodeReply.{MayBeWritten, encoded_reply, AreEncoded}
 use Rattle.vc2_cli.specs.Reply.{reply_of}
 use Rattle.vc2_cli.proofs.Encoding.{encode_laws}
 
@@ -134,7 +135,7 @@ module _ (s : Asked) (q : Passes s.parts) where
       ∙ answered (suc n) m ps (omega (arith, e)) each.1 whole (omega (arith, inside, both, long, next_place n (raw_size s))) fits)
 
   -- what is written is the units behind the first
-  after_number : (n : ℕ) → number_after (number_at s n) ≡ number_at s (suc n)
+  pub after_number : (n : ℕ) → number_after (number_at s n) ≡ number_at s (suc n)
   after_number n = omega arith
 
   pub units_are : (n m : ℕ) (ps : List PictureSamples) → m ≡ n + length ps
@@ -153,7 +154,7 @@ module _ (s : Asked) (q : Passes s.parts) where
       by false t = refl
       by true t = ne_eqb (n % 2) 1 (λ e. omega (arith, e, even (eqb-true coding 1 t)))
 
-  out_is : (pictures : List PictureSamples) → s.first < 2 ^ 32 → (header_unit s.parts ++ texts 0 pictures) ++ end_unit (previous_at s (length pictures)) ≡ stream_of s pictures
+  pub out_is : (pictures : List PictureSamples) → s.first < 2 ^ 32 → (header_unit s.parts ++ texts 0 pictures) ++ end_unit (previous_at s (length pictures)) ≡ stream_of s pictures
   out_is pictures fits =
       append_assoc (header_unit s.parts) (texts 0 pictures) (end_unit (previous_at s (length pictures)))
       ∙ ap (λ (l : List ℕ). header_unit s.parts ++ l) (units_are 0 (length pictures) pictures (omega arith))

@@ -98,20 +98,20 @@ closes_ended true place previous schedule told out0 out1 none same wrote = absur
 closes_ended false place previous schedule told out0 out1 none same wrote = (ap (λ (x : Schedule). Encoded x) same, wrote)
 
 -- the unit of the next picture
-abbrev unit_at : Asked → ℕ → PictureSamples → List ℕ
+abbrev pub unit_at : Asked → ℕ → PictureSamples → List ℕ
 unit_at e n p = picture_unit e.params (previous_at e n) (number_at e n) (slices_of (frame_under e.parts) e.params p)
 
 -- the unit that the writer writes
-abbrev unit_of : WriterState → PictureSamples → List ℕ
+abbrev pub unit_of : WriterState → PictureSamples → List ℕ
 unit_of w p = picture_unit w.settings.params (next_previous w) (next_number w) (slices_of (frame_under w.settings.parts) w.settings.params p)
 
-unit_is : (e : Asked) (n : ℕ) (w : WriterState) (p : PictureSamples) → IsBehind e n w → unit_of w p ≡ unit_at e n p
+pub unit_is : (e : Asked) (n : ℕ) (w : WriterState) (p : PictureSamples) → IsBehind e n w → unit_of w p ≡ unit_at e n p
 unit_is e n w p b =
     ap (λ (k : ℕ). picture_unit w.settings.params k (next_number w) (slices_of (frame_under w.settings.parts) w.settings.params p)) b.previous
     ∙ ap (λ (k : ℕ). picture_unit w.settings.params (previous_at e n) ((w.settings.first + k) % 2 ^ 32) (slices_of (frame_under w.settings.parts) w.settings.params p)) b.pictures
     ∙ ap (λ (s : Settings). picture_unit s.params (previous_at e n) ((s.first + n) % 2 ^ 32) (slices_of (frame_under s.parts) s.params p)) b.settings
 
-with_place : (e : Asked) (n : ℕ) (w : WriterState) → IsBehind e n w → next_place w + unit_length w.settings.params + 13 ≡ stream_place e n + unit_length e.params + 13
+pub with_place : (e : Asked) (n : ℕ) (w : WriterState) → IsBehind e n w → next_place w + unit_length w.settings.params + 13 ≡ stream_place e n + unit_length e.params + 13
 with_place e n w b = ap (λ (k : ℕ). k + unit_length w.settings.params + 13) b.place ∙ ap (λ (s : Settings). stream_place e n + unit_length s.params + 13) b.settings
 
 room_is : (e : Asked) (n : ℕ) (w : WriterState) → IsBehind e n w → HasRoom w → has_room e n ≡ true

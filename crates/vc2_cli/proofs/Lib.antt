@@ -13,3 +13,6 @@ pub mod Chaining
 pub mod StreamReplies
 pub mod Exits
 pub mod Replaying
+pub mod StreamSinks
+pub mod TrialWritten
+pub mod TrialCompared

@@ -6,7 +6,7 @@ use Rattle.vc2_io.specs.Outside.{GrewShort}
 use Rattle.vc2_cli.specs.declared.status.Status.{Status}
 use Rattle.vc2_cli.specs.declared.status.Status.TheVariants as st
 use Rattle.vc2_cli.specs.declared.status.Ending.{Ending}
-use Rattle.vc2_cli.specs.declared.status.Ending.TheVariants.{Done, Decoded, Accepted, Scheduled, Encoded, Refused}
+use Rattle.vc2_cli.specs.declared.status.Ending.TheVariants.{Done, Decoded, Accepted, Scheduled, Encoded, Compared, Refused}
 use Rattle.channel_schedule.specs.declared.schedule.Schedule.{Schedule}
 use Rattle.channel_schedule.specs.declared.schedule.Outcome.TheVariants as outcomes
 use Rattle.channel_schedule.specs.Rates.{IsSchedule}
@@ -17,7 +17,8 @@ use Rattle.vc2_words.proofs.Settled.{words_say}
 use Rattle.vc2_words.specs.declared.keys.WordFault.TheVariants.{SettingsRefused}
 use Rattle.vc2_words.specs.declared.keys.Rule.TheVariants.{MatrixTooSteep}
 use Rattle.vc2_words.specs.Settings.{Asked}
-use Rattle.vc2_words.specs.Lawful.{AreLawful}
+use Rattle.vc2_words.specs.declared.words.TrialPart.{TrialPart}
+use Rattle.vc2_words.specs.Lawful.{AreLawful, IsTrial}
 use Rattle.stream_units.specs.Writer.{IsSteepUnder}
 use Rattle.vc2_cli.specs.Encode.{written_under}
 use Rattle.vc2_cli.specs.Words.{seen_words, is_flat, unless_steep, checked, words_ask}
@@ -45,6 +46,7 @@ own_ending (Scheduled pictures slices bytes outcomes.Runs) = tt
 own_ending (Scheduled pictures slices bytes (outcomes.Late slot have need)) = tt
 own_ending (Scheduled pictures slices bytes (outcomes.Overfull slot fill size)) = tt
 own_ending (Encoded schedule) = tt
+own_ending (Compared worst) = tt
 own_ending (Refused refusal) = tt
 
 own : (command : Result AskedCommand WordFault) (input : List ℕ) → IsOwn (command_reply command input).status
@@ -100,6 +102,22 @@ encode_was (Ok decode) s e = absurd cc
 encode_was (Ok (check other)) s e = absurd cc
 encode_was (Err fault) s e = absurd cc
 
+trial_was : (read : Result AskedCommand WordFault) (s : Asked) (part : TrialPart) → checked read ≡ Ok (trial s part) → (read ≡ Ok (trial s part)) × (is_flat s ≡ true)
+trial_was (Ok (trial t other)) s part e =
+    let was = steep_or t (trial t other) (trial s part) e in
+    let w : trial t other ≡ trial s part = was.0 in
+    let same : t ≡ s = cc in
+    (ap (λ (x : AskedCommand). fine x) w, subst (λ (x : Asked). is_flat x ≡ true) same was.1)
+  where
+    fine : AskedCommand → Result AskedCommand WordFault
+    fine x = Ok x
+trial_was (Ok (encode t)) s part e = let was = steep_or t (encode t) (trial s part) e in absurd (let w : encode t ≡ trial s part = was.0 in cc)
+trial_was (Ok chain) s part e = absurd cc
+trial_was (Ok header) s part e = absurd cc
+trial_was (Ok decode) s part e = absurd cc
+trial_was (Ok (check other)) s part e = absurd cc
+trial_was (Err fault) s part e = absurd cc
+
 -- a schedule that was read is lawful
 pub schedule_is : (words : List (List ℕ)) (command : Result Command WordFault) (schedule : Schedule) → seen_words command ≡ words_ask words → seen_words command ≡ Ok (check (Some schedule)) → IsSchedule schedule
 schedule_is words command schedule same is = words_say words (check (Some schedule)) (check_was (asked_by words) (Some schedule) (sym same ∙ is))
@@ -110,6 +128,13 @@ settings_are words command s same is =
     let was = encode_was (asked_by words) s (sym same ∙ is) in
     let lawful : AreLawful s = words_say words (encode s) was.0 in
     (lawful, flat_is_steep s lawful.params was.1)
+
+-- a trial that was read is one, and its matrix is not too steep
+pub trial_is : (words : List (List ℕ)) (command : Result Command WordFault) (s : Asked) (part : TrialPart) → seen_words command ≡ words_ask words → seen_words command ≡ Ok (trial s part) → IsTrial s part × IsSteepUnder (written_under s)
+trial_is words command s part same is =
+    let was = trial_was (asked_by words) s part (sym same ∙ is) in
+    let one : IsTrial s part = words_say words (trial s part) was.0 in
+    (one, flat_is_steep s one.settings.params was.1)
 
 -- their fault is the one that was read
 pub fault_is : (command : Result Command WordFault) (asked : Result AskedCommand WordFault) (P : WordFault → Type 0) → seen_words command ≡ asked → IfErr command P → IfErr asked P

@@ -18,19 +18,8 @@ use Rattle.vc2_cli.specs.declared.status.Status.TheVariants as status
 use Rattle.vc2_cli.specs.Texts.{decoded_line, schedule_line, replayed_lines}
 use Rattle.vc2_cli.specs.Reply.{Reply, command_reply, reply_to}
 use Rattle.vc2_cli.specs.ScheduleWords.{words_of}
-use Rattle.vc2_cli.specs.Encode.{written_under, stream_place, shapes_at, ended_plan}
-
--- raw pictures, of the header's sizes and depths
-abbrev pub raw_input : Asked → List PictureSamples → List ℕ
-raw_input s pictures = raw_texts (frame_under s.parts) pictures
-
--- their stream
-abbrev pub stream_of : Asked → List PictureSamples → List ℕ
-stream_of s pictures = encoded_pictures (written_under s) pictures
-
--- the pictures that a decoder makes of it
-abbrev pub decoded_of : Asked → List PictureSamples → List PictureSamples
-decoded_of s pictures = map (λ p. picture_of (frame_under s.parts) s.params (slices_of (frame_under s.parts) s.params p)) pictures
+use Rattle.vc2_cli.specs.Encode.{written_under, stream_place}
+use Rattle.vc2_cli.specs.WholePictures.{raw_input, stream_of, decoded_of, plan_for, stream_length}
 
 -- settings that a stream is written with, the rate being of numbers that words can have
 pub record AreSettings (s : Asked) : Type 0 where
@@ -46,14 +35,6 @@ pub record MayBeWritten (s : Asked) (pictures : List PictureSamples) : Type 0 wh
   pub even : s.parts.coding ≡ 1 → length pictures % 2 ≡ 0
   pub raw : length (raw_input s pictures) ≤ 2 ^ 40
   pub stream : stream_place s (length pictures) + 13 ≤ limit
-
--- the least schedule with which the stream runs
-abbrev pub plan_for : Asked → List PictureSamples → Schedule
-plan_for s pictures = ended_plan s (shapes_at s (length pictures)) (stream_place s (length pictures))
-
--- the bytes of the stream
-abbrev pub stream_length : Asked → List PictureSamples → ℕ
-stream_length s pictures = stream_place s (length pictures) + 13
 
 -- `encode` writes the whole stream, and tells that schedule
 abbrev pub encoded_reply : Asked → List PictureSamples → Reply

@@ -5,6 +5,9 @@ pub mod Decode
 pub mod Scheduled
 pub mod Encode
 pub mod EncodeTurn
+pub mod WholePictures
+pub mod Trial
+pub mod TrialTurn
 pub mod Reply
 pub mod Streams
 pub mod ScheduleWords

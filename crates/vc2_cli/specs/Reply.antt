@@ -6,7 +6,8 @@ use Rattle.vc2_run.specs.Walk.{Answer, answer_to, out_of, due, IsPrefix, IsPrope
 use Rattle.channel_schedule.specs.declared.schedule.Outcome.{Outcome}
 use Rattle.channel_schedule.specs.declared.schedule.Outcome.TheVariants as outcomes
 use Rattle.vc2_words.specs.declared.keys.WordFault.{WordFault}
-use Rattle.vc2_words.specs.declared.keys.WordFault.TheVariants.{UnknownCommand}
+use Rattle.vc2_words.specs.declared.words.TrialPart.{TrialPart}
+use Rattle.vc2_words.specs.Settings.{Asked}
 use Rattle.vc2_words.specs.Commands.{AskedCommand, chain, header, decode, check, encode, trial}
 use Rattle.vc2_cli.specs.declared.status.ScheduleFault.{ScheduleFault}
 use Rattle.vc2_cli.specs.declared.status.ScheduleFault.TheVariants.{Late, Overfull}
@@ -20,6 +21,7 @@ use Rattle.vc2_cli.specs.First.{header_machine, behind_first}
 use Rattle.vc2_cli.specs.Decode.{decode_machine, check_machine}
 use Rattle.vc2_cli.specs.Scheduled.{replay_machine}
 use Rattle.vc2_cli.specs.Encode.{encode_machine}
+use Rattle.vc2_cli.specs.Trial.{trial_text}
 use Rattle.vc2_cli.specs.Words.{words_ask}
 
 -- a status with its texts for `out` and `note`, and what is left of the input where the status is `Done` or `Schedule`
@@ -49,6 +51,7 @@ status_of (ending.Decoded pictures bytes) = status.Done
 status_of (ending.Accepted pictures slices bytes) = status.Done
 status_of (ending.Scheduled pictures slices bytes outcome) = schedule_status (fault_of outcome)
 status_of (ending.Encoded schedule) = status.Done
+status_of (ending.Compared worst) = status.Done
 status_of (ending.Refused refusal) = status.Refused refusal
 
 abbrev pub note_of : Ending → List ℕ
@@ -57,6 +60,7 @@ note_of (ending.Decoded pictures bytes) = decoded_line pictures bytes
 note_of (ending.Accepted pictures slices bytes) = []
 note_of (ending.Scheduled pictures slices bytes outcome) = schedule_note (fault_of outcome)
 note_of (ending.Encoded schedule) = schedule_line schedule
+note_of (ending.Compared worst) = []
 note_of (ending.Refused refusal) = refusal_line refusal
 
 -- the reply by a run's answer, of a command that leaves so much of its input
@@ -67,7 +71,11 @@ reply_of left answer = record { status = status_of answer.ending; rest = left; o
 abbrev pub usage_reply : WordFault → List ℕ → Reply
 usage_reply fault input = record { status = status.Usage fault; rest = input; out = []; note = usage_line fault }
 
--- The reply to a command, or to words that are refused. No words ask for a command that is not built yet: its name is unknown.
+-- The reply to a trial, which reads nothing.
+abbrev pub trial_reply : Asked → TrialPart → List ℕ → Reply
+trial_reply s part input = record { status = status.Done; rest = input; out = trial_text s part; note = [] }
+
+-- The reply to a command, or to words that are refused.
 abbrev pub command_reply : Result AskedCommand WordFault → List ℕ → Reply
 command_reply (Err fault) input = usage_reply fault input
 command_reply (Ok chain) input = reply_of [] (answer_to chain_machine input)
@@ -76,7 +84,7 @@ command_reply (Ok decode) input = reply_of [] (answer_to decode_machine input)
 command_reply (Ok (check None)) input = reply_of [] (answer_to check_machine input)
 command_reply (Ok (check (Some schedule))) input = reply_of [] (answer_to (replay_machine schedule) input)
 command_reply (Ok (encode settings)) input = reply_of [] (answer_to (encode_machine settings) input)
-command_reply (Ok (trial settings part)) input = usage_reply UnknownCommand input
+command_reply (Ok (trial settings part)) input = trial_reply settings part input
 
 -- the text for `out` that is due once these bytes were taken
 abbrev pub command_due : Result AskedCommand WordFault → List ℕ → List ℕ

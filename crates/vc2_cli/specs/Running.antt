@@ -14,7 +14,7 @@ use Rattle.stream_units.specs.declared.stop.ReadStop.{ReadStop}
 use Rattle.stream_units.specs.Streams.{limit, past_limit}
 use Rattle.stream_units.specs.Stops.{LimitStops}
 use Rattle.vc2_cli.specs.declared.status.Ending.{Ending}
-use Rattle.vc2_cli.specs.declared.status.Ending.TheVariants.{Done, Decoded, Accepted, Scheduled, Encoded, Refused}
+use Rattle.vc2_cli.specs.declared.status.Ending.TheVariants.{Done, Decoded, Accepted, Scheduled, Encoded, Compared, Refused}
 use Rattle.vc2_cli.specs.declared.running.Turn.{Turn}
 use Rattle.vc2_cli.specs.declared.running.Turn.TheVariants as turns
 
@@ -64,6 +64,7 @@ IsDone (Decoded pictures bytes) = Unit {0}
 IsDone (Accepted pictures slices bytes) = Unit {0}
 IsDone (Scheduled pictures slices bytes outcome) = Unit {0}
 IsDone (Encoded schedule) = Unit {0}
+IsDone (Compared worst) = Unit {0}
 IsDone (Refused refusal) = ⊥
 
 -- an object before and after a call: what it tells of its bytes, and its count of faults

@@ -3,6 +3,7 @@
 
 mod chain;
 mod check;
+mod comparing;
 mod decode;
 mod encode;
 mod header;
@@ -12,8 +13,10 @@ mod readers;
 mod running;
 mod scheduled;
 mod status;
+mod stream_sink;
 mod texts;
 mod top;
+mod trial;
 mod words;
 
 pub use laws::{

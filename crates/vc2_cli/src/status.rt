@@ -31,6 +31,8 @@ pub enum Ending {
     },
     /// Raw video was encoded; with this schedule the stream runs.
     Encoded(Schedule),
+    /// The pictures of a trial were compared with the decoded ones: the greatest difference of a sample.
+    Compared(u16),
     /// The input is refused.
     Refused(Refusal),
 }

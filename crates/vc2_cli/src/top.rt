@@ -7,7 +7,8 @@ ghost use Rattle.channel_schedule.specs.declared.schedule.Schedule.{Schedule};
 ghost use Rattle.channel_schedule.specs.Rates.{IsSchedule};
 ghost use Rattle.vc2_words.specs.Commands as asked;
 ghost use Rattle.vc2_words.specs.Settings.{Asked};
-ghost use Rattle.vc2_words.specs.Lawful.{AreLawful};
+ghost use Rattle.vc2_words.specs.declared.words.TrialPart.{TrialPart};
+ghost use Rattle.vc2_words.specs.Lawful.{AreLawful, IsTrial};
 ghost use Rattle.stream_units.specs.Writer.{IsSteepUnder};
 ghost use Rattle.vc2_cli.specs.Encode.{written_under};
 ghost use Rattle.vc2_cli.specs.Words.{seen_words, words_ask};
@@ -22,6 +23,7 @@ use crate::header::header;
 use crate::scheduled::check_schedule;
 use crate::status::{Ending, ScheduleFault, Status};
 use crate::texts::{decoded_text, fault_text, refusal_text, schedule_text, usage_text};
+use crate::trial::trial;
 use crate::words::checked;
 use channel_schedule::Outcome;
 use std::alloc::{AllocError, Global};
@@ -76,8 +78,11 @@ fn status_of(ending: Ending) -> Status
     ensures { result ≡ status_of ending }
 {
     match ending {
-        Ending::Done | Ending::Decoded { .. } | Ending::Accepted { .. } | Ending::Encoded(_) =>
-            Status::Done,
+        Ending::Done
+        | Ending::Decoded { .. }
+        | Ending::Accepted { .. }
+        | Ending::Encoded(_)
+        | Ending::Compared(_) => Status::Done,
         Ending::Scheduled { outcome, .. } => schedule_status(outcome),
         Ending::Refused(refusal) => Status::Refused(refusal),
     }
@@ -87,7 +92,7 @@ fn note_text(alloc: Global, ending: &Ending) -> Result<String, AllocError>
     ensures { IfOk result (λ text. string_bytes text ≡ note_of ending.now) }
 {
     match ending {
-        Ending::Done | Ending::Accepted { .. } => Ok(String::new(alloc)),
+        Ending::Done | Ending::Accepted { .. } | Ending::Compared(_) => Ok(String::new(alloc)),
         Ending::Decoded { pictures, bytes } => decoded_text(alloc, *pictures, *bytes),
         Ending::Scheduled { outcome, .. } => schedule_note(alloc, *outcome),
         Ending::Encoded(schedule) => schedule_text(alloc, schedule),
@@ -140,6 +145,7 @@ fn answer<S: Source, K: Sink, N: Sink>(
 ) -> Status
     requires schedule { (schedule : Schedule) → seen_words command ≡ Ok (asked.check (Some schedule)) → IsSchedule schedule }
     requires settings { (s : Asked) → seen_words command ≡ Ok (asked.encode s) → AreLawful s × IsSteepUnder (written_under s) }
+    requires trial { (s : Asked) (part : TrialPart) → seen_words command ≡ Ok (asked.trial s part) → IsTrial s part × IsSteepUnder (written_under s) }
     ensures settled { (input : List ℕ) → S.rest src.old ≡ Some input →
         Settles (command_reply (seen_words command) input) (command_due (seen_words command)) input (S.rest src.new)
         (K.written out.old) (K.written out.new) (N.written note.old) (N.written note.new) result }
@@ -158,7 +164,9 @@ fn answer<S: Source, K: Sink, N: Sink>(
                 Some(schedule) => conclude(alloc, check_schedule(alloc, schedule, src, out), note),
             },
             Command::Encode(settings) => conclude(alloc, encode(alloc, &settings, src, out), note),
-            Command::Trial(_, _) => refuse(alloc, WordFault::UnknownCommand, note),
+            Command::Trial(settings, part) => {
+                conclude(alloc, trial(alloc, &settings, part, out), note)
+            }
         },
         Err(fault) => refuse(alloc, fault, note),
     }

@@ -6,3 +6,5 @@ pub mod Plainness
 pub mod Settled
 pub mod Exchanging
 pub mod Small
+pub mod HeaderNumbers
+pub mod Trials

@@ -18,16 +18,19 @@ use Rattle.vc2_words.specs.declared.keys.Rule as settings
 use Rattle.vc2_words.specs.Forms.{greatest, cut_at, slash}
 use Rattle.vc2_words.specs.Operands.{Table, value_of, and_then, operands_of}
 use Rattle.vc2_words.specs.Plain.{IsPlain, IsPlainFor}
-use Rattle.vc2_words.specs.Lawful.{AreLawful}
+use Rattle.vc2_words.specs.Lawful.{AreLawful, IsTrial}
 use Rattle.vc2_words.specs.declared.keys.Name.{Name}
 use Rattle.vc2_words.specs.declared.keys.Name.TheVariants as names
 use Rattle.vc2_words.specs.declared.keys.WordFault.{WordFault}
 use Rattle.vc2_words.specs.Keys.{name_of}
 use Rattle.vc2_words.specs.Commands.{AskedCommand, chain, header, decode, check, encode, trial, unless_broken, schedule_from, schedule_of, command_of, part_of, named, asked_by}
-use Rattle.vc2_words.proofs.Plainness.{plain_of, whole_of, pair_is, none_some, some_same}
+use Rattle.vc2_words.proofs.Plainness.{IsWhole, plain_of, whole_of, pair_is, none_some, some_same}
 use Rattle.vc2_words.specs.Read.{IsRead, IsValue}
 use Rattle.vc2_words.proofs.Small.{AreSmall, given_small, number_small}
-use Rattle.vc2_words.specs.Settings.{number_of, number_at, entries_of, parts_of, params_of, slicing_of, are_slices, is_share, number_rules, trial_rules, broken_rule, or_first, is_even_with, Asked, asked_of, rate_or, rate_given, buffer_given}
+use Rattle.vc2_words.proofs.HeaderNumbers.{parts_lawful}
+use Rattle.vc2_words.proofs.Trials.{seed_low, pictures_of}
+use Rattle.transform_params.proofs.Bounds.{unit_small}
+use Rattle.vc2_words.specs.Settings.{number_of, number_at, entries_of, parts_of, params_of, slicing_of, are_slices, is_share, number_rules, trial_rules, broken_rule, or_first, is_even_with, are_paired, is_short, Asked, asked_of, rate_or, rate_given, buffer_given}
 use Rattle.vc2_words.proofs.Lawful.{range_of, and_both, passes}
 use Rattle.vc2_words.proofs.Rules.{all_hold, slices_hold, share_holds, count_holds}
 
@@ -90,39 +93,74 @@ header_passes given pictures plain none =
 
 -- ---- the rate
 
-rate_lawful : (r : Option (List ℕ)) → ((ns : List ℕ) → r ≡ Some ns → IsValue of_key.Rate ns) → (usual : Rate) → IsRate usual → IsRate (rate_or usual (rate_given r))
+record HasRate (r : Rate) : Type 0 where
+  rate : IsRate r
+  bytes : r.num < 2 ^ 32
+  slots : r.den < 2 ^ 32
+
+rate_lawful : (r : Option (List ℕ)) → ((ns : List ℕ) → r ≡ Some ns → IsValue of_key.Rate ns) → (usual : Rate) → HasRate usual → HasRate (rate_or usual (rate_given r))
 rate_lawful None read usual good = good
 rate_lawful (Some ns) read usual good =
     let value = read ns refl in
     let pair = pair_is 1 (cut_at slash value.text) ns value.reads in
-    rw pair.2 (record { some_bytes = pair.3; some_slots = pair.5 })
+    rw pair.2 (record { rate = record { some_bytes = pair.3; some_slots = pair.5 }; bytes = omega (arith, pair.4); slots = omega (arith, pair.6) })
 
 one_product : (m n : ℕ) → 1 ≤ m → 1 ≤ n → 1 ≤ m * n
 one_product m n some_m some_n = let more : m * 1 ≤ m * n = mul-le-mul_left m some_n in omega (arith, more)
 
-usual_rate : (params : Params) → are_slices params.slicing ≡ true → IsRate (record { num = unit_length params; den = slice_count params.slicing })
-usual_rate params good =
-    let allowed = slices_allowed params.slicing good in
-    record { some_bytes = omega arith; some_slots = one_product params.slicing.slices_x params.slicing.slices_y allowed.some_across allowed.some_down }
+usual_rate : (params : Params) → IsLawful params → HasRate (record { num = unit_length params; den = slice_count params.slicing })
+usual_rate params lawful =
+    let slices = lawful.allowed.slices in
+    record {
+      rate = record { some_bytes = omega arith; some_slots = one_product params.slicing.slices_x params.slicing.slices_y slices.some_across slices.some_down };
+      bytes = unit_small params lawful;
+      slots = omega (arith, slices.count);
+    }
 
 -- ---- of the words
 
-even_first : (coding first : ℕ) → is_even_with coding first ≡ true → coding ≡ 1 → first % 2 ≡ 0
-even_first coding first good one =
+even_with : (coding n : ℕ) → is_even_with coding n ≡ true → coding ≡ 1 → n % 2 ≡ 0
+even_with coding n good one =
     let is : (coding == 1) ≡ true = eq-eqb coding 1 one in
-    eqb-true (first % 2) 0 (rw is at good)
+    eqb-true (n % 2) 0 (rw is at good)
 
 lawful : (given : Table) (pictures : Option ℕ) → IsRead given → IsPlain (parts_of given) → broken_rule given pictures ≡ None → AreLawful (asked_of given)
 lawful given pictures read plain none =
     let first = number_at given of_key.First 0 in
     let low = number_small given of_key.First 0 read in
     let all = all_hold (number_rules (parts_of given) (params_of given) first pictures) (numbers_hold given pictures none) in
+    let params = params_lawful given pictures read none in
+    let rate = rate_lawful (value_of given of_key.Rate) (λ ns is. read.read of_key.Rate ns is) (record { num = unit_length (params_of given); den = slice_count (slicing_of given) }) (usual_rate (params_of given) params) in
     record {
-      header = header_passes given pictures plain none;
-      params = params_lawful given pictures read none;
+      header = parts_lawful given read plain (header_passes given pictures plain none);
+      params = params;
       first = omega (arith, low);
-      rate = rate_lawful (value_of given of_key.Rate) (λ ns is. read.read of_key.Rate ns is) (record { num = unit_length (params_of given); den = slice_count (slicing_of given) }) (usual_rate (params_of given) (slices_hold (parts_of given) (params_of given) first pictures (numbers_hold given pictures none)));
-      even = even_first (parts_of given).coding first all.1.1.1.1.1.1.1.0;
+      even = even_with (parts_of given).coding first all.1.1.1.1.1.1.1.0;
+      rate = rate.rate;
+      bytes = rate.bytes;
+      slots = rate.slots;
+    }
+
+-- ---- of a trial
+
+none_behind : (a b : Option settings.Rule) → or_first a b ≡ None → b ≡ None
+none_behind None b e = e
+none_behind (Some rule) b e = none_some (sym e)
+
+trial_lawful : (given : Table) → IsWhole names.Trial given → IsPlain (parts_of given) → broken_rule given (Some (number_at given of_key.Pictures 0)) ≡ None → IsTrial (asked_of given) (part_of given)
+trial_lawful given whole plain none =
+    let first = number_at given of_key.First 0 in
+    let pictures = number_at given of_key.Pictures 0 in
+    let numbers = all_hold (number_rules (parts_of given) (params_of given) first (Some pictures)) (numbers_hold given (Some pictures) none) in
+    let trials = all_hold (trial_rules (parts_of given) (params_of given) (Some pictures)) (none_behind (first_broken (number_rules (parts_of given) (params_of given) first (Some pictures))) (first_broken (trial_rules (parts_of given) (params_of given) (Some pictures))) none) in
+    let range = pictures_of given whole in
+    record {
+      settings = lawful given (Some pictures) whole.read plain none;
+      seed = seed_low given whole.read;
+      some = range.0;
+      few = range.1;
+      even = even_with (parts_of given).coding pictures numbers.1.1.1.1.1.1.1.1.0;
+      short = leb-true _ (2 ^ 28) trials.0;
     }
 
 -- ---- a schedule
@@ -138,8 +176,8 @@ schedule_lawful given read s e = here (value_of given of_key.Rate) (value_of giv
         let delay : number_of (value_of given of_key.Delay) 0 ≤ 2 ^ 72 = number_small given of_key.Delay 0 read in
         let short : slice_index ds 0 ≤ 2 ^ 72 = rw id at delay in
         let usual : Rate = record { num = 1; den = 1 } in
-        let rate = rate_lawful (Some ns) (λ ms is. read.read of_key.Rate ms (ir ∙ is)) usual (record { some_bytes = omega arith; some_slots = omega arith }) in
-        subst (λ (k : Schedule). IsSchedule k) (some_same e) (record { rate = rate; short = short })
+        let rate = rate_lawful (Some ns) (λ ms is. read.read of_key.Rate ms (ir ∙ is)) usual (record { rate = record { some_bytes = omega arith; some_slots = omega arith }; bytes = omega arith; slots = omega arith }) in
+        subst (λ (k : Schedule). IsSchedule k) (some_same e) (record { rate = rate.rate; short = short })
 
 abbrev SaysOf : Option Schedule → Type 0
 SaysOf None = Unit {0}
@@ -152,7 +190,7 @@ schedule_says given read (Some s) is = schedule_lawful given read s is
 abbrev Says : AskedCommand → Type 0
 Says (check schedule) = SaysOf schedule
 Says (encode s) = AreLawful s
-Says (trial s part) = AreLawful s
+Says (trial s part) = IsTrial s part
 Says _ = Unit {0}
 
 abbrev fine : AskedCommand → Result AskedCommand WordFault
@@ -171,14 +209,14 @@ unbroken given pictures told c good e = here (broken_rule given pictures) refl e
     here (Some rule) is e = failed e
     here None is e = subst (λ (k : AskedCommand). Says k) (fine_same e) (good is)
 
-command_says : (name : Name) (given : Table) (c : AskedCommand) → IsRead given → IsPlainFor name (parts_of given) → command_of name given ≡ fine c → Says c
-command_says names.Chain given c read plain e = subst (λ (k : AskedCommand). Says k) (fine_same e) tt
-command_says names.Header given c read plain e = subst (λ (k : AskedCommand). Says k) (fine_same e) tt
-command_says names.Decode given c read plain e = subst (λ (k : AskedCommand). Says k) (fine_same e) tt
-command_says names.Check given c read plain e = subst (λ (k : AskedCommand). Says k) (fine_same e) (schedule_says given read (schedule_of given) refl)
-command_says names.Encode given c read plain e = unbroken given None (encode (asked_of given)) c (lawful given None read plain) e
-command_says names.Trial given c read plain e =
-    unbroken given (Some (number_at given of_key.Pictures 0)) (trial (asked_of given) (part_of given)) c (lawful given (Some (number_at given of_key.Pictures 0)) read plain) e
+command_says : (name : Name) (given : Table) (c : AskedCommand) → IsWhole name given → IsPlainFor name (parts_of given) → command_of name given ≡ fine c → Says c
+command_says names.Chain given c whole plain e = subst (λ (k : AskedCommand). Says k) (fine_same e) tt
+command_says names.Header given c whole plain e = subst (λ (k : AskedCommand). Says k) (fine_same e) tt
+command_says names.Decode given c whole plain e = subst (λ (k : AskedCommand). Says k) (fine_same e) tt
+command_says names.Check given c whole plain e = subst (λ (k : AskedCommand). Says k) (fine_same e) (schedule_says given whole.read (schedule_of given) refl)
+command_says names.Encode given c whole plain e = unbroken given None (encode (asked_of given)) c (lawful given None whole.read plain) e
+command_says names.Trial given c whole plain e =
+    unbroken given (Some (number_at given of_key.Pictures 0)) (trial (asked_of given) (part_of given)) c (trial_lawful given whole plain) e
 
 pub words_say : (words : List (List ℕ)) (c : AskedCommand) → asked_by words ≡ fine c → Says c
 words_say [] c e = failed e
@@ -186,7 +224,7 @@ words_say (word ∷ words) c e = here (name_of word) e
   where
     read : (name : Name) (r : Result Table WordFault) → operands_of name words ≡ r → and_then r (λ given. command_of name given) ≡ fine c → Says c
     read name (Err fault) is e = failed e
-    read name (Ok given) is e = command_says name given c (whole_of name words given is).read (plain_of name words given is) e
+    read name (Ok given) is e = command_says name given c (whole_of name words given is) (plain_of name words given is) e
 
     here : (n : Option Name) → named n words ≡ fine c → Says c
     here None e = failed e

@@ -1,13 +1,26 @@
 -- Settings that a stream can be written with.
-use Rattle.std.specs.Prelude.{◌≡◌, ◌<◌, ◌^◌, ◌%◌}
-use Rattle.sequence_header.specs.Checking.{Passes}
+use Rattle.std.specs.Prelude.{◌≡◌, ◌≤◌, ◌<◌, ◌^◌, ◌%◌}
+use Rattle.sequence_header.specs.Checking as checking
 use Rattle.transform_params.specs.Fields.{IsLawful}
 use Rattle.channel_schedule.specs.Rates.{IsRate}
-use Rattle.vc2_words.specs.Settings.{Asked}
+use Rattle.vc2_words.specs.declared.words.TrialPart.{TrialPart}
+use Rattle.vc2_words.specs.Settings.{Asked, stream_length}
 
+-- The header and the parameters break no rule, and each number is one that its field holds.
 pub record AreLawful (s : Asked) : Type 0 where
-  pub header : Passes s.parts
+  pub header : checking.IsLawful s.parts
   pub params : IsLawful s.params
   pub first : s.first < 2 ^ 32
-  pub rate : IsRate s.rate
   pub even : s.parts.coding ≡ 1 → s.first % 2 ≡ 0
+  pub rate : IsRate s.rate
+  pub bytes : s.rate.num < 2 ^ 32
+  pub slots : s.rate.den < 2 ^ 32
+
+-- A trial: its fields make whole frames, and their stream is no longer than 2 ^ 28 bytes.
+pub record IsTrial (s : Asked) (part : TrialPart) : Type 0 where
+  pub settings : AreLawful s
+  pub seed : part.seed ≤ 65535
+  pub some : 1 ≤ part.pictures
+  pub few : part.pictures ≤ 1000
+  pub even : s.parts.coding ≡ 1 → part.pictures % 2 ≡ 0
+  pub short : stream_length s.parts s.params part.pictures ≤ 2 ^ 28

@@ -130,9 +130,13 @@ abbrev pub are_paired : ℕ → Option ℕ → Bool
 are_paired coding None = true
 are_paired coding (Some pictures) = is_even_with coding pictures
 
+-- the bytes of a stream of so many pictures: the sequence header unit, a unit for each picture, and the end unit
+abbrev pub stream_length : HeaderParts → Params → ℕ → ℕ
+stream_length parts params pictures = 13 + header_len parts + pictures * unit_length params + 13
+
 abbrev pub is_short : HeaderParts → Params → Option ℕ → Bool
 is_short parts params None = true
-is_short parts params (Some pictures) = nat_le (26 + header_len parts + pictures * unit_length params) (2 ^ 28)
+is_short parts params (Some pictures) = nat_le (stream_length parts params pictures) (2 ^ 28)
 
 -- the rules on the numbers
 abbrev pub number_rules : HeaderParts → Params → ℕ → Option ℕ → List (Rule settings.Rule)

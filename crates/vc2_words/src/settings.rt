@@ -312,8 +312,8 @@ fn is_short(header: &SequenceHeader, params: &TransformParams, pictures: Option<
     match pictures {
         None => true,
         Some(pictures) => {
-            let head = 26 + header.byte_len() as u64;
-            head + u64::from(pictures) * u64::from(params.unit_len()) <= 1 << 28
+            let first = 13 + header.byte_len() as u64;
+            first + u64::from(pictures) * u64::from(params.unit_len()) + 13 <= 1 << 28
         }
     }
 }

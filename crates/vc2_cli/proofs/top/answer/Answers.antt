@@ -2,10 +2,10 @@ use Rattle.std.proofs.Common.{[], Ok, Result, ap, ◌∙◌, subst, sym, arith}
 use Rattle.vc2_words.specs.declared.words.Command.{Command}
 use Rattle.vc2_words.specs.declared.words.Command.TheVariants.{Check}
 use Rattle.vc2_words.specs.declared.keys.WordFault.{WordFault}
-use Rattle.vc2_words.specs.declared.keys.WordFault.TheVariants.{UnknownCommand}
 use Rattle.vc2_cli.specs.Words.{seen_words}
 use Rattle.vc2_cli.specs.Reply.{command_reply, command_due}
 use Rattle.vc2_cli.specs.Settled.{Settles}
+use Rattle.vc2_cli.specs.Trial.{trial_worst, trial_text}
 use Rattle.vc2_cli.specs.Chain.{chain_machine}
 use Rattle.vc2_cli.specs.First.{header_machine, behind_first}
 use Rattle.vc2_cli.proofs.HeaderRuns.{header_laws}
@@ -18,7 +18,7 @@ use Rattle.vc2_words.specs.Shown.{shown}
 use Rattle.vc2_cli.specs.Encode.{encode_machine}
 use Rattle.vc2_cli.proofs.Encoding.{encode_laws}
 use Rattle.vc2_cli.proofs.EncodeReplies.{some_size}
-use Rattle.vc2_cli.proofs.Settling.{at_end, settled, settled_usage}
+use Rattle.vc2_cli.proofs.Settling.{at_end, settled, settled_trial, settled_usage}
 use Rattle.vc2_cli.proofs.top.answer.Goals as goal
 
 pub returns-in-Chain-clause-settled : goal.returns-in-Chain-clause-settled
@@ -86,7 +86,7 @@ returns-in-Encode-clause-settled g c = λ input e.
     let settings = c.requires.settings asked (ap seen_words (c.in-Ok.is ∙ ap Ok c.in-Encode.is)) in
     subst (λ (r : Result Command WordFault). Settles (command_reply (seen_words r) input) (command_due (seen_words r)) input (rest c.encode.new.src) (out c.args.out.now) (out c.encode.new.out) (note c.args.note.now) (note c.conclude-in-Encode.new.note) c.conclude-in-Encode.result)
     (sym (c.in-Ok.is ∙ ap Ok c.in-Encode.is))
-    (settled (encode_machine asked) (encode_laws asked (some_size asked settings.0.header)) [] (rest c.args.src.now) (rest c.encode.new.src) (out c.args.out.now) (out c.encode.new.out) (note c.args.note.now) (note c.conclude-in-Encode.new.note) input c.encode.result c.conclude-in-Encode.result e
+    (settled (encode_machine asked) (encode_laws asked (some_size asked settings.0.header.passes)) [] (rest c.args.src.now) (rest c.encode.new.src) (out c.args.out.now) (out c.encode.new.out) (note c.args.note.now) (note c.conclude-in-Encode.new.note) input c.encode.result c.conclude-in-Encode.result e
     (at_end (rest c.encode.new.src) c.encode.result c.encode.ensures.end) c.encode.ensures.ran c.conclude-in-Encode.ensures.told)
 
 pub encode-requires-clause-lawful : goal.encode-requires-clause-lawful
@@ -97,9 +97,20 @@ encode-requires-clause-flat g c = (c.requires.settings (shown c.in-Encode.settin
 
 pub returns-in-Trial-clause-settled : goal.returns-in-Trial-clause-settled
 returns-in-Trial-clause-settled g c = λ input e.
-    subst (λ (r : Result Command WordFault). Settles (command_reply (seen_words r) input) (command_due (seen_words r)) input (g.S.Source.rest c.args.src.now) (g.K.Sink.written c.args.out.now) (g.K.Sink.written c.args.out.now)
-    (g.N.Sink.written c.args.note.now) (g.N.Sink.written c.refuse.new.note) c.refuse.result) (sym (c.in-Ok.is ∙ ap Ok c.in-Trial.is))
-    (settled_usage UnknownCommand input (g.S.Source.rest c.args.src.now) (g.K.Sink.written c.args.out.now) (g.N.Sink.written c.args.note.now) (g.N.Sink.written c.refuse.new.note) c.refuse.result e c.refuse.ensures.told)
+    let rest = g.S.Source.rest in
+    let out = g.K.Sink.written in
+    let note = g.N.Sink.written in
+    let asked = shown c.in-Trial.settings in
+    subst (λ (r : Result Command WordFault). Settles (command_reply (seen_words r) input) (command_due (seen_words r)) input (rest c.args.src.now) (out c.args.out.now) (out c.trial.new.out) (note c.args.note.now) (note c.conclude-in-Trial.new.note) c.conclude-in-Trial.result)
+    (sym (c.in-Ok.is ∙ ap Ok c.in-Trial.is))
+    (settled_trial (trial_worst asked c.in-Trial.part) (trial_text asked c.in-Trial.part) input (rest c.args.src.now) (out c.args.out.now) (out c.trial.new.out) (note c.args.note.now) (note c.conclude-in-Trial.new.note) c.trial.result c.conclude-in-Trial.result e
+    c.trial.ensures.told c.conclude-in-Trial.ensures.told)
+
+pub trial-requires-clause-lawful : goal.trial-requires-clause-lawful
+trial-requires-clause-lawful g c = (c.requires.trial (shown c.in-Trial.settings) c.in-Trial.part (ap seen_words (c.in-Ok.is ∙ ap Ok c.in-Trial.is))).0
+
+pub trial-requires-clause-flat : goal.trial-requires-clause-flat
+trial-requires-clause-flat g c = (c.requires.trial (shown c.in-Trial.settings) c.in-Trial.part (ap seen_words (c.in-Ok.is ∙ ap Ok c.in-Trial.is))).1
 
 pub returns-in-Err-clause-settled : goal.returns-in-Err-clause-settled
 returns-in-Err-clause-settled g c = λ input e.
