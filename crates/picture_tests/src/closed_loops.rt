@@ -195,14 +195,20 @@ fn expect_depths(
     Ok(())
 }
 
-#[test]
-fn pictures_come_back(rt: HostRuntime) -> Result<(), Fail> {
-    let first = noisy(&rt, rt.alloc(), &SHAPE, 1, [(10, 1), (8, 1)])?;
-    let second = noisy(&rt, rt.alloc(), &SHAPE, 4, [(1, 1023), (1, 255)])?;
-    for wavelet in [Wavelet::LeGall, Wavelet::HaarFlat, Wavelet::HaarShift] {
-        expect_depths(&rt, rt.alloc(), wavelet, &first, &second)?;
-    }
+/// Two pictures by one wavelet.
+fn expect_wavelet(rt: &impl Abort, alloc: Global, wavelet: Wavelet) -> Result<(), Fail> {
+    let first = noisy(rt, alloc, &SHAPE, 1, [(10, 1), (8, 1)])?;
+    let second = noisy(rt, alloc, &SHAPE, 4, [(1, 1023), (1, 255)])?;
+    expect_depths(rt, alloc, wavelet, &first, &second)?;
     drop(first);
     drop(second);
+    Ok(())
+}
+
+#[test]
+fn pictures_come_back(rt: HostRuntime) -> Result<(), Fail> {
+    for wavelet in [Wavelet::LeGall, Wavelet::HaarFlat, Wavelet::HaarShift] {
+        expect_wavelet(&rt, rt.alloc(), wavelet)?;
+    }
     Ok(())
 }

@@ -1,6 +1,8 @@
 -- A sink with room for one stream: it never fails, and what a writer stops for is want of memory.
 use Rattle.std.proofs.Common.{◌≡◌, ℕ, zero, suc, ◌+◌, ◌-◌, ◌^◌, ◌<◌, ◌≤◌, eqb, Bool, true, false, List, [], ◌∷◌, ◌++◌, length, take, Some, Result, Ok, Err, refl, sym, ap, subst, ◌∙◌, arith}
 use Rattle.std.specs.Prelude.{not, ◌&&◌, ◌||◌, is_err}
+use Rattle.std.proofs.Math.Dec.{T, eqb→eq}
+use Rattle.std.proofs.lemmas.Bool.Decides.{nat_tests}
 use Rattle.std.specs.Io.KnownBytes.{Appends}
 use Rattle.std.proofs.lemmas.List.{length-append, length-take}
 use Rattle.vc2_io.specs.Outside.{Rose, GrewShort, next_count}
@@ -22,7 +24,7 @@ none_named calls = by (eqb calls top) (eqb top calls) refl refl
     by : (a b : Bool) → eqb calls top ≡ a → eqb top calls ≡ b → (not (eqb calls top) && is_named calls (top ∷ top ∷ top ∷ top ∷ [])) ≡ false
     by true b e e' = rw e refl
     by false false e e' = rw (e, e') refl
-    by false true e e' = absurd cc
+    by false true e e' = absurd (let same : top ≡ calls = eqb→eq top calls (subst T (sym e') tt) in grind (arith, nat_tests, e, same))
 
 -- ---- what a call leaves
 
@@ -96,4 +98,4 @@ written_keeps s s' piece (Err failed) full fails after = record {
       where
         has_room : (n : ℕ) → 0 < n → eqb n 0 ≡ false
         has_room zero lt = absurd (omega (arith, lt))
-        has_room (suc n) lt = refl
+        has_room (suc n) lt = grind (arith, nat_tests)

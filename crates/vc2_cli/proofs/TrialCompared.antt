@@ -3,7 +3,8 @@ use Rattle.std.proofs.Common.{◌≡◌, ℕ, zero, suc, ◌+◌, ◌*◌, ◌%�
 use Rattle.std.specs.List.{AllByRecursion, range_with_len}
 use Rattle.std.proofs.lemmas.List.{length-append, length-map}
 use Rattle.std.proofs.lemmas.List.FromFn.{length-map-range_with_len}
-use Rattle.slice_geometry.specs.Frames.{Frame}
+use Rattle.slice_geometry.specs.declared.PictureShape.{PictureShape}
+use Rattle.slice_geometry.specs.Frames.{Frame, frame_of}
 use Rattle.sequence_header.specs.declared.parts.HeaderParts.{HeaderParts}
 use Rattle.sequence_header.proofs.Bounds.{header_short}
 use Rattle.transform_params.specs.Params.{Params}
@@ -11,7 +12,7 @@ use Rattle.transform_params.specs.Fields.{unit_length, IsLawful}
 use Rattle.transform_params.proofs.Bounds.{unit_small}
 use Rattle.picture_codec.specs.Samples.{PictureSamples, picture_of}
 use Rattle.picture_codec.specs.Encoding.{slices_of}
-use Rattle.trial_video.specs.Video.{video_picture}
+use Rattle.trial_video.specs.Video.{VideoSeen, video_picture}
 use Rattle.trial_video.specs.Worst.{worst, worst_of}
 use Rattle.channel_schedule.specs.declared.schedule.Schedule.{Schedule}
 use Rattle.vc2_run.specs.Walk.{Machine, Answer, answer_from, answer_to, before}
@@ -35,7 +36,7 @@ use Rattle.vc2_cli.specs.declared.status.Ending.TheVariants.{Compared}
 use Rattle.vc2_cli.specs.Encode.{written_under, first_length, stream_place}
 use Rattle.vc2_cli.specs.WholePictures.{stream_of, decoded_of, plan_for}
 use Rattle.vc2_cli.specs.Trial.{Comparison, comparing, nothing_compared, trial_pictures, trial_worst}
-use Rattle.vc2_cli.specs.TrialTurn.{pictures_from, IsCompared}
+use Rattle.vc2_cli.specs.TrialTurn.{pictures_from, comparison_of, IsCompared}
 use Rattle.vc2_cli.proofs.Settling.{told}
 use Rattle.vc2_cli.proofs.EncodeChecked.{units_length, sliced, length_is}
 use Rattle.vc2_cli.proofs.TrialWritten.{trial_settings, trial_may, trial_count}
@@ -112,6 +113,9 @@ module _ (s : Asked) (seed : ℕ) (f : IsLawful s.params) (start : Comparison) w
   worst_is most [] = max_none most
   worst_is most (p ∷ pictures) = worst_is (max most (worst p (decoded p))) pictures ∙ max_before most (worst p (decoded p)) (worst_of pictures (map decoded pictures))
 
+from_none : (a : ℕ) → max 0 a ≡ a
+from_none a = grind arith
+
 -- what the comparison over the whole stream ends with
 pub compared_whole : (s : Asked) (part : TrialPart) (t : IsTrial s part) → IsSteepUnder (written_under s) → (answer_to (machine (comparing (nothing_compared s part))) (stream_of s (trial_pictures s part))).ending ≡ Compared (trial_worst s part)
 compared_whole s part t flat =
@@ -127,10 +131,10 @@ compared_whole s part t flat =
     let all = sliced s pictures settings may in
     let many = trial_count s part in
     let at_start : Behind s part.seed t.settings.params start 0 z = record { place = omega (arith, long); pictures = refl } in
-    let walk = walked s part.seed t.settings.params start (plan_for s pictures) part.pictures 0 part.pictures 0 (first_length s) s.first z small t.settings.first (going_first (written_under s) settings.lawful) all t.even refl (omega (arith, t.short)) at_start in
+    let walk = walked s part.seed t.settings.params start (plan_for s pictures) part.pictures 0 part.pictures 0 (first_length s) s.first z small t.settings.first (going_first (written_under s) settings.lawful) all t.even (omega arith) (omega (arith, t.short)) at_start in
     ap (λ (a : Answer Ending). a.ending)
     (one_unit (comparing start) nothing_yet start (Sequence s.parts) unit rest (moves_header_unit s.parts t.settings.header small) refl (omega (arith, length_is s pictures settings may, may.stream)) ∙ ap (before []) walk)
-    ∙ ap Compared (worst_is s part.seed t.settings.params start 0 pictures)
+    ∙ ap Compared (worst_is s part.seed t.settings.params start 0 pictures ∙ from_none (trial_worst s part))
 
 -- what a run over it comes to, from memory to memory
 pub is_compared : {Z : Type 0} (m : Machine Z Ending) (rest : Option (List ℕ)) (stream : List ℕ) (most : ℕ) (result : Result Ending Halt) → Ran m (Some stream) rest None None result → HaltHasCause 0 0 0 0 result → (answer_to m stream).ending ≡ Compared most → IsCompared most result
@@ -142,3 +146,13 @@ is_compared m rest stream most (Ok ending) ran why e =
 is_compared m rest stream most (Err halts.ReadFault) ran why e = absurd (omega (arith, why.1))
 is_compared m rest stream most (Err halts.OutFault) ran why e = absurd (omega (arith, why.2))
 is_compared m rest stream most (Err halts.NoMemory) ran why e = tt
+
+-- where the comparison begins
+pub begins_as : (s : Asked) (part : TrialPart) (video : VideoSeen) (shape : PictureShape) → video ≡ record { shape = shape; seed = part.seed; pictures = 0 } → frame_of shape ≡ frame_under s.parts → comparison_of video part.pictures 0 ≡ nothing_compared s part
+begins_as s part video shape new frame =
+    ap (λ (v : VideoSeen). comparison_of v part.pictures 0) new ∙ ap (λ (f : Frame). record { frame = f; seed = part.seed; pictures = 0; left = part.pictures; worst = 0 }) frame
+
+pub compared_here : (s : Asked) (part : TrialPart) (t : IsTrial s part) → IsSteepUnder (written_under s) → (start : Comparison) (stream : List ℕ) → start ≡ nothing_compared s part → stream ≡ stream_of s (trial_pictures s part)
+    → (answer_to (machine (comparing start)) stream).ending ≡ Compared (trial_worst s part)
+compared_here s part t flat start stream start_is stream_is =
+    ap (λ (x : Comparison). (answer_to (machine (comparing x)) stream).ending) start_is ∙ ap (λ (l : List ℕ). (answer_to (machine (comparing (nothing_compared s part))) l).ending) stream_is ∙ compared_whole s part t flat

@@ -2,6 +2,7 @@
 use Rattle.std.proofs.Common.{◌≡◌, ℕ, zero, suc, ◌+◌, ◌-◌, ◌*◌, ◌%◌, ◌^◌, ◌<◌, ◌≤◌, Bool, true, false, Option, List, [], ◌∷◌, ◌++◌, length, map, Ok, refl, sym, ap, subst, ◌∙◌, arith, append_assoc, append-nil}
 use Rattle.std.specs.List.{AllByRecursion, range_with_len}
 use Rattle.std.specs.Io.KnownBytes.{Appends}
+use Rattle.std.proofs.Math.Nat.{zero-mul}
 use Rattle.std.proofs.lemmas.List.{length-append}
 use Rattle.std.proofs.lemmas.List.FromFn.{length-map-range_with_len}
 use Rattle.vc2_io.specs.Memory.{SinkState}
@@ -56,9 +57,12 @@ trial_settings s l flat = record {
 pub trial_count : (s : Asked) (part : TrialPart) → length (trial_pictures s part) ≡ part.pictures
 trial_count s part = length-map-range_with_len (λ (p : ℕ). video_picture (frame_under s.parts) part.seed p) 0 part.pictures
 
+one_more : (k w : ℕ) → w + k * w ≡ suc k * w
+one_more k w = grind arith
+
 raw_total : (f : Frame) (pictures : List PictureSamples) → AllByRecursion (IsOfFrame f) pictures → length (raw_texts f pictures) ≡ length pictures * raw_length f
-raw_total f [] each = refl
-raw_total f (p ∷ pictures) each = length-append (raw_text f p) (raw_texts f pictures) ∙ ap (λ (k : ℕ). k + length (raw_texts f pictures)) (length_raw f p each.0) ∙ ap (λ (k : ℕ). raw_length f + k) (raw_total f pictures each.1)
+raw_total f [] each = sym (zero-mul (raw_length f))
+raw_total f (p ∷ pictures) each = length-append (raw_text f p) (raw_texts f pictures) ∙ ap (λ (k : ℕ). k + length (raw_texts f pictures)) (length_raw f p each.0) ∙ ap (λ (k : ℕ). raw_length f + k) (raw_total f pictures each.1) ∙ one_more (length pictures) (raw_length f)
 
 raw_few : (shape : PictureShape) → raw_length (frame_of shape) ≤ 2 ^ 27
 raw_few shape = by (is_wide (frame_of shape)) (luma_few shape) (colour_few shape)

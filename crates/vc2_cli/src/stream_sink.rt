@@ -1,6 +1,7 @@
 // A sink in memory with room for one stream.
 ghost use Rattle.std.specs.Prelude.{◌≡◌, [], IfOk};
 ghost use Rattle.vc2_cli.specs.TrialTurn.{told_of_sink};
+ghost use Rattle.vc2_cli.specs.TrialTurn as turn;
 
 use std::alloc::Global;
 use std::marker::Model;
@@ -31,6 +32,13 @@ impl StreamSink {
     {
         let inner = MemSink::new(alloc, room, 0, &[u64::MAX; 4])?;
         Ok(StreamSink { inner })
+    }
+
+    /// No call of it fails as long as there is room. A call says so and does nothing.
+    pub(crate) fn steady(&self)
+        ensures { turn.FailsWhenFull self.now }
+    {
+        let _ = &self.inner;
     }
 
     /// What was written.

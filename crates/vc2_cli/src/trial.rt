@@ -87,12 +87,18 @@ fn write_video(
 {
     for _n in 0..part.pictures {
         video.next(picture);
-        match writer.picture(picture, sink) {
+        sink.steady();
+        let written = writer.picture(picture, sink);
+        sink.steady();
+        match written {
             Ok(()) => {}
             Err(stop) => return Err(want_of(stop)),
         }
     }
-    match writer.end(sink) {
+    sink.steady();
+    let ended = writer.end(sink);
+    sink.steady();
+    match ended {
         Ok(()) => Ok(replayed_plan(writer.shapes(), settings.rate)),
         Err(stop) => Err(want_of(stop)),
     }
@@ -118,6 +124,7 @@ fn encode_video(
         Err(_) => return Err(NoMemory),
     };
     let mut video = TrialVideo::new(&shape, part.seed);
+    sink.steady();
     let started = StreamWriter::start(
         alloc,
         &settings.header,
@@ -125,6 +132,7 @@ fn encode_video(
         settings.first,
         sink,
     );
+    sink.steady();
     match started {
         Ok(mut writer) => {
             let result = write_video(settings, part, &mut video, &mut picture, &mut writer, sink);

@@ -115,5 +115,5 @@ trial-requires-clause-flat g c = (c.requires.trial (shown c.in-Trial.settings) c
 pub returns-in-Err-clause-settled : goal.returns-in-Err-clause-settled
 returns-in-Err-clause-settled g c = λ input e.
     subst (λ (r : Result Command WordFault). Settles (command_reply (seen_words r) input) (command_due (seen_words r)) input (g.S.Source.rest c.args.src.now) (g.K.Sink.written c.args.out.now) (g.K.Sink.written c.args.out.now)
-    (g.N.Sink.written c.args.note.now) (g.N.Sink.written c.refuse-in-Err.new.note) c.refuse-in-Err.result) (sym c.in-Err.is)
-    (settled_usage c.in-Err.fault input (g.S.Source.rest c.args.src.now) (g.K.Sink.written c.args.out.now) (g.N.Sink.written c.args.note.now) (g.N.Sink.written c.refuse-in-Err.new.note) c.refuse-in-Err.result e c.refuse-in-Err.ensures.told)
+    (g.N.Sink.written c.args.note.now) (g.N.Sink.written c.refuse.new.note) c.refuse.result) (sym c.in-Err.is)
+    (settled_usage c.in-Err.fault input (g.S.Source.rest c.args.src.now) (g.K.Sink.written c.args.out.now) (g.N.Sink.written c.args.note.now) (g.N.Sink.written c.refuse.new.note) c.refuse.result e c.refuse.ensures.told)

@@ -8,5 +8,5 @@ abbrev pub invariant-loop-n : goal.invariant-loop-n
 invariant-loop-n l = record {
   pictures : IsShapeOf l.picture.shape (shown l.settings).parts;
   shape : l.picture.shape ≡ l.video.shape;
-  begun : HasWritten (shown l.settings) l.part l._n l.video l.writer l.sink;
+  begun : HasWritten (shown l.settings) l.fn.part l._n l.video l.writer l.sink;
 }
