@@ -198,7 +198,7 @@ fn expect_depths(
 /// Two pictures by one wavelet.
 fn expect_wavelet(rt: &impl Abort, alloc: Global, wavelet: Wavelet) -> Result<(), Fail> {
     let first = noisy(rt, alloc, &SHAPE, 1, [(10, 1), (8, 1)])?;
-    let second = noisy(rt, alloc, &SHAPE, 4, [(1, 1023), (1, 255)])?;
+    let second = noisy(rt, alloc, first.shape(), 4, [(1, 1023), (1, 255)])?;
     expect_depths(rt, alloc, wavelet, &first, &second)?;
     drop(first);
     drop(second);
