@@ -1,11 +1,11 @@
 #!/usr/bin/env python3
 """Draws how a receiver's buffer fills under the plan of a stream.
 
-usage: tools/schedule_picture.py STREAM SLICES_A/B RATE [OUT]
+usage: tools/schedule_picture.py STREAM SLICES_A/B RATE [OUT [IDLE]]
 
 STREAM is a file; the units and their lengths are what `./vc2 chain` prints of it, the slices what `./vc2 check` counts.
-SLICES_A/B is the bytes of a slice, RATE the bytes in slots of the channel. The picture is written to OUT, or to standard
-output, as SVG. The plan is found here by search, apart from the program.
+SLICES_A/B is the bytes of a slice, RATE the bytes in slots of the channel, IDLE the idle slots behind each picture. The
+picture is written to OUT, or to standard output, as SVG. The plan is found here by search, apart from the program.
 """
 import os
 import subprocess
@@ -43,18 +43,30 @@ def ends_of(units, a, b):
     return ends + [units[-1][0] + units[-1][1]]
 
 
-def fills_of(ends, num, den):
-    """The least delay, and the bytes before and behind each slice that is taken."""
+def taken_of(units, idle):
+    """The slot of each slice, from that of the first on, and the tail's."""
+    slots, slot = [], 0
+    for _, _, slices in units:
+        slots += range(slot, slot + slices)
+        slot += slices + (idle if slices else 0)
+    return slots + [slot]
+
+
+def fills_of(ends, taken, num, den):
+    """The least delay, and the bytes before and behind each slot, in which a slice is taken or none."""
     total = ends[-1]
     arrived = lambda slot: min(total, slot * num // den)
     delay = 0
-    while any(arrived(delay + k) < end for k, end in enumerate(ends)):
+    while any(arrived(delay + slot) < end for slot, end in zip(taken, ends)):
         delay += 1
-    steps = [(slot, arrived(slot), arrived(slot)) for slot in range(delay)]
-    for k, end in enumerate(ends):
-        have = arrived(delay + k)
-        steps.append((delay + k, have - (ends[k - 1] if k else 0), have - end))
-    return delay, max(before for _, before, _ in steps[delay:]), steps
+    ends_at = {delay + slot: end for slot, end in zip(taken, ends)}
+    gone, size, steps = 0, 0, []
+    for slot in range(delay + taken[-1] + 1):
+        before = arrived(slot) - gone
+        if slot in ends_at:
+            gone, size = ends_at[slot], max(size, before)
+        steps.append((slot, before, arrived(slot) - gone))
+    return delay, size, steps
 
 
 def svg(delay, size, steps):
@@ -86,10 +98,11 @@ def svg(delay, size, steps):
 
 def main():
     stream, share, rate, *out = sys.argv[1:]
+    idle = int(out[1]) if len(out) > 1 else 0
     a, b = (int(n) for n in share.split("/"))
     num, den = (int(n) for n in rate.split("/"))
-    ends = ends_of(units_of(stream, a, b), a, b)
-    drawn = svg(*fills_of(ends, num, den))
+    units = units_of(stream, a, b)
+    drawn = svg(*fills_of(ends_of(units, a, b), taken_of(units, idle), num, den))
     if out:
         with open(out[0], "w", encoding="utf-8") as file:
             file.write(drawn)

@@ -3,8 +3,9 @@
 
 usage: tools/schedule_rows.py
 
-A stream is a list of units (head, slices, a, b). The plan is found by trying delays from 0 on; how a schedule comes out,
-by going through slice after slice. It prints the two tables of crates/codec_tests/src/schedules.rt.
+A stream is a list of units (head, slices, a, b). The plan is found by trying delays; how a schedule comes out, by going
+through slice after slice, and through the idle slots behind each picture. It prints the tables of
+crates/codec_tests/src/schedules.rt and idle_slots.rt.
 """
 import random
 
@@ -22,27 +23,48 @@ def arrived(total, rate, slots):
     return min(total, slots * rate[0] // rate[1])
 
 
-def outcome(units, rate, delay, size):
+def slots_of(units, idle):
+    """The slot of each slice, from that of the first on, and the tail's."""
+    slots, slot = [], 0
+    for _, slices, _, _ in units:
+        slots += range(slot, slot + slices)
+        slot += slices + (idle if slices else 0)
+    return slots + [slot]
+
+
+def outcome(units, rate, idle, delay, size):
     ends = ends_of(units)
     gone = 0
-    for k, need in enumerate(ends):
-        have = arrived(ends[-1], rate, delay + k)
+    for slot, need in zip(slots_of(units, idle), ends):
+        have = arrived(ends[-1], rate, delay + slot)
         if have < need:
-            return ("Late", delay + k, have, need)
+            return ("Late", delay + slot, have, need)
         if have - gone > size:
-            return ("Overfull", delay + k, have - gone, size)
+            return ("Overfull", delay + slot, have - gone, size)
         gone = need
     return ("Runs",)
 
 
-def plan(units, rate):
-    delay = 0
-    while outcome(units, rate, delay, 1 << 41)[0] != "Runs":
-        delay += 1
-    size = 0
-    while outcome(units, rate, delay, size)[0] != "Runs":
-        size += 1
-    return delay, size
+def least(does):
+    """The least number for which this holds, where it then holds for all above."""
+    low, high = 0, 1
+    while not does(high):
+        low, high = high, 2 * high
+    if low == 0 and does(0):
+        return 0
+    while high - low > 1:
+        middle = (low + high) // 2
+        low, high = (low, middle) if does(middle) else (middle, high)
+    return high
+
+
+def plan(units, rate, idle):
+    delay = least(lambda d: outcome(units, rate, idle, d, 1 << 41)[0] == "Runs")
+    return delay, least(lambda s: outcome(units, rate, idle, delay, s)[0] == "Runs")
+
+
+def units_of(header, pictures, head, slices, a, b):
+    return [(header, 0, 1, 1)] + [(head, slices, a, b)] * pictures + [(13, 0, 1, 1)]
 
 
 def streams(random_numbers, count):
@@ -52,26 +74,56 @@ def streams(random_numbers, count):
         pictures = random_numbers.randint(0, 3)
         slices = random_numbers.randint(1, 9)
         head = random_numbers.randint(13, 40)
-        units = [(17, 0, 1, 1)]
-        units += [(head, slices, a, b)] * pictures
-        units += [(13, 0, 1, 1)]
         rate = (random_numbers.randint(1, 40), random_numbers.choice([1, 1, 2, 3, 10]))
-        yield (17, pictures, head, slices, a, b), units, rate
+        yield (17, pictures, head, slices, a, b), rate
+
+
+def outcome_text(units, rate, idle, delay, size):
+    kind, *numbers = outcome(units, rate, idle, delay, size)
+    if kind == "Runs":
+        return "Outcome::Runs"
+    names = ("slot", "have", "need") if kind == "Late" else ("slot", "fill", "size")
+    fields = ", ".join(f"{name}: {number}" for name, number in zip(names, numbers))
+    return f"Outcome::{kind} {{ {fields} }}"
+
+
+# The smallest stream and one of two pictures, at the default rates and at the rates' bounds, with idle slots up to their bound.
+BOUNDS = [
+    ((17, pictures, 20, 1, 1, 1), rate, idle)
+    for pictures, rate, idle in [
+        (2, (21, 4), 3),
+        (1, (21, 2), 1),
+        (0, (21, 4), 3),
+        (2, (21, 1 + (1 << 20)), 1 << 20),
+        (2, (1, (1 << 32) - 1), 1 << 20),
+        (2, ((1 << 32) - 1, 1), 1 << 20),
+        (2, (1, (1 << 32) - 1), (1 << 32) - 1),
+        (2, ((1 << 32) - 1, (1 << 32) - 1), (1 << 32) - 1),
+    ]
+]
 
 
 def main():
     random_numbers = random.Random(7)
     print("const PLANS:")
-    for row, units, rate in streams(random_numbers, 20):
-        print(f"    ({row}, {rate}, {plan(units, rate)}),")
+    for row, rate in streams(random_numbers, 20):
+        print(f"    ({row}, {rate}, {plan(units_of(*row), rate, 0)}),")
     print("const OUTCOMES:")
-    for row, units, rate in streams(random_numbers, 8):
-        delay, size = plan(units, rate)
+    for row, rate in streams(random_numbers, 8):
+        units = units_of(*row)
+        delay, size = plan(units, rate, 0)
         for d, s in ((delay, size - 1), (max(delay, 1) - 1, size)):
-            kind, *numbers = outcome(units, rate, d, s)
-            names = ("slot", "have", "need") if kind == "Late" else ("slot", "fill", "size")
-            fields = ", ".join(f"{name}: {number}" for name, number in zip(names, numbers))
-            print(f"    ({row}, {rate}, ({d}, {s}), Outcome::{kind} {{ {fields} }}),")
+            print(f"    ({row}, {rate}, ({d}, {s}), {outcome_text(units, rate, 0, d, s)}),")
+    print("const IDLE_PLANS:")
+    rows = BOUNDS + [(row, rate, random_numbers.choice([1, 2, 3, 10, 100])) for row, rate in streams(random_numbers, 16)]
+    for row, rate, idle in rows:
+        print(f"    ({row}, {rate}, {idle}, {plan(units_of(*row), rate, idle)}),")
+    print("const IDLE_OUTCOMES:")
+    for row, rate, idle in BOUNDS[:1] + [row for row in rows[len(BOUNDS):] if row[0][1] > 1][:4]:
+        units = units_of(*row)
+        delay, size = plan(units, rate, idle)
+        for d, s, i in ((delay, size, idle - 1), (delay, size, idle + 1), (delay, size - 1, idle), (max(delay, 1) - 1, size, idle)):
+            print(f"    ({row}, {rate}, {i}, ({d}, {s}), {outcome_text(units, rate, i, d, s)}),")
 
 
 if __name__ == "__main__":

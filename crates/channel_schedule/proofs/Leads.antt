@@ -12,27 +12,27 @@ use Rattle.channel_schedule.specs.Courses.{course_of, count_in, AreInTime}
 use Rattle.channel_schedule.specs.Plans.{IsGreatest, lead_of}
 use Rattle.channel_schedule.proofs.Units.{end_of-most}
 
-pub lead_low : (shapes : UnitList) (rate : Rate) (k : ℕ) → StandInTurn 0 shapes.units shapes.total → shapes.total ≤ 2 ^ 40 → rate.den < 2 ^ 32 → lead_of shapes rate k ≤ 2 ^ 72
-lead_low shapes rate k in_turn most narrow =
+pub lead_low : (shapes : UnitList) (rate : Rate) (idle : ℕ) (k : ℕ) → StandInTurn 0 shapes.units shapes.total → shapes.total ≤ 2 ^ 40 → rate.den < 2 ^ 32 → lead_of shapes rate idle k ≤ 2 ^ 72
+lead_low shapes rate idle k in_turn most narrow =
     let most_end : end_of shapes.units shapes.total k ≤ 2 ^ 40 = omega (arith, end_of-most shapes.units 0 shapes.total k in_turn) in
     let most : end_of shapes.units shapes.total k * rate.den ≤ 2 ^ 40 * rate.den = mul-le-mul_right rate.den most_end in
     omega (arith, most)
 
 -- a slice is in time where the delay makes up for its lead
-pub in_time-lead : (shapes : UnitList) (rate : Rate) (delay k : ℕ) → IsRate rate → StandInTurn 0 shapes.units shapes.total → lead_of shapes rate k ≤ delay * rate.num
-    → end_of shapes.units shapes.total k ≤ arrived shapes.total rate (delay + slots_to shapes.units k)
-in_time-lead shapes rate delay k some in_turn low =
+pub in_time-lead : (shapes : UnitList) (rate : Rate) (idle : ℕ) (delay k : ℕ) → IsRate rate → StandInTurn 0 shapes.units shapes.total → lead_of shapes rate idle k ≤ delay * rate.num
+    → end_of shapes.units shapes.total k ≤ arrived shapes.total rate (delay + slots_to idle shapes.units k)
+in_time-lead shapes rate idle delay k some in_turn low =
     let end = end_of shapes.units shapes.total k in
-    let all : (delay + slots_to shapes.units k) * rate.num ≡ delay * rate.num + slots_to shapes.units k * rate.num = add-mul delay (slots_to shapes.units k) rate.num in
-    let part : end_of shapes.units shapes.total k ≤ (delay + slots_to shapes.units k) * rate.num / rate.den =
-    le-div_of_le ((delay + slots_to shapes.units k) * rate.num) rate.den (end_of shapes.units shapes.total k) some.some_slots (omega (arith, low, all)) in
+    let all : (delay + slots_to idle shapes.units k) * rate.num ≡ delay * rate.num + slots_to idle shapes.units k * rate.num = add-mul delay (slots_to idle shapes.units k) rate.num in
+    let part : end_of shapes.units shapes.total k ≤ (delay + slots_to idle shapes.units k) * rate.num / rate.den =
+    le-div_of_le ((delay + slots_to idle shapes.units k) * rate.num) rate.den (end_of shapes.units shapes.total k) some.some_slots (omega (arith, low, all)) in
     omega (arith, part, end_of-most shapes.units 0 shapes.total k in_turn)
 
-pub lead-in_time : (shapes : UnitList) (rate : Rate) (delay k : ℕ) → IsRate rate → end_of shapes.units shapes.total k ≤ arrived shapes.total rate (delay + slots_to shapes.units k) → lead_of shapes rate k ≤ delay * rate.num
-lead-in_time shapes rate delay k some low =
-    let all : (delay + slots_to shapes.units k) * rate.num ≡ delay * rate.num + slots_to shapes.units k * rate.num = add-mul delay (slots_to shapes.units k) rate.num in
-    let part : end_of shapes.units shapes.total k * rate.den ≤ (delay + slots_to shapes.units k) * rate.num =
-    le_of_le-div ((delay + slots_to shapes.units k) * rate.num) rate.den (end_of shapes.units shapes.total k) some.some_slots (omega (arith, low)) in
+pub lead-in_time : (shapes : UnitList) (rate : Rate) (idle : ℕ) (delay k : ℕ) → IsRate rate → end_of shapes.units shapes.total k ≤ arrived shapes.total rate (delay + slots_to idle shapes.units k) → lead_of shapes rate idle k ≤ delay * rate.num
+lead-in_time shapes rate idle delay k some low =
+    let all : (delay + slots_to idle shapes.units k) * rate.num ≡ delay * rate.num + slots_to idle shapes.units k * rate.num = add-mul delay (slots_to idle shapes.units k) rate.num in
+    let part : end_of shapes.units shapes.total k * rate.den ≤ (delay + slots_to idle shapes.units k) * rate.num =
+    le_of_le-div ((delay + slots_to idle shapes.units k) * rate.num) rate.den (end_of shapes.units shapes.total k) some.some_slots (omega (arith, low)) in
     omega (arith, part, all)
 
 -- a quotient that is rounded up is the least that reaches the number
@@ -52,11 +52,11 @@ ceil_low lead num one =
 
 -- ---- the delay of a plan
 
-module _ (shapes : UnitList) (rate : Rate) (lead delay : ℕ) (some : IsRate rate) (is : delay ≡ lead / rate.num + min 1 (lead % rate.num)) (most : IsGreatest (lead_of shapes rate) (count_in shapes) lead) where
-  pub plan_in_time : StandInTurn 0 shapes.units shapes.total → AreInTime (course_of shapes rate delay) (count_in shapes)
+module _ (shapes : UnitList) (rate : Rate) (idle : ℕ) (lead delay : ℕ) (some : IsRate rate) (is : delay ≡ lead / rate.num + min 1 (lead % rate.num)) (most : IsGreatest (lead_of shapes rate idle) (count_in shapes) lead) where
+  pub plan_in_time : StandInTurn 0 shapes.units shapes.total → AreInTime (course_of shapes rate idle delay) (count_in shapes)
   plan_in_time in_turn k low =
-      in_time-lead shapes rate delay k some in_turn (rw is (omega (arith, most.above k low, (div_ceil_times lead rate.num some.some_bytes).0)))
+      in_time-lead shapes rate idle delay k some in_turn (rw is (omega (arith, most.above k low, (div_ceil_times lead rate.num some.some_bytes).0)))
 
-  pub plan_least : (d : ℕ) → AreInTime (course_of shapes rate d) (count_in shapes) → delay ≤ d
+  pub plan_least : (d : ℕ) → AreInTime (course_of shapes rate idle d) (count_in shapes) → delay ≤ d
   plan_least d in_time =
-      rw is (ceil_least lead rate.num d some.some_bytes (most.least (d * rate.num) (λ k low. lead-in_time shapes rate d k some (in_time k low))))
+      rw is (ceil_least lead rate.num d some.some_bytes (most.least (d * rate.num) (λ k low. lead-in_time shapes rate idle d k some (in_time k low))))

@@ -7,6 +7,7 @@ ghost use Rattle.channel_schedule.specs.Plans.{IsGreatest};
 use crate::arrivals::{arrived, arriving};
 use crate::lead::ends_of;
 use crate::schedule::Rate;
+use crate::slots::slots_of;
 use slice_geometry::{UnitShape, UnitShapes};
 
 // The place where the last slice of a unit ends, or of the units before.
@@ -46,10 +47,10 @@ fn unit_fill(unit: UnitShape, total: u64, rate: Rate, slot: u128, gone: u64) -> 
 }
 
 // The most bytes that are held as all slices and the tail are taken.
-pub(crate) fn fill(shapes: &UnitShapes, rate: Rate, delay: u128) -> u64
+pub(crate) fn fill(shapes: &UnitShapes, rate: Rate, idle: u32, delay: u128) -> u64
     requires rate { 1 ≤ rate.den }
     requires delay { delay ≤ 2 ^ 72 }
-    ensures { IsGreatest (held (course_of shapes.now rate delay)) (count_in shapes.now) result }
+    ensures { IsGreatest (held (course_of shapes.now rate idle delay)) (count_in shapes.now) result }
 {
     let total = shapes.total();
     let mut slot = 0u128;
@@ -59,7 +60,7 @@ pub(crate) fn fill(shapes: &UnitShapes, rate: Rate, delay: u128) -> u64
         let unit = shapes.get(i);
         most = most.max(unit_fill(unit, total, rate, delay + slot, gone));
         gone = gone_behind(unit, gone);
-        slot += u128::from(unit.slices);
+        slot += slots_of(unit, idle);
     }
     let have = arrived(total, rate, delay + slot);
     most.max(have.saturating_sub(gone))

@@ -6,6 +6,7 @@ ghost use Rattle.channel_schedule.specs.Plans.{IsGreatest, lead_of, lead_in, ask
 ghost use Rattle.channel_schedule.specs.Stepping.{IsAt};
 
 use crate::schedule::Rate;
+use crate::slots::slots_of;
 use crate::stepped_quotient::SteppedQuotient;
 use slice_geometry::{UnitShape, UnitShapes};
 
@@ -78,8 +79,8 @@ const NO_SLICES: UnitShape = UnitShape {
 };
 
 // The greatest lead of all slices and the tail. Pictures that are alike are gone through once.
-pub(crate) fn lead(shapes: &UnitShapes, rate: Rate) -> u128
-    ensures most { IsGreatest (lead_of shapes.now rate) (count_in shapes.now) result }
+pub(crate) fn lead(shapes: &UnitShapes, rate: Rate, idle: u32) -> u128
+    ensures most { IsGreatest (lead_of shapes.now rate idle) (count_in shapes.now) result }
     ensures low { result ≤ 2 ^ 72 }
     ensures in_turn { StandInTurn 0 shapes.now.units shapes.now.total }
 {
@@ -93,7 +94,7 @@ pub(crate) fn lead(shapes: &UnitShapes, rate: Rate) -> u128
         known = asked_like(unit, rate, like, known);
         like = unit;
         most = most.max(unit_lead(unit, rate, slot, known));
-        slot += u128::from(unit.slices);
+        slot += slots_of(unit, idle);
     }
     let asked = u128::from(total) * u128::from(rate.den);
     let given = slot * u128::from(rate.num);

@@ -1,6 +1,7 @@
 //! The channel schedule: how long a receiver waits before it takes the first slice, and how many bytes it holds.
 //!
-//! A channel gives bytes at a rate. In each slot one slice is taken, from the slot of the delay on.
+//! A channel gives bytes at a rate. In each slot one slice is taken, from the slot of the delay on; behind each picture
+//! some slots may be idle, in which none is taken.
 #![tactic(auto)]
 
 mod arrivals;
@@ -10,6 +11,7 @@ mod lead;
 mod planning;
 mod replaying;
 mod schedule;
+mod slots;
 mod stepped_quotient;
 
 pub use laws::{each_has_one_outcome, each_has_one_plan, plans_are_least, plans_replay};

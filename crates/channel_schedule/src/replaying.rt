@@ -8,6 +8,7 @@ use crate::arrivals::{arrived, arriving};
 use crate::fill::gone_behind;
 use crate::lead::ends_of;
 use crate::schedule::{Outcome, Rate, Schedule};
+use crate::slots::slots_of;
 use slice_geometry::{UnitShape, UnitShapes};
 
 // Goes through the slices of a unit.
@@ -73,12 +74,13 @@ fn replay_tail(total: u64, rate: Rate, slot: u128, gone: u64, size: u64) -> Outc
 /// arrived is late; else, where more bytes are held than there is room for, the buffer is too full.
 pub fn replay(shapes: &UnitShapes, schedule: &Schedule) -> Outcome
     requires { IsSchedule schedule.now }
-    ensures { IsOutcome (course_of shapes.now schedule.now.rate schedule.now.delay) schedule.now.size (count_in shapes.now) result }
+    ensures { IsOutcome (course_of shapes.now schedule.now.rate schedule.now.idle schedule.now.delay) schedule.now.size (count_in shapes.now) result }
 {
     let total = shapes.total();
     let rate = schedule.rate;
     let delay = schedule.delay;
     let size = schedule.size;
+    let idle = schedule.idle;
     let mut slot = 0u128;
     let mut gone = 0u64;
     for i in 0..shapes.len() {
@@ -88,7 +90,7 @@ pub fn replay(shapes: &UnitShapes, schedule: &Schedule) -> Outcome
             fault => return fault,
         }
         gone = gone_behind(unit, gone);
-        slot += u128::from(unit.slices);
+        slot += slots_of(unit, idle);
     }
     replay_tail(total, rate, delay + slot, gone, size)
 }

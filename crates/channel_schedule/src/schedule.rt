@@ -6,13 +6,14 @@ pub struct Rate {
     pub den: u32,
 }
 
-/// How a stream is taken from the channel: the first slice after `delay` slots, from a buffer of `size` bytes.
-/// The delay is at most 2^72.
+/// How a stream is taken from the channel: the first slice after `delay` slots, from a buffer of `size` bytes, with `idle`
+/// slots behind each picture in which no slice is taken. The delay is at most 2^72.
 #[derive(Clone, Copy, Debug, PartialEq, Eq)]
 pub struct Schedule {
     pub rate: Rate,
     pub delay: u128,
     pub size: u64,
+    pub idle: u32,
 }
 
 /// How a schedule comes out.

@@ -6,6 +6,8 @@ mod codes;
 #[cfg(test)]
 mod heads;
 #[cfg(test)]
+mod idle_slots;
+#[cfg(test)]
 mod layouts;
 #[cfg(test)]
 mod parameters;

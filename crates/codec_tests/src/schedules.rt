@@ -10,10 +10,17 @@ use std::process::Abort;
 
 /// The sequence header's length; how many pictures, and of each the bytes before its slices, how many slices it has, and
 /// their share a/b.
-type Stream = (u64, u32, u64, u32, u32, u32);
+pub(crate) type Stream = (u64, u32, u64, u32, u32, u32);
 
-// Appends a unit behind the others.
-fn append(rt: &impl Abort, shapes: &mut UnitShapes, head: u64, slices: u32, a: u32, b: u32) {
+/// Appends a unit behind the others.
+pub(crate) fn append(
+    rt: &impl Abort,
+    shapes: &mut UnitShapes,
+    head: u64,
+    slices: u32,
+    a: u32,
+    b: u32,
+) {
     assert!(rt; shapes.reserve(1).is_ok());
     let start = shapes.total();
     assert!(rt; 1 <= b && b <= a && slices <= 1 << 20 && head < 1 << 40);
@@ -30,7 +37,7 @@ fn append(rt: &impl Abort, shapes: &mut UnitShapes, head: u64, slices: u32, a: u
 }
 
 // Pictures that are alike, behind a sequence header and before an end of sequence.
-fn shapes_of(rt: &impl Abort, alloc: Global, stream: Stream) -> UnitShapes {
+pub(crate) fn shapes_of(rt: &impl Abort, alloc: Global, stream: Stream) -> UnitShapes {
     let (header, pictures, head, slices, a, b) = stream;
     let mut shapes = UnitShapes::new(alloc);
     append(rt, &mut shapes, header, 0, 1, 1);
@@ -41,7 +48,7 @@ fn shapes_of(rt: &impl Abort, alloc: Global, stream: Stream) -> UnitShapes {
     shapes
 }
 
-fn rate_of(rt: &impl Abort, rate: (u32, u32)) -> Rate
+pub(crate) fn rate_of(rt: &impl Abort, rate: (u32, u32)) -> Rate
     ensures { IsRate result }
 {
     let (num, den) = rate;
@@ -86,7 +93,7 @@ const PLANS: [(Stream, (u32, u32), (u128, u64)); 28] = [
 fn plans_are_the_least(rt: HostRuntime) {
     for (stream, rate, wanted) in &PLANS {
         let shapes = shapes_of(&rt, rt.alloc(), *stream);
-        let found = plan(&shapes, rate_of(&rt, *rate));
+        let found = plan(&shapes, rate_of(&rt, *rate), 0);
         assert_same(&rt, (found.delay, found.size), *wanted);
         assert_same(&rt, replay(&shapes, &found), Outcome::Runs);
     }
@@ -307,6 +314,7 @@ fn schedules_come_out_as_worked(rt: HostRuntime) {
             rate: rate_of(&rt, *rate),
             delay: *delay,
             size: *size,
+            idle: 0,
         };
         assert_same(&rt, replay(&shapes, &schedule), *wanted);
     }

@@ -23,7 +23,7 @@ fn lift_beside(dst: &mut [i32], other: &[i32], wavelet: Wavelet, kind: PairStep)
 }
 
 // A step on the even places, from the odd ones beside them.
-fn lift_even_half(even: &mut [i32], odd: &[i32], wavelet: Wavelet, kind: PairStep)
+pub(crate) fn lift_even_half(even: &mut [i32], odd: &[i32], wavelet: Wavelet, kind: PairStep)
     requires some { 1 ≤ length even.old }
     requires same_len { length odd.now ≡ length even.old }
     requires even_small { EachWithin (2 ^ 29) even.old }
@@ -37,7 +37,7 @@ fn lift_even_half(even: &mut [i32], odd: &[i32], wavelet: Wavelet, kind: PairSte
 }
 
 // A step on the odd places, from the even ones beside them.
-fn lift_odd_half(odd: &mut [i32], even: &[i32], wavelet: Wavelet, kind: PairStep)
+pub(crate) fn lift_odd_half(odd: &mut [i32], even: &[i32], wavelet: Wavelet, kind: PairStep)
     requires some { 1 ≤ length odd.old }
     requires same_len { length even.now ≡ length odd.old }
     requires odd_small { EachWithin (2 ^ 29) odd.old }

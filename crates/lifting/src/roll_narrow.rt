@@ -163,7 +163,7 @@ fn odd_sides(
 }
 
 // Row y of LL and HL, lifted, in row r of the scratch.
-fn make_even(
+pub(crate) fn make_even(
     scratch: &mut NarrowPlane,
     r: u32,
     ll: &NarrowPlane,
@@ -205,7 +205,7 @@ fn make_even(
 }
 
 // Row y of LH and HH, lifted between the rows p and q of the scratch, in row r of it.
-fn make_odd(
+pub(crate) fn make_odd(
     scratch: &mut NarrowPlane,
     r: u32,
     p: u32,

@@ -14,8 +14,8 @@ use crate::Wavelet;
 use crate::roll_narrow::{narrowed, roll_up};
 use planes::{Bands, NarrowPlane, Plane};
 
-// One level up: the plane's first w columns and h rows hold LL, and then its first 2w and 2h hold the level.
-fn synth_up(
+/// One level up: the plane's first w columns and h rows hold LL, and then its first 2w and 2h hold the level.
+pub(crate) fn synth_up(
     wavelet: Wavelet,
     plane: &mut NarrowPlane,
     scratch: &mut NarrowPlane,
@@ -48,8 +48,8 @@ fn synth_up(
     roll_up(plane, scratch, hl, lh, hh, w, h, wavelet);
 }
 
-// The lowest band, in the plane's first columns and rows.
-fn put_lowest(plane: &mut NarrowPlane, band: &Plane)
+/// The lowest band, in the plane's first columns and rows.
+pub(crate) fn put_lowest(plane: &mut NarrowPlane, band: &Plane)
     requires fits { band.now.w ≤ plane.old.w }
     requires high { height band.now ≤ height plane.old }
     requires small { GridWithin (height band.now) band.now.w (2 ^ 29) (at band.now) }

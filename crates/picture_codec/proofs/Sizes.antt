@@ -1,9 +1,10 @@
 -- Sizes of padded components, and what synthesis asks of taken bands.
-use Rattle.std.proofs.Common.{◌≡◌, ℕ, zero, suc, ◌+◌, ◌*◌, ◌/◌, ◌%◌, ◌^◌, ◌<◌, ◌≤◌, inr, sym, ap, subst, ◌∙◌, arith}
+use Rattle.std.proofs.Common.{◌≡◌, ℕ, zero, suc, ◌+◌, ◌*◌, ◌/◌, ◌%◌, ◌^◌, ◌<◌, ◌≤◌, inl, inr, refl, pos, sym, ap, subst, ◌∙◌, arith}
 use Rattle.std.proofs.Math.Nat.{mul_comm}
 use Rattle.std.specs.Prelude.{ℤ}
 use Rattle.planes.specs.Raster.{Raster, height, at}
-use Rattle.planes.specs.Subbands.{BandStack, band_of, subband_length}
+use Rattle.planes.specs.Subbands.{BandStack, BandExists, band_of, subband_length}
+use Rattle.planes.specs.Bounded.{AreBandsWithin}
 use Rattle.dc_prediction.specs.Prediction.{reach}
 use Rattle.slice_geometry.specs.declared.Size.{Size}
 use Rattle.slice_geometry.specs.Shape.{IsSize}
@@ -12,6 +13,7 @@ use Rattle.slice_geometry.specs.Geometry.{padded_length, band_size, holding}
 use Rattle.slice_geometry.proofs.Lengths.{padded_most}
 use Rattle.slice_geometry.proofs.Places.{holding_below}
 use Rattle.lifting.specs.Bands.{coefficients_of, lowest, AgreeInSize, AreSmall}
+use Rattle.lifting.specs.SampleRoom.{HaveRoom, AreNarrowIn, synthesis_of}
 use Rattle.lifting.specs.Ranges.{GridWithin}
 use Rattle.lifting.proofs.Levels as levels
 use Rattle.lifting.specs.declared.Wavelet.{Wavelet}
@@ -19,7 +21,7 @@ use Rattle.lifting.specs.Transform.{synthesis}
 use Rattle.lifting.specs.Ranges.{SameInside}
 use Rattle.picture_codec.specs.Pictures.{sample_of}
 use Rattle.picture_codec.specs.Samples.{tabulated}
-use Rattle.picture_codec.specs.Decoding.{AreTaken, ArePadded, synthesised}
+use Rattle.picture_codec.specs.Decoding.{AreTaken, ArePadded, HasNarrowRoom, synthesised}
 use Rattle.picture_codec.proofs.Tables.{tabulated_same}
 use Rattle.picture_codec.specs.Taking.{holder}
 use Rattle.picture_codec.proofs.Taking.{times-le, times-suc}
@@ -107,3 +109,63 @@ module _ (s : Slicing) (size : Size) (b : BandStack) (plane scratch : Raster ℤ
       (same y x (omega (arith, y_in, padded_covers s.depth size.h low, room.rows)) (omega (arith, x_in, padded_covers s.depth size.w low, room.columns))
       ∙ ap (λ (h : ℕ). synthesis wavelet h (lowest b.depth plane.w) (coefficients_of b) b.depth y x) rows
       ∙ ap (λ (w : ℕ). synthesis wavelet (band_size b.depth 0 size).h w (coefficients_of b) b.depth y x) columns))
+
+-- ---- in 32 bits
+
+module _ (s : Slicing) (size : Size) (b : BandStack) (n : ℕ) (taken : AreTaken s size n b) (low : s.depth ≤ 4) (is_size : IsSize size.w size.h) where
+  abbrev w : ℕ
+  w = padded_length s.depth size.w
+
+  abbrev h : ℕ
+  h = padded_length s.depth size.h
+
+  whole_columns : w % 2 ^ b.depth ≡ 0
+  whole_columns = rw taken.depth (padded_whole s.depth size.w low)
+
+  whole_rows : h % 2 ^ b.depth ≡ 0
+  whole_rows = rw taken.depth (padded_whole s.depth size.h low)
+
+  pub narrow_room : (plane scratch : Raster ℤ) → HasNarrowRoom s size plane scratch → HaveRoom b w h plane scratch
+  narrow_room plane scratch room = record {
+    some_columns = omega (arith, is_size.some_columns, padded_covers s.depth size.w low);
+    some_rows = omega (arith, is_size.some_rows, padded_covers s.depth size.h low);
+    low = omega (arith, padded_most s.depth size.h low is_size.height);
+    whole_columns = whole_columns;
+    whole_rows = whole_rows;
+    bands = taken.sizes;
+    columns = omega (arith, room.columns);
+    rows = omega (arith, room.rows);
+    scratch_columns = omega (arith, room.scratch_columns);
+    scratch_rows = omega (arith, room.scratch_rows);
+    three_rows = omega (arith, room.scratch_rows);
+  }
+
+  -- bands within 2 ^ 18, at the places of a level
+  narrow_band : (level orient : ℕ) → BandExists b.depth level orient → AreBandsWithin (pos (2 ^ 18)) b → GridWithin (subband_length b.depth level h) (subband_length b.depth level w) (2 ^ 18) (at (band_of b level orient))
+  narrow_band level orient exists within y x ly lx =
+      let p = within level orient exists y x (subst (λ v. y < v) (sym (taken.sizes.heights level orient exists)) ly) (subst (λ v. x < v) (sym (taken.sizes.widths level orient exists)) lx) in
+      record { low = p.low; high = p.high }
+
+  narrow_upper : (m orient : ℕ) → m < b.depth → 1 ≤ orient → orient ≤ 3 → AreBandsWithin (pos (2 ^ 18)) b → GridWithin (lowest b.depth h * 2 ^ m) (lowest b.depth w * 2 ^ m) (2 ^ 18) (at (band_of b (suc m) orient))
+  narrow_upper m orient lt some few within =
+      let next : m + 1 ≡ suc m = omega arith in
+      let rows : subband_length b.depth (suc m) h ≡ lowest b.depth h * 2 ^ m = ap (λ (l : ℕ). subband_length b.depth l h) (sym next) ∙ levels.band_size h b.depth whole_rows m lt in
+      let columns : subband_length b.depth (suc m) w ≡ lowest b.depth w * 2 ^ m = ap (λ (l : ℕ). subband_length b.depth l w) (sym next) ∙ levels.band_size w b.depth whole_columns m lt in
+      let here = narrow_band (suc m) orient (inr (omega arith, omega arith, some, few)) within in
+      λ y x ly lx. here y x (subst (λ v. y < v) (sym rows) ly) (subst (λ v. x < v) (sym columns) lx)
+
+  pub narrow_in : AreBandsWithin (pos (2 ^ 18)) b → AreNarrowIn b w h
+  narrow_in within = record {
+    ll = narrow_band 0 0 (inl (refl, refl)) within;
+    hl = λ m lt. narrow_upper m 1 lt (omega arith) (omega arith) within;
+    lh = λ m lt. narrow_upper m 2 lt (omega arith) (omega arith) within;
+    hh = λ m lt. narrow_upper m 3 lt (omega arith) (omega arith) within;
+  }
+
+  pub synthesised_is : (wavelet : Wavelet) (depth : ℕ) → tabulated size (λ y x. sample_of depth (synthesis_of wavelet b w h y x)) ≡ synthesised wavelet size depth b
+  unfolding synthesised
+  synthesised_is wavelet depth =
+      let rows : lowest b.depth h ≡ (band_size b.depth 0 size).h = ap (λ (d : ℕ). padded_length d size.h / 2 ^ b.depth) (sym taken.depth) in
+      let columns : lowest b.depth w ≡ (band_size b.depth 0 size).w = ap (λ (d : ℕ). padded_length d size.w / 2 ^ b.depth) (sym taken.depth) in
+      ap (λ (m : ℕ). tabulated size (λ y x. sample_of depth (synthesis wavelet m (lowest b.depth w) (coefficients_of b) b.depth y x))) rows
+      ∙ ap (λ (m : ℕ). tabulated size (λ y x. sample_of depth (synthesis wavelet (band_size b.depth 0 size).h m (coefficients_of b) b.depth y x))) columns

@@ -81,6 +81,13 @@ pub record ArePadded (s : Slicing) (size : Size) (plane scratch : Raster ℤ) : 
   pub scratch_columns : scratch.w ≡ padded_length s.depth size.w
   pub scratch_rows : height scratch ≡ padded_length s.depth size.h
 
+-- the room for a component's synthesis in 32 bits: half of its padded size each way, rows of that size, and three more
+pub record HasNarrowRoom (s : Slicing) (size : Size) (plane scratch : Raster ℤ) : Type 0 where
+  pub columns : plane.w ≡ padded_length s.depth size.w / 2
+  pub rows : height plane ≡ padded_length s.depth size.h / 2
+  pub scratch_columns : scratch.w ≡ padded_length s.depth size.w
+  pub scratch_rows : height scratch ≡ padded_length s.depth size.h / 2 + 3
+
 -- ---- its calls
 
 -- the place of the next slice
@@ -127,10 +134,13 @@ pub record IsSliceRefused (bytes : List ℕ) (fault : SliceFault) (old new : Dec
   pub others : AllKeepOthers old.params.slicing old.shape (column_of old) (row_of_slices old) old.bands new.bands
 
 -- what a decoder keeps: the room for synthesis, and bands that the slices so far were taken into
-pub record IsSound (s : Slicing) (shape : PictureShape) (next : ℕ) (bands : Trio) (luma_plane luma_scratch colour_plane colour_scratch : Raster ℤ) : Type 0 where
+pub record IsSound (s : Slicing) (shape : PictureShape) (next : ℕ) (bands : Trio)
+    (luma_plane luma_scratch luma_narrow luma_narrow_scratch colour_plane colour_scratch colour_narrow colour_narrow_scratch : Raster ℤ) : Type 0 where
   pub taken : AllTaken s shape next bands
   pub luma : ArePadded s shape.luma luma_plane luma_scratch
+  pub luma_in_32_bits : HasNarrowRoom s shape.luma luma_narrow luma_narrow_scratch
   pub colour : ArePadded s shape.colour colour_plane colour_scratch
+  pub colour_in_32_bits : HasNarrowRoom s shape.colour colour_narrow colour_narrow_scratch
 
 -- A decoder that took these slices, in order, since it was made or last restarted.
 pub record HasTaken (slices : List (List ℕ)) (d : Decoding) : Type 0 where

@@ -1,16 +1,17 @@
 //! The decoder of pictures.
 
-ghost use Rattle.std.specs.Prelude.{◌≡◌, ◌≢◌, ℕ, List, length, IfOk, MatchResult, false, None, Some};
+ghost use Rattle.std.specs.Prelude.{◌≡◌, ◌≢◌, ◌^◌, ℕ, pos, List, length, IfOk, MatchResult, false, None, Some};
+ghost use Rattle.planes.specs.Bounded.{AreBandsWithin};
 ghost use Rattle.slice_geometry.specs.Shape.{IsSize};
 ghost use Rattle.slice_geometry.specs.Slicing.{IsAllowed, slice_count};
 ghost use Rattle.transform_params.specs.Views.{params_of};
 ghost use Rattle.picture_codec.specs.Pictures as pictures;
 ghost use Rattle.slice_geometry.specs.Frames.{frame_of};
 ghost use Rattle.picture_codec.specs.Samples.{picture_of};
-ghost use Rattle.picture_codec.specs.Decoding.{AreTaken, ArePadded, AreNewBands, IsNewDecoder, IsTaken, IsSliceRefused, HasTaken, with_synthesised, synthesised_picture, wanted_of};
+ghost use Rattle.picture_codec.specs.Decoding.{AreTaken, ArePadded, HasNarrowRoom, AreNewBands, IsNewDecoder, IsTaken, IsSliceRefused, HasTaken, with_synthesised, synthesised_picture, wanted_of};
 
 use crate::picture::Picture;
-use crate::workspace::{Workspace, size_of, zero_trio};
+use crate::workspace::{NarrowWorkspace, Workspace, size_of, zero_trio};
 use lifting::synth;
 use planes::{Bands, NoMemory, Trio};
 use slice_decoder::{SliceFault, decode_slice};
@@ -19,8 +20,11 @@ use std::alloc::Global;
 use std::marker::Model;
 use transform_params::TransformParams;
 
-// The samples of a component from its bands.
-fn show_component(
+// The greatest magnitude in bands that are synthesised in 32 bits.
+const MOST_NARROW: i64 = 262144;
+
+// The samples of a component from its bands, in 64 bits.
+fn show_in_64_bits(
     params: &TransformParams,
     bands: &Bands,
     room: &mut Workspace,
@@ -39,17 +43,64 @@ fn show_component(
     picture.show(c, &room.plane);
 }
 
+// The same in 32 bits, of bands whose magnitudes are at most 2^18.
+fn show_in_32_bits(
+    params: &TransformParams,
+    bands: &Bands,
+    room: &mut NarrowWorkspace,
+    c: Component,
+    picture: &mut Picture,
+)
+    requires taken { AreTaken params.now.layout (pictures.size_of (frame_of picture.old.shape) c) (slice_count params.now.layout) bands.now }
+    requires narrow { AreBandsWithin (pos (2 ^ 18)) bands.now }
+    requires room { HasNarrowRoom params.now.layout (pictures.size_of (frame_of picture.old.shape) c) room.old.plane room.old.scratch }
+    ensures picture { picture.new ≡ with_synthesised params.now.wavelet picture.old c bands.now }
+    ensures room { HasNarrowRoom params.now.layout (pictures.size_of (frame_of picture.old.shape) c) room.new.plane room.new.scratch }
+    ensures allowed { IsAllowed params.now.layout }
+{
+    // The rules of a layout.
+    let _ = params.layout.depth();
+    let padded = params.layout.padded_size(size_of(picture.shape(), c));
+    picture.synthesise(c, params.wavelet, bands, padded, room);
+}
+
+// The samples of a component from its bands: in 32 bits where their magnitudes allow that.
+fn show_component(
+    params: &TransformParams,
+    bands: &Bands,
+    room: &mut Workspace,
+    narrow_room: &mut NarrowWorkspace,
+    c: Component,
+    picture: &mut Picture,
+)
+    requires taken { AreTaken params.now.layout (pictures.size_of (frame_of picture.old.shape) c) (slice_count params.now.layout) bands.now }
+    requires room { ArePadded params.now.layout (pictures.size_of (frame_of picture.old.shape) c) room.old.plane room.old.scratch }
+    requires narrow_room { HasNarrowRoom params.now.layout (pictures.size_of (frame_of picture.old.shape) c) narrow_room.old.plane narrow_room.old.scratch }
+    ensures picture { picture.new ≡ with_synthesised params.now.wavelet picture.old c bands.now }
+    ensures room { ArePadded params.now.layout (pictures.size_of (frame_of picture.old.shape) c) room.new.plane room.new.scratch }
+    ensures narrow_room { HasNarrowRoom params.now.layout (pictures.size_of (frame_of picture.old.shape) c) narrow_room.new.plane narrow_room.new.scratch }
+    ensures allowed { IsAllowed params.now.layout }
+{
+    if bands.within(MOST_NARROW) {
+        show_in_32_bits(params, bands, narrow_room, c, picture);
+    } else {
+        show_in_64_bits(params, bands, room, c, picture);
+    }
+}
+
 /// Makes pictures of slices, which come to it in order. Contracts see its bands, the number of its next slice, whether
 /// it refused a slice, and the picture that it finished.
 ///
-/// All memory is taken in `new`: about 8 bytes a sample for the subbands, 16 for two planes of each size, and 2 for
-/// the picture.
+/// All memory is taken in `new`: about 8 bytes a sample for the subbands, 16 for two planes of each size, 3 for the room
+/// in 32 bits, and 2 for the picture. C1 and C2 share their planes.
 #[derive(Drop)]
 pub struct PictureDecoder {
     params: TransformParams,
     bands: Trio,
     luma_room: Workspace,
+    luma_narrow: NarrowWorkspace,
     colour_room: Workspace,
+    colour_narrow: NarrowWorkspace,
     picture: Picture,
     next: u32,
     refused: bool,
@@ -72,7 +123,7 @@ impl Model for PictureDecoder {
       picture = if d.finished then Some d.picture.samples else None;
     } };
 
-    ghost invariant = { λ d. IsSound d.params.layout d.picture.shape d.next d.bands d.luma_room.plane d.luma_room.scratch d.colour_room.plane d.colour_room.scratch };
+    ghost invariant = { λ d. IsSound d.params.layout d.picture.shape d.next d.bands d.luma_room.plane d.luma_room.scratch d.luma_narrow.plane d.luma_narrow.scratch d.colour_room.plane d.colour_room.scratch d.colour_narrow.plane d.colour_narrow.scratch };
 }
 
 impl PictureDecoder {
@@ -89,7 +140,9 @@ impl PictureDecoder {
             params: *params,
             bands: zero_trio(alloc, layout, shape)?,
             luma_room: Workspace::new(alloc, layout, shape.luma)?,
+            luma_narrow: NarrowWorkspace::new(alloc, layout, shape.luma)?,
             colour_room: Workspace::new(alloc, layout, shape.colour)?,
+            colour_narrow: NarrowWorkspace::new(alloc, layout, shape.colour)?,
             picture: Picture::new(alloc, shape)?,
             next: 0,
             refused: false,
@@ -164,6 +217,7 @@ impl PictureDecoder {
             &params,
             &self.bands.luma,
             &mut self.luma_room,
+            &mut self.luma_narrow,
             Component::Luma,
             &mut self.picture,
         );
@@ -171,6 +225,7 @@ impl PictureDecoder {
             &params,
             &self.bands.c1,
             &mut self.colour_room,
+            &mut self.colour_narrow,
             Component::C1,
             &mut self.picture,
         );
@@ -178,6 +233,7 @@ impl PictureDecoder {
             &params,
             &self.bands.c2,
             &mut self.colour_room,
+            &mut self.colour_narrow,
             Component::C2,
             &mut self.picture,
         );

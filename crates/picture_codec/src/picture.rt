@@ -3,11 +3,14 @@
 ghost use Rattle.std.specs.Prelude.{◌≡◌, ◌+◌, ◌*◌, ◌^◌, ◌<◌, ◌≤◌, length, IfOk};
 ghost use Rattle.std.specs.List.{All};
 ghost use Rattle.planes.specs.Raster.{height, at};
+ghost use Rattle.lifting.specs.SampleRoom.{HaveRoom, AreNarrowIn, synthesis_of};
 ghost use Rattle.picture_codec.specs.Samples.{AreBelow, PictureSeen, blank_picture, shown, width_of, height_of, bits_of, sample_at, with_sample, with_run, with_component, with_shown};
 
 use crate::samples::Samples;
-use planes::{NoMemory, Plane};
-use slice_geometry::{Component, PictureShape};
+use crate::workspace::NarrowWorkspace;
+use lifting::Wavelet;
+use planes::{Bands, NoMemory, Plane};
+use slice_geometry::{Component, PictureShape, Size};
 use std::alloc::Global;
 use std::marker::Model;
 
@@ -125,6 +128,40 @@ impl Picture {
             Component::Luma => self.luma.show(plane, shape.luma_depth),
             Component::C1 => self.c1.show(plane, shape.colour_depth),
             Component::C2 => self.c2.show(plane, shape.colour_depth),
+        }
+    }
+
+    /// A component's samples from its bands, whose magnitudes are at most 2^18: synthesised in 32 bits, trimmed to the
+    /// component's size, clipped to its depth and offset.
+    pub(crate) fn synthesise(
+        &mut self,
+        c: Component,
+        wavelet: Wavelet,
+        bands: &Bands,
+        padded: Size,
+        room: &mut NarrowWorkspace,
+    )
+        requires fits { width_of self.old c ≤ padded.w }
+        requires high { height_of self.old c ≤ padded.h }
+        requires room { HaveRoom bands.now padded.w padded.h room.old.plane room.old.scratch }
+        requires small { AreNarrowIn bands.now padded.w padded.h }
+        ensures samples { self.new ≡ with_shown self.old c (synthesis_of wavelet bands.now padded.w padded.h) }
+        ensures same_width { room.new.plane.w ≡ room.old.plane.w }
+        ensures same_height { height room.new.plane ≡ height room.old.plane }
+        ensures same_width_scratch { room.new.scratch.w ≡ room.old.scratch.w }
+        ensures same_height_scratch { height room.new.scratch ≡ height room.old.scratch }
+    {
+        let shape = self.shape;
+        match c {
+            Component::Luma => self
+                .luma
+                .synthesise(wavelet, bands, padded, room, shape.luma_depth),
+            Component::C1 => self
+                .c1
+                .synthesise(wavelet, bands, padded, room, shape.colour_depth),
+            Component::C2 => self
+                .c2
+                .synthesise(wavelet, bands, padded, room, shape.colour_depth),
         }
     }
 }

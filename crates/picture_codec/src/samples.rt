@@ -4,10 +4,13 @@ ghost use Rattle.std.specs.Prelude.{◌≡◌, ℕ, ◌+◌, ◌-◌, ◌*◌, �
 ghost use Rattle.std.specs.Int.{int_min, int_max};
 ghost use Rattle.planes.specs.Raster.{height, at};
 ghost use Rattle.slice_geometry.specs.Shape.{IsSize, IsDepth};
+ghost use Rattle.lifting.specs.SampleRoom.{HaveRoom, AreNarrowIn, synthesis_of};
 ghost use Rattle.picture_codec.specs.Pictures.{sample_of};
 ghost use Rattle.picture_codec.specs.Samples.{sample_at, with_sample, with_run, tabulated, blank};
 
-use planes::{NoMemory, Plane};
+use crate::workspace::NarrowWorkspace;
+use lifting::{SampleArea, Wavelet, synth_samples};
+use planes::{Bands, NoMemory, Plane};
 use slice_geometry::Size;
 use std::alloc::Global;
 use std::marker::Model;
@@ -155,5 +158,43 @@ impl Samples {
         for y in 0..self.h {
             self.show_row(y, plane.row(y), depth);
         }
+    }
+
+    /// The samples of a component from its bands, whose magnitudes are at most 2^18: synthesised in 32 bits, and of the
+    /// first rows and columns each number clipped to so many bits and offset.
+    pub(crate) fn synthesise(
+        &mut self,
+        wavelet: Wavelet,
+        bands: &Bands,
+        padded: Size,
+        room: &mut NarrowWorkspace,
+        depth: u32,
+    )
+        requires depth { IsDepth depth }
+        requires fits { self.old.w ≤ padded.w }
+        requires high { self.old.h ≤ padded.h }
+        requires room { HaveRoom bands.now padded.w padded.h room.old.plane room.old.scratch }
+        requires small { AreNarrowIn bands.now padded.w padded.h }
+        ensures samples { self.new ≡ tabulated (record { w = self.old.w; h = self.old.h }) (λ y x. sample_of depth (synthesis_of wavelet bands.now padded.w padded.h y x)) }
+        ensures same_width { room.new.plane.w ≡ room.old.plane.w }
+        ensures same_height { height room.new.plane ≡ height room.old.plane }
+        ensures same_width_scratch { room.new.scratch.w ≡ room.old.scratch.w }
+        ensures same_height_scratch { height room.new.scratch ≡ height room.old.scratch }
+    {
+        let area = SampleArea {
+            w: self.w,
+            h: self.h,
+            depth,
+        };
+        synth_samples(
+            wavelet,
+            bands,
+            padded.w,
+            padded.h,
+            &mut room.plane,
+            &mut room.scratch,
+            self.cells.as_mut_slice(),
+            area,
+        );
     }
 }

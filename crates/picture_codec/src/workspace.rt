@@ -4,9 +4,9 @@ ghost use Rattle.std.specs.Prelude.{◌≡◌, IfOk};
 ghost use Rattle.slice_geometry.specs.Shape.{IsSize, IsDepth};
 ghost use Rattle.picture_codec.specs.Pictures as pictures;
 ghost use Rattle.slice_geometry.specs.Frames.{frame_of};
-ghost use Rattle.picture_codec.specs.Decoding.{ArePadded, AreNewBands};
+ghost use Rattle.picture_codec.specs.Decoding.{ArePadded, HasNarrowRoom, AreNewBands};
 
-use planes::{Bands, NoMemory, Plane, Trio};
+use planes::{Bands, NarrowPlane, NoMemory, Plane, Trio};
 use slice_geometry::{Component, Layout, PictureShape, Size};
 use std::alloc::Global;
 
@@ -28,6 +28,33 @@ impl Workspace {
         Ok(Workspace {
             plane: Plane::new(alloc, padded.w, padded.h)?,
             scratch: Plane::new(alloc, padded.w, padded.h)?,
+        })
+    }
+}
+
+/// The room for synthesis in 32 bits: a plane for the levels below the last, and a scratch for their rows and for three of
+/// the last, which goes straight into the samples.
+#[derive(Drop)]
+pub(crate) struct NarrowWorkspace {
+    pub(crate) plane: NarrowPlane,
+    pub(crate) scratch: NarrowPlane,
+}
+
+impl NarrowWorkspace {
+    pub(crate) fn new(
+        alloc: Global,
+        layout: &Layout,
+        size: Size,
+    ) -> Result<NarrowWorkspace, NoMemory>
+        requires { IsSize size.w size.h }
+        ensures { IfOk result (λ w. HasNarrowRoom layout.now size w.plane w.scratch) }
+    {
+        // The rules of a layout.
+        let _ = layout.depth();
+        let padded = layout.padded_size(size);
+        Ok(NarrowWorkspace {
+            plane: NarrowPlane::new(alloc, padded.w / 2, padded.h / 2)?,
+            scratch: NarrowPlane::new(alloc, padded.w, padded.h / 2 + 3)?,
         })
     }
 }

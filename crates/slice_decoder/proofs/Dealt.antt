@@ -60,7 +60,7 @@ and-false_left : (a b : Bool) → a ≡ false → (a && b) ≡ false
 and-false_left true b h = cc
 and-false_left false b h = refl
 
-le_tested : (m n : ℕ) → nat_le m n ≡ true → m ≤ n
+pub le_tested : (m n : ℕ) → nat_le m n ≡ true → m ≤ n
 le_tested m n h = grind (arith, nat_tests)
 
 le_tests : (m n : ℕ) → m ≤ n → nat_le m n ≡ true

@@ -6,3 +6,6 @@ pub mod Heads
 pub mod Whole
 pub mod Decodes
 pub mod Ready
+pub mod LevelLemmas
+pub mod Restores
+pub mod Placed

@@ -49,10 +49,10 @@ outside_row r y x top bottom out = elim (cases_lt x r.x0) [
   ]
 ]
 
-at_same : (p : Raster ℤ) (y x : ℕ) (row old : List ℤ) → y < height p → old ≡ row_of p y → length row ≡ length old → at (with_row p y row) y x ≡ get_or row x (pos 0)
+pub at_same : (p : Raster ℤ) (y x : ℕ) (row old : List ℤ) → y < height p → old ≡ row_of p y → length row ≡ length old → at (with_row p y row) y x ≡ get_or row x (pos 0)
 at_same p y x row old lt is same = ap (λ r. get_or r x (pos 0)) (row_of-with_row_same p y row lt (same ∙ ap length is))
 
-at_other : (p : Raster ℤ) (y j x : ℕ) (row : List ℤ) → j ≢ y → at (with_row p y row) j x ≡ at p j x
+pub at_other : (p : Raster ℤ) (y j x : ℕ) (row : List ℤ) → j ≢ y → at (with_row p y row) j x ≡ at p j x
 at_other p y j x row ne = ap (λ r. get_or r x (pos 0)) (row_of-with_row_other p y j row ne)
 
 -- what stands outside stays, whatever the row holds inside

@@ -126,7 +126,7 @@ length-before_band each p (suc level) orient (inr e) =
 
 -- ---- a place of a band
 
-number_below : (each from y x : ℕ) (r : Rect) → from < each → IsInRect r y x → each * number_in r y x + from < each * area r
+pub number_below : (each from y x : ℕ) (r : Rect) → from < each → IsInRect r y x → each * number_in r y x + from < each * area r
 number_below each from y x r lt inside =
     let left = inside.left in
     let right = inside.right in
@@ -138,7 +138,7 @@ number_below each from y x r lt inside =
     let all : each * (number_in r y x + 1) ≤ each * area r = mul-le-mul_left each places in
     omega (arith, all, lt)
 
-in_all : (each : ℕ) (p : Part) (k total j : ℕ) (block : List Bool) → k < total → j < each * area (rect_of p k)
+pub in_all : (each : ℕ) (p : Part) (k total j : ℕ) (block : List Bool) → k < total → j < each * area (rect_of p k)
     → get_or (dealt (behind block (quantisers_before each p k)) (quantisers_of each p k)) j (pos 0) ≡ get_or (dealt block (quantisers_before each p total)) (length (quantisers_before each p k) + j) (pos 0)
 in_all each p k total j block lt below =
     let whole : total ≡ k + 1 + (total - (k + 1)) = omega arith in

@@ -10,6 +10,9 @@ ghost use Rattle.slice_decoder.specs.Components.{part_of, quantisers_before, Ban
 ghost use Rattle.slice_geometry.specs.SliceOrder.{level_of, orient_of};
 
 use crate::bands::{fill_rect, fill_rects};
+use crate::levels::{count_places, level_rects};
+use crate::placing::{put_colour, put_luma};
+use crate::restoring::read_values;
 use bounded_blocks::Block;
 use planes::{Bands, Orient};
 use quant_factors::Matrix;
@@ -24,7 +27,7 @@ pub struct Place {
 }
 
 // The level of band number k, and the number of its orientation.
-fn band_numbered(k: u32) -> (u32, u32)
+pub fn band_numbered(k: u32) -> (u32, u32)
     requires { k ≤ 12 }
     ensures level { result.0 ≡ level_of k }
     ensures orient { result.1 ≡ orient_of k }
@@ -34,7 +37,7 @@ fn band_numbered(k: u32) -> (u32, u32)
 }
 
 // The orientation of a number.
-fn orient_numbered(number: u32) -> Orient
+pub fn orient_numbered(number: u32) -> Orient
     requires { number ≤ 3 }
     ensures { orient_number result ≡ number }
 {
@@ -46,8 +49,8 @@ fn orient_numbered(number: u32) -> Orient
     }
 }
 
-// Fills a component's subbands with the next values. It answers false where a magnitude passes 2^36.
-pub fn read_luma(
+// Fills a component's subbands with the next values, row by row. It answers false where a magnitude passes 2^36.
+fn luma_by_rows(
     block: &mut Block<'_>,
     bands: &mut Bands,
     layout: &Layout,
@@ -80,9 +83,9 @@ pub fn read_luma(
     true
 }
 
-// Fills the subbands of the two colour components, whose places take the values in turn. It answers false where a
-// magnitude passes 2^36.
-pub fn read_colour(
+// Fills the subbands of the two colour components, whose places take the values in turn, row by row. It answers false
+// where a magnitude passes 2^36.
+fn colour_by_rows(
     block: &mut Block<'_>,
     first: &mut Bands,
     second: &mut Bands,
@@ -122,5 +125,88 @@ pub fn read_colour(
             return false;
         }
     }
+    true
+}
+
+// Fills a component's subbands with the next values. It answers false where a magnitude passes 2^36. The values are
+// read whole into the buffer where they have room there.
+pub fn read_luma(
+    block: &mut Block<'_>,
+    bands: &mut Bands,
+    layout: &Layout,
+    size: Size,
+    matrix: &Matrix,
+    place: Place,
+    buffer: &mut [i64],
+) -> bool
+    requires size { IsSize size.w size.h }
+    requires across { place.sx < layout.now.slices_x }
+    requires down { place.sy < layout.now.slices_y }
+    requires qindex { place.qindex ≤ 127 }
+    requires depth { bands.old.depth ≡ layout.now.depth }
+    requires entries { matrix.now.depth ≡ layout.now.depth }
+    requires sizes { HaveSizes bands.old (padded_length layout.now.depth size.w) (padded_length layout.now.depth size.h) }
+    ensures small { let part = part_of layout.now size place.sx place.sy matrix.now place.qindex in
+        result ≡ are_small (dealt block.old (quantisers_before 1 part (3 * layout.now.depth + 1))) }
+    ensures holds { let part = part_of layout.now size place.sx place.sy matrix.now place.qindex in
+        result ≡ true → BandsHold 1 0 part (3 * layout.now.depth + 1) block.old bands.old bands.new }
+    ensures keeps { let part = part_of layout.now size place.sx place.sy matrix.now place.qindex in
+        BandsKeep part bands.old bands.new }
+{
+    let rects = level_rects(layout, size, place);
+    let count = count_places(&rects, layout, size, place);
+    if count > buffer.len() {
+        return luma_by_rows(block, bands, layout, size, matrix, place);
+    }
+    let values = &mut buffer[..count];
+    if !read_values(block, values, 1, &rects, layout, size, matrix, place) {
+        return false;
+    }
+    put_luma(values, bands, &rects, layout, size, place);
+    true
+}
+
+// Fills the subbands of the two colour components, whose places take the values in turn. It answers false where a
+// magnitude passes 2^36. The values are read whole into the buffer where they have room there.
+pub fn read_colour(
+    block: &mut Block<'_>,
+    first: &mut Bands,
+    second: &mut Bands,
+    layout: &Layout,
+    size: Size,
+    matrix: &Matrix,
+    place: Place,
+    buffer: &mut [i64],
+) -> bool
+    requires size { IsSize size.w size.h }
+    requires across { place.sx < layout.now.slices_x }
+    requires down { place.sy < layout.now.slices_y }
+    requires qindex { place.qindex ≤ 127 }
+    requires first_depth { first.old.depth ≡ layout.now.depth }
+    requires second_depth { second.old.depth ≡ layout.now.depth }
+    requires entries { matrix.now.depth ≡ layout.now.depth }
+    requires first_sizes { HaveSizes first.old (padded_length layout.now.depth size.w) (padded_length layout.now.depth size.h) }
+    requires second_sizes { HaveSizes second.old (padded_length layout.now.depth size.w) (padded_length layout.now.depth size.h) }
+    ensures small { let part = part_of layout.now size place.sx place.sy matrix.now place.qindex in
+        result ≡ are_small (dealt block.old (quantisers_before 2 part (3 * layout.now.depth + 1))) }
+    ensures first { let part = part_of layout.now size place.sx place.sy matrix.now place.qindex in
+        result ≡ true → BandsHold 2 0 part (3 * layout.now.depth + 1) block.old first.old first.new }
+    ensures second { let part = part_of layout.now size place.sx place.sy matrix.now place.qindex in
+        result ≡ true → BandsHold 2 1 part (3 * layout.now.depth + 1) block.old second.old second.new }
+    ensures first_keeps { let part = part_of layout.now size place.sx place.sy matrix.now place.qindex in
+        BandsKeep part first.old first.new }
+    ensures second_keeps { let part = part_of layout.now size place.sx place.sy matrix.now place.qindex in
+        BandsKeep part second.old second.new }
+{
+    let rects = level_rects(layout, size, place);
+    let count = 2 * count_places(&rects, layout, size, place);
+    if count > buffer.len() {
+        return colour_by_rows(block, first, second, layout, size, matrix, place);
+    }
+    let values = &mut buffer[..count];
+    if !read_values(block, values, 2, &rects, layout, size, matrix, place) {
+        return false;
+    }
+    put_colour(values, first, second, &rects, layout, size, place);
     true
 }

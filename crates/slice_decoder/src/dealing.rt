@@ -9,7 +9,7 @@ use bounded_blocks::Block;
 use quant_factors::{Dequantised, inverse};
 
 // Dequantises each value. It answers false where a magnitude passes 2^36.
-fn dequantise(values: &mut [i64], index: u32) -> bool
+pub fn dequantise(values: &mut [i64], index: u32) -> bool
     requires index { index ≤ 127 }
     requires small { (k : ℕ) → unsigned_abs (slice_index_or values.old k (pos 0)) ≤ 2 ^ 36 }
     ensures small { result ≡ are_small (map (λ v. inverse_of v index) values.old) }

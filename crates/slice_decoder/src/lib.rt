@@ -16,6 +16,9 @@ ghost use Rattle.slice_decoder.specs.Decoded.{AreReady, AllKeepOthers, IsDecoded
 mod bands;
 mod components;
 mod dealing;
+mod levels;
+mod placing;
+mod restoring;
 
 use bit_codes::BitReader;
 use bounded_blocks::Block;
@@ -72,6 +75,9 @@ fn restore(bands: &mut Bands, rect: Rect)
     restore_rect(bands.band_mut(0, 0), rect);
 }
 
+// How many values of a block are read whole.
+const ROOM: usize = 256;
+
 // Reads the values of both blocks into the subbands. It answers false where a magnitude passes 2^36.
 fn read_blocks(
     layout: &Layout,
@@ -102,6 +108,7 @@ fn read_blocks(
     let middle = start + u64::from(luma_bits);
     let mut luma = Block::new(bytes, start, u64::from(luma_bits));
     let mut colour = Block::new(bytes, middle, 8 * bytes.len() as u64 - middle);
+    let mut buffer = [0; ROOM];
     read_luma(
         &mut luma,
         &mut bands.luma,
@@ -109,6 +116,7 @@ fn read_blocks(
         shape.luma,
         matrix,
         place,
+        &mut buffer,
     ) && read_colour(
         &mut colour,
         &mut bands.c1,
@@ -117,6 +125,7 @@ fn read_blocks(
         shape.colour,
         matrix,
         place,
+        &mut buffer,
     )
 }
 

@@ -23,6 +23,7 @@ pub mod CountedBits
 pub mod LowBounds
 pub mod Reaches
 pub mod GatheredLists
+pub mod CodeSizes
 pub mod WorkedLowNeeds
 pub mod Counting
 pub mod FirstCandidates

@@ -40,12 +40,19 @@ code_some (pos zero) = omega (arith, length-interleaved (digits_before 64 1 []))
 code_some (pos (suc n)) = omega (arith, length-interleaved (digits_before 64 (suc n + 1) []), length-append (interleaved (digits_before 64 (suc n + 1) [])) (false ∷ []))
 code_some (negsuc n) = omega (arith, length-interleaved (digits_before 64 (suc n + 1) []), length-append (interleaved (digits_before 64 (suc n + 1) [])) (true ∷ []))
 
+-- a value that isn't 0 takes more than a bit
+pub code_long : (v : ℤ) → 1 ≤ unsigned_abs v → 2 ≤ length (signed_code_of v)
+unfolding code_of
+code_long (pos zero) some = absurd (omega arith)
+code_long (pos (suc n)) some = omega (arith, length-interleaved (digits_before 64 (suc n + 1) []), length-append (interleaved (digits_before 64 (suc n + 1) [])) (false ∷ []))
+code_long (negsuc n) some = omega (arith, length-interleaved (digits_before 64 (suc n + 1) []), length-append (interleaved (digits_before 64 (suc n + 1) [])) (true ∷ []))
+
 code_counted : (v : ℤ) → 1 ≤ unsigned_abs v → length (signed_code_of v) ≡ counted_bits v
 code_counted (pos zero) some = absurd (omega arith)
 code_counted (pos (suc n)) some = refl
 code_counted (negsuc n) some = refl
 
-code_rises : (v w : ℤ) → unsigned_abs v ≤ unsigned_abs w → length (signed_code_of v) ≤ length (signed_code_of w)
+pub code_rises : (v w : ℤ) → unsigned_abs v ≤ unsigned_abs w → length (signed_code_of v) ≤ length (signed_code_of w)
 code_rises v w le = elim (cases_eq (unsigned_abs v) 0) [
   | inl none ↦ omega (arith, ap (λ (t : ℤ). length (signed_code_of t)) (nothing v none), one_bit, code_some w)
   | inr ne ↦ omega (arith, code_counted v (omega arith), code_counted w (omega arith), counted-rises v w le)
@@ -64,7 +71,7 @@ code_rises v w le = elim (cases_eq (unsigned_abs v) 0) [
 with_none : (v : ℤ) (b : ℕ) → unsigned_abs v + b ≡ 0 → with_code v b ≡ 0
 with_none v b none = grind (arith, nat_tests)
 
-with_some : (v : ℤ) (b : ℕ) → 1 ≤ unsigned_abs v + b → with_code v b ≡ length (signed_code_of v) + b
+pub with_some : (v : ℤ) (b : ℕ) → 1 ≤ unsigned_abs v + b → with_code v b ≡ length (signed_code_of v) + b
 with_some v b some = grind (arith, nat_tests)
 
 with_most : (v : ℤ) (b : ℕ) → with_code v b ≤ length (signed_code_of v) + b

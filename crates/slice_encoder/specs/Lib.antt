@@ -7,6 +7,7 @@ pub mod RectTrials
 pub mod Listing
 pub mod Laws
 pub mod LowNeeds
+pub mod CodeLengths
 pub mod Gathering
 pub mod GatheredSlices
 pub mod Ready

@@ -1,8 +1,10 @@
 // The coefficients of a slice in one component, gathered once for all the indices that are tried.
 
-ghost use Rattle.std.specs.Prelude.{◌≡◌, ℕ, ◌+◌, ◌-◌, ◌*◌, ◌^◌, ◌<◌, ◌≤◌, ◌++◌, length, take, slice_index, unsigned_abs, IfOk};
+ghost use Rattle.std.specs.Prelude.{◌≡◌, ℕ, ◌+◌, ◌-◌, ◌*◌, ◌^◌, ◌<◌, ◌≤◌, ◌++◌, length, take, slice_index, IfOk, ℤ};
 ghost use Rattle.std.specs.List.{All, flat_map, range_with_len};
 ghost use Rattle.planes.specs.Numbers.{Within};
+ghost use Rattle.bit_codes.specs.Codes.{signed_code_of};
+ghost use Rattle.slice_encoder.specs.CodeLengths.{IsRow};
 ghost use Rattle.planes.specs.Raster.{at};
 ghost use Rattle.slice_geometry.specs.Shape.{IsSize};
 ghost use Rattle.slice_geometry.specs.SliceOrder.{area, place_count};
@@ -12,9 +14,9 @@ ghost use Rattle.slice_encoder.specs.GatheredSlices.{AreAllGathered, gathered_lo
 ghost use Rattle.slice_encoder.specs.Ready.{coded_picture, AreGiven};
 
 use crate::bounding::Lower;
+use crate::code_lengths::{CodeLengths, length_by};
 use crate::room::most_places;
 use crate::trying::{band_numbered, orient_numbered};
-use bit_codes::sint_len;
 use planes::{Bands, NoMemory, Plane, Rect, Trio};
 use quant_factors::{Matrix, forward};
 use slice_geometry::{Layout, PictureShape, Size};
@@ -46,6 +48,8 @@ pub struct GatheredSlice {
     pub luma: Gathered,
     pub c1: Gathered,
     pub c2: Gathered,
+    /// How long the codes of its values are.
+    pub lengths: CodeLengths,
 }
 
 // Copies the coefficients of a rectangle, row by row, from a place on.
@@ -58,8 +62,9 @@ fn gather_rect(coefficients: &Plane, rect: Rect, out: &mut [i64], from: usize)
 {
     let mut place = from;
     for y in rect.y0..rect.y1 {
+        let row = coefficients.row(y);
         for x in rect.x0..rect.x1 {
-            out[place] = coefficients.get(y, x);
+            out[place] = row[x as usize];
             place += 1;
         }
     }
@@ -147,24 +152,25 @@ fn quantise_pair_at(first: &[i64], second: &[i64], index: u32, out: &mut [i64], 
     quantise_pair(first, second, index, &mut out[from..end]);
 }
 
-// One value more in front of what codes take.
+// One value more in front of what codes take, by how many bits its code takes.
 #[inline(always)]
-fn one_more(v: i64, behind: u64) -> u64
-    requires small { unsigned_abs v ≤ 2 ^ 36 }
+fn one_more(bits: u64, behind: u64) -> u64
+    requires short { bits ≤ 74 }
     requires few { behind ≤ 2 ^ 40 }
-    ensures value { result ≡ with_code v behind }
+    ensures value { (v : ℤ) → bits ≡ length (signed_code_of v) → result ≡ with_code v behind }
     ensures most { result ≤ behind + 74 }
 {
-    if v == 0 && behind == 0 {
+    if bits == 1 && behind == 0 {
         0
     } else {
-        u64::from(sint_len(v)) + behind
+        bits + behind
     }
 }
 
 // How far the codes of coefficients reach, from the last one to the first.
-fn reach_over(coefficients: &[i64], index: u32, behind: u64) -> u64
+fn reach_over(coefficients: &[i64], index: u32, row: &[u8], behind: u64) -> u64
     requires index { index ≤ 127 }
+    requires row { IsRow index row.now }
     requires few { length coefficients.now ≤ 2 ^ 31 }
     requires behind { behind ≤ 2 ^ 39 }
     requires small { All (Within (2 ^ 27)) coefficients.now }
@@ -174,7 +180,7 @@ fn reach_over(coefficients: &[i64], index: u32, behind: u64) -> u64
     let mut bits = behind;
     for passed in 0..coefficients.len() {
         let v = coefficients[coefficients.len() - 1 - passed];
-        bits = one_more(forward(v, index), bits);
+        bits = one_more(length_by(row, index, v), bits);
     }
     bits
 }
@@ -242,7 +248,7 @@ impl Gathered {
     }
 
     /// How far the codes of the slice's values reach at an index, but for its lowest subband.
-    pub fn reach(&self, matrix: &Matrix, index: u32) -> u64
+    pub fn reach(&self, matrix: &Matrix, index: u32, lengths: &CodeLengths) -> u64
         requires index { index ≤ 127 }
         requires entries { matrix.now.depth ≡ self.now.depth }
         ensures value { result ≡ gathered_reach self.now matrix.now index }
@@ -253,7 +259,7 @@ impl Gathered {
             let k = 3 * self.depth - passed;
             let (level, orient) = band_numbered(k);
             let quantiser = matrix.quantiser(index, level, orient_numbered(orient));
-            bits = reach_over(self.band(k), quantiser, bits);
+            bits = reach_over(self.band(k), quantiser, lengths.row(quantiser), bits);
         }
         bits
     }
@@ -321,6 +327,7 @@ impl GatheredSlice {
             luma: Gathered::new(alloc, layout, shape.luma)?,
             c1: Gathered::new(alloc, layout, shape.colour)?,
             c2: Gathered::new(alloc, layout, shape.colour)?,
+            lengths: CodeLengths::new(alloc)?,
         })
     }
 
@@ -361,8 +368,12 @@ impl GatheredSlice {
         ensures few_luma { result.luma ≤ 2 ^ 40 }
         ensures few_colour { result.colour ≤ 2 ^ 40 }
     {
-        let luma = behind(self.luma.lowest(), self.luma.reach(matrix, index));
-        let both = self.c1.reach(matrix, index) + self.c2.reach(matrix, index);
+        let luma = behind(
+            self.luma.lowest(),
+            self.luma.reach(matrix, index, &self.lengths),
+        );
+        let both = self.c1.reach(matrix, index, &self.lengths)
+            + self.c2.reach(matrix, index, &self.lengths);
         let colour = behind(2 * self.c1.lowest(), both);
         Lower {
             luma: luma.saturating_sub(3),

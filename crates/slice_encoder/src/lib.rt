@@ -7,6 +7,7 @@
 
 mod bounding;
 mod candidates;
+mod code_lengths;
 mod encoder;
 mod fitting;
 mod gathered;

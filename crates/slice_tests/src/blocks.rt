@@ -61,3 +61,58 @@ fn greatest_magnitudes(rt: HostRuntime) {
     assert!(&rt; !block.fill(&mut [7; 3]));
     assert_values(&rt, &mut block, &[Sint::Huge, Sint::Is(-1), Sint::Is(0)]);
 }
+
+/// Bytes of codes of one to twenty bits.
+const MANY_CODES: [u8; 16] = [
+    0x49, 0x28, 0xC2, 0x27, 0x31, 0x77, 0xC9, 0x88, 0x18, 0x10, 0x04, 0x48, 0x06, 0x69, 0x14, 0x00,
+];
+
+/// Blocks of these bytes from bit 3 on, which end at the bits 58 to 128: of the first 24 values of each the sum of each
+/// value by its number, from 1 on.
+#[rattlefmt::skip]
+const WEIGHED: [i64; 71] = [
+    -109, -133, -121, -121, -97, -123, -110, -149, -136, -201,
+    -201, -201, 7, -21, -7, -49, -35, -105, -105, -245,
+    -231, -497, -483, -1001, -987, -2009, -1995, -4025, -4025, -8085,
+    -8071, -16177, -16177, -32389, -32375, -32375, 32389, 32359, 32374, 32329,
+    32344, 32269, 32284, 32149, 32149, 32149, 32629, 32597, 32597, 32597,
+    32661, 32661, 32625, 32643, 32643, 32679, 32641, 32660, 32660, 32698,
+    32698, 32656, 32677, 32614, 32635, 32530, 32551, 32362, 32383, 32026,
+    32047,
+];
+
+/// The sum of values, each by its number.
+fn weighed(values: &[i64; 24]) -> i64 {
+    let mut sum: i64 = 0;
+    for k in 0..24 {
+        sum = sum.wrapping_add(values[k].wrapping_mul(k as i64 + 1));
+    }
+    sum
+}
+
+/// Codes that run past the block at each of its last bits.
+#[test]
+fn codes_past_the_end(rt: HostRuntime) {
+    for k in 0..71 {
+        let mut out = [7; 24];
+        let read = Block::new(&MANY_CODES, 3, 55 + k as u64).fill(&mut out);
+        assert!(&rt; read);
+        assert_eq!(&rt; weighed(&out), WEIGHED[k]);
+    }
+}
+
+/// 2^36, whose code has 74 bits, and -1 behind it, at each place from 1 to 49; zeros beside them.
+#[test]
+fn the_longest_code(rt: HostRuntime) {
+    for zeros in 1..50usize {
+        let behind = u128::MAX >> (zeros + 78);
+        let codes = 0b0110_0011u128 << (50 - zeros);
+        let bytes = (u128::MAX << (128 - zeros) | codes | behind).to_be_bytes();
+        let mut out = [7; 56];
+        assert!(&rt; Block::new(&bytes, 0, 128).fill(&mut out));
+        let mut want = [0; 56];
+        want[zeros] = 0x10_0000_0000;
+        want[zeros + 1] = -1;
+        assert_eq!(&rt; out, want);
+    }
+}

@@ -5,6 +5,8 @@
 #[cfg(test)]
 mod heads;
 #[cfg(test)]
+mod held;
+#[cfg(test)]
 mod long;
 #[cfg(test)]
 mod pictures;

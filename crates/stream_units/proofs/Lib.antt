@@ -34,3 +34,11 @@ pub mod WriterCalls
 pub mod WrittenSlices
 pub mod EncodedPictures
 pub mod SameShapes
+pub mod Refills
+pub mod HeldTurns
+pub mod HeldCalls
+pub mod WorkedHeld
+pub mod Longest
+pub mod LongestHeader
+pub mod LongestParams
+pub mod FrontIs

@@ -187,7 +187,7 @@ slices_start {z} {held0} {held1} {rest0} {rest1} {at} parts others d first b = r
 }
 
 -- how many bytes are wanted
-wanted_is : (d : Decoding) (n : ℕ) → wanted_of d ≡ Some n → (d.next < slice_count d.params.slicing) × (n ≡ slice_bytes d.params.slicing.a d.params.slicing.b d.next)
+pub wanted_is : (d : Decoding) (n : ℕ) → wanted_of d ≡ Some n → (d.next < slice_count d.params.slicing) × (n ≡ slice_bytes d.params.slicing.a d.params.slicing.b d.next)
 wanted_is d n e = elim (cases_lt d.next (slice_count d.params.slicing)) [
   | inl lt ↦ (lt, let same : Some (slice_bytes d.params.slicing.a d.params.slicing.b d.next) ≡ Some n = sym (here lt) ∙ e in cc)
   | inr le ↦ absurd (let none : wanted_of d ≡ None = rw (le-ltb d.next (slice_count d.params.slicing) le) refl in cc)
@@ -368,6 +368,7 @@ pub finished_shows : (parts : HeaderParts) (p : Params) (slices : List (List ℕ
     → synthesised_picture old ≡ picture_of (frame_of old.shape) old.params slices → Shows parts p slices new
 finished_shows parts p slices old new frame same is made = record {
   frame = ap (λ d. frame_of d.shape) is ∙ frame;
+  params_are = ap (λ d. d.params) is ∙ same;
   picture = ap (λ d. d.picture) is ∙ ap Some (made ∙ ap (λ f. picture_of f old.params slices) frame ∙ ap (λ q. picture_of (frame_under parts) q slices) same);
 }
 

@@ -17,3 +17,4 @@ pub mod Stops
 pub mod Taking
 pub mod WrittenSlices
 pub mod EncodedPictures
+pub mod Held

@@ -14,19 +14,21 @@ use Rattle.stream_units.specs.Streams.{limit, past_limit, frame_under}
 use Rattle.picture_codec.specs.Decoding.{Decoding}
 use Rattle.stream_units.specs.Turns.{Shows, shape_of}
 use Rattle.stream_units.specs.Stops.{LimitStops}
+use Rattle.stream_units.specs.Held.{greatest_of, IsGreatest}
 
--- What is seen of a reader: what the units so far leave, the bytes that it holds, the shapes of the units, the picture of the last one, the stop that it keeps, and whether the stream is over.
+-- What is seen of a reader: what the units so far leave, the bytes that it holds, the shapes of the units, the picture of the last one, the greatest share of the last picture unit whose parameters were read, the stop that it keeps, and whether the stream is over.
 pub record ReaderState : Type 0 where
   pub past : Past
   pub held : List ℕ
   pub shapes : List UnitShape
   pub picture : Option PictureSeen
+  pub greatest : Option ℕ
   pub stop : Option ReadStop
   pub ended : Bool
 
 -- a new reader
 abbrev pub new_reader : ReaderState
-new_reader = record { past = nothing_yet; held = []; shapes = []; picture = None; stop = None; ended = false }
+new_reader = record { past = nothing_yet; held = []; shapes = []; picture = None; greatest = None; stop = None; ended = false }
 
 -- the item of a unit
 abbrev pub item_of : DataUnit → Item
@@ -92,3 +94,9 @@ abbrev pub NextOver : ReaderState → ReaderState → Option (List ℕ) → Opti
 NextOver old new rest0 rest1 (Ok items.End) = TakesEnd old new rest0 rest1
 NextOver old new rest0 rest1 (Ok item) = TakesItem old new rest0 rest1 item
 NextOver old new rest0 rest1 (Err stop) = LimitStops units old.past old.held rest0 rest1 stop × KeepsStop old new stop
+
+-- The greatest share behind a call: that of the picture that was taken; behind another unit as before.
+abbrev pub GreatestOver : ReaderState → ReaderState → Option (List ℕ) → Result Item ReadStop → Type 0
+GreatestOver old new rest0 (Ok (items.Picture number)) = (shape : UnitShape) × (new.shapes ≡ old.shapes ++ shape ∷ []) × (new.greatest ≡ Some (greatest_of shape.a shape.b shape.slices))
+GreatestOver old new rest0 (Ok item) = new.greatest ≡ old.greatest
+GreatestOver old new rest0 (Err stop) = IsGreatest old.past old.held rest0 old.greatest new.greatest new.held stop

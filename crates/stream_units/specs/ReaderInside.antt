@@ -8,6 +8,7 @@ use Rattle.stream_units.specs.declared.stop.ReadStop.{ReadStop}
 use Rattle.stream_units.specs.Asking.{WindowSeen}
 use Rattle.stream_units.specs.Units.{Past}
 use Rattle.stream_units.specs.Streams.{limit}
+use Rattle.stream_units.specs.Held.{held_most, greatest_in}
 
 -- the picture that a decoder finished
 abbrev pub seen_of : Decoding → Option PictureSeen
@@ -35,6 +36,8 @@ pub record IsSound (past : Past) (window : WindowSeen) (shapes : UnitList) (show
   -- while the reader goes on, the bytes so far and those that may still come are the limit, and few are held
   pub room : stop ≡ None → ended ≡ false → past.place + length window.held + window.room ≡ limit
   pub few : stop ≡ None → ended ≡ false → length window.held ≤ 4096
+  -- whatever the last call answered
+  pub held : length window.held ≤ held_most (greatest_in decoder)
 
 -- a decoder that made a picture is kept, and shows it
 abbrev pub Keeps : Option Decoding → Option Decoding → Option Decoding → Bool → Type 0

@@ -33,6 +33,7 @@ IsFirst first unit bytes = (unit ≡ Sequence first.parts) × (first.payload ≡
 -- the decoder shows the picture of these slices
 pub record Shows (parts : HeaderParts) (params : Params) (slices : List (List ℕ)) (d : Decoding) : Type 0 where
   pub frame : frame_of d.shape ≡ frame_under parts
+  pub params_are : d.params ≡ params
   pub picture : d.picture ≡ Some (picture_of (frame_under parts) params slices)
 
 -- the shape of a unit's bytes: a picture's slices stand behind its head

@@ -19,15 +19,15 @@ impl Model for First {
 
     ghost view = { λ a. record { parts = a.header; payload = a.payload.items } };
 
-    ghost invariant = { λ a. length a.payload.items ≤ 8192 };
+    ghost invariant = { λ a. length a.payload.items ≤ 512 };
 }
 
 impl First {
     ghost use Rattle.std.specs.Prelude.{◌≡◌, ◌≤◌, length};
 
-    /// A header of these bytes, at most 8192: a header has some 140.
+    /// A header of these bytes, at most 512: a header has some 140.
     pub fn new(header: SequenceHeader, payload: Vec<u8>) -> First
-        requires { length payload.items ≤ 8192 }
+        requires { length payload.items ≤ 512 }
         ensures { result ≡ record { parts = header; payload = payload.items } }
     {
         First { header, payload }
@@ -43,7 +43,7 @@ impl First {
     /// The bytes of its payload.
     pub fn payload(&self) -> &[u8]
         ensures value { result.now ≡ self.now.payload }
-        ensures most { length result.now ≤ 8192 }
+        ensures most { length result.now ≤ 512 }
     {
         self.payload.as_slice()
     }

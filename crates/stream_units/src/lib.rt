@@ -26,7 +26,8 @@ pub use head_reader::HeadReader;
 pub use heads::first_unit;
 pub use judging::{Verdict, judge};
 pub use laws::{
-    no_more_units_than_bytes, one_answer, reading_is_the_relations, units_stand_whatever_follows,
+    no_field_is_short_in_many_bytes, no_more_units_than_bytes, one_answer,
+    reading_is_the_relations, the_front_is_the_relation, units_stand_whatever_follows,
 };
 pub use reader::StreamReader;
 pub use reason::{Reason, Refusal};

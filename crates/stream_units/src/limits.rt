@@ -8,6 +8,7 @@ ghost use Rattle.stream_units.specs.HeadUnits.{heads};
 ghost use Rattle.stream_units.specs.Stops.{Refused, LimitStops, ReadsRows, StopCause};
 ghost use Rattle.stream_units.specs.Taking.{PastOver, LastOver};
 ghost use Rattle.stream_units.specs.Turns.{IsRead, LimitOver};
+ghost use Rattle.stream_units.specs.Held.{HeldOver};
 
 use crate::earlier::Earlier;
 use crate::parts::Found;
@@ -66,6 +67,7 @@ fn whole<S: Source>(
     requires place { earlier.now.place + length window.old.held + window.old.room ≡ 2 ^ 40 }
     requires few { length window.old.held ≤ 4096 }
     ensures unit { MatchResult result (λ found. ReadsRows units earlier.now window.old.held (S.rest src.old) (S.rest src.new) window.new (IsRead earlier.now found)) (λ stop. LimitStops units earlier.now window.old.held (S.rest src.old) (S.rest src.new) stop) }
+    ensures held { HeldOver earlier.now window.old.held (S.rest src.old) kept.old kept.new window.new.held result }
     ensures cause { StopCause (S.faults src.old) (S.faults src.new) result }
 {
     let stop = match unit(alloc, window, src, earlier, kept) {
@@ -86,8 +88,10 @@ fn last<S: Source>(
     place: u64,
     reason: Reason,
 ) -> Result<(), ReadStop>
-    requires { place + length window.old.held + window.old.room ≡ 2 ^ 40 }
+    requires place { place + length window.old.held + window.old.room ≡ 2 ^ 40 }
+    requires few { length window.old.held ≤ 8192 }
     ensures last { (z : Past) → LastOver units z place reason window.old (S.rest src.old) (S.rest src.new) window.new result }
+    ensures held { length window.new.held ≤ 8192 }
     ensures cause { StopCause (S.faults src.old) (S.faults src.new) result }
 {
     match window.hold(src, 1) {
@@ -113,6 +117,7 @@ pub(crate) fn next_unit<S: Source>(
     requires place { earlier.now.place + length window.old.held + window.old.room ≡ 2 ^ 40 }
     requires few { length window.old.held ≤ 4096 }
     ensures limit { LimitOver earlier.now window.old.held (S.rest src.old) (S.rest src.new) window.new result }
+    ensures held { HeldOver earlier.now window.old.held (S.rest src.old) kept.old kept.new window.new.held result }
     ensures cause { StopCause (S.faults src.old) (S.faults src.new) result }
 {
     let found = match whole(alloc, window, src, earlier, kept) {

@@ -1,6 +1,6 @@
 //! The parts of units: what stands behind their heads.
 
-ghost use Rattle.std.specs.Prelude.{◌≡◌, ◌+◌, ◌^◌, ◌≤◌, List, ℕ, Option, length, IfOk, IfErr};
+ghost use Rattle.std.specs.Prelude.{◌≡◌, ◌+◌, ◌^◌, ◌≤◌, List, ℕ, Option, length, IfOk, IfErr, OnErr};
 ghost use Rattle.unit_table.specs.Begun.{Begun};
 ghost use Rattle.stream_units.specs.Units.{Skipped, Repeated, Past, units, first_payload, skipped_payload, repeated_payload};
 ghost use Rattle.stream_units.specs.Turns.{is_end_found, TakesOver, HeaderOver, IsFirst};
@@ -47,6 +47,7 @@ pub(crate) fn skipped<S: Source>(
     requires place { earlier.now.place + 13 + length window.old.held + window.old.room ≡ 2 ^ 40 }
     ensures unit { (held0 : List ℕ) (rest0 : Option (List ℕ)) → Begun units earlier.now held0 rest0 (S.rest src.old) (earlier.now.place + 13) window.old.held (skipped_payload next)
         → TakesOver earlier.now held0 rest0 (S.rest src.new) window.new (λ _ unit bytes. unit ≡ Skipped) result }
+    ensures held { OnErr result (length window.new.held ≤ 8192) }
     ensures cause { StopCause (S.faults src.old) (S.faults src.new) result }
 {
     match window.skip(src, next.saturating_sub(13) as u64) {
@@ -65,8 +66,10 @@ pub(crate) fn repeated<S: Source>(
     next: u32,
 ) -> Result<(), ReadStop>
     requires place { earlier.now.place + 13 + length window.old.held + window.old.room ≡ 2 ^ 40 }
+    requires few { length window.old.held ≤ 4096 }
     ensures unit { (held0 : List ℕ) (rest0 : Option (List ℕ)) → Begun units earlier.now held0 rest0 (S.rest src.old) (earlier.now.place + 13) window.old.held (repeated_payload earlier.now next first.now)
         → TakesOver earlier.now held0 rest0 (S.rest src.new) window.new (λ _ unit bytes. unit ≡ Repeated) result }
+    ensures held { length window.new.held ≤ 8192 }
     ensures cause { StopCause (S.faults src.old) (S.faults src.new) result }
 {
     let place = earlier.place();
@@ -86,9 +89,6 @@ pub(crate) fn repeated<S: Source>(
     Ok(())
 }
 
-// More bytes than any sequence header has: some 140 are the most.
-const MOST: usize = 512;
-
 // Reads until the sequence header stands in front of the bytes that are held, and gives it with its length.
 fn read_header<S: Source>(
     window: &mut Window,
@@ -101,6 +101,7 @@ fn read_header<S: Source>(
         → HeaderOver z next held0 rest0 (S.rest src.new) window.new result }
     ensures room { length window.new.held + window.new.room ≡ length window.old.held + window.old.room }
     ensures inside { IfOk result (λ x. x.1 ≤ length window.new.held) }
+    ensures most { IfOk result (λ x. x.1 ≤ 512) }
     ensures few { length window.new.held ≤ 8192 }
     ensures cause { StopCause (S.faults src.old) (S.faults src.new) result }
 {
@@ -116,9 +117,6 @@ fn read_header<S: Source>(
         };
         if !refusal.reason.is_truncated() {
             return Err(ReadStop::Refused(refusal));
-        }
-        if held >= MOST {
-            return Err(ReadStop::NoMemory);
         }
         match read_on(window, src, refusal) {
             Ok(()) => {}
@@ -151,6 +149,7 @@ pub(crate) fn first_header<S: Source>(
     requires few { length window.old.held ≤ 4096 }
     ensures unit { (held0 : List ℕ) (rest0 : Option (List ℕ)) → Begun units earlier.now held0 rest0 (S.rest src.old) (earlier.now.place + 13) window.old.held (first_payload earlier.now next)
         → TakesOver earlier.now held0 rest0 (S.rest src.new) window.new IsFirst result }
+    ensures held { length window.new.held ≤ 8192 }
     ensures cause { StopCause (S.faults src.old) (S.faults src.new) result }
 {
     let place = earlier.place();

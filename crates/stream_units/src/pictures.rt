@@ -1,6 +1,6 @@
 //! The payload of a picture unit.
 
-ghost use Rattle.std.specs.Prelude.{◌≡◌, ◌+◌, ◌^◌, ◌≤◌, List, ℕ, Option, None, Some, OnOk, IfOk, MatchResult, length, false};
+ghost use Rattle.std.specs.Prelude.{◌≡◌, ◌+◌, ◌^◌, ◌≤◌, List, ℕ, Option, None, Some, OnOk, OnErr, IfOk, IfErr, MatchResult, length, false};
 ghost use Rattle.field_rows.specs.Rows.{word_under, renamed, first_broken};
 ghost use Rattle.slice_geometry.specs.Slicing.{IsAllowed, total_bytes};
 ghost use Rattle.sequence_header.specs.declared.parts.HeaderParts.{HeaderParts};
@@ -15,6 +15,7 @@ ghost use Rattle.stream_units.specs.Units.{Past, units, transform_reason, number
 ghost use Rattle.stream_units.specs.Turns.{PictureOver};
 ghost use Rattle.stream_units.specs.Stops.{StopCause};
 ghost use Rattle.stream_units.specs.Parts.{PartOver, SlicesOver, IsReady, slice_reason};
+ghost use Rattle.stream_units.specs.Held.{greatest_share, StopsHeld};
 
 use crate::earlier::{Earlier, First};
 use crate::heads::{leads_behind, transform_reason};
@@ -63,8 +64,10 @@ fn number<S: Source>(
 ) -> Result<u32, ReadStop>
     requires first { earlier.now.first ≡ Some first.now }
     requires place { earlier.now.place + 13 + length window.old.held + window.old.room ≡ 2 ^ 40 }
+    requires few { length window.old.held ≤ 4096 }
     ensures part { PartOver units (word_under (number_rules earlier.now)) (λ n. n) earlier.now (S.rest src.old) (S.rest src.new) (earlier.now.place + 13) (λ n. 4) window.old window.new result }
     ensures place { OnOk result (earlier.now.place + 17 + length window.new.held + window.new.room ≡ 2 ^ 40) }
+    ensures held { length window.new.held ≤ 8192 }
     ensures cause { StopCause (S.faults src.old) (S.faults src.new) result }
 {
     let place = earlier.place() + 13;
@@ -84,28 +87,23 @@ fn number<S: Source>(
     Ok(number)
 }
 
-// More bytes than transform parameters can have.
-const LONGEST_PARAMS: usize = 512;
-
 // The transform parameters, and how many bytes they have.
 fn params<S: Source>(
     window: &mut Window,
     src: &mut S,
     place: u64,
 ) -> Result<(TransformParams, u64), ReadStop>
-    requires { place + length window.old.held + window.old.room ≡ 2 ^ 40 }
+    requires place { place + length window.old.held + window.old.room ≡ 2 ^ 40 }
+    requires few { length window.old.held ≤ 8192 }
     ensures part { (z : Past) → PartOver units (renamed transform_reason params_rows) (λ x. params_of x.0) z (S.rest src.old) (S.rest src.new) place (λ x. x.1) window.old window.new result }
     ensures most { IfOk result (λ x. x.1 ≤ 512) }
+    ensures held { length window.new.held ≤ 8192 }
     ensures place { IfOk result (λ x. place + x.1 + length window.new.held + window.new.room ≡ 2 ^ 40) }
     ensures cause { StopCause (S.faults src.old) (S.faults src.new) result }
 {
     loop {
-        let count = if window.len() < LONGEST_PARAMS {
-            window.len()
-        } else {
-            LONGEST_PARAMS
-        };
-        let fault = match TransformParams::read(window.front(count)) {
+        let held = window.len();
+        let fault = match TransformParams::read(window.front(held)) {
             Ok((params, size)) => {
                 window.advance(size);
                 return Ok((params, size as u64));
@@ -118,10 +116,6 @@ fn params<S: Source>(
         };
         if !refusal.reason.is_truncated() {
             return Err(ReadStop::Refused(refusal));
-        }
-        // No parameters are as long, so no input comes here.
-        if count == LONGEST_PARAMS {
-            return Err(ReadStop::NoMemory);
         }
         match read_on(window, src, refusal) {
             Ok(()) => {}
@@ -137,7 +131,8 @@ fn ready(
     shape: &PictureShape,
     params: &TransformParams,
 ) -> Result<PictureDecoder, ReadStop>
-    ensures { MatchResult result (IsReady shape.now (params_of params.now)) (λ stop. stop ≡ stops.NoMemory) }
+    ensures ready { MatchResult result (IsReady shape.now (params_of params.now)) (λ stop. stop ≡ stops.NoMemory) }
+    ensures none { OnErr result (kept.new ≡ None) }
 {
     if let Some(mut decoder) = kept.take() {
         if *decoder.shape() == *shape && *decoder.params() == *params {
@@ -172,6 +167,7 @@ fn slices<S: Source>(
     requires first { decoder.old.next ≡ 0 }
     requires unrefused { decoder.old.refused ≡ false }
     requires place { place + length window.old.held + window.old.room ≡ 2 ^ 40 }
+    requires few { length window.old.held ≤ 8192 }
     ensures part { (parts : HeaderParts) (z : Past) → frame_of decoder.old.shape ≡ frame_under parts → SlicesOver parts z (S.rest src.old) (S.rest src.new) place window.old window.new decoder.old decoder.new result }
     ensures place { OnOk result (place + total_bytes decoder.old.params.slicing + length window.new.held + window.new.room ≡ 2 ^ 40) }
     ensures shape { decoder.new.shape ≡ decoder.old.shape }
@@ -179,6 +175,7 @@ fn slices<S: Source>(
     ensures unrefused { OnOk result (decoder.new.refused ≡ false) }
     ensures whole { OnOk result (wanted_of decoder.new ≡ None) }
     ensures allowed { OnOk result (IsAllowed decoder.old.params.slicing) }
+    ensures held { length window.new.held ≤ 8192 + greatest_share decoder.old.params.slicing }
     ensures cause { StopCause (S.faults src.old) (S.faults src.new) result }
 {
     // The rules of a layout.
@@ -200,7 +197,7 @@ fn slices<S: Source>(
 }
 
 /// Takes the payload of a picture unit, behind its head. The decoder of an earlier picture serves where it made one of
-/// the same shape and parameters.
+/// the same shape and parameters; the one of a picture that is refused is kept.
 pub(crate) fn picture<S: Source>(
     alloc: Global,
     window: &mut Window,
@@ -212,8 +209,11 @@ pub(crate) fn picture<S: Source>(
 ) -> Result<Shown, ReadStop>
     requires first { earlier.now.first ≡ Some first.now }
     requires place { earlier.now.place + 13 + length window.old.held + window.old.room ≡ 2 ^ 40 }
+    requires few { length window.old.held ≤ 4096 }
     ensures unit { (held0 : List ℕ) (rest0 : Option (List ℕ)) → Begun units earlier.now held0 rest0 (S.rest src.old) (earlier.now.place + 13) window.old.held (picture_payload earlier.now next first.now.parts)
         → PictureOver earlier.now held0 rest0 (S.rest src.new) window.new first.now.parts result }
+    ensures held { (held0 : List ℕ) (rest0 : Option (List ℕ)) → Begun units earlier.now held0 rest0 (S.rest src.old) (earlier.now.place + 13) window.old.held (picture_payload earlier.now next first.now.parts)
+        → IfErr result (StopsHeld earlier.now held0 rest0 kept.old kept.new window.new.held) }
     ensures cause { StopCause (S.faults src.old) (S.faults src.new) result }
 {
     let number = number(window, src, earlier, first)?;
@@ -224,12 +224,12 @@ pub(crate) fn picture<S: Source>(
     match slices(window, src, place + head, &mut decoder) {
         Ok(()) => {}
         Err(stop) => {
-            drop(decoder);
+            drop(kept.replace(decoder));
             return Err(stop);
         }
     }
     if !leads_behind(next, head + u64::from(params.layout.total_bytes())) {
-        drop(decoder);
+        drop(kept.replace(decoder));
         return Err(refused(place + 5, Reason::OffsetWrong));
     }
     decoder.finish();

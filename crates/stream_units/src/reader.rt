@@ -2,7 +2,8 @@
 
 ghost use Rattle.std.specs.Prelude.{◌≡◌, ◌≤◌, ◌^◌, Ok, Err, Some, None, true, false, length, IfOk, IfSome, IsNone, ◌↔◌, option_map};
 ghost use Rattle.stream_units.specs.Stops.{StopCause};
-ghost use Rattle.stream_units.specs.Reader.{NextOver, new_reader};
+ghost use Rattle.stream_units.specs.Reader.{NextOver, GreatestOver, new_reader};
+ghost use Rattle.stream_units.specs.Held.{held_most};
 ghost use Rattle.stream_units.specs.declared.stop.Item.TheVariants as items;
 
 use crate::earlier::Earlier;
@@ -20,7 +21,8 @@ use vc2_io::Source;
 use vc2_run::LIMIT;
 
 /// Reads the units of a stream from any source, one after another. Contracts see what the units so far leave, the bytes
-/// that it holds, the shapes of the units, the picture of the last one, and the stop that it keeps.
+/// that it holds, the shapes of the units, the picture of the last one, the greatest share of the last picture unit whose
+/// parameters were read, and the stop that it keeps.
 #[derive(Drop)]
 pub struct StreamReader {
     alloc: Global,
@@ -36,10 +38,11 @@ pub struct StreamReader {
 impl Model for StreamReader {
     ghost use Rattle.stream_units.specs.Reader.{ReaderState};
     ghost use Rattle.stream_units.specs.ReaderInside.{picture_in, IsSound};
+    ghost use Rattle.stream_units.specs.Held.{greatest_in};
 
     ghost Value = { ReaderState };
 
-    ghost view = { λ a. record { past = a.earlier; held = a.window.held; shapes = a.shapes.units; picture = picture_in a.shows a.decoder; stop = a.stop; ended = a.ended } };
+    ghost view = { λ a. record { past = a.earlier; held = a.window.held; shapes = a.shapes.units; picture = picture_in a.shows a.decoder; greatest = greatest_in a.decoder; stop = a.stop; ended = a.ended } };
 
     ghost invariant = { λ a. IsSound a.earlier a.window a.shapes a.shows a.decoder a.stop a.ended };
 }
@@ -49,9 +52,10 @@ impl StreamReader {
     pub fn new(alloc: Global) -> Result<StreamReader, NoMemory>
         ensures { IfOk result (λ reader. reader ≡ new_reader) }
     {
+        let window = Window::made(alloc, LIMIT)?;
         Ok(StreamReader {
             alloc,
-            window: Window::new(alloc, LIMIT),
+            window,
             earlier: Earlier::new(),
             shapes: UnitShapes::new(alloc),
             decoder: None,
@@ -67,6 +71,10 @@ impl StreamReader {
     pub fn next<S: Source>(&mut self, src: &mut S) -> Result<Item, ReadStop>
         // The unit is taken, or refused as the grammar of a stream refuses it, or something outside failed.
         ensures next { self.old.stop ≡ None → self.old.ended ≡ false → NextOver self.old self.new (S.rest src.old) (S.rest src.new) result }
+        // Behind each call, whatever it answers, at most 8192 bytes are held, and beside them the greatest share where there is one.
+        ensures held { length self.new.held ≤ held_most self.new.greatest }
+        // The greatest share is that of the picture that was taken or in which the call stops; else it stays, and 8192 bytes are held at most.
+        ensures greatest { self.old.stop ≡ None → self.old.ended ≡ false → GreatestOver self.old self.new (S.rest src.old) result }
         // A failed read is answered where the count rose, and nothing else is.
         ensures cause { self.old.stop ≡ None → StopCause (S.faults src.old) (S.faults src.new) result }
         // After a stop each call answers it again, and nothing is read.

@@ -6,6 +6,7 @@ ghost use Rattle.stream_units.specs.Units.{units, unit_head, payload_rows};
 ghost use Rattle.stream_units.specs.Turns.{UnitOver};
 ghost use Rattle.stream_units.specs.Stops.{StopCause};
 ghost use Rattle.stream_units.specs.Parts.{PartOver};
+ghost use Rattle.stream_units.specs.Held.{HeldOver};
 
 use crate::earlier::Earlier;
 use crate::heads::read_head;
@@ -30,6 +31,7 @@ fn head<S: Source>(
     ensures part { PartOver units (unit_head earlier.now) (λ info. info) earlier.now (S.rest src.old) (S.rest src.new) earlier.now.place (λ info. 13) window.old window.new result }
     ensures place { OnOk result (earlier.now.place + 13 + length window.new.held + window.new.room ≡ 2 ^ 40) }
     ensures few { OnOk result (length window.new.held ≤ 4096) }
+    ensures held { length window.new.held ≤ 8192 }
     ensures cause { StopCause (S.faults src.old) (S.faults src.new) result }
 {
     loop {
@@ -64,6 +66,8 @@ fn payload<S: Source>(
     requires few { length window.old.held ≤ 4096 }
     ensures unit { (held0 : List ℕ) (rest0 : Option (List ℕ)) → Begun units earlier.now held0 rest0 (S.rest src.old) (earlier.now.place + 13) window.old.held (payload_rows earlier.now earlier.now.first info)
         → UnitOver earlier.now held0 rest0 (S.rest src.new) window.new result }
+    ensures held { (held0 : List ℕ) (rest0 : Option (List ℕ)) → Begun units earlier.now held0 rest0 (S.rest src.old) (earlier.now.place + 13) window.old.held (payload_rows earlier.now earlier.now.first info)
+        → HeldOver earlier.now held0 rest0 kept.old kept.new window.new.held result }
     ensures cause { StopCause (S.faults src.old) (S.faults src.new) result }
 {
     let Some(first) = earlier.first() else {
@@ -103,6 +107,7 @@ pub(crate) fn unit<S: Source>(
     requires place { earlier.now.place + length window.old.held + window.old.room ≡ 2 ^ 40 }
     requires few { length window.old.held ≤ 4096 }
     ensures unit { UnitOver earlier.now window.old.held (S.rest src.old) (S.rest src.new) window.new result }
+    ensures held { HeldOver earlier.now window.old.held (S.rest src.old) kept.old kept.new window.new.held result }
     ensures cause { StopCause (S.faults src.old) (S.faults src.new) result }
 {
     let info = match head(window, src, earlier) {

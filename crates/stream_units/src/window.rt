@@ -1,12 +1,14 @@
 //! Bytes that were read and not used yet.
 
-ghost use Rattle.std.specs.Prelude.{◌≡◌, ◌+◌, ◌≤◌, ◌<◌, [], ℕ, length, slice_index, take, drop, Ok, Err, true, false, OnErr};
+ghost use Rattle.std.specs.Prelude.{◌≡◌, ◌+◌, ◌≤◌, ◌<◌, [], ℕ, length, slice_index, take, drop, Ok, Err, true, false, IfOk, OnErr};
+ghost use Rattle.std.specs.Bool.{OnTrue};
 ghost use Rattle.std.specs.Io.KnownBytes.{IsAtEnd};
 ghost use Rattle.vc2_run.specs.Ran.{within};
 ghost use Rattle.unit_table.specs.Begun.{Got};
 ghost use Rattle.stream_units.specs.Asking.{Refilled, Dropped, HaltCause};
 
 use bytes::BytesMut;
+use planes::NoMemory;
 use std::alloc::Global;
 use std::marker::Model;
 use vc2_io::Source;
@@ -20,6 +22,20 @@ pub(crate) enum Halt {
 
 /// The most bytes that one read asks for.
 const PIECE: usize = 4096;
+
+/// The bytes that there is memory for from the start. More is taken only for a share above that.
+const WINDOW: usize = 8192;
+
+// Makes room for so many bytes more: in the memory that there is, where that is enough.
+fn make_room(held: &mut BytesMut<Global>, more: usize) -> bool
+    ensures items { held.new.items ≡ held.old.items }
+    ensures spare { OnTrue result (more ≤ held.new.spare) }
+{
+    if held.try_reclaim(more) {
+        return true;
+    }
+    held.reserve(more).is_ok()
+}
 
 /// The bytes that are held, and how many more may come before the limit.
 #[derive(Drop)]
@@ -44,6 +60,16 @@ impl Window {
         Window {
             held: BytesMut::new(alloc),
             room,
+        }
+    }
+
+    /// The same, with memory for the bytes that are held beside no share above it.
+    pub fn made(alloc: Global, room: u64) -> Result<Window, NoMemory>
+        ensures { IfOk result (λ window. window ≡ record { held = []; room = room }) }
+    {
+        match BytesMut::with_capacity(alloc, WINDOW) {
+            Ok(held) => Ok(Window { held, room }),
+            Err(_) => Err(NoMemory),
         }
     }
 
@@ -88,8 +114,27 @@ impl Window {
         self.held.clear();
     }
 
-    // Reads once, at most 4096 bytes, and no more than there is room for before the limit. Room is made first, so no
-    // byte that was read is lost.
+    // How many bytes the next read asks for: at most 4096, no more than there is room for before the limit, and while
+    // fewer bytes are held than the window is made for, no more than it has place for.
+    fn piece(&self) -> usize
+        ensures few { result ≤ 4096 }
+        ensures room { result ≤ self.now.room }
+        ensures some { 0 < self.now.room → 0 < result }
+    {
+        let held = self.len();
+        let most = if held < WINDOW && WINDOW - held < PIECE {
+            WINDOW - held
+        } else {
+            PIECE
+        };
+        if self.room < most as u64 {
+            self.room as usize
+        } else {
+            most
+        }
+    }
+
+    // Reads once, and no more than a piece. Memory is made first, so no byte that was read is lost.
     fn refill<S: Source>(&mut self, src: &mut S) -> Result<bool, Halt>
         ensures got { Refilled self.old self.new (S.rest src.old) (S.rest src.new) }
         ensures some { result ≡ Ok true → length self.old.held < length self.new.held }
@@ -97,15 +142,11 @@ impl Window {
         ensures err { OnErr result (self.new.held ≡ self.old.held) }
         ensures cause { HaltCause (S.faults src.old) (S.faults src.new) result }
     {
-        if self.held.reserve(PIECE).is_err() {
+        let most = self.piece();
+        if !make_room(&mut self.held, most) {
             return Err(Halt::NoMemory);
         }
         let mut piece = [0; PIECE];
-        let most = if self.room < PIECE as u64 {
-            self.room as usize
-        } else {
-            PIECE
-        };
         let count = match src.read(&mut piece[..most]) {
             Ok(count) => count,
             Err(_) => return Err(Halt::ReadFault),

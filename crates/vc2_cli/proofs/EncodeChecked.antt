@@ -176,8 +176,10 @@ module _ (s : Asked) (schedule : Schedule) (f : IsLawful s.params) where
 plan_runs : (s : Asked) (n : ℕ) → IsLawful s.params → IsRate s.rate → outcome_of (ended_plan s (shapes_at s n) (stream_place s n)) (shapes_at s n ++ plain_shape (stream_place s n) 13 ∷ []) (stream_place s n + 13) ≡ Runs
 plan_runs s n f rate =
     let list = shapes_in (shapes_at s n ++ plain_shape (stream_place s n) 13 ∷ []) (stream_place s n + 13) in
-    let course = course_of list s.rate (plan_delay list s.rate) in
-    plan_replays list s.rate (plan_delay list s.rate) (plan_size list s.rate) (outcome_from course (plan_size list s.rate) 0 (count_in list)) (plan_found list s.rate rate (all_in_turn s f n)) (one_outcome course (plan_size list s.rate) (count_in list)).found
+    let delay = plan_delay list s.rate s.idle in
+    let size = plan_size list s.rate s.idle in
+    let course = course_of list s.rate s.idle delay in
+    plan_replays list s.rate s.idle delay size (outcome_from course size 0 (count_in list)) (plan_found list s.rate s.idle rate (all_in_turn s f n)) (one_outcome course size (count_in list)).found
 
 -- ---- samples that are read have the shape
 
@@ -251,13 +253,14 @@ plan_has_words s pictures settings may =
     let n = length pictures in
     let list = shapes_in (shapes_at s n ++ plain_shape (stream_place s n) 13 ∷ []) (stream_place s n + 13) in
     let in_turn = all_in_turn s settings.lawful.params n in
-    let lead = (greatest-is (lead_of list s.rate) (count_in list)).least (2 ^ 72) (λ k lt. lead_low list s.rate k in_turn may.stream settings.slots) in
-    let held_most = (greatest-is (held (course_of list s.rate (plan_delay list s.rate))) (count_in list)).least (stream_place s n + 13) (λ k lt. held_low _ _ _) in
+    let lead = (greatest-is (lead_of list s.rate s.idle) (count_in list)).least (2 ^ 72) (λ k lt. lead_low list s.rate s.idle k in_turn may.stream settings.slots) in
+    let held_most = (greatest-is (held (course_of list s.rate s.idle (plan_delay list s.rate s.idle))) (count_in list)).least (stream_place s n + 13) (λ k lt. held_low _ _ _) in
     record {
-      lawful = record { rate = settings.rate; short = omega (arith, ceil_low (greatest (lead_of list s.rate) (count_in list)) s.rate.num settings.rate.some_bytes, lead) };
+      lawful = record { rate = settings.rate; short = omega (arith, ceil_low (greatest (lead_of list s.rate s.idle) (count_in list)) s.rate.num settings.rate.some_bytes, lead) };
       bytes = settings.bytes;
       slots = settings.slots;
       size = omega (arith, held_most, may.stream);
+      idle = settings.idle;
     }
 
 pub the_schedule_runs : (s : Asked) (pictures : List PictureSamples) → TheScheduleRuns s pictures

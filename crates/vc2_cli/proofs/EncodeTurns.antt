@@ -85,8 +85,8 @@ behind_next e n w w' some b after =
     subst (λ (k : ℕ). IsBehind e k w') one (subst (IsBehind e (suc n)) (sym after) (behind_after e n w some b))
 
 -- the plan is of the units alone
-pub planned : (list : UnitList) (rate : Rate) (units : List UnitShape) (total : ℕ) → list.units ≡ units → list.total ≡ total → plan_of list rate ≡ plan_of (shapes_in units total) rate
-planned list rate units total u t = ap (λ (l : List UnitShape). plan_of (shapes_in l list.total) rate) u ∙ ap (λ (k : ℕ). plan_of (shapes_in units k) rate) t
+pub planned : (list : UnitList) (rate : Rate) (idle : ℕ) (units : List UnitShape) (total : ℕ) → list.units ≡ units → list.total ≡ total → plan_of list rate idle ≡ plan_of (shapes_in units total) rate idle
+planned list rate idle units total u t = ap (λ (l : List UnitShape). plan_of (shapes_in l list.total) rate idle) u ∙ ap (λ (k : ℕ). plan_of (shapes_in units k) rate idle) t
 
 -- the bytes of the units and the end
 pub with_end : (w : WriterState) → total_length (after_end w).shapes ≡ next_place w + 13

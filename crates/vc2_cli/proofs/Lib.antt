@@ -15,4 +15,5 @@ pub mod Exits
 pub mod Replaying
 pub mod StreamSinks
 pub mod TrialWritten
+pub mod EncodedWords
 pub mod TrialCompared

@@ -18,7 +18,7 @@ use Rattle.vc2_words.specs.declared.keys.WordFault.TheVariants.{SettingsRefused}
 use Rattle.vc2_words.specs.declared.keys.Rule.TheVariants.{MatrixTooSteep}
 use Rattle.vc2_words.specs.Settings.{Asked}
 use Rattle.vc2_words.specs.declared.words.TrialPart.{TrialPart}
-use Rattle.vc2_words.specs.Lawful.{AreLawful, IsTrial}
+use Rattle.vc2_words.specs.Lawful.{AreLawful, IsAskedSchedule, IsTrial}
 use Rattle.stream_units.specs.Writer.{IsSteepUnder}
 use Rattle.vc2_cli.specs.Encode.{written_under}
 use Rattle.vc2_cli.specs.Words.{seen_words, is_flat, unless_steep, checked, words_ask}
@@ -86,7 +86,7 @@ check_was (Ok decode) schedule e = e
 check_was (Ok (check other)) schedule e = e
 check_was (Err fault) schedule e = e
 
-encode_was : (read : Result AskedCommand WordFault) (s : Asked) → checked read ≡ Ok (encode s) → (read ≡ Ok (encode s)) × (is_flat s ≡ true)
+pub encode_was : (read : Result AskedCommand WordFault) (s : Asked) → checked read ≡ Ok (encode s) → (read ≡ Ok (encode s)) × (is_flat s ≡ true)
 encode_was (Ok (encode t)) s e =
     let was = steep_or t (encode t) (encode s) e in
     let w : encode t ≡ encode s = was.0 in
@@ -120,7 +120,9 @@ trial_was (Err fault) s part e = absurd cc
 
 -- a schedule that was read is lawful
 pub schedule_is : (words : List (List ℕ)) (command : Result Command WordFault) (schedule : Schedule) → seen_words command ≡ words_ask words → seen_words command ≡ Ok (check (Some schedule)) → IsSchedule schedule
-schedule_is words command schedule same is = words_say words (check (Some schedule)) (check_was (asked_by words) (Some schedule) (sym same ∙ is))
+schedule_is words command schedule same is =
+    let one : IsAskedSchedule schedule = words_say words (check (Some schedule)) (check_was (asked_by words) (Some schedule) (sym same ∙ is)) in
+    one.schedule
 
 -- settings that were read are lawful, and their matrix is not too steep
 pub settings_are : (words : List (List ℕ)) (command : Result Command WordFault) (s : Asked) → seen_words command ≡ words_ask words → seen_words command ≡ Ok (encode s) → AreLawful s × IsSteepUnder (written_under s)

@@ -48,16 +48,16 @@ last_pictures z End bytes other final = refl
 
 -- the outcome, as a value
 outcome_is : (shapes : UnitList) (units : List UnitShape) (total : ℕ) (schedule : Schedule) (outcome : Outcome) → shapes.units ≡ units → shapes.total ≡ total
-    → IsOutcome (course_of shapes schedule.rate schedule.delay) schedule.size (count_in shapes) outcome → outcome ≡ outcome_of schedule units total
+    → IsOutcome (course_of shapes schedule.rate schedule.idle schedule.delay) schedule.size (count_in shapes) outcome → outcome ≡ outcome_of schedule units total
 outcome_is shapes units total schedule outcome same_units same_total is =
-    (one_outcome (course_of shapes schedule.rate schedule.delay) schedule.size (count_in shapes)).only outcome is
+    (one_outcome (course_of shapes schedule.rate schedule.idle schedule.delay) schedule.size (count_in shapes)).only outcome is
     ∙ ap (λ (l : List UnitShape). outcome_of schedule l shapes.total) same_units
     ∙ ap (λ (t : ℕ). outcome_of schedule units t) same_total
 
 -- the ending of a stream
 pub ending_is : (schedule : Schedule) (slices pictures taken : ℕ) (outcome : Outcome) (old new : ReaderState) (shapes : UnitList) (z : Past) (unit : DataUnit) (bytes : List ℕ) (other : Option Reason) → TellsUnit old new z unit bytes → units.behind unit ≡ Final other
     → pictures ≡ new.past.pictures → taken ≡ new.past.place → shapes.units ≡ new.shapes → shapes.total ≡ new.past.place
-    → IsOutcome (course_of shapes schedule.rate schedule.delay) schedule.size (count_in shapes) outcome
+    → IsOutcome (course_of shapes schedule.rate schedule.idle schedule.delay) schedule.size (count_in shapes) outcome
     → Scheduled pictures slices taken outcome ≡ replaying_any.finished z (record { schedule = schedule; slices = slices; shapes = old.shapes }) unit bytes
 ending_is schedule slices pictures taken outcome old new shapes z unit bytes other t final is_pictures is_taken is_units is_total is =
     let place : new.past.place ≡ z.place + length bytes = ap (λ (p : Past). p.place) t.past ∙ after-place z unit bytes in

@@ -1,5 +1,5 @@
 -- The line of a schedule is read as that schedule.
-use Rattle.std.proofs.Common.{◌≡◌, ℕ, zero, suc, ◌+◌, ◌-◌, ◌*◌, ◌/◌, ◌%◌, ◌^◌, ◌<◌, ◌≤◌, ◌⊎◌, inl, inr, cond, eqb, Bool, true, false, List, [], ◌∷◌, ◌++◌, length, take, drop, get_or, Option, Some, None, Result, Ok, refl, sym, ap, subst, ◌∙◌, arith, append_assoc, eq-eqb, ne_eqb}
+use Rattle.std.proofs.Common.{◌≡◌, ℕ, zero, suc, ◌+◌, ◌-◌, ◌*◌, ◌/◌, ◌%◌, ◌^◌, ◌<◌, ◌≤◌, ◌⊎◌, inl, inr, cond, eqb, Bool, true, false, List, [], ◌∷◌, ◌++◌, length, take, drop, get_or, Option, Some, None, Result, Ok, refl, sym, ap, subst, ◌∙◌, arith, append_assoc, eq-eqb, ne_eqb, eqb-true}
 use Rattle.std.specs.Prelude.{◌&&◌, ◌||◌, not, codes, decimal, ◌==◌}
 use Rattle.std.specs.Int.{is_in_range}
 use Rattle.std.proofs.lemmas.Bool.{le-leb, cases_lt}
@@ -16,10 +16,10 @@ use Rattle.vc2_words.specs.declared.keys.Name.TheVariants as names
 use Rattle.vc2_words.specs.declared.keys.WordFault.{WordFault}
 use Rattle.vc2_words.specs.Forms.{digits_from, number_in, in_range, single, cut_at, both_parts, value_in}
 use Rattle.vc2_words.specs.Operands.{Table, nothing, with_value, cut_operand, operand, operands_from, and_then, missing, unless}
-use Rattle.vc2_words.specs.Commands.{check, command_of}
+use Rattle.vc2_words.specs.Commands.{AskedCommand, check, command_of}
 use Rattle.vc2_cli.specs.Words.{checked, words_ask}
 use Rattle.vc2_cli.specs.Texts.{schedule_line}
-use Rattle.vc2_cli.specs.ScheduleWords.{rate_word, delay_word, buffer_word, words_of, HasWords, LineIsRead}
+use Rattle.vc2_cli.specs.ScheduleWords.{rate_word, delay_word, buffer_word, idle_word, idle_words, operands_of, words_of, spaced, HasWords, LineIsRead}
 
 -- ---- a number's digits
 
@@ -117,7 +117,7 @@ cut_there c a b none =
     ∙ ap (λ (l : List ℕ). Some (l, drop (length a + 1) text)) (take_at a (c ∷ b) (length a) refl)
     ∙ ap (λ (l : List ℕ). Some (a, l)) (drop-append-add a (c ∷ b) 1)
 
--- ---- the three values
+-- ---- the values
 
 rate_read : (num den : ℕ) → 1 ≤ num → num < 2 ^ 32 → 1 ≤ den → den < 2 ^ 32 → value_in of_key.Rate (decimal num ++ 47 ∷ decimal den) ≡ Some (num ∷ den ∷ [])
 rate_read num den a b c d =
@@ -130,6 +130,9 @@ delay_read n most = ap single (ranged 0 (2 ^ 72) n (number_in (decimal n)) (numb
 
 buffer_read : (n : ℕ) → n ≤ 2 ^ 40 → value_in of_key.Buffer (decimal n) ≡ Some (n ∷ [])
 buffer_read n most = ap single (ranged 0 (2 ^ 40) n (number_in (decimal n)) (number_read n (omega (arith, most))) (omega arith) most)
+
+idle_read : (n : ℕ) → n ≤ 2 ^ 20 → value_in of_key.Idle (decimal n) ≡ Some (n ∷ [])
+idle_read n most = ap single (ranged 0 (2 ^ 20) n (number_in (decimal n)) (number_read n (omega (arith, most))) (omega arith) most)
 
 -- ---- the words
 
@@ -157,6 +160,13 @@ none_of_buffer (suc (suc (suc (suc zero)))) lt = refl
 none_of_buffer (suc (suc (suc (suc (suc zero))))) lt = refl
 none_of_buffer (suc (suc (suc (suc (suc (suc k)))))) lt = absurd (omega (arith, lt))
 
+none_of_idle : (k : ℕ) → k < 4 → eqb (get_or (codes "idle") k 0) 61 ≡ false
+none_of_idle zero lt = refl
+none_of_idle (suc zero) lt = refl
+none_of_idle (suc (suc zero)) lt = refl
+none_of_idle (suc (suc (suc zero))) lt = refl
+none_of_idle (suc (suc (suc (suc k)))) lt = absurd (omega (arith, lt))
+
 module _ (s : Schedule) (h : HasWords s) where
   abbrev first : Table
   first = with_value nothing of_key.Rate (s.rate.num ∷ s.rate.den ∷ [])
@@ -166,6 +176,9 @@ module _ (s : Schedule) (h : HasWords s) where
 
   abbrev third : Table
   third = with_value second of_key.Buffer (s.size ∷ [])
+
+  abbrev fourth : Table
+  fourth = with_value third of_key.Idle (s.idle ∷ [])
 
   abbrev given : Table → Result Table WordFault
   given t = Ok t
@@ -181,18 +194,44 @@ module _ (s : Schedule) (h : HasWords s) where
   buffer_given : operand names.Check 3 second (buffer_word s) ≡ given third
   buffer_given = ap (cut_operand names.Check 3 second) (cut_there 61 (codes "buffer") (decimal s.size) none_of_buffer) ∙ rw (buffer_read s.size h.size) refl
 
-  operands : operands_from names.Check 1 nothing (rate_word s ∷ delay_word s ∷ buffer_word s ∷ []) ≡ given third
-  operands =
-      ap (λ (r : Result Table WordFault). and_then r (λ next. operands_from names.Check 2 next (delay_word s ∷ buffer_word s ∷ []))) rate_given
-      ∙ ap (λ (r : Result Table WordFault). and_then r (λ next. operands_from names.Check 3 next (buffer_word s ∷ []))) delay_given
-      ∙ ap (λ (r : Result Table WordFault). and_then r (λ next. operands_from names.Check 4 next [])) buffer_given
+  idle_given : operand names.Check 4 third (idle_word s) ≡ given fourth
+  idle_given = ap (cut_operand names.Check 4 third) (cut_there 61 (codes "idle") (decimal s.idle) none_of_idle) ∙ rw (idle_read s.idle h.idle) refl
+
+  three_given : (more : List (List ℕ)) → operands_from names.Check 1 nothing (rate_word s ∷ delay_word s ∷ buffer_word s ∷ more) ≡ operands_from names.Check 4 third more
+  three_given more =
+      ap (λ (r : Result Table WordFault). and_then r (λ next. operands_from names.Check 2 next (delay_word s ∷ buffer_word s ∷ more))) rate_given
+      ∙ ap (λ (r : Result Table WordFault). and_then r (λ next. operands_from names.Check 3 next (buffer_word s ∷ more))) delay_given
+      ∙ ap (λ (r : Result Table WordFault). and_then r (λ next. operands_from names.Check 4 next more)) buffer_given
+
+  -- what operands of `check` ask for
+  abbrev asked_with : Result Table WordFault → Result AskedCommand WordFault
+  asked_with r = checked (and_then (and_then r (λ t. unless (missing names.Check t) t)) (λ t. command_of names.Check t))
 
   asked : words_ask (words_of s) ≡ Ok (check (Some s))
-  asked = ap (λ (r : Result Table WordFault). checked (and_then (and_then r (λ t. unless (missing names.Check t) t)) (λ t. command_of names.Check t))) operands
+  asked = ap asked_with (three_given (idle_words s)) ∙ by (s.idle == 0) refl
+    where
+      by : (none : Bool) → (s.idle == 0) ≡ none → asked_with (operands_from names.Check 4 third (cond none [] (idle_word s ∷ []))) ≡ Ok (check (Some s))
+      by true t = ap (λ (k : ℕ). let c : Result AskedCommand WordFault = Ok (check (Some (record s { idle = k }))) in c) (sym (eqb-true s.idle 0 t))
+      by false t = ap (λ (r : Result Table WordFault). asked_with (and_then r (λ next. operands_from names.Check 5 next []))) idle_given
 
-  line : schedule_line s ≡ rate_word s ++ (codes " " ++ (delay_word s ++ (codes " " ++ (buffer_word s ++ 10 ∷ []))))
+  -- the last words, and the line's end
+  last_words : (none : Bool) → spaced (buffer_word s ∷ cond none [] (idle_word s ∷ [])) ++ 10 ∷ [] ≡ codes "buffer=" ++ (decimal s.size ++ (cond none [] (codes " " ++ idle_word s) ++ 10 ∷ []))
+  last_words true = refl
+  last_words false = ap (λ (l : List ℕ). codes "buffer=" ++ l) (append_assoc (decimal s.size) (codes " " ++ idle_word s) (10 ∷ []))
+
+  line : schedule_line s ≡ spaced (operands_of s) ++ 10 ∷ []
   unfolding schedule_line
-  line = sym (ap (λ (l : List ℕ). codes "rate=" ++ l) (append_assoc (decimal s.rate.num) (codes "/" ++ decimal s.rate.den) (codes " " ++ (delay_word s ++ (codes " " ++ (buffer_word s ++ 10 ∷ []))))))
+  line =
+      let tail = spaced (buffer_word s ∷ idle_words s) in
+      let nl : List ℕ = 10 ∷ [] in
+      let rest = codes " " ++ (delay_word s ++ (codes " " ++ tail)) in
+      sym (
+      ap (λ (l : List ℕ). codes "rate=" ++ (l ++ nl)) (append_assoc (decimal s.rate.num) (codes "/" ++ decimal s.rate.den) rest)
+      ∙ ap (λ (l : List ℕ). codes "rate=" ++ l) (append_assoc (decimal s.rate.num) (codes "/" ++ (decimal s.rate.den ++ rest)) nl)
+      ∙ ap (λ (l : List ℕ). codes "rate=" ++ (decimal s.rate.num ++ (codes "/" ++ l))) (append_assoc (decimal s.rate.den) rest nl)
+      ∙ ap (λ (l : List ℕ). codes "rate=" ++ (decimal s.rate.num ++ (codes "/" ++ (decimal s.rate.den ++ (codes " delay=" ++ l))))) (append_assoc (decimal s.delay) (codes " " ++ tail) nl)
+      ∙ ap (λ (l : List ℕ). codes "rate=" ++ (decimal s.rate.num ++ (codes "/" ++ (decimal s.rate.den ++ (codes " delay=" ++ (decimal s.delay ++ (codes " " ++ l))))))) (last_words (s.idle == 0))
+      )
 
 pub line_is_read : (s : Schedule) → HasWords s → LineIsRead s
 line_is_read s h = record { line = line s h; asked = asked s h }

@@ -51,6 +51,7 @@ trial_settings s l flat = record {
   rate = l.rate;
   bytes = l.bytes;
   slots = l.slots;
+  idle = l.idle;
   flat = flat;
 }
 
@@ -184,9 +185,9 @@ module _ (s : Asked) (part : TrialPart) (t : IsTrial s part) (n : ℕ) (video : 
     pub written_all : (w' : WriterState) (sink' : SinkState) → WritesEnd w w' (told_of_sink sink) (told_of_sink sink') (Ok tt) → sink'.bytes ≡ stream_of s (trial_pictures s part)
     written_all w' sink' wrote = (grew_rest sink sink' (end_unit (next_previous w)) wrote.wrote).1 ∙ end_is
 
-    pub planned_all : (w' : WriterState) (list : UnitList) (out0 out1 : Option (List ℕ)) → WritesEnd w w' out0 out1 (Ok tt) → list.units ≡ w'.shapes → list.total ≡ total_length w'.shapes → plan_of list s.rate ≡ plan_for s (trial_pictures s part)
+    pub planned_all : (w' : WriterState) (list : UnitList) (out0 out1 : Option (List ℕ)) → WritesEnd w w' out0 out1 (Ok tt) → list.units ≡ w'.shapes → list.total ≡ total_length w'.shapes → plan_of list s.rate s.idle ≡ plan_for s (trial_pictures s part)
     planned_all w' list out0 out1 wrote units total =
-        planned list s.rate (w.shapes ++ plain_shape (next_place w) 13 ∷ []) (next_place w + 13) (units ∙ ap (λ (x : WriterState). x.shapes) wrote.after) (total ∙ ap (λ (x : WriterState). total_length x.shapes) wrote.after ∙ with_end w)
+        planned list s.rate s.idle (w.shapes ++ plain_shape (next_place w) 13 ∷ []) (next_place w + 13) (units ∙ ap (λ (x : WriterState). x.shapes) wrote.after) (total ∙ ap (λ (x : WriterState). total_length x.shapes) wrote.after ∙ with_end w)
         ∙ ap (λ (l : List UnitShape). ended_plan s l (next_place w)) b.stands.shapes
         ∙ ap (λ (k : ℕ). ended_plan s (shapes_at s n) k) b.stands.place
         ∙ ap (λ (k : ℕ). ended_plan s (shapes_at s k) (stream_place s k)) (over ∙ sym (trial_count s part))

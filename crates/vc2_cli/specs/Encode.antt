@@ -66,7 +66,7 @@ shapes_at s (suc n) = shapes_at s n ++ picture_shape s.params (stream_place s n)
 
 -- the least schedule of units that end at this place and the end unit behind them
 abbrev pub ended_plan : Asked → List UnitShape → ℕ → Schedule
-ended_plan s units place = plan_of (shapes_in (units ++ plain_shape place 13 ∷ []) (place + 13)) s.rate
+ended_plan s units place = plan_of (shapes_in (units ++ plain_shape place 13 ∷ []) (place + 13)) s.rate s.idle
 
 -- the pictures are fields, and the last frame has only one
 abbrev pub is_half : ℕ → ℕ → Bool

@@ -18,15 +18,17 @@ use Rattle.vc2_cli.specs.declared.status.Status.TheVariants as status
 use Rattle.vc2_cli.specs.Texts.{decoded_line, schedule_line, replayed_lines}
 use Rattle.vc2_cli.specs.Reply.{Reply, command_reply, reply_to}
 use Rattle.vc2_cli.specs.ScheduleWords.{words_of}
+use Rattle.vc2_cli.specs.Words.{words_ask}
 use Rattle.vc2_cli.specs.Encode.{written_under, stream_place}
 use Rattle.vc2_cli.specs.WholePictures.{raw_input, stream_of, decoded_of, plan_for, stream_length}
 
--- settings that a stream is written with, the rate being of numbers that words can have
+-- settings that a stream is written with, the rate and the idle slots being of numbers that words can have
 pub record AreSettings (s : Asked) : Type 0 where
   pub lawful : AreLawful (written_under s)
   pub rate : IsRate s.rate
   pub bytes : s.rate.num < 2 ^ 32
   pub slots : s.rate.den < 2 ^ 32
+  pub idle : s.idle ≤ 2 ^ 20
   pub flat : IsSteepUnder (written_under s)
 
 -- Whole pictures that may be written: whatever their samples are, where pictures are fields of an even number, and within 2 ^ 40 bytes.
@@ -61,3 +63,13 @@ decoded_reply s pictures = record { status = status.Done; rest = []; out = raw_i
 
 abbrev pub AreDecoded : Asked → List PictureSamples → Type 0
 AreDecoded s pictures = AreSettings s → MayBeWritten s pictures → command_reply (Ok decode) (stream_of s pictures) ≡ decoded_reply s pictures
+
+-- ---- by the words
+
+-- Words that ask for `encode`, and are not refused, ask for such settings,
+abbrev pub GiveSettings : List (List ℕ) → Type 0
+GiveSettings words = (s : Asked) → words_ask words ≡ Ok (encode s) → AreSettings s
+
+-- and their reply to whole pictures is that one.
+abbrev pub AreEncodedBy : List (List ℕ) → List PictureSamples → Type 0
+AreEncodedBy words pictures = (s : Asked) → words_ask words ≡ Ok (encode s) → MayBeWritten s pictures → reply_to words (raw_input s pictures) ≡ encoded_reply s pictures

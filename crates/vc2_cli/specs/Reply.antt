@@ -1,5 +1,5 @@
 -- What the program replies to its words and its input, and what of it stands after a status.
-use Rattle.std.specs.Prelude.{◌≡◌, ◌≤◌, ℕ, List, [], Option, Some, None, Result, Ok, Err}
+use Rattle.std.specs.Prelude.{◌≡◌, ◌≤◌, ◌⊎◌, ℕ, List, [], Option, Some, None, Result, Ok, Err}
 use Rattle.std.specs.Io.KnownBytes.{Appends, Consumes, Keeps}
 use Rattle.vc2_io.specs.Outside.{Rose, GrewShort}
 use Rattle.vc2_run.specs.Walk.{Answer, answer_to, out_of, due, IsPrefix, IsProperPrefix, IsPrompt}
@@ -145,3 +145,22 @@ AnswersUsage fault note0 note1 (status.Usage told) = (told ≡ fault) × Appends
 AnswersUsage fault note0 note1 status.NoteFault = GrewShort note0 note1 (usage_line fault)
 AnswersUsage fault note0 note1 status.NoMemory = Keeps note0 note1
 AnswersUsage fault note0 note1 other = ⊥
+
+-- ---- commands of which more is said
+
+-- A trial: its text was written whole, or a part of it, or there was no memory, and then nothing of it or all. It has no note, and no read of it fails.
+abbrev pub AnswersTrial : List ℕ → Option (List ℕ) → Option (List ℕ) → Option (List ℕ) → Option (List ℕ) → Status → Type 0
+AnswersTrial text out0 out1 note0 note1 status.Done = Appends out0 out1 text × Appends note0 note1 []
+AnswersTrial text out0 out1 note0 note1 status.OutFault = GrewShort out0 out1 text × Keeps note0 note1
+AnswersTrial text out0 out1 note0 note1 status.NoMemory = ((out1 ≡ out0) ⊎ Appends out0 out1 text) × Keeps note0 note1
+AnswersTrial text out0 out1 note0 note1 other = ⊥
+
+-- where these words ask for a trial
+abbrev pub IfTrial : Result AskedCommand WordFault → (Asked → TrialPart → Type 0) → Type 0
+IfTrial (Ok (trial s part)) P = P s part
+IfTrial other P = Unit {0}
+
+-- where they ask for the first unit
+abbrev pub IfHeader : Result AskedCommand WordFault → Type 0 → Type 0
+IfHeader (Ok header) P = P
+IfHeader other P = Unit {0}

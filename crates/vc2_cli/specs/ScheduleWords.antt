@@ -1,5 +1,5 @@
 -- The words that ask `check` for a schedule, as a schedule's line has them.
-use Rattle.std.specs.Prelude.{◌≡◌, ◌≤◌, ◌<◌, ◌^◌, ℕ, List, [], ◌∷◌, ◌++◌, codes, decimal, Some, Ok}
+use Rattle.std.specs.Prelude.{◌≡◌, ◌≤◌, ◌<◌, ◌^◌, ◌==◌, ℕ, List, [], ◌∷◌, ◌++◌, codes, decimal, Some, Ok, if◌then◌else◌}
 use Rattle.channel_schedule.specs.declared.schedule.Schedule.{Schedule}
 use Rattle.channel_schedule.specs.Rates.{IsSchedule}
 use Rattle.vc2_words.specs.Commands.{check}
@@ -15,8 +15,24 @@ delay_word s = codes "delay=" ++ decimal s.delay
 abbrev pub buffer_word : Schedule → List ℕ
 buffer_word s = codes "buffer=" ++ decimal s.size
 
+abbrev pub idle_word : Schedule → List ℕ
+idle_word s = codes "idle=" ++ decimal s.idle
+
+-- idle slots are told where there are some
+abbrev pub idle_words : Schedule → List (List ℕ)
+idle_words s = if s.idle == 0 then [] else idle_word s ∷ []
+
+abbrev pub operands_of : Schedule → List (List ℕ)
+operands_of s = rate_word s ∷ delay_word s ∷ buffer_word s ∷ idle_words s
+
 abbrev pub words_of : Schedule → List (List ℕ)
-words_of s = codes "check" ∷ rate_word s ∷ delay_word s ∷ buffer_word s ∷ []
+words_of s = codes "check" ∷ operands_of s
+
+-- words with a space between them
+abbrev pub spaced : List (List ℕ) → List ℕ
+spaced [] = []
+spaced (word ∷ []) = word
+spaced (word ∷ other ∷ words) = word ++ (codes " " ++ spaced (other ∷ words))
 
 -- numbers that words can have
 pub record HasWords (s : Schedule) : Type 0 where
@@ -24,8 +40,9 @@ pub record HasWords (s : Schedule) : Type 0 where
   pub bytes : s.rate.num < 2 ^ 32
   pub slots : s.rate.den < 2 ^ 32
   pub size : s.size ≤ 2 ^ 40
+  pub idle : s.idle ≤ 2 ^ 20
 
--- The line is the three words with a space between them, and the words ask for the schedule.
+-- The line is the operands with a space between them, and the words ask for the schedule.
 pub record LineIsRead (s : Schedule) : Type 0 where
-  pub line : schedule_line s ≡ rate_word s ++ (codes " " ++ (delay_word s ++ (codes " " ++ (buffer_word s ++ 10 ∷ []))))
+  pub line : schedule_line s ≡ spaced (operands_of s) ++ 10 ∷ []
   pub asked : words_ask (words_of s) ≡ Ok (check (Some s))

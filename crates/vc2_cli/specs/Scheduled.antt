@@ -29,7 +29,7 @@ shapes_in units total = record { units = units; total = total; spare = 0 }
 
 -- how the slices of these units and the tail of the stream come out, the stream having so many bytes
 abbrev pub outcome_of : Schedule → List UnitShape → ℕ → Outcome
-outcome_of schedule units total = outcome_from (course_of (shapes_in units total) schedule.rate schedule.delay) schedule.size 0 (count_in (shapes_in units total))
+outcome_of schedule units total = outcome_from (course_of (shapes_in units total) schedule.rate schedule.idle schedule.delay) schedule.size 0 (count_in (shapes_in units total))
 
 abbrev pub replaying : Schedule → Command Past Reason DataUnit Replayed Ending
 replaying schedule = record {
@@ -51,4 +51,4 @@ replay_machine schedule = machine_of limit past_limit units nothing_yet (replayi
 
 -- the command but for its schedule, which what it begins with has
 abbrev pub replaying_any : Command Past Reason DataUnit Replayed Ending
-replaying_any = replaying (record { rate = record { num = 1; den = 1 }; delay = 0; size = 0 })
+replaying_any = replaying (record { rate = record { num = 1; den = 1 }; delay = 0; size = 0; idle = 0 })

@@ -82,7 +82,7 @@ fn finish<K: Sink>(
         return refused(place, Reason::HalfFrame);
     }
     match writer.end(out) {
-        Ok(()) => Ok(Ending::Encoded(plan(writer.shapes(), settings.rate))),
+        Ok(()) => Ok(Ending::Encoded(plan(writer.shapes(), settings.rate, settings.idle))),
         Err(WriteStop::OutFault) => Err(Halt::OutFault),
         Err(_) => Err(Halt::NoMemory),
     }

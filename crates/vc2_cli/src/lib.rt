@@ -22,6 +22,7 @@ mod words;
 pub use laws::{
     lines_are_read, one_answer, one_check_answer, one_decode_answer, one_encode_answer,
     one_header_answer, one_schedule_answer, pictures_go_there_and_back, streams_have_replies,
+    words_are_encoded,
 };
 pub use status::{Ending, ScheduleFault, Status, exit_code};
 pub use stream_units::{Reason, Refusal};

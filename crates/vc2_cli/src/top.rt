@@ -12,7 +12,8 @@ ghost use Rattle.vc2_words.specs.Lawful.{AreLawful, IsTrial};
 ghost use Rattle.stream_units.specs.Writer.{IsSteepUnder};
 ghost use Rattle.vc2_cli.specs.Encode.{written_under};
 ghost use Rattle.vc2_cli.specs.Words.{seen_words, words_ask};
-ghost use Rattle.vc2_cli.specs.Reply.{reply_to, due_to, command_reply, command_due, status_of, note_of, fault_of, schedule_status, schedule_note, ReadsAll, IsStatusOf, Breaks, Stops, StopsShort, HasCauses, AnswersUsage};
+ghost use Rattle.vc2_cli.specs.Trial.{trial_text};
+ghost use Rattle.vc2_cli.specs.Reply.{reply_to, due_to, command_reply, command_due, status_of, note_of, fault_of, schedule_status, schedule_note, ReadsAll, IsStatusOf, Breaks, Stops, StopsShort, HasCauses, AnswersUsage, AnswersTrial, IfTrial, IfHeader};
 ghost use Rattle.vc2_cli.specs.Settled.{Settles, Concludes, HasNoteCause, status_of_halt};
 
 use crate::chain::chain;
@@ -153,6 +154,9 @@ fn answer<S: Source, K: Sink, N: Sink>(
     ensures causes { HasCauses (S.faults src.old) (S.faults src.new) (K.faults out.old) (K.faults out.new) (N.faults note.old) (N.faults note.new) result }
     ensures usage { IfErr command (λ fault. AnswersUsage fault (N.written note.old) (N.written note.new) result
         × (S.rest src.new ≡ S.rest src.old) × (K.written out.new ≡ K.written out.old)) }
+    ensures trial { IfTrial (seen_words command) (λ s part. AnswersTrial (trial_text s part) (K.written out.old) (K.written out.new) (N.written note.old) (N.written note.new) result
+        × (S.rest src.new ≡ S.rest src.old) × (S.faults src.new ≡ S.faults src.old)) }
+    ensures header { IfHeader (seen_words command) (TakesAtMost 250 (S.rest src.old) (S.rest src.new)) }
 {
     match command {
         Ok(command) => match command {
@@ -224,6 +228,14 @@ pub fn run<S: Source, K: Sink, N: Sink>(
     // Whatever is told: words that are refused are refused, nothing is read, and nothing is written to `out`.
     ensures usage { IfErr (words_ask (map string_bytes words.now)) (λ fault. AnswersUsage fault (N.written note.old) (N.written note.new) result
         × (S.rest src.new ≡ S.rest src.old) × (K.written out.new ≡ K.written out.old)) }
+
+    // Whatever is told: `trial` reads nothing, writes its text and no note, and ends otherwise only where a write of the
+    // output failed or no memory was found.
+    ensures trial { IfTrial (words_ask (map string_bytes words.now)) (λ s part. AnswersTrial (trial_text s part) (K.written out.old) (K.written out.new) (N.written note.old) (N.written note.new) result
+        × (S.rest src.new ≡ S.rest src.old) × (S.faults src.new ≡ S.faults src.old)) }
+
+    // Whatever is told: `header` takes at most 250 bytes, however it comes out.
+    ensures header { IfHeader (words_ask (map string_bytes words.now)) (TakesAtMost 250 (S.rest src.old) (S.rest src.new)) }
 {
     let command = checked(read_words(words));
     answer(alloc, command, src, out, note)

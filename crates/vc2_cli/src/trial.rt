@@ -58,11 +58,11 @@ fn want_of(stop: WriteStop) -> NoMemory
 }
 
 // The least schedule of the units. Replayed, it runs.
-fn replayed_plan(shapes: &UnitShapes, rate: Rate) -> Schedule
+fn replayed_plan(shapes: &UnitShapes, rate: Rate, idle: u32) -> Schedule
     requires { IsRate rate }
-    ensures { result ≡ plan_of shapes.now rate }
+    ensures { result ≡ plan_of shapes.now rate idle }
 {
-    let schedule = plan(shapes, rate);
+    let schedule = plan(shapes, rate, idle);
     match replay(shapes, &schedule) {
         Outcome::Runs => schedule,
         _ => unreachable!(),
@@ -99,7 +99,7 @@ fn write_video(
     let ended = writer.end(sink);
     sink.steady();
     match ended {
-        Ok(()) => Ok(replayed_plan(writer.shapes(), settings.rate)),
+        Ok(()) => Ok(replayed_plan(writer.shapes(), settings.rate, settings.idle)),
         Err(stop) => Err(want_of(stop)),
     }
 }

@@ -1,36 +1,35 @@
 -- Settings that break no rule are lawful: their header passes, and so do their parameters.
-use Rattle.std.proofs.Common.{◌≡◌, ℕ, ◌+◌, ◌*◌, ◌-◌, ◌≤◌, ◌<◌, ◌^◌, true, false, List, [], ◌∷◌, Some, None, Ok, Err, length, map, refl, sym, ap, ◌∙◌, subst, ◌%◌, arith}
-use Rattle.std.specs.Prelude.{Option, Bool, Result, ◌==◌, nat_le, slice_index, if◌then◌else◌}
+use Rattle.std.proofs.Common.{◌≡◌, ℕ, ◌+◌, ◌*◌, ◌≤◌, ◌<◌, ◌^◌, true, List, [], ◌∷◌, Some, None, Ok, Err, refl, sym, ◌∙◌, subst, ◌%◌, arith}
+use Rattle.std.specs.Prelude.{Option, Result, ◌==◌, slice_index}
 use Rattle.std.specs.List.{AllByRecursion}
 use Rattle.std.proofs.lemmas.Bool.{leb-true, eqb-true, eq-eqb}
-use Rattle.field_rows.specs.Rows.{Rule, first_broken}
-use Rattle.sequence_header.specs.declared.parts.HeaderParts.{HeaderParts}
+use Rattle.field_rows.specs.Rows.{first_broken}
 use Rattle.sequence_header.specs.Checking.{Passes}
-use Rattle.slice_geometry.specs.Slicing.{Slicing, slice_count, IsAllowed, AreSlicesAllowed, IsShareAllowed}
+use Rattle.slice_geometry.specs.Slicing.{Slicing, slice_count, AreSlicesAllowed, IsShareAllowed}
 use Rattle.transform_params.specs.Params.{Params}
 use Rattle.transform_params.specs.Fields.{IsLawful, unit_length}
 use Rattle.channel_schedule.specs.declared.schedule.Rate.{Rate}
 use Rattle.channel_schedule.specs.declared.schedule.Schedule.{Schedule}
-use Rattle.channel_schedule.specs.Rates.{IsRate, IsSchedule}
+use Rattle.channel_schedule.specs.Rates.{IsRate}
 use Rattle.std.proofs.Math.Nat.{mul-le-mul_left}
 use Rattle.vc2_words.specs.declared.keys.Key.TheVariants as of_key
 use Rattle.vc2_words.specs.declared.keys.Rule as settings
-use Rattle.vc2_words.specs.Forms.{greatest, cut_at, slash}
+use Rattle.vc2_words.specs.Forms.{cut_at, slash}
 use Rattle.vc2_words.specs.Operands.{Table, value_of, and_then, operands_of}
 use Rattle.vc2_words.specs.Plain.{IsPlain, IsPlainFor}
-use Rattle.vc2_words.specs.Lawful.{AreLawful, IsTrial}
+use Rattle.vc2_words.specs.Lawful.{AreLawful, IsAskedSchedule, IsTrial}
 use Rattle.vc2_words.specs.declared.keys.Name.{Name}
 use Rattle.vc2_words.specs.declared.keys.Name.TheVariants as names
 use Rattle.vc2_words.specs.declared.keys.WordFault.{WordFault}
 use Rattle.vc2_words.specs.Keys.{name_of}
-use Rattle.vc2_words.specs.Commands.{AskedCommand, chain, header, decode, check, encode, trial, unless_broken, schedule_from, schedule_of, command_of, part_of, named, asked_by}
+use Rattle.vc2_words.specs.Commands.{AskedCommand, check, encode, trial, unless_broken, schedule_from, schedule_of, command_of, part_of, named, asked_by}
 use Rattle.vc2_words.proofs.Plainness.{IsWhole, plain_of, whole_of, pair_is, none_some, some_same}
 use Rattle.vc2_words.specs.Read.{IsRead, IsValue}
 use Rattle.vc2_words.proofs.Small.{AreSmall, given_small, number_small}
 use Rattle.vc2_words.proofs.HeaderNumbers.{parts_lawful}
 use Rattle.vc2_words.proofs.Trials.{seed_low, pictures_of}
 use Rattle.transform_params.proofs.Bounds.{unit_small}
-use Rattle.vc2_words.specs.Settings.{number_of, number_at, entries_of, parts_of, params_of, slicing_of, are_slices, is_share, number_rules, trial_rules, broken_rule, or_first, is_even_with, are_paired, is_short, Asked, asked_of, rate_or, rate_given, buffer_given}
+use Rattle.vc2_words.specs.Settings.{number_of, number_at, entries_of, parts_of, params_of, slicing_of, are_slices, is_share, number_rules, trial_rules, broken_rule, or_first, is_even_with, asked_of, rate_or, rate_given, buffer_given}
 use Rattle.vc2_words.proofs.Lawful.{range_of, and_both, passes}
 use Rattle.vc2_words.proofs.Rules.{all_hold, slices_hold, share_holds, count_holds}
 
@@ -108,11 +107,11 @@ rate_lawful (Some ns) read usual good =
 one_product : (m n : ℕ) → 1 ≤ m → 1 ≤ n → 1 ≤ m * n
 one_product m n some_m some_n = let more : m * 1 ≤ m * n = mul-le-mul_left m some_n in omega (arith, more)
 
-usual_rate : (params : Params) → IsLawful params → HasRate (record { num = unit_length params; den = slice_count params.slicing })
-usual_rate params lawful =
+usual_rate : (params : Params) (idle : ℕ) → IsLawful params → idle ≤ 2 ^ 20 → HasRate (record { num = unit_length params; den = slice_count params.slicing + idle })
+usual_rate params idle lawful few =
     let slices = lawful.allowed.slices in
     record {
-      rate = record { some_bytes = omega arith; some_slots = one_product params.slicing.slices_x params.slicing.slices_y slices.some_across slices.some_down };
+      rate = record { some_bytes = omega arith; some_slots = omega (arith, one_product params.slicing.slices_x params.slicing.slices_y slices.some_across slices.some_down) };
       bytes = unit_small params lawful;
       slots = omega (arith, slices.count);
     }
@@ -130,7 +129,9 @@ lawful given pictures read plain none =
     let low = number_small given of_key.First 0 read in
     let all = all_hold (number_rules (parts_of given) (params_of given) first pictures) (numbers_hold given pictures none) in
     let params = params_lawful given pictures read none in
-    let rate = rate_lawful (value_of given of_key.Rate) (λ ns is. read.read of_key.Rate ns is) (record { num = unit_length (params_of given); den = slice_count (slicing_of given) }) (usual_rate (params_of given) params) in
+    let idle = number_at given of_key.Idle 0 in
+    let few : idle ≤ 2 ^ 20 = number_small given of_key.Idle 0 read in
+    let rate = rate_lawful (value_of given of_key.Rate) (λ ns is. read.read of_key.Rate ns is) (record { num = unit_length (params_of given); den = slice_count (slicing_of given) + idle }) (usual_rate (params_of given) idle params few) in
     record {
       header = parts_lawful given read plain (header_passes given pictures plain none);
       params = params;
@@ -139,6 +140,7 @@ lawful given pictures read plain none =
       rate = rate.rate;
       bytes = rate.bytes;
       slots = rate.slots;
+      idle = few;
     }
 
 -- ---- of a trial
@@ -165,10 +167,13 @@ trial_lawful given whole plain none =
 
 -- ---- a schedule
 
-schedule_lawful : (given : Table) → IsRead given → (s : Schedule) → schedule_of given ≡ Some s → IsSchedule s
+schedule_lawful : (given : Table) → IsRead given → (s : Schedule) → schedule_of given ≡ Some s → IsAskedSchedule s
 schedule_lawful given read s e = here (value_of given of_key.Rate) (value_of given of_key.Delay) (value_of given of_key.Buffer) refl refl e
   where
-    here : (r d b : Option (List ℕ)) → value_of given of_key.Rate ≡ r → value_of given of_key.Delay ≡ d → schedule_from (rate_given r) d (buffer_given b) ≡ Some s → IsSchedule s
+    few : number_at given of_key.Idle 0 ≤ 2 ^ 20
+    few = number_small given of_key.Idle 0 read
+
+    here : (r d b : Option (List ℕ)) → value_of given of_key.Rate ≡ r → value_of given of_key.Delay ≡ d → schedule_from (rate_given r) d (buffer_given b) (number_at given of_key.Idle 0) ≡ Some s → IsAskedSchedule s
     here None d b ir id e = none_some e
     here (Some ns) None b ir id e = none_some e
     here (Some ns) (Some ds) None ir id e = none_some e
@@ -177,11 +182,11 @@ schedule_lawful given read s e = here (value_of given of_key.Rate) (value_of giv
         let short : slice_index ds 0 ≤ 2 ^ 72 = rw id at delay in
         let usual : Rate = record { num = 1; den = 1 } in
         let rate = rate_lawful (Some ns) (λ ms is. read.read of_key.Rate ms (ir ∙ is)) usual (record { rate = record { some_bytes = omega arith; some_slots = omega arith }; bytes = omega arith; slots = omega arith }) in
-        subst (λ (k : Schedule). IsSchedule k) (some_same e) (record { rate = rate.rate; short = short })
+        subst (λ (k : Schedule). IsAskedSchedule k) (some_same e) (record { schedule = record { rate = rate.rate; short = short }; idle = few })
 
 abbrev SaysOf : Option Schedule → Type 0
 SaysOf None = Unit {0}
-SaysOf (Some s) = IsSchedule s
+SaysOf (Some s) = IsAskedSchedule s
 
 schedule_says : (given : Table) → IsRead given → (r : Option Schedule) → schedule_of given ≡ r → SaysOf r
 schedule_says given read None is = tt

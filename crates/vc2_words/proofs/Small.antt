@@ -1,6 +1,6 @@
 -- The numbers of values are small, so that `small` changes none of them.
-use Rattle.std.proofs.Common.{◌≡◌, ℕ, zero, suc, ◌+◌, ◌≤◌, ◌<◌, ◌-◌, ◌^◌, true, false, List, [], ◌∷◌, Some, None, Ok, length, refl, sym, ap, ◌∙◌, subst, arith}
-use Rattle.std.specs.Prelude.{Option, Bool, slice_index, nat_le, ◌==◌, if◌then◌else◌, codes, get_or, set}
+use Rattle.std.proofs.Common.{◌≡◌, ℕ, zero, suc, ◌≤◌, ◌^◌, true, false, List, [], ◌∷◌, Some, None, length, refl, sym, ap, ◌∙◌, subst, arith}
+use Rattle.std.specs.Prelude.{Option, Bool, slice_index, ◌==◌, if◌then◌else◌, codes, get_or, set}
 use Rattle.std.specs.Str.{bytes_eq}
 use Rattle.std.specs.List.{AllByRecursion}
 use Rattle.vc2_words.specs.declared.keys.Key.{Key}
@@ -88,6 +88,7 @@ value_small of_key.Delay text ns e = range_up_to 0 (2 ^ 72) text ns e
 value_small of_key.Buffer text ns e = range_up_to 0 (2 ^ 40) text ns e
 value_small of_key.Seed text ns e = range_small 0 65535 text ns (omega arith) e
 value_small of_key.Pictures text ns e = range_small 1 1000 text ns (omega arith) e
+value_small of_key.Idle text ns e = range_up_to 0 (2 ^ 20) text ns e
 
 index_up_to : (bound : ℕ) (ns : List ℕ) (i : ℕ) → AreUpTo bound ns → slice_index ns i ≤ bound
 index_up_to bound [] i low = omega arith
@@ -106,12 +107,19 @@ number_small given key i read = here (value_of given key) refl
     here None is = omega arith
     here (Some ns) is = index_up_to (bound_of key) ns i (given_small given key ns read is)
 
+pub number_fit : (given : Table) (key : Key) (i : ℕ) → IsFit given → number_of (value_of given key) i ≤ bound_of key
+number_fit given key i fit = here (value_of given key) refl
+  where
+    here : (v : Option (List ℕ)) → value_of given key ≡ v → number_of v i ≤ bound_of key
+    here None is = omega arith
+    here (Some ns) is = fit.fits key ns i is
+
 pub value_fit : (key : Key) (text ns : List ℕ) → value_in key text ≡ Some ns → IsFitValue key ns
 value_fit key text ns e = λ i. index_up_to (bound_of key) ns i (value_small key text ns e)
 
 pub nothing_fit : IsFit nothing
 nothing_fit = record {
-  fits = λ key ns i e. none_some (sym (get_or-replicate 17 (place_of key) None None (in_table key)) ∙ e);
+  fits = λ key ns i e. none_some (sym (get_or-replicate 18 (place_of key) None None (in_table key)) ∙ e);
   many = refl;
 }
 

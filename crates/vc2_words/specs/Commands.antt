@@ -24,13 +24,13 @@ pub data AskedCommand : Type 0 where
   encode : Asked → AskedCommand
   trial : Asked → TrialPart → AskedCommand
 
--- a schedule, where all of it is given
-abbrev pub schedule_from : Option Rate → Option (List ℕ) → Option ℕ → Option Schedule
-schedule_from (Some rate) (Some delay) (Some size) = Some (record { rate = rate; delay = slice_index delay 0; size = size })
-schedule_from rate delay size = None
+-- a schedule, where all of it is given, with so many idle slots
+abbrev pub schedule_from : Option Rate → Option (List ℕ) → Option ℕ → ℕ → Option Schedule
+schedule_from (Some rate) (Some delay) (Some size) idle = Some (record { rate = rate; delay = slice_index delay 0; size = size; idle = idle })
+schedule_from rate delay size idle = None
 
 abbrev pub schedule_of : Table → Option Schedule
-schedule_of given = schedule_from (rate_given (value_of given of_key.Rate)) (value_of given of_key.Delay) (buffer_given (value_of given of_key.Buffer))
+schedule_of given = schedule_from (rate_given (value_of given of_key.Rate)) (value_of given of_key.Delay) (buffer_given (value_of given of_key.Buffer)) (number_at given of_key.Idle 0)
 
 abbrev pub part_of : Table → TrialPart
 part_of given = record { seed = number_at given of_key.Seed 0; pictures = number_at given of_key.Pictures 0 }

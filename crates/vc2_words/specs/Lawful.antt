@@ -2,7 +2,8 @@
 use Rattle.std.specs.Prelude.{◌≡◌, ◌≤◌, ◌<◌, ◌^◌, ◌%◌}
 use Rattle.sequence_header.specs.Checking as checking
 use Rattle.transform_params.specs.Fields.{IsLawful}
-use Rattle.channel_schedule.specs.Rates.{IsRate}
+use Rattle.channel_schedule.specs.declared.schedule.Schedule.{Schedule}
+use Rattle.channel_schedule.specs.Rates.{IsRate, IsSchedule}
 use Rattle.vc2_words.specs.declared.words.TrialPart.{TrialPart}
 use Rattle.vc2_words.specs.Settings.{Asked, stream_length}
 
@@ -15,6 +16,12 @@ pub record AreLawful (s : Asked) : Type 0 where
   pub rate : IsRate s.rate
   pub bytes : s.rate.num < 2 ^ 32
   pub slots : s.rate.den < 2 ^ 32
+  pub idle : s.idle ≤ 2 ^ 20
+
+-- A schedule, with at most so many idle slots.
+pub record IsAskedSchedule (s : Schedule) : Type 0 where
+  pub schedule : IsSchedule s
+  pub idle : s.idle ≤ 2 ^ 20
 
 -- A trial: its fields make whole frames, and their stream is no longer than 2 ^ 28 bytes.
 pub record IsTrial (s : Asked) (part : TrialPart) : Type 0 where

@@ -1,5 +1,5 @@
 -- The settings that operands ask for, and the rules on them.
-use Rattle.std.specs.Prelude.{◌≡◌, ℕ, ◌+◌, ◌*◌, ◌^◌, ◌%◌, ◌≤◌, ◌<◌, ◌==◌, ◌&&◌, ◌||◌, not, nat_le, Bool, true, false, List, [], ◌∷◌, length, map, slice_index, Option, Some, None, Result, Ok, Err, if◌then◌else◌}
+use Rattle.std.specs.Prelude.{ℕ, ◌+◌, ◌*◌, ◌^◌, ◌%◌, ◌==◌, ◌&&◌, ◌||◌, not, nat_le, Bool, true, List, [], ◌∷◌, length, slice_index, Option, Some, None, if◌then◌else◌}
 use Rattle.std.specs.Int.{is_in_range}
 use Rattle.field_rows.specs.Rows.{Rule, ◌or_else◌, first_broken}
 use Rattle.sequence_header.specs.declared.parts.HeaderParts.{HeaderParts}
@@ -9,10 +9,8 @@ use Rattle.sequence_header.specs.declared.parts.AspectField.TheVariants as aspec
 use Rattle.sequence_header.specs.declared.parts.ColourField.TheVariants as colours
 use Rattle.sequence_header.specs.declared.parts.SignalField.{SignalField}
 use Rattle.sequence_header.specs.declared.parts.SignalField.TheVariants as signals
-use Rattle.sequence_header.specs.declared.parts.SignalRange.{SignalRange}
 use Rattle.sequence_header.specs.Bytes.{header_len}
 use Rattle.slice_geometry.specs.Slicing.{Slicing, slice_count, total_bytes}
-use Rattle.quant_factors.specs.Weights.{Weights}
 use Rattle.lifting.specs.declared.Wavelet.{Wavelet}
 use Rattle.lifting.specs.declared.Wavelet.TheVariants.{LeGall, HaarFlat, HaarShift}
 use Rattle.transform_params.specs.Params.{Params}
@@ -22,7 +20,6 @@ use Rattle.vc2_words.specs.declared.keys.Key.{Key}
 use Rattle.vc2_words.specs.declared.keys.Rule.TheVariants as broken
 use Rattle.vc2_words.specs.declared.keys.Rule as settings
 use Rattle.channel_schedule.specs.declared.schedule.Rate.{Rate}
-use Rattle.vc2_words.specs.Forms.{greatest}
 use Rattle.vc2_words.specs.Operands.{Table, value_of}
 
 -- ---- numbers of operands
@@ -171,6 +168,7 @@ pub record Asked : Type 0 where
   pub params : Params
   pub first : ℕ
   pub rate : Rate
+  pub idle : ℕ
 
 abbrev pub rate_given : Option (List ℕ) → Option Rate
 rate_given None = None
@@ -184,14 +182,15 @@ abbrev pub rate_or : Rate → Option Rate → Rate
 rate_or usual None = usual
 rate_or usual (Some rate) = rate
 
--- a picture unit's bytes in as many slots as it has slices, where no rate is given
-abbrev pub rate_of : Params → Option (List ℕ) → Rate
-rate_of params given = rate_or (record { num = unit_length params; den = slice_count params.slicing }) (rate_given given)
+-- a picture unit's bytes in as many slots as it has slices and idle slots behind them, where no rate is given
+abbrev pub rate_of : Params → ℕ → Option (List ℕ) → Rate
+rate_of params idle given = rate_or (record { num = unit_length params; den = slice_count params.slicing + idle }) (rate_given given)
 
 abbrev pub asked_of : Table → Asked
 asked_of given = record {
   parts = parts_of given;
   params = params_of given;
   first = number_at given of_key.First 0;
-  rate = rate_of (params_of given) (value_of given of_key.Rate);
+  rate = rate_of (params_of given) (number_at given of_key.Idle 0) (value_of given of_key.Rate);
+  idle = number_at given of_key.Idle 0;
 }

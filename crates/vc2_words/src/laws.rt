@@ -2,24 +2,25 @@
 
 ghost use Rattle.std.specs.Prelude.{◌≡◌, ℕ, List, Ok, Some};
 ghost use Rattle.channel_schedule.specs.declared.schedule.Schedule.{Schedule};
-ghost use Rattle.channel_schedule.specs.Rates.{IsSchedule};
 ghost use Rattle.vc2_words.specs.declared.words.TrialPart.{TrialPart};
 ghost use Rattle.vc2_words.specs.Settings.{Asked};
 ghost use Rattle.vc2_words.specs.Commands.{asked_by, check, encode, trial};
-ghost use Rattle.vc2_words.specs.Lawful.{AreLawful, IsTrial};
+ghost use Rattle.vc2_words.specs.Lawful.{AreLawful, IsAskedSchedule, IsTrial};
 ghost use Rattle.vc2_words.specs.Order.{FirstFaultIsTold, OrderIsFree};
 
 /// The settings that words ask for are lawful: their header and parameters pass the rules, each number is one that its field
-/// holds, the first picture's number is even with field coding, and the rate is one of 32 bit numbers. A trial has 1 to 1000
-/// pictures, with field coding an even number of them, and their stream has at most 2^28 bytes.
+/// holds, the first picture's number is even with field coding, the rate is one of 32 bit numbers, and at most 2^20 slots are
+/// idle behind a picture. A trial has 1 to 1000 pictures, with field coding an even number of them, and their stream has at
+/// most 2^28 bytes.
 pub fn settings_are_lawful()
     ensures encode { (words : List (List ℕ)) (s : Asked) → asked_by words ≡ Ok (encode s) → AreLawful s }
     ensures trial { (words : List (List ℕ)) (s : Asked) (part : TrialPart) → asked_by words ≡ Ok (trial s part) → IsTrial s part }
 {}
 
-/// The schedule that words ask for is one: its rate's numbers are at least 1, and its delay at most 2^72.
+/// The schedule that words ask for is one: its rate's numbers are at least 1, its delay is at most 2^72, and at most 2^20
+/// slots are idle behind a picture.
 pub fn schedules_are_lawful()
-    ensures { (words : List (List ℕ)) (s : Schedule) → asked_by words ≡ Ok (check (Some s)) → IsSchedule s }
+    ensures { (words : List (List ℕ)) (s : Schedule) → asked_by words ≡ Ok (check (Some s)) → IsAskedSchedule s }
 {}
 
 /// The fault that is told of operands is that of the first word that is refused, and of no other.

@@ -1,6 +1,6 @@
 //! The settings of a written stream, and the rules on them.
 
-ghost use Rattle.std.specs.Prelude.{◌≡◌, ◌≤◌, ◌+◌, ◌*◌, true, length, Some, None, IfOk, MatchResult};
+ghost use Rattle.std.specs.Prelude.{◌≡◌, ◌≤◌, ◌+◌, ◌*◌, ◌^◌, true, length, Some, None, IfOk, MatchResult};
 ghost use Rattle.field_rows.specs.Rows.{first_broken};
 ghost use Rattle.slice_geometry.specs.Slicing.{Slicing};
 ghost use Rattle.transform_params.specs.Views as views;
@@ -32,11 +32,13 @@ pub struct Settings {
     /// The number of the first picture.
     pub first: u32,
     pub rate: Rate,
+    /// The slots behind each picture in which no slice is taken.
+    pub idle: u32,
 }
 
 /// The number of this place in a key's value, or 0.
 fn number(given: &Given, key: Key, i: usize) -> u32
-    requires { bound_of key ≡ greatest }
+    requires { bound_of key ≤ greatest }
     ensures { result ≡ number_at given.now.values key i }
 {
     match given.get(key) {
@@ -227,15 +229,24 @@ fn wavelet_of(given: &Given) -> Wavelet
     }
 }
 
-/// The rate that was given, or a picture unit's bytes in as many slots as it has slices.
-fn rate_of(given: &Given, params: &TransformParams) -> Rate
-    ensures { result ≡ asked.rate_of (views.params_of params.now) (value_of given.now.values of_key.Rate) }
+/// The idle slots behind each picture.
+pub fn idle_of(given: &Given) -> u32
+    ensures value { result ≡ number_at given.now.values of_key.Idle 0 }
+    ensures few { result ≤ 2 ^ 20 }
+{
+    number(given, Key::Idle, 0)
+}
+
+/// The rate that was given, or a picture unit's bytes in as many slots as it has slices and idle slots behind them.
+fn rate_of(given: &Given, params: &TransformParams, idle: u32) -> Rate
+    requires { idle ≤ 2 ^ 20 }
+    ensures { result ≡ asked.rate_of (views.params_of params.now) idle (value_of given.now.values of_key.Rate) }
 {
     match given_rate(given) {
         Some(rate) => rate,
         None => Rate {
             num: params.unit_len(),
-            den: params.layout.count(),
+            den: params.layout.count() + idle,
         },
     }
 }
@@ -331,12 +342,14 @@ pub fn settings_of(given: &Given, pictures: Option<u32>) -> Result<Settings, Rul
             let header = header_of(parts);
             let params = params_of(given);
             if is_short(&header, &params, pictures) {
-                let rate = rate_of(given, &params);
+                let idle = idle_of(given);
+                let rate = rate_of(given, &params, idle);
                 Ok(Settings {
                     header,
                     params,
                     first,
                     rate,
+                    idle,
                 })
             } else {
                 Err(Rule::TrialSize)
@@ -347,7 +360,7 @@ pub fn settings_of(given: &Given, pictures: Option<u32>) -> Result<Settings, Rul
 
 /// The one number of a key, or 0.
 pub fn single(given: &Given, key: Key) -> u32
-    requires { bound_of key ≡ greatest }
+    requires { bound_of key ≤ greatest }
     ensures { result ≡ number_at given.now.values key 0 }
 {
     number(given, key, 0)

@@ -10,7 +10,7 @@ ghost use Rattle.vc2_words.specs.Plain.{IsPlain, IsPlainFor};
 
 use crate::keys::{Key, Name, WordFault, name_of};
 use crate::operands::{Given, read_operands};
-use crate::settings::{Settings, given_buffer, given_rate, settings_of, single};
+use crate::settings::{Settings, given_buffer, given_rate, idle_of, settings_of, single};
 use channel_schedule::Schedule;
 
 /// What a trial asks for beside settings.
@@ -37,7 +37,13 @@ fn schedule_of(given: &Given) -> Option<Schedule>
     let rate = given_rate(given)?;
     let delay = given.get(Key::Delay)?.get(0);
     let size = given_buffer(given)?;
-    Some(Schedule { rate, delay, size })
+    let idle = idle_of(given);
+    Some(Schedule {
+        rate,
+        delay,
+        size,
+        idle,
+    })
 }
 
 fn encode_of(given: &Given) -> Result<Command, WordFault>

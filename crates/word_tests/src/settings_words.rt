@@ -202,7 +202,7 @@ fn keys_of_other_commands(rt: HostRuntime) -> Result<(), Fail> {
 }
 
 /// The operands that have to be there.
-const BASE: [&str; 9] = [
+pub(crate) const BASE: [&str; 9] = [
     "size=2x2",
     "sampling=444",
     "fps=25/1",
@@ -291,7 +291,7 @@ fn operands_that_are_wrong(rt: HostRuntime) -> Result<(), Fail> {
 }
 
 /// Other operands in two places of the base.
-type Instead<'a> = [(usize, &'a str); 2];
+pub(crate) type Instead<'a> = [(usize, &'a str); 2];
 
 /// What is read of the base with other operands, and with further ones behind it.
 fn read_base(
@@ -314,7 +314,7 @@ fn read_base(
 }
 
 /// Nothing is other.
-const NOTHING: Instead<'static> = [(0, "size=2x2"), (0, "size=2x2")];
+pub(crate) const NOTHING: Instead<'static> = [(0, "size=2x2"), (0, "size=2x2")];
 
 /// What is other, what stands behind, and the rule that is broken, if one is.
 type Case<'a> = (Instead<'a>, &'a [&'a str], Option<Rule>);
@@ -530,7 +530,7 @@ fn rules_of_settings(rt: HostRuntime) -> Result<(), Fail> {
 }
 
 /// The settings of the base with other operands.
-fn settings(
+pub(crate) fn settings(
     rt: &impl Abort,
     alloc: Global,
     instead: Instead<'_>,

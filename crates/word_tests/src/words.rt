@@ -149,6 +149,7 @@ const LEAST: Answer = Ok(Command::Check(Some(Schedule {
     rate: Rate { num: 1, den: 2 },
     delay: 0,
     size: 0,
+    idle: 0,
 })));
 
 const MOST: Answer = Ok(Command::Check(Some(Schedule {
@@ -158,6 +159,7 @@ const MOST: Answer = Ok(Command::Check(Some(Schedule {
     },
     delay: 4722366482869645213696,
     size: 1099511627776,
+    idle: 0,
 })));
 
 /// Words, and what is read of them.

@@ -19,8 +19,8 @@ pub returns-clause-plan : goal.returns-clause-plan
 returns-clause-plan c =
     let is : c.div_ceil-delay.result ≡ c.lead.result / c.args.rate.num + min 1 (c.lead.result % c.args.rate.num) = c.div_ceil-delay.ensures ∙ ap (λ n. c.lead.result / n + min 1 (c.lead.result % n)) c.from.ensures in
     record {
-      in_time = plan_in_time c.args.shapes.now c.args.rate c.lead.result c.div_ceil-delay.result c.requires is c.lead.ensures.most c.lead.ensures.in_turn;
-      least = plan_least c.args.shapes.now c.args.rate c.lead.result c.div_ceil-delay.result c.requires is c.lead.ensures.most;
+      in_time = plan_in_time c.args.shapes.now c.args.rate c.args.idle c.lead.result c.div_ceil-delay.result c.requires is c.lead.ensures.most c.lead.ensures.in_turn;
+      least = plan_least c.args.shapes.now c.args.rate c.args.idle c.lead.result c.div_ceil-delay.result c.requires is c.lead.ensures.most;
       most = c.fill-size.ensures;
     }
 
@@ -28,6 +28,7 @@ pub returns-clause-value : goal.returns-clause-value
 returns-clause-value c =
     let shapes = c.args.shapes.now in
     let rate = c.args.rate in
-    let same = (one_plan shapes rate c.requires c.lead.ensures.in_turn).only c.div_ceil-delay.result c.fill-size.result (returns-clause-plan c) in
-    ap (λ n. let s : Schedule = record { rate = rate; delay = n; size = c.fill-size.result } in s) same.0
-    ∙ ap (λ n. let s : Schedule = record { rate = rate; delay = plan_delay shapes rate; size = n } in s) same.1
+    let idle = c.args.idle in
+    let same = (one_plan shapes rate idle c.requires c.lead.ensures.in_turn).only c.div_ceil-delay.result c.fill-size.result (returns-clause-plan c) in
+    ap (λ n. let s : Schedule = record { rate = rate; delay = n; size = c.fill-size.result; idle = idle } in s) same.0
+    ∙ ap (λ n. let s : Schedule = record { rate = rate; delay = plan_delay shapes rate idle; size = n; idle = idle } in s) same.1

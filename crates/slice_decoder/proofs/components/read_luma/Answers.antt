@@ -1,86 +1,21 @@
-use Rattle.std.proofs.Common.{◌≡◌, ◌+◌, ◌*◌, ◌<◌, length, refl, sym, ◌∙◌, arith}
-use Rattle.slice_decoder.specs.Components.{Part, rect_of, index_of}
-use Rattle.quant_factors.proofs.Quantisers.{index_here}
-use Rattle.slice_decoder.proofs.Stacks.{bands-small, bands-left, bands-stopped, bands-keep, bands-hold}
-use Rattle.slice_geometry.proofs.NumberedBands.{numbered-other, number_here, before_here}
-use Rattle.slice_geometry.proofs.RectsInBands.{FitsIn, fits, rect_here}
-use Rattle.slice_decoder.specs.Components.{quantisers_before}
+use Rattle.std.proofs.Common.{◌≡◌, ℕ, ◌+◌, ◌*◌, ◌<◌, length, take, get_or, pos, arith}
+use Rattle.std.proofs.lemmas.List.{length-take-le}
+use Rattle.slice_decoder.specs.Dealing.{dealt}
+use Rattle.slice_decoder.specs.Components.{Part, part_of, quantisers_before}
+use Rattle.slice_decoder.proofs.LevelLemmas.{length-places, places_all}
+use Rattle.slice_decoder.proofs.Placed.{takes-hold, takes-keep}
 use Rattle.slice_decoder.proofs.components.read_luma.Goals as goal
 
-pub loop-k-init : goal.loop-k-init
-unfolding quantisers_before
-loop-k-init c = record {
-  small = refl;
-  left = refl;
-  holds = record { same_depth = refl; bands = λ k below. absurd (omega arith) };
-  keeps = record { same_depth = refl; bands = λ k. record { same_width = refl; same_height = refl; outside = λ y x out. refl } };
-  rest = λ k le. refl;
-}
+pub returns-clause-holds : goal.returns-clause-holds
+returns-clause-holds c good =
+    let part : Part = part_of c.args.layout.now c.args.size c.args.place.sx c.args.place.sy c.args.matrix.now c.args.place.qindex in
+    let total : ℕ = 3 * c.args.layout.now.depth + 1 in
+    let agree : (j : ℕ) → j < length (quantisers_before 1 part (3 * c.args.layout.now.depth + 1)) → get_or c.read_values.new.values j (pos 0) ≡ get_or (dealt c.args.block.now (quantisers_before 1 part (3 * c.args.layout.now.depth + 1))) j (pos 0) =
+    λ j lt. c.read_values.ensures.values c.if-not-read_values.false j (omega (arith, lt, length-places 1 part total, places_all c.args.layout.now c.args.size c.args.place.sx c.args.place.sy, c.count_places-count.ensures.count, length-take-le c.count_places-count.result c.args.buffer.now c.if-count-buffer.false)) in
+    takes-hold 1 0 part (3 * c.args.layout.now.depth + 1) c.args.block.now c.read_values.new.values c.args.bands.now c.put_luma.new.bands (omega arith) agree c.put_luma.ensures.takes
 
-pub fill_rect-requires-clause-down : goal.fill_rect-requires-clause-down
-fill_rect-requires-clause-down c =
-    let part : Part = record { slicing = c.args.layout.now; size = c.args.size; sx = c.args.place.sx; sy = c.args.place.sy; matrix = c.args.matrix.now; qindex = c.args.place.qindex } in
-    let rect_is : c.band_rect-rect.result ≡ rect_of part c.loop-k.k = rect_here part.slicing part.size part.sx part.sy c.loop-k.k c.band_numbered-level.result.0 c.band_rect-rect.result c.band_numbered-level.ensures.level c.band_rect-rect.ensures in
-    let number_is = number_here c.loop-k.k c.band_numbered-level.result.0 c.band_numbered-level.result.1 c.band_numbered-level.ensures.level c.band_numbered-level.ensures.orient in
-    let before_is = before_here c.loop-k.bands c.loop-k.k c.band_numbered-level.result.0 c.band_numbered-level.result.1 c.band_mut.result.now number_is c.band_mut.ensures.value in
-    let below : c.loop-k.k < 3 * c.args.layout.now.depth + 1 = omega (arith, c.loop-k-test.true, c.depth.ensures.value) in
-    let inside : FitsIn c.band_rect-rect.result c.band_mut.result.now = fits part.slicing part.size part.sx part.sy c.loop-k.k c.band_rect-rect.result c.args.bands.now c.band_mut.result.now rect_is (before_is ∙ c.loop-k.invariant.rest c.loop-k.k (omega arith)) below c.requires.depth c.requires.across c.requires.down c.requires.sizes in
-    inside.down
-
-pub fill_rect-requires-clause-x_inside : goal.fill_rect-requires-clause-x_inside
-fill_rect-requires-clause-x_inside c =
-    let part : Part = record { slicing = c.args.layout.now; size = c.args.size; sx = c.args.place.sx; sy = c.args.place.sy; matrix = c.args.matrix.now; qindex = c.args.place.qindex } in
-    let rect_is : c.band_rect-rect.result ≡ rect_of part c.loop-k.k = rect_here part.slicing part.size part.sx part.sy c.loop-k.k c.band_numbered-level.result.0 c.band_rect-rect.result c.band_numbered-level.ensures.level c.band_rect-rect.ensures in
-    let number_is = number_here c.loop-k.k c.band_numbered-level.result.0 c.band_numbered-level.result.1 c.band_numbered-level.ensures.level c.band_numbered-level.ensures.orient in
-    let before_is = before_here c.loop-k.bands c.loop-k.k c.band_numbered-level.result.0 c.band_numbered-level.result.1 c.band_mut.result.now number_is c.band_mut.ensures.value in
-    let below : c.loop-k.k < 3 * c.args.layout.now.depth + 1 = omega (arith, c.loop-k-test.true, c.depth.ensures.value) in
-    let inside : FitsIn c.band_rect-rect.result c.band_mut.result.now = fits part.slicing part.size part.sx part.sy c.loop-k.k c.band_rect-rect.result c.args.bands.now c.band_mut.result.now rect_is (before_is ∙ c.loop-k.invariant.rest c.loop-k.k (omega arith)) below c.requires.depth c.requires.across c.requires.down c.requires.sizes in
-    inside.x_inside
-
-pub fill_rect-requires-clause-y_inside : goal.fill_rect-requires-clause-y_inside
-fill_rect-requires-clause-y_inside c =
-    let part : Part = record { slicing = c.args.layout.now; size = c.args.size; sx = c.args.place.sx; sy = c.args.place.sy; matrix = c.args.matrix.now; qindex = c.args.place.qindex } in
-    let rect_is : c.band_rect-rect.result ≡ rect_of part c.loop-k.k = rect_here part.slicing part.size part.sx part.sy c.loop-k.k c.band_numbered-level.result.0 c.band_rect-rect.result c.band_numbered-level.ensures.level c.band_rect-rect.ensures in
-    let number_is = number_here c.loop-k.k c.band_numbered-level.result.0 c.band_numbered-level.result.1 c.band_numbered-level.ensures.level c.band_numbered-level.ensures.orient in
-    let before_is = before_here c.loop-k.bands c.loop-k.k c.band_numbered-level.result.0 c.band_numbered-level.result.1 c.band_mut.result.now number_is c.band_mut.ensures.value in
-    let below : c.loop-k.k < 3 * c.args.layout.now.depth + 1 = omega (arith, c.loop-k-test.true, c.depth.ensures.value) in
-    let inside : FitsIn c.band_rect-rect.result c.band_mut.result.now = fits part.slicing part.size part.sx part.sy c.loop-k.k c.band_rect-rect.result c.args.bands.now c.band_mut.result.now rect_is (before_is ∙ c.loop-k.invariant.rest c.loop-k.k (omega arith)) below c.requires.depth c.requires.across c.requires.down c.requires.sizes in
-    inside.y_inside
-
-pub returns-then-not-fill_rect-clause-small : goal.returns-then-not-fill_rect-clause-small
-returns-then-not-fill_rect-clause-small c =
-    let part : Part = record { slicing = c.args.layout.now; size = c.args.size; sx = c.args.place.sx; sy = c.args.place.sy; matrix = c.args.matrix.now; qindex = c.args.place.qindex } in
-    let rect_is : c.band_rect-rect.result ≡ rect_of part c.loop-k.k = rect_here part.slicing part.size part.sx part.sy c.loop-k.k c.band_numbered-level.result.0 c.band_rect-rect.result c.band_numbered-level.ensures.level c.band_rect-rect.ensures in
-    let number_is = number_here c.loop-k.k c.band_numbered-level.result.0 c.band_numbered-level.result.1 c.band_numbered-level.ensures.level c.band_numbered-level.ensures.orient in
-    let before_is = before_here c.loop-k.bands c.loop-k.k c.band_numbered-level.result.0 c.band_numbered-level.result.1 c.band_mut.result.now number_is c.band_mut.ensures.value in
-    let index_is : c.quantiser-index.result ≡ index_of part c.loop-k.k = index_here part.matrix part.qindex c.band_numbered-level.result.0 _ c.band_numbered-level.result.1 _ _ c.quantiser-index.result c.band_numbered-level.ensures.level c.band_numbered-level.ensures.orient c.orient_numbered.ensures c.quantiser-index.ensures in
-    let there : c.loop-k.k < length c.loop-k.bands.bands = omega (arith, c.band_mut.ensures.there, number_is) in
-    let large = bands-small 1 part c.loop-k.k c.args.block.now c.loop-k.block c.quantiser-index.result c.band_rect-rect.result _ rect_is index_is c.loop-k.invariant.small c.loop-k.invariant.left (sym c.if-not-fill_rect.true ∙ c.fill_rect.ensures.small) in
-    bands-stopped 1 part c.loop-k.k (3 * c.args.layout.now.depth + 1) c.args.block.now (omega (arith, c.loop-k-test.true, c.depth.ensures.value)) large
-
-pub returns-then-not-fill_rect-clause-keeps : goal.returns-then-not-fill_rect-clause-keeps
-returns-then-not-fill_rect-clause-keeps c =
-    let part : Part = record { slicing = c.args.layout.now; size = c.args.size; sx = c.args.place.sx; sy = c.args.place.sy; matrix = c.args.matrix.now; qindex = c.args.place.qindex } in
-    let rect_is : c.band_rect-rect.result ≡ rect_of part c.loop-k.k = rect_here part.slicing part.size part.sx part.sy c.loop-k.k c.band_numbered-level.result.0 c.band_rect-rect.result c.band_numbered-level.ensures.level c.band_rect-rect.ensures in
-    let number_is = number_here c.loop-k.k c.band_numbered-level.result.0 c.band_numbered-level.result.1 c.band_numbered-level.ensures.level c.band_numbered-level.ensures.orient in
-    let before_is = before_here c.loop-k.bands c.loop-k.k c.band_numbered-level.result.0 c.band_numbered-level.result.1 c.band_mut.result.now number_is c.band_mut.ensures.value in
-    let there : c.loop-k.k < length c.loop-k.bands.bands = omega (arith, c.band_mut.ensures.there, number_is) in
-    bands-keep part c.loop-k.k c.args.bands.now c.loop-k.bands c.band_mut.result.now c.fill_rect.new.plane c.band_numbered-level.result.0 c.band_numbered-level.result.1 c.band_rect-rect.result number_is there before_is rect_is c.loop-k.invariant.keeps c.fill_rect.ensures.keeps
-
-pub loop-k-preserved : goal.loop-k-preserved
-loop-k-preserved c =
-    let part : Part = record { slicing = c.args.layout.now; size = c.args.size; sx = c.args.place.sx; sy = c.args.place.sy; matrix = c.args.matrix.now; qindex = c.args.place.qindex } in
-    let rect_is : c.band_rect-rect.result ≡ rect_of part c.loop-k.k = rect_here part.slicing part.size part.sx part.sy c.loop-k.k c.band_numbered-level.result.0 c.band_rect-rect.result c.band_numbered-level.ensures.level c.band_rect-rect.ensures in
-    let number_is = number_here c.loop-k.k c.band_numbered-level.result.0 c.band_numbered-level.result.1 c.band_numbered-level.ensures.level c.band_numbered-level.ensures.orient in
-    let before_is = before_here c.loop-k.bands c.loop-k.k c.band_numbered-level.result.0 c.band_numbered-level.result.1 c.band_mut.result.now number_is c.band_mut.ensures.value in
-    let index_is : c.quantiser-index.result ≡ index_of part c.loop-k.k = index_here part.matrix part.qindex c.band_numbered-level.result.0 _ c.band_numbered-level.result.1 _ _ c.quantiser-index.result c.band_numbered-level.ensures.level c.band_numbered-level.ensures.orient c.orient_numbered.ensures c.quantiser-index.ensures in
-    let there : c.loop-k.k < length c.loop-k.bands.bands = omega (arith, c.band_mut.ensures.there, number_is) in
-    let i = c.loop-k.invariant in
-    let good = c.if-not-fill_rect.false in
-    record {
-      small = sym (bands-small 1 part c.loop-k.k c.args.block.now c.loop-k.block c.quantiser-index.result c.band_rect-rect.result _ rect_is index_is i.small i.left (sym good ∙ c.fill_rect.ensures.small));
-      left = bands-left 1 part c.loop-k.k c.args.block.now c.loop-k.block c.fill_rect.new.block c.quantiser-index.result c.band_rect-rect.result rect_is index_is i.left (c.fill_rect.ensures.left good);
-      holds = bands-hold 1 0 part c.loop-k.k c.args.block.now c.loop-k.block c.args.bands.now c.loop-k.bands c.band_mut.result.now c.fill_rect.new.plane c.band_numbered-level.result.0 c.band_numbered-level.result.1 c.quantiser-index.result c.band_rect-rect.result number_is there before_is (i.rest c.loop-k.k (omega arith)) rect_is index_is i.left i.holds (c.fill_rect.ensures.holds good);
-      keeps = bands-keep part c.loop-k.k c.args.bands.now c.loop-k.bands c.band_mut.result.now c.fill_rect.new.plane c.band_numbered-level.result.0 c.band_numbered-level.result.1 c.band_rect-rect.result number_is there before_is rect_is i.keeps c.fill_rect.ensures.keeps;
-      rest = λ j past. numbered-other c.loop-k.bands c.band_numbered-level.result.0 c.band_numbered-level.result.1 c.loop-k.k j c.fill_rect.new.plane number_is (omega arith) ∙ i.rest j (omega arith);
-    }
+pub returns-clause-keeps : goal.returns-clause-keeps
+returns-clause-keeps c =
+    let part : Part = part_of c.args.layout.now c.args.size c.args.place.sx c.args.place.sy c.args.matrix.now c.args.place.qindex in
+    let total : ℕ = 3 * c.args.layout.now.depth + 1 in
+    takes-keep 1 0 part (3 * c.args.layout.now.depth + 1) c.read_values.new.values c.args.bands.now c.put_luma.new.bands c.put_luma.ensures.takes c.put_luma.ensures.rest

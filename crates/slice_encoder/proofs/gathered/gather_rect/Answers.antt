@@ -1,6 +1,6 @@
-use Rattle.std.proofs.Common.{◌≡◌, ◌∙◌, ℕ, ◌+◌, ◌-◌, ◌*◌, ◌^◌, ◌<◌, ◌++◌, length, take, map, sym, subst, ap, arith, ℤ, to_z, of_z, w64}
+use Rattle.std.proofs.Common.{◌≡◌, ◌∙◌, ℕ, ◌+◌, ◌-◌, ◌*◌, ◌^◌, ◌<◌, ◌++◌, List, length, get_or, pos, take, map, sym, subst, ap, arith, ℤ, to_z, of_z, w64}
 use Rattle.std.specs.List.{flat_map, range_with_len}
-use Rattle.std.proofs.lemmas.Int.{to_z-of_z}
+use Rattle.dc_prediction.proofs.PredictionLemmas.{fits}
 use Rattle.std.proofs.lemmas.List.{length-set}
 use Rattle.std.proofs.lemmas.List.Elements.{All-set}
 use Rattle.std.proofs.lemmas.Nat.{mul-add-lt}
@@ -19,9 +19,11 @@ loop-x-preserved c =
     let h : ℕ = r.y1 - r.y0 in
     let value = at c.args.coefficients.now in
     let before = flat_map (row_values value r) (range_with_len r.y0 (y - r.y0)) in
-    let v = to_z w64 (of_z w64 c.get.result) in
-    let v_is : v ≡ c.get.result = to_z-of_z w64 c.get.result (record { sfits = c.get.type_inv }) in
-    let near : Within (2 ^ 27) v = subst (λ (u : ℤ). Within (2 ^ 27) u) (sym (v_is ∙ c.get.ensures)) (c.requires.can.small y l.x) in
+    let e : ℤ = get_or c.row-row.result.now l.x (pos 0) in
+    let e_is : e ≡ value y l.x = ap (λ (t : List ℤ). get_or t l.x (pos 0)) c.row-row.ensures.value in
+    let v = to_z w64 (of_z w64 e) in
+    let v_is : v ≡ e = fits (2 ^ 27) e (omega arith) (subst (λ (u : ℤ). Within (2 ^ 27) u) (sym e_is) (c.requires.can.small y l.x)) in
+    let near : Within (2 ^ 27) v = subst (λ (u : ℤ). Within (2 ^ 27) u) (sym (v_is ∙ e_is)) (c.requires.can.small y l.x) in
     let inside = mul-add-lt (y - r.y0) w (l.x - r.x0) h (omega arith) (omega arith) in
     let lt : l.place < length l.out = omega (arith, l.invariant.place, l.invariant.same_length, c.requires.room, inside, turned w h) in
     let next : l.x + 1 - r.x0 ≡ l.x - r.x0 + 1 = omega arith in
@@ -30,7 +32,7 @@ loop-x-preserved c =
       same_length = length-set l.out l.place v ∙ l.invariant.same_length;
       small = All-set (Within (2 ^ 27)) l.out l.place v near l.invariant.small;
       so_far =
-          listed_one l.out (take c.args.from c.args.out.now) before c.args.from l.place v c.get.result (value y) r.x0 (l.x - r.x0) l.x lt l.invariant.so_far v_is c.get.ensures (omega arith)
+          listed_one l.out (take c.args.from c.args.out.now) before c.args.from l.place v e (value y) r.x0 (l.x - r.x0) l.x lt l.invariant.so_far v_is e_is (omega arith)
           ∙ sym (ap (λ (n : ℕ). take c.args.from c.args.out.now ++ (before ++ map (value y) (range_with_len r.x0 n))) next);
     }
 

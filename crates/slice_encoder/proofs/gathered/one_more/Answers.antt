@@ -1,10 +1,14 @@
-use Rattle.std.proofs.Common.{◌≡◌, length, ap, arith, to_z, of_z, w64}
-use Rattle.std.proofs.lemmas.Int.{to_z-of_z}
-use Rattle.bit_codes.specs.Codes.{signed_code_of}
-use Rattle.slice_encoder.proofs.CountedBits.{one_code-most}
+use Rattle.std.proofs.Common.{◌≡◌, ◌∙◌, ℕ, ◌+◌, ◌≤◌, sym, ap, inl, inr, arith, ℤ}
+use Rattle.std.specs.Prelude.{unsigned_abs}
+use Rattle.slice_encoder.specs.Gathering.{with_code}
+use Rattle.slice_encoder.proofs.CodeSizes.{nothing_more, more_behind, more_bits}
 use Rattle.slice_encoder.proofs.gathered.one_more.Goals as goal
 
-pub returns-else-v-eq0-clause-most : goal.returns-else-v-eq0-clause-most
-returns-else-v-eq0-clause-most c =
-    let same : to_z w64 (of_z w64 c.args.v) ≡ c.args.v = to_z-of_z w64 c.args.v c.ranges.v in
-    omega (arith, c.from.ensures, c.sint_len.ensures, ap (λ v. length (signed_code_of v)) same, one_code-most c.args.v c.requires.small)
+pub returns-then-behind-eq0-clause-value : goal.returns-then-behind-eq0-clause-value
+returns-then-behind-eq0-clause-value c = λ v bits_are. nothing_more c.args.bits v c.if-bits-eq1.true bits_are ∙ sym (ap (with_code v) c.if-behind-eq0.true)
+
+pub returns-else-bits-eq1-clause-value : goal.returns-else-bits-eq1-clause-value
+returns-else-bits-eq1-clause-value c = λ v bits_are. elim c.else-bits-eq1.either [
+  | inl some ↦ more_behind c.args.bits c.args.behind v some.1 bits_are
+  | inr some ↦ more_bits c.args.bits c.args.behind v some bits_are
+]

@@ -2,6 +2,7 @@ use Rattle.std.proofs.Common.{◌≡◌, ◌∙◌, ◌-◌, true, sym, arith}
 use Rattle.stream_units.specs.Turns.{is_end_found, IsRead}
 use Rattle.stream_units.proofs.Taking.{read_at, ends_found}
 use Rattle.stream_units.proofs.ReaderTurns.{limit_inner, final_of, limit_ends}
+use Rattle.stream_units.proofs.HeldTurns.{end_few, end_held, stops_behind}
 use Rattle.stream_units.proofs.limits.next_unit.Goals as goal
 
 pub returns-then-not-is_end-clause-limit : goal.returns-then-not-is_end-clause-limit
@@ -14,8 +15,11 @@ overflow_sub-place g c = omega (arith, c.in-Ok.ensures.unit.total, c.room.ensure
 pub overflow_sub-place-2 : goal.overflow_sub-place-2
 overflow_sub-place-2 g c = omega (arith, c.in-Ok.ensures.unit.total, c.room.ensures, c.len.ensures)
 
-pub last-requires : goal.last-requires
-last-requires g c = omega (arith, c.in-Ok.ensures.unit.total, c.room.ensures, c.len.ensures)
+pub last-requires-clause-few : goal.last-requires-clause-few
+last-requires-clause-few g c = end_few c.args.earlier.now c.args.window.now.held (g.S.Source.rest c.args.src.now) c.args.kept.now c.whole.new.kept c.whole.new.window.held c.in-Ok.found (sym c.is_end.ensures ∙ c.if-not-is_end.false) c.in-Ok.ensures.held
+
+pub last-requires-clause-place : goal.last-requires-clause-place
+last-requires-clause-place g c = omega (arith, c.in-Ok.ensures.unit.total, c.room.ensures, c.len.ensures)
 
 pub returns-in-Ok-last-clause-limit : goal.returns-in-Ok-last-clause-limit
 returns-in-Ok-last-clause-limit g c =
@@ -39,3 +43,11 @@ returns-in-Err-last-clause-limit g c =
     let such = IsRead z c.in-Ok.found in
     let d = read_at such r (1099511627776 - c.room.result - c.len.result) (omega (arith, r.total, c.room.ensures, c.len.ensures)) in
     c.in-Err-last.ensures.last z held (rest c.args.src.now) r.unit d.0 (final_of z c.in-Ok.found r.unit r.begun.gone ended r.such.0)
+
+pub returns-in-Ok-last-clause-held : goal.returns-in-Ok-last-clause-held
+returns-in-Ok-last-clause-held g c =
+    end_held c.args.earlier.now c.args.window.now.held (g.S.Source.rest c.args.src.now) c.args.kept.now c.whole.new.kept c.whole.new.window.held c.last.new.window.held c.in-Ok.found (sym c.is_end.ensures ∙ c.if-not-is_end.false) c.in-Ok.ensures.held c.last.ensures.held
+
+pub returns-in-Err-last-clause-held : goal.returns-in-Err-last-clause-held
+returns-in-Err-last-clause-held g c =
+    stops_behind c.args.earlier.now c.args.window.now.held (g.S.Source.rest c.args.src.now) c.args.kept.now c.whole.new.kept c.whole.new.window.held c.last.new.window.held c.in-Ok.found c.in-Err-last.stop (sym c.is_end.ensures ∙ c.if-not-is_end.false) c.in-Ok.ensures.held c.last.ensures.held

@@ -3,6 +3,7 @@ use Rattle.unit_table.specs.Begun.{Begun}
 use Rattle.stream_units.specs.Units.{First, units, first_payload}
 use Rattle.stream_units.specs.Turns.{Takes, IsFirst}
 use Rattle.stream_units.proofs.HeaderTurns.{behind_due, behind_refused, behind_takes}
+use Rattle.stream_units.proofs.HeldTurns.{drop_most}
 use Rattle.stream_units.proofs.parts.first_header.Goals as goal
 
 pub returns-in-Err-clause-unit : goal.returns-in-Err-clause-unit
@@ -31,3 +32,9 @@ returns-clause-unit g c = λ held0 rest0 b.
     (c.in-Ok.ensures.unit c.args.earlier.now held0 rest0 c.args.next (omega (arith, c.place-place.ensures.value))
     (subst (λ p. Begun units c.args.earlier.now held0 rest0 (g.S.Source.rest c.args.src.now) (p + 13) c.args.window.now.held (first_payload c.args.earlier.now c.args.next)) (sym c.place-place.ensures.value) b))
     c.advance.ensures.held (sym c.leads_behind.ensures ∙ cc) (omega (arith, c.in-Ok.ensures.room, c.requires.place, c.advance.ensures.room)) (omega (arith, c.in-Ok.ensures.inside, c.in-Ok.ensures.few)) (c.in-Ok-copied.ensures.ok ∙ c.front.ensures.value))
+
+pub returns-then-not-leads_behind-clause-held : goal.returns-then-not-leads_behind-clause-held
+returns-then-not-leads_behind-clause-held g c = drop_most c.in-Ok.read.1 8192 c.read_header.new.window.held c.advance.new.self.held c.advance.ensures.held c.read_header.ensures.few
+
+pub returns-clause-held : goal.returns-clause-held
+returns-clause-held g c = drop_most c.in-Ok.read.1 8192 c.read_header.new.window.held c.advance.new.self.held c.advance.ensures.held c.read_header.ensures.few

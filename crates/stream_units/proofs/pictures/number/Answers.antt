@@ -1,5 +1,7 @@
 use Rattle.std.proofs.Common.{◌+◌, ◌<◌, arith, sym, subst, ◌∙◌, get_or, ℕ}
 use Rattle.stream_units.proofs.PictureTurns.{number_asked, number_at, number_broken, number_taken, field_short, field_lost}
+use Rattle.stream_units.proofs.Gets.{got_most}
+use Rattle.stream_units.proofs.HeldTurns.{drop_most}
 use Rattle.stream_units.proofs.pictures.number.Goals as goal
 
 pub returns-in-Ok-false-clause-part : goal.returns-in-Ok-false-clause-part
@@ -27,3 +29,15 @@ returns-clause-part g c = λ others held0 rest0 b.
     number_taken others c.from_be_bytes-number.result c.advance.new.self.held
     (number_asked c.hold.new.self.held (g.S.Source.rest c.hold.new.src) others b c.hold.ensures.got) (c.hold.ensures.enough (c.in-Ok-true.is ∙ cc))
     (subst (λ l. (i : ℕ) → get_or l i 0 < 256) c.front.ensures.value c.front.ensures.fits) number (sym c.broken_number.ensures ∙ c.in_default-broken_number.is) c.advance.ensures.held
+
+pub returns-in-Ok-false-clause-held : goal.returns-in-Ok-false-clause-held
+returns-in-Ok-false-clause-held g c = got_most 8192 c.hold.ensures.got (omega (arith, c.requires.few)) (omega arith)
+
+pub returns-in-Err-clause-held : goal.returns-in-Err-clause-held
+returns-in-Err-clause-held g c = got_most 8192 c.hold.ensures.got (omega (arith, c.requires.few)) (omega arith)
+
+pub returns-in-Some-broken_number-clause-held : goal.returns-in-Some-broken_number-clause-held
+returns-in-Some-broken_number-clause-held g c = got_most 8192 c.hold.ensures.got (omega (arith, c.requires.few)) (omega arith)
+
+pub returns-clause-held : goal.returns-clause-held
+returns-clause-held g c = drop_most 4 8192 c.hold.new.self.held c.advance.new.self.held c.advance.ensures.held (got_most 8192 c.hold.ensures.got (omega (arith, c.requires.few)) (omega arith))

@@ -4,6 +4,9 @@ use Rattle.slice_geometry.specs.Slicing.{IsAllowed, bytes_before, total_bytes}
 use Rattle.slice_geometry.proofs.Shares.{bytes_before-zero}
 use Rattle.slice_geometry.specs.Frames.{frame_of}
 use Rattle.stream_units.proofs.PictureTurns.{field_short, field_lost, slices_start, slice_asked, slice_broken, slice_taken, slice_place, slices_done, all_bytes}
+use Rattle.stream_units.specs.Held.{greatest_share}
+use Rattle.stream_units.proofs.Gets.{got_most}
+use Rattle.stream_units.proofs.HeldTurns.{drop_most, share_most}
 use Rattle.stream_units.proofs.pictures.slices.Goals as goal
 
 pub loop-share-init : goal.loop-share-init
@@ -14,6 +17,7 @@ loop-share-init g c = record {
   shape = refl;
   params = refl;
   unrefused = c.requires.unrefused;
+  held = omega (arith, c.requires.few);
   few = omega (arith, c.requires.first);
   allowed = subst (λ p. IsAllowed p.slicing) c.params.ensures c.depth.ensures.allowed;
   steady = refl;
@@ -55,6 +59,7 @@ loop-share-preserved g c =
       shape = ap (λ d. d.shape) taken.state ∙ inv.shape;
       params = ap (λ d. d.params) taken.state ∙ inv.params;
       unrefused = ap (λ d. d.refused) taken.state ∙ inv.unrefused;
+      held = drop_most c.in-Some.share (8192 + greatest_share p.slicing) c.hold.new.self.held c.advance.new.self.held c.advance.ensures.held (got_most (8192 + greatest_share c.args.decoder.now.params.slicing) c.hold.ensures.got c.loop-share.invariant.held (omega (arith, share_most c.args.decoder.now.params c.loop-share.decoder c.in-Some.share c.loop-share.invariant.params c.in-Some.ensures)));
       few = place.1;
       allowed = inv.allowed;
       steady = cc (c.in-Ok-true.ensures.cause, inv.steady);
@@ -65,3 +70,12 @@ returns-clause-part g c = λ parts z frame others held0 rest0 b.
     let inv = c.loop-share.invariant in
     slices_done (c.args.place + total_bytes c.args.decoder.now.params.slicing) (inv.so_far parts z frame others held0 rest0 b) inv.params (sym c.in_default.ensures)
     (all_bytes c.args.decoder.now.params c.loop-share.decoder c.args.place c.loop-share.at inv.params (sym c.in_default.ensures) inv.few inv.at_is)
+
+pub returns-in-Ok-false-clause-held : goal.returns-in-Ok-false-clause-held
+returns-in-Ok-false-clause-held g c = got_most (8192 + greatest_share c.args.decoder.now.params.slicing) c.hold.ensures.got c.loop-share.invariant.held (omega (arith, share_most c.args.decoder.now.params c.loop-share.decoder c.in-Some.share c.loop-share.invariant.params c.in-Some.ensures))
+
+pub returns-in-Err-clause-held : goal.returns-in-Err-clause-held
+returns-in-Err-clause-held g c = got_most (8192 + greatest_share c.args.decoder.now.params.slicing) c.hold.ensures.got c.loop-share.invariant.held (omega (arith, share_most c.args.decoder.now.params c.loop-share.decoder c.in-Some.share c.loop-share.invariant.params c.in-Some.ensures))
+
+pub returns-in-Err-slice-clause-held : goal.returns-in-Err-slice-clause-held
+returns-in-Err-slice-clause-held g c = got_most (8192 + greatest_share c.args.decoder.now.params.slicing) c.hold.ensures.got c.loop-share.invariant.held (omega (arith, share_most c.args.decoder.now.params c.loop-share.decoder c.in-Some.share c.loop-share.invariant.params c.in-Some.ensures))

@@ -7,6 +7,7 @@ use Rattle.unit_table.specs.Begun.{Begun}
 use Rattle.stream_units.specs.declared.reason.Reason.{Reason}
 use Rattle.stream_units.specs.Streams.{frame_under}
 use Rattle.stream_units.specs.Units.{Past, DataUnit, units, slice_rows}
+use Rattle.stream_units.specs.Held.{greatest_share}
 use Rattle.stream_units.proofs.PictureTurns.{SlicesSoFar}
 use Rattle.stream_units.proofs.pictures.slices.Given as goal
 
@@ -20,6 +21,7 @@ invariant-loop-share g l = record {
   shape : l.decoder.shape ≡ l.fn.decoder.shape;
   params : l.decoder.params ≡ l.fn.decoder.params;
   unrefused : l.decoder.refused ≡ false;
+  held : length l.window.held ≤ 8192 + greatest_share l.fn.decoder.params.slicing;
   few : l.decoder.next ≤ slice_count l.fn.decoder.params.slicing;
   allowed : IsAllowed l.fn.decoder.params.slicing;
   steady : g.S.Source.faults l.src ≡ g.S.Source.faults l.fn.src;

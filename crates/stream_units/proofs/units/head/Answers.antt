@@ -7,6 +7,7 @@ use Rattle.stream_units.proofs.Steady.{head_steady}
 use Rattle.stream_units.proofs.Gets.{got_most}
 use Rattle.stream_units.proofs.Stopping.{units_table, stops_told}
 use Rattle.stream_units.proofs.HeadTurns.{head_stands, head_fault, head_few}
+use Rattle.stream_units.proofs.HeldTurns.{drop_most}
 use Rattle.stream_units.proofs.units.head.Goals as goal
 
 pub returns-in-Ok-clause-part : goal.returns-in-Ok-clause-part
@@ -58,3 +59,13 @@ returns-in-Err-read_on-clause-part g c = λ others held0 rest0 b.
     let front : c.front.result.now ≡ take (min (length held) 13) held = c.front.ensures.value ∙ ap (λ n. take n held) (c.min-count.ensures ∙ ap (λ n. min n 13) c.len.ensures) in
     let f = head_fault units_table c.args.earlier.now.place held (unit_head c.args.earlier.now) others c.front.result.now c.in-Err.refusal (head_steady c.args.earlier.now) front c.in-Err.ensures in
     c.in-Err-read_on.ensures.units c.args.earlier.now held0 rest0 c.args.earlier.now.place ((unit_head c.args.earlier.now) >>= others) f.0 (c.loop-info.invariant.begun others held0 rest0 b) f.2 (ap (λ (r : Refusal). is_truncated r.reason) (sym f.1) ∙ sym c.is_truncated.ensures ∙ c.if-not-is_truncated.false) f.1 c.loop-info.invariant.total
+
+pub returns-in-Ok-clause-held : goal.returns-in-Ok-clause-held
+returns-in-Ok-clause-held g c = drop_most 13 8192 c.loop-info.window.held c.advance.new.self.held c.advance.ensures.held (omega (arith, c.loop-info.invariant.few))
+
+pub returns-in-Err-read_on-clause-held : goal.returns-in-Err-read_on-clause-held
+returns-in-Err-read_on-clause-held g c =
+    let held = c.loop-info.window.held in
+    let front : c.front.result.now ≡ take (min (length held) 13) held = c.front.ensures.value ∙ ap (λ n. take n held) (c.min-count.ensures ∙ ap (λ n. min n 13) c.len.ensures) in
+    let short = head_few c.args.earlier.now.place held (unit_head c.args.earlier.now) c.front.result.now c.in-Err.refusal front c.in-Err.ensures (sym c.is_truncated.ensures ∙ c.if-not-is_truncated.false) in
+    got_most 8192 c.read_on.ensures.got (omega (arith, c.loop-info.invariant.few)) (omega (arith, short))

@@ -4,6 +4,7 @@ use Rattle.stream_units.proofs.PartTurns.{takes}
 use Rattle.stream_units.specs.Turns.{IsFound, IsShown}
 use Rattle.stream_units.specs.declared.parts.Found.TheVariants as founds
 use Rattle.stream_units.proofs.UnitTurns.{along, takes_such, rows_first, rows_repeated, rows_picture, rows_skipped, rows_end}
+use Rattle.stream_units.specs.Held.{BeforeSlices}
 use Rattle.stream_units.proofs.units.payload.Goals as goal
 
 pub returns-in-Ok-clause-unit : goal.returns-in-Ok-clause-unit
@@ -35,3 +36,18 @@ returns-in-Err-skipped-clause-unit g c = λ held0 rest0 b. c.in-Err-skipped.ensu
 pub returns-in-EndOfSequence-clause-unit : goal.returns-in-EndOfSequence-clause-unit
 returns-in-EndOfSequence-clause-unit g c = λ held0 rest0 b.
     takes c.args.window.now.room (IsFound c.args.earlier.now founds.End) End (along _ _ (rows_end c.args.earlier.now c.args.earlier.now.first c.in-Some.first.now c.args.info c.in-Some.ensures.some c.in-EndOfSequence.is) b) (omega (arith, c.requires.place)) (omega arith) (λ bytes at. refl)
+
+pub returns-in-Err-clause-held : goal.returns-in-Err-clause-held
+returns-in-Err-clause-held g c = λ held0 rest0 b. BeforeSlices refl c.first_header.ensures.held
+
+pub returns-in-Err-repeated-clause-held : goal.returns-in-Err-repeated-clause-held
+returns-in-Err-repeated-clause-held g c = λ held0 rest0 b. BeforeSlices refl c.repeated.ensures.held
+
+pub returns-in-Err-skipped-clause-held : goal.returns-in-Err-skipped-clause-held
+returns-in-Err-skipped-clause-held g c = λ held0 rest0 b. BeforeSlices refl c.in-Err-skipped.ensures.held
+
+pub returns-in-Err-picture-clause-held : goal.returns-in-Err-picture-clause-held
+returns-in-Err-picture-clause-held g c = λ held0 rest0 b. c.in-Err-picture.ensures.held held0 rest0 (along _ _ (rows_picture c.args.earlier.now c.args.earlier.now.first c.in-Some.first.now c.args.info c.in-Some.ensures.some c.in-LowDelayPicture.is) b)
+
+pub returns-in-EndOfSequence-clause-held : goal.returns-in-EndOfSequence-clause-held
+returns-in-EndOfSequence-clause-held g c = λ held0 rest0 b. (refl, omega (arith, c.requires.few))

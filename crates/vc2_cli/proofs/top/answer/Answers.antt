@@ -1,4 +1,4 @@
-use Rattle.std.proofs.Common.{[], Ok, Result, ap, ◌∙◌, subst, sym, arith}
+use Rattle.std.proofs.Common.{[], Ok, Result, ap, ◌∙◌, refl, subst, sym, arith}
 use Rattle.vc2_words.specs.declared.words.Command.{Command}
 use Rattle.vc2_words.specs.declared.words.Command.TheVariants.{Check}
 use Rattle.vc2_words.specs.declared.keys.WordFault.{WordFault}
@@ -18,7 +18,7 @@ use Rattle.vc2_words.specs.Shown.{shown}
 use Rattle.vc2_cli.specs.Encode.{encode_machine}
 use Rattle.vc2_cli.proofs.Encoding.{encode_laws}
 use Rattle.vc2_cli.proofs.EncodeReplies.{some_size}
-use Rattle.vc2_cli.proofs.Settling.{at_end, settled, settled_trial, settled_usage}
+use Rattle.vc2_cli.proofs.Settling.{at_end, settled, settled_trial, settled_usage, trial_told, if_trial, if_header}
 use Rattle.vc2_cli.proofs.top.answer.Goals as goal
 
 pub returns-in-Chain-clause-settled : goal.returns-in-Chain-clause-settled
@@ -117,3 +117,56 @@ returns-in-Err-clause-settled g c = λ input e.
     subst (λ (r : Result Command WordFault). Settles (command_reply (seen_words r) input) (command_due (seen_words r)) input (g.S.Source.rest c.args.src.now) (g.K.Sink.written c.args.out.now) (g.K.Sink.written c.args.out.now)
     (g.N.Sink.written c.args.note.now) (g.N.Sink.written c.refuse.new.note) c.refuse.result) (sym c.in-Err.is)
     (settled_usage c.in-Err.fault input (g.S.Source.rest c.args.src.now) (g.K.Sink.written c.args.out.now) (g.N.Sink.written c.args.note.now) (g.N.Sink.written c.refuse.new.note) c.refuse.result e c.refuse.ensures.told)
+
+pub returns-in-Chain-clause-trial : goal.returns-in-Chain-clause-trial
+returns-in-Chain-clause-trial g c = if_trial _ _ _ (c.in-Ok.is ∙ ap Ok c.in-Chain.is) tt
+
+pub returns-in-Chain-clause-header : goal.returns-in-Chain-clause-header
+returns-in-Chain-clause-header g c = if_header _ _ _ (c.in-Ok.is ∙ ap Ok c.in-Chain.is) tt
+
+pub returns-in-Header-clause-trial : goal.returns-in-Header-clause-trial
+returns-in-Header-clause-trial g c = if_trial _ _ _ (c.in-Ok.is ∙ ap Ok c.in-Header.is) tt
+
+pub returns-in-Header-clause-header : goal.returns-in-Header-clause-header
+returns-in-Header-clause-header g c = if_header _ _ _ (c.in-Ok.is ∙ ap Ok c.in-Header.is) c.header.ensures.limit
+
+pub returns-in-Decode-clause-trial : goal.returns-in-Decode-clause-trial
+returns-in-Decode-clause-trial g c = if_trial _ _ _ (c.in-Ok.is ∙ ap Ok c.in-Decode.is) tt
+
+pub returns-in-Decode-clause-header : goal.returns-in-Decode-clause-header
+returns-in-Decode-clause-header g c = if_header _ _ _ (c.in-Ok.is ∙ ap Ok c.in-Decode.is) tt
+
+pub returns-in-None-clause-trial : goal.returns-in-None-clause-trial
+returns-in-None-clause-trial g c = if_trial _ _ _ (c.in-Ok.is ∙ ap Ok (c.in-Check.is ∙ ap Check c.in-None.is)) tt
+
+pub returns-in-None-clause-header : goal.returns-in-None-clause-header
+returns-in-None-clause-header g c = if_header _ _ _ (c.in-Ok.is ∙ ap Ok (c.in-Check.is ∙ ap Check c.in-None.is)) tt
+
+pub returns-in-Some-clause-trial : goal.returns-in-Some-clause-trial
+returns-in-Some-clause-trial g c = if_trial _ _ _ (c.in-Ok.is ∙ ap Ok (c.in-Check.is ∙ ap Check c.in-Some.is)) tt
+
+pub returns-in-Some-clause-header : goal.returns-in-Some-clause-header
+returns-in-Some-clause-header g c = if_header _ _ _ (c.in-Ok.is ∙ ap Ok (c.in-Check.is ∙ ap Check c.in-Some.is)) tt
+
+pub returns-in-Encode-clause-trial : goal.returns-in-Encode-clause-trial
+returns-in-Encode-clause-trial g c = if_trial _ _ _ (c.in-Ok.is ∙ ap Ok c.in-Encode.is) tt
+
+pub returns-in-Encode-clause-header : goal.returns-in-Encode-clause-header
+returns-in-Encode-clause-header g c = if_header _ _ _ (c.in-Ok.is ∙ ap Ok c.in-Encode.is) tt
+
+pub returns-in-Trial-clause-trial : goal.returns-in-Trial-clause-trial
+returns-in-Trial-clause-trial g c = if_trial _ _ _ (c.in-Ok.is ∙ ap Ok c.in-Trial.is)
+    (let asked = shown c.in-Trial.settings in
+    let rest = g.S.Source.rest in
+    let out = g.K.Sink.written in
+    let note = g.N.Sink.written in
+    (trial_told (trial_worst asked c.in-Trial.part) (trial_text asked c.in-Trial.part) (out c.args.out.now) (out c.trial.new.out) (note c.args.note.now) (note c.conclude-in-Trial.new.note) c.trial.result c.conclude-in-Trial.result c.trial.ensures.told c.conclude-in-Trial.ensures.told, refl, refl))
+
+pub returns-in-Trial-clause-header : goal.returns-in-Trial-clause-header
+returns-in-Trial-clause-header g c = if_header _ _ _ (c.in-Ok.is ∙ ap Ok c.in-Trial.is) tt
+
+pub returns-in-Err-clause-trial : goal.returns-in-Err-clause-trial
+returns-in-Err-clause-trial g c = if_trial _ _ _ (c.in-Err.is) tt
+
+pub returns-in-Err-clause-header : goal.returns-in-Err-clause-header
+returns-in-Err-clause-header g c = if_header _ _ _ (c.in-Err.is) tt

@@ -1,12 +1,13 @@
-use Rattle.std.proofs.Common.{◌+◌, ◌%◌, ◌/◌, sym, ap, subst, ◌∙◌, arith, refl, length}
+use Rattle.std.proofs.Common.{ℕ, ◌<◌, ◌*◌, ◌+◌, ◌%◌, ◌/◌, sym, ap, subst, ◌∙◌, arith, refl, length}
 use Rattle.std.specs.Prelude.{if◌then◌else◌, None, Some}
 use Rattle.slice_geometry.specs.declared.PictureShape.{PictureShape}
 use Rattle.slice_geometry.specs.Slicing.{slice_count, slice_bytes}
-use Rattle.slice_geometry.proofs.Shares.{share_most}
+use Rattle.slice_geometry.proofs.Shares.{share_most, some_share}
 use Rattle.slice_decoder.specs.Slice.{slice_at}
 use Rattle.slice_decoder.specs.Decoded.{AreReady, AllKeepOthers, IsDecoded}
 use Rattle.transform_params.specs.Views.{params_of}
 use Rattle.picture_codec.specs.Decoding.{Decoding, IsTaken, wanted_of}
+use Rattle.picture_codec.proofs.Tables.{row_below}
 use Rattle.picture_codec.proofs.Steps.{all_ready, all_same, all_more, takes_each}
 use Rattle.picture_codec.proofs.Whole.{wanted_some}
 use Rattle.picture_codec.proofs.decoder.PictureDecoder.slice.Goals as goal
@@ -18,6 +19,22 @@ decode_slice-requires-clause-most c =
     let wanted = wanted_some n (slice_count s) (slice_bytes s.a s.b n) (length c.args.bytes.now) (c.requires.wanted ∙ ap wanted_of (sym c.self.view_is)) in
     let allowed = c.slices_x-across.ensures.allowed in
     omega (arith, wanted.1, share_most s.a s.b n (slice_count s) allowed.share.some wanted.0, allowed.share.total)
+
+pub decode_slice-requires-clause-some : goal.decode_slice-requires-clause-some
+decode_slice-requires-clause-some c =
+    let s = c.self.inside.params.layout in
+    let n = c.self.inside.next in
+    let wanted = wanted_some n (slice_count s) (slice_bytes s.a s.b n) (length c.args.bytes.now) (c.requires.wanted ∙ ap wanted_of (sym c.self.view_is)) in
+    let allowed = c.slices_x-across.ensures.allowed in
+    omega (arith, wanted.1, some_share s.a s.b n allowed.share.some allowed.share.byte)
+
+pub decode_slice-requires-clause-down : goal.decode_slice-requires-clause-down
+decode_slice-requires-clause-down c =
+    let s = c.self.inside.params.layout in
+    let n = c.self.inside.next in
+    let wanted = wanted_some n (slice_count s) (slice_bytes s.a s.b n) (length c.args.bytes.now) (c.requires.wanted ∙ ap wanted_of (sym c.self.view_is)) in
+    let inside : n < s.slices_y * s.slices_x = omega (arith, wanted.0) in
+    subst (λ (a : ℕ). n / a < s.slices_y) (sym c.slices_x-across.ensures.value) (row_below n s.slices_x s.slices_y inside)
 
 pub decode_slice-requires-clause-ready : goal.decode_slice-requires-clause-ready
 decode_slice-requires-clause-ready c =
@@ -51,7 +68,9 @@ invariant_of-self c =
     record {
       taken = all_more s shape n wanted.0 allowed.slices matrix (slice_at s shape.luma shape.colour (n % s.slices_x) (n / s.slices_x) bytes) head old new c.self.invariant.taken keeps decoded;
       luma = c.self.invariant.luma;
+      luma_in_32_bits = c.self.invariant.luma_in_32_bits;
       colour = c.self.invariant.colour;
+      colour_in_32_bits = c.self.invariant.colour_in_32_bits;
     }
 
 pub invariant_of-self-in-Err : goal.invariant_of-self-in-Err
@@ -69,7 +88,9 @@ invariant_of-self-in-Err c =
     record {
       taken = all_same s shape n wanted.0 allowed.slices old new c.self.invariant.taken keeps;
       luma = c.self.invariant.luma;
+      luma_in_32_bits = c.self.invariant.luma_in_32_bits;
       colour = c.self.invariant.colour;
+      colour_in_32_bits = c.self.invariant.colour_in_32_bits;
     }
 
 pub returns-in-Ok : goal.returns-in-Ok

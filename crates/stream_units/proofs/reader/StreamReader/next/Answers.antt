@@ -1,14 +1,18 @@
-use Rattle.std.proofs.Common.{◌≡◌, ◌+◌, ◌-◌, ◌^◌, ◌++◌, ◌∷◌, [], sym, ap, ◌∙◌, List, Ok, refl, arith}
+use Rattle.std.proofs.Common.{◌≡◌, ◌+◌, ◌-◌, ◌^◌, ◌++◌, ◌∷◌, [], sym, ap, ◌∙◌, List, Some, None, Ok, Err, refl, arith}
 use Rattle.slice_geometry.specs.declared.unit_list.UnitShape.{UnitShape}
 use Rattle.stream_units.specs.declared.stop.ReadStop.TheVariants as stops
 use Rattle.stream_units.specs.ReaderInside.{picture_in}
 use Rattle.stream_units.proofs.Answering.{after-place}
 use Rattle.stream_units.proofs.ReaderTurns.{few_slices, behind, held_few, shows_one, over_none, is_picture, next_over, nothing_due, along, stopped}
+use Rattle.stream_units.specs.Reader.{ReaderState}
+use Rattle.stream_units.specs.Held.{greatest_in, AsBefore}
+use Rattle.stream_units.proofs.HeldCalls.{greatest_along}
+use Rattle.stream_units.proofs.HeldTurns.{few_most, stops_greatest, greatest_over}
 use Rattle.stream_units.proofs.reader.StreamReader.next.Goals as goal
 
 pub returns-then-is_err-clause-next : goal.returns-then-is_err-clause-next
 returns-then-is_err-clause-next g c =
-    stopped c.args.self.now (record { past = c.self.inside.earlier; held = c.self.inside.window.held; shapes = c.self.inside.shapes.units; picture = picture_in c.self.inside.shows c.self.inside.decoder; stop = c.self.inside.stop; ended = c.self.inside.ended }) _
+    stopped c.args.self.now (record { past = c.self.inside.earlier; held = c.self.inside.window.held; shapes = c.self.inside.shapes.units; picture = picture_in c.self.inside.shows c.self.inside.decoder; greatest = greatest_in c.self.inside.decoder; stop = c.self.inside.stop; ended = c.self.inside.ended }) _
     (g.S.Source.rest c.args.src.now) (g.S.Source.rest c.args.src.now) stops.NoMemory c.self.view_is
     (λ no_stop going. nothing_due c.self.inside.earlier c.self.inside.window.held (g.S.Source.rest c.args.src.now) c.self.inside.window.room (c.self.invariant.few no_stop going) (c.self.invariant.room no_stop going))
     (λ no_stop going. record { past = refl; shapes = c.reserve.ensures.units; picture = refl; kept = refl; ended = going })
@@ -41,11 +45,12 @@ invariant_of-self-2 g c =
       over = λ e. over_none b.unit c.step-item.result.0 c.step-item.result.1 c.next_unit.new.kept c.keep-self-inside.new.decoder c.keep-self-inside.result s.is_item (sym c.is_end-self-inside.ensures ∙ e) s.decoder c.keep-self-inside.ensures;
       room = λ no_stop going. omega (arith, b.total, place);
       few = λ no_stop going. held_few c.self.inside.earlier c.self.inside.window.held (g.S.Source.rest c.args.src.now) (g.S.Source.rest c.next_unit.new.src) c.next_unit.new.window c.in-Ok.found c.in-Ok.ensures.limit;
+      held = few_most c.next_unit.new.window.held _ (omega (arith, held_few c.self.inside.earlier c.self.inside.window.held (g.S.Source.rest c.args.src.now) (g.S.Source.rest c.next_unit.new.src) c.next_unit.new.window c.in-Ok.found c.in-Ok.ensures.limit));
     }
 
 pub returns-clause-next : goal.returns-clause-next
 returns-clause-next g c =
-    along c.args.self.now (record { past = c.self.inside.earlier; held = c.self.inside.window.held; shapes = c.self.inside.shapes.units; picture = picture_in c.self.inside.shows c.self.inside.decoder; stop = c.self.inside.stop; ended = c.self.inside.ended }) _
+    along c.args.self.now (record { past = c.self.inside.earlier; held = c.self.inside.window.held; shapes = c.self.inside.shapes.units; picture = picture_in c.self.inside.shows c.self.inside.decoder; greatest = greatest_in c.self.inside.decoder; stop = c.self.inside.stop; ended = c.self.inside.ended }) _
     (g.S.Source.rest c.args.src.now) (g.S.Source.rest c.next_unit.new.src) (Ok c.step-item.result.0) c.self.view_is (λ no_stop going.
     next_over _ _ (g.S.Source.rest c.args.src.now) (g.S.Source.rest c.next_unit.new.src) c.next_unit.new.window c.in-Ok.found (2 ^ 40 - c.room.result - c.len.result - c.place-start.result) c.step-item.result.0 c.in-Ok.ensures.limit (omega (arith, c.room.ensures, c.len.ensures, c.place-start.ensures.value))
     (record {
@@ -57,3 +62,27 @@ returns-clause-next g c =
       stop = no_stop;
       ended = c.is_end-self-inside.ensures;
     }))
+
+pub returns-then-is_err-clause-greatest : goal.returns-then-is_err-clause-greatest
+returns-then-is_err-clause-greatest g c =
+    let before : ReaderState = record { past = c.self.inside.earlier; held = c.self.inside.window.held; shapes = c.self.inside.shapes.units; picture = picture_in c.self.inside.shows c.self.inside.decoder; greatest = greatest_in c.self.inside.decoder; stop = c.self.inside.stop; ended = c.self.inside.ended } in
+    let after : ReaderState = record { past = c.self.inside.earlier; held = c.self.inside.window.held; shapes = c.reserve.new.self.units; picture = None; greatest = greatest_in c.self.inside.decoder; stop = Some stops.NoMemory; ended = c.self.inside.ended } in
+    greatest_along c.args.self.now before after (g.S.Source.rest c.args.src.now) (Err stops.NoMemory) c.self.view_is (λ no_stop going. AsBefore refl (omega (arith, c.self.invariant.few no_stop going)))
+
+pub returns-in-Err-clause-greatest : goal.returns-in-Err-clause-greatest
+returns-in-Err-clause-greatest g c =
+    let before : ReaderState = record { past = c.self.inside.earlier; held = c.self.inside.window.held; shapes = c.self.inside.shapes.units; picture = picture_in c.self.inside.shows c.self.inside.decoder; greatest = greatest_in c.self.inside.decoder; stop = c.self.inside.stop; ended = c.self.inside.ended } in
+    let after : ReaderState = record { past = c.self.inside.earlier; held = c.next_unit.new.window.held; shapes = c.reserve.new.self.units; picture = None; greatest = greatest_in c.next_unit.new.kept; stop = Some c.in-Err.stop; ended = c.self.inside.ended } in
+    greatest_along c.args.self.now before after (g.S.Source.rest c.args.src.now) (Err c.in-Err.stop) c.self.view_is (λ no_stop going.
+    stops_greatest c.self.inside.earlier c.self.inside.window.held (g.S.Source.rest c.args.src.now) c.self.inside.decoder c.next_unit.new.kept c.next_unit.new.window.held c.in-Err.stop c.in-Err.ensures.held)
+
+pub returns-clause-greatest : goal.returns-clause-greatest
+returns-clause-greatest g c =
+    let b = behind c.self.inside.earlier c.self.inside.window.held (g.S.Source.rest c.args.src.now) (g.S.Source.rest c.next_unit.new.src) c.next_unit.new.window c.in-Ok.found (2 ^ 40 - c.room.result - c.len.result - c.place-start.result) c.in-Ok.ensures.limit (omega (arith, c.room.ensures, c.len.ensures, c.place-start.ensures.value)) in
+    let s = c.step-item.ensures b.unit b.bytes b.long b.such in
+    let before : ReaderState = record { past = c.self.inside.earlier; held = c.self.inside.window.held; shapes = c.self.inside.shapes.units; picture = picture_in c.self.inside.shows c.self.inside.decoder; greatest = greatest_in c.self.inside.decoder; stop = c.self.inside.stop; ended = c.self.inside.ended } in
+    let after : ReaderState = record { past = c.step-item.new.earlier; held = c.next_unit.new.window.held; shapes = c.push.new.self.units; picture = picture_in c.keep-self-inside.result c.keep-self-inside.new.decoder; greatest = greatest_in c.keep-self-inside.new.decoder; stop = c.self.inside.stop; ended = c.is_end-self-inside.result } in
+    greatest_along c.args.self.now before after (g.S.Source.rest c.args.src.now) (Ok c.step-item.result.0) c.self.view_is (λ no_stop going.
+    greatest_over before after c.self.inside.window.held (g.S.Source.rest c.args.src.now) c.next_unit.new.window.held c.in-Ok.found b.unit b.bytes c.step-item.result.0 c.self.inside.decoder c.next_unit.new.kept c.step-item.result.1 c.keep-self-inside.new.decoder c.keep-self-inside.result
+    c.in-Ok.ensures.held b.such s.is_item s.decoder c.keep-self-inside.ensures refl refl
+    (c.push.ensures.units ∙ ap (λ (l : List UnitShape). l ++ c.shape_of.result ∷ []) c.reserve.ensures.units ∙ ap (λ (u : UnitShape). c.self.inside.shapes.units ++ u ∷ []) (c.shape_of.ensures.shape c.self.inside.earlier b.unit b.bytes (sym c.place-start.ensures.value) b.long b.such)))

@@ -1,0 +1,155 @@
+//! Pictures whose bands are at the greatest magnitude that is synthesised in 32 bits, and past it.
+
+ghost use Rattle.std.specs.Prelude.{◌≡◌, false, OnOk};
+
+use lifting::Wavelet;
+use picture_codec::{PictureDecoder, TransformParams};
+use planes::NoMemory;
+use quant_factors::Matrix;
+use slice_decoder::SliceFault;
+use slice_geometry::{Component, Layout, PictureShape, Size};
+use std::process::Abort;
+use std::test::Fail;
+
+// LL 131112, HL 262144, LH -9, HH 5: the greatest magnitude that is synthesised in 32 bits.
+const AT_THE_BOUND: [u8; 40] = [
+    0x00, 0x58, 0x00, 0x00, 0x01, 0x10, 0x60, 0x00, 0x00, 0x00, 0x01, 0x84, 0xD2, 0xFF, 0xFF, 0xFF,
+    0xFF, 0xFF, 0xFF, 0xFF, 0xFF, 0xFF, 0xFF, 0xFF, 0xFF, 0xFF, 0xFF, 0xFF, 0xFF, 0xFF, 0xFF, 0xFF,
+    0xFF, 0xFF, 0xFF, 0xFF, 0xFF, 0xFF, 0xFF, 0xFF,
+];
+
+// LL 131113, HL 262145, LH -9, HH 5: one more.
+const PAST_THE_BOUND: [u8; 40] = [
+    0x00, 0x58, 0x00, 0x00, 0x01, 0x11, 0x20, 0x00, 0x00, 0x00, 0x04, 0x84, 0xD2, 0xFF, 0xFF, 0xFF,
+    0xFF, 0xFF, 0xFF, 0xFF, 0xFF, 0xFF, 0xFF, 0xFF, 0xFF, 0xFF, 0xFF, 0xFF, 0xFF, 0xFF, 0xFF, 0xFF,
+    0xFF, 0xFF, 0xFF, 0xFF, 0xFF, 0xFF, 0xFF, 0xFF,
+];
+
+// LL -131085, HL -262145, LH 7, HH 262145.
+const PAST_IN_TWO_BANDS: [u8; 40] = [
+    0x00, 0x78, 0x00, 0x00, 0x00, 0x15, 0x30, 0x00, 0x00, 0x00, 0x04, 0xC0, 0x80, 0x00, 0x00, 0x00,
+    0x12, 0xFF, 0xFF, 0xFF, 0xFF, 0xFF, 0xFF, 0xFF, 0xFF, 0xFF, 0xFF, 0xFF, 0xFF, 0xFF, 0xFF, 0xFF,
+    0xFF, 0xFF, 0xFF, 0xFF, 0xFF, 0xFF, 0xFF, 0xFF,
+];
+
+// LL 262145, HL 1, LH 2, HH -3.
+const PAST_IN_LL: [u8; 40] = [
+    0x00, 0x34, 0x00, 0x00, 0x00, 0x00, 0x48, 0x98, 0x3F, 0xFF, 0xFF, 0xFF, 0xFF, 0xFF, 0xFF, 0xFF,
+    0xFF, 0xFF, 0xFF, 0xFF, 0xFF, 0xFF, 0xFF, 0xFF, 0xFF, 0xFF, 0xFF, 0xFF, 0xFF, 0xFF, 0xFF, 0xFF,
+    0xFF, 0xFF, 0xFF, 0xFF, 0xFF, 0xFF, 0xFF, 0xFF,
+];
+
+/// A wavelet, the slice of a picture of 2 by 2, and its luma samples in 16 bits.
+type Case<'a> = (Wavelet, &'a [u8], [u16; 4]);
+
+const CASES: [Case<'static>; 12] = [
+    (Wavelet::LeGall, &AT_THE_BOUND, [32791, 65535, 32785, 65535]),
+    (
+        Wavelet::HaarFlat,
+        &AT_THE_BOUND,
+        [32813, 65535, 32802, 65535],
+    ),
+    (
+        Wavelet::HaarShift,
+        &AT_THE_BOUND,
+        [32791, 65535, 32785, 65535],
+    ),
+    (
+        Wavelet::LeGall,
+        &PAST_THE_BOUND,
+        [32791, 65535, 32785, 65535],
+    ),
+    (
+        Wavelet::HaarFlat,
+        &PAST_THE_BOUND,
+        [32814, 65535, 32802, 65535],
+    ),
+    (
+        Wavelet::HaarShift,
+        &PAST_THE_BOUND,
+        [32791, 65535, 32785, 65535],
+    ),
+    (Wavelet::LeGall, &PAST_IN_TWO_BANDS, [65528, 0, 0, 0]),
+    (Wavelet::HaarFlat, &PAST_IN_TWO_BANDS, [65535, 0, 0, 0]),
+    (Wavelet::HaarShift, &PAST_IN_TWO_BANDS, [65528, 0, 0, 0]),
+    (Wavelet::LeGall, &PAST_IN_LL, [65535, 65535, 65535, 65535]),
+    (Wavelet::HaarFlat, &PAST_IN_LL, [65535, 65535, 65535, 65535]),
+    (
+        Wavelet::HaarShift,
+        &PAST_IN_LL,
+        [65535, 65535, 65535, 65535],
+    ),
+];
+
+const TWO: Size = Size { w: 2, h: 2 };
+
+const SHAPE: PictureShape = PictureShape {
+    luma: TWO,
+    colour: TWO,
+    luma_depth: 16,
+    colour_depth: 16,
+};
+
+/// One level, one slice, and a matrix of zeros.
+fn params(rt: &impl Abort, wavelet: Wavelet) -> TransformParams {
+    let layout = Layout::check(1, 1, 1, 40, 1).ok().expect(rt, "a layout");
+    assert!(rt; layout.depth() == 1);
+    let matrix = Matrix::new(1, &[0, 0, 0, 0]);
+    assert!(rt; matrix.depth() == layout.depth());
+    TransformParams {
+        wavelet,
+        layout,
+        matrix,
+    }
+}
+
+fn take(rt: &impl Abort, decoder: &mut PictureDecoder, bytes: &[u8]) -> Result<(), SliceFault>
+    requires { decoder.old.refused ≡ false }
+    ensures { OnOk result (decoder.new.refused ≡ false) }
+{
+    assert!(rt; bytes.len() < 100);
+    assert!(rt; decoder.wanted() == Some(bytes.len() as u32));
+    decoder.slice(bytes)
+}
+
+fn assert_samples(
+    rt: &impl Abort,
+    decoder: &mut PictureDecoder,
+    bytes: &[u8],
+    want: &[u16; 4],
+) -> Result<(), Fail>
+    requires { decoder.old.refused ≡ false }
+{
+    take(rt, decoder, bytes)
+        .ok()
+        .expect(rt, "the slice is taken");
+    assert!(rt; decoder.wanted().is_none());
+    decoder.finish();
+    assert_eq!(rt; decoder.picture().samples(Component::Luma), want.as_slice());
+    assert_eq!(rt;
+        decoder.picture().samples(Component::C2),
+        [0x8000u16; 4].as_slice()
+    );
+    Ok(())
+}
+
+fn assert_picture(
+    rt: &impl Abort,
+    decoder: Result<PictureDecoder, NoMemory>,
+    bytes: &[u8],
+    want: &[u16; 4],
+) -> Result<(), Fail> {
+    let mut decoder = decoder?;
+    decoder.restart();
+    assert_samples(rt, &mut decoder, bytes, want)
+}
+
+/// One value more than 2^18 in a band changes the width, and no sample but by that one.
+#[test]
+fn both_widths(rt: HostRuntime) -> Result<(), Fail> {
+    for (wavelet, bytes, want) in &CASES {
+        let decoder = PictureDecoder::new(rt.alloc(), &SHAPE, &params(&rt, *wavelet));
+        assert_picture(&rt, decoder, bytes, want)?;
+    }
+    Ok(())
+}

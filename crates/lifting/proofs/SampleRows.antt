@@ -1,0 +1,98 @@
+-- Samples, row by row.
+use Rattle.std.proofs.Common.{◌≡◌, ◌≢◌, ◌∙◌, sym, ap, ℕ, suc, ◌+◌, ◌-◌, ◌*◌, ◌/◌, ◌%◌, ◌^◌, ◌<◌, ◌≤◌, arith, inl, inr, List, ◌++◌, length, take, get_or, set, ℤ, pos}
+use Rattle.std.specs.Prelude.{neg_ℤ, ◌+ℤ◌, ◌-ℤ◌, ◌≤ℤ◌, unsigned_abs}
+use Rattle.std.specs.Int.{int_min, int_max}
+use Rattle.std.proofs.Math.Nat.{pow-le-pow_right, mul-le-mul_right, suc-mul}
+use Rattle.std.proofs.lemmas.Bool.{cases_lt, cases_eq}
+use Rattle.std.proofs.lemmas.Int.{ints, to_z-of_z}
+use mir.Syntax.{w32, w64}
+use mir.Val.{to_z, of_z, SFits}
+use Rattle.planes.specs.Numbers.{Within}
+use Rattle.std.proofs.lemmas.List.{get_or-set_other, get_or-set_same, length-set, get_or_append_left, get_or-append-add, length-take-le}
+use borrow.Rule.Slice.PartMut.{put_mid, post_of}
+use Rattle.lifting.specs.Lines.{Line}
+use Rattle.lifting.specs.Places.{woven}
+use Rattle.lifting.specs.Samples.{clipped_up, sample_of}
+use Rattle.lifting.proofs.WovenLines.{at_even, at_odd}
+
+pub half_some : (depth : ℕ) → 1 ≤ 2 ^ (depth - 1)
+half_some depth = pow-le-pow_right {n = 2} (omega arith) {i = 0} {j = depth - 1} (omega arith)
+
+pub half_most : (depth : ℕ) → depth ≤ 16 → 2 ^ (depth - 1) ≤ 32768
+half_most depth le = pow-le-pow_right {n = 2} (omega arith) {i = depth - 1} {j = 15} (omega arith)
+
+-- what stands in the rows before and behind row y stands in each other row
+pub other_rows : (old new : List ℕ) (w y : ℕ) → ((k : ℕ) → k < y * w → get_or new k 0 ≡ get_or old k 0) → ((k : ℕ) → y * w + w ≤ k → get_or new k 0 ≡ get_or old k 0)
+    → (j x : ℕ) → j ≢ y → x < w → get_or new (j * w + x) 0 ≡ get_or old (j * w + x) 0
+other_rows old new w y before behind j x ne lt = elim (cases_lt j y) [
+  | inl less ↦ before (j * w + x) (omega (arith, lt, suc-mul j w, mul-le-mul_right {m = suc j} {n = y} w (omega arith)))
+  | inr not ↦ behind (j * w + x) (omega (arith, suc-mul y w, mul-le-mul_right {m = suc y} {n = j} w (omega arith)))
+]
+
+-- ---- the samples of a row
+
+pub sample_is : (depth : ℕ) (half v : ℤ) (n : ℕ) → half ≡ pos (2 ^ (depth - 1)) → pos n ≡ clipped_up half v → n ≡ sample_of depth v
+sample_is depth half v n e is =
+    let some : 1 ≤ 2 ^ (depth - 1) = half_some depth in
+    let less : pos (2 ^ (depth - 1)) -ℤ pos 1 ≡ pos (2 ^ (depth - 1) - 1) = omega (arith, ints, some) in
+    let by : ℤ → ℤ → ℤ = λ h top. int_max (neg_ℤ h) (int_min top v) +ℤ h in
+    ap unsigned_abs (is ∙ ap (λ h. by h (h -ℤ pos 1)) e ∙ ap (by (pos (2 ^ (depth - 1)))) less)
+
+-- two more places of a row
+pub put_two : {X : Type 0} (P : ℕ → X → Type 0) (d x y : X) (out : List X) (k : ℕ) → 2 * k + 1 < length out → ((i : ℕ) → i < 2 * k → P i (get_or out i d)) → P (2 * k) x → P (2 * k + 1) y
+    → (i : ℕ) → i < 2 * (k + 1) → P i (get_or (set (set out (2 * k) x) (2 * k + 1) y) i d)
+put_two P d x y out k room first even odd i lt = elim (cases_eq i (2 * k + 1)) [
+  | inl e ↦
+      let long : 2 * k + 1 < length (set out (2 * k) x) = rw length-set room in
+      rw (e, get_or-set_same (set out (2 * k) x) (2 * k + 1) y d long) odd
+  | inr ne ↦ elim (cases_eq i (2 * k)) [
+    | inl e ↦
+        let apart : 2 * k ≢ 2 * k + 1 = omega arith in
+        let inside : 2 * k < length out = omega arith in
+        rw (e, get_or-set_other (set out (2 * k) x) (2 * k + 1) (2 * k) y d apart, get_or-set_same out (2 * k) x d inside) even
+    | inr ne2 ↦ rw (get_or-set_other (set out (2 * k) x) (2 * k + 1) i y d ne, get_or-set_other out (2 * k) i x d ne2) (first i (omega arith))
+  ]
+]
+
+pub woven_even : (e o : Line) (k : ℕ) → woven e o (2 * k) ≡ e k
+woven_even e o k =
+    let half : 2 * k / 2 ≡ k = omega arith in
+    at_even e o (2 * k) (omega arith) ∙ ap e half
+
+pub woven_odd : (e o : Line) (k : ℕ) → woven e o (2 * k + 1) ≡ o k
+woven_odd e o k =
+    let half : (2 * k + 1) / 2 ≡ k = omega arith in
+    at_odd e o (2 * k + 1) (omega arith) ∙ ap o half
+
+-- a step on each place of a line is one on each place of its halves
+pub woven_each : (f : ℤ → ℤ) (e o : Line) (i : ℕ) → woven (λ j. f (e j)) (λ j. f (o j)) i ≡ f (woven e o i)
+woven_each f e o i = elim (cases_eq (i % 2) 0) [
+  | inl h ↦ at_even (λ j. f (e j)) (λ j. f (o j)) i h ∙ ap f (sym (at_even e o i h))
+  | inr ne ↦ let h : i % 2 ≡ 1 = omega arith in at_odd (λ j. f (e j)) (λ j. f (o j)) i h ∙ ap f (sym (at_odd e o i h))
+]
+
+-- a place of a part that was written
+pub part_row : (a k : ℕ) (xs ys : List ℕ) (i : ℕ) → a ≤ length xs → i < length ys → get_or (put_mid a k xs ys) (a + i) 0 ≡ get_or ys i 0
+part_row a k xs ys i low here =
+    let front : length (take a xs) ≡ a = length-take-le a xs low in
+    ap (λ (n : ℕ). get_or (put_mid a k xs ys) (n + i) 0) (sym front) ∙ get_or-append-add (take a xs) (ys ++ post_of a k xs) i 0 ∙ get_or_append_left ys (post_of a k xs) 0 i here
+
+-- row y of h rows of w lies inside
+pub row_inside : (y h w n : ℕ) → y < h → n ≡ h * w → y * w + w ≤ n
+row_inside y h w n lt e = omega (arith, e, suc-mul y w, mul-le-mul_right {m = suc y} {n = h} w (omega arith))
+
+-- a number in its bits and back
+pub as_it_was : (z : ℤ) → Within (2 ^ 29) z → to_z w32 (of_z w32 z) ≡ z
+as_it_was z small = to_z-of_z w32 z (let f : SFits w32 z = fits z small in f)
+  where
+    fits : (z : ℤ) → Within (2 ^ 29) z → SFits w32 z
+    fits z s = grind (arith, ints)
+
+pub half_as_it_was : (z : ℤ) → pos 1 ≤ℤ z → z ≤ℤ pos 32768 → to_z w32 (of_z w32 z) ≡ z
+half_as_it_was z some most = as_it_was z (record { low = omega (arith, ints, some, most); high = omega (arith, ints, some, most) })
+
+pub wide_as_it_was : (z : ℤ) → Within (2 ^ 29) z → to_z w64 (of_z w64 z) ≡ z
+wide_as_it_was z small = to_z-of_z w64 z (let f : SFits w64 z = fits z small in f)
+  where
+    fits : (z : ℤ) → Within (2 ^ 29) z → SFits w64 z
+    fits z s = grind (arith, ints)

@@ -1,0 +1,171 @@
+//! The samples of a row of 32 bits: shifted, clipped, offset, and woven of its halves.
+
+ghost use Rattle.std.specs.Prelude.{◌≡◌, ℕ, ◌+◌, ◌-◌, ◌*◌, ◌/◌, ◌^◌, ◌<◌, ◌≤◌, length, slice_index_or, pos, neg_ℤ, ◌+ℤ◌, ◌-ℤ◌, ◌≤ℤ◌};
+ghost use Rattle.std.specs.Int.{int_min, int_max};
+ghost use Rattle.planes.specs.Numbers.{Within};
+ghost use Rattle.lifting.specs.Places.{place, EachWithin, woven};
+ghost use Rattle.lifting.specs.Steps.{halved};
+ghost use Rattle.lifting.specs.Lines.{synthesis_line};
+ghost use Rattle.lifting.specs.Ranges.{LineWithin, line_reach};
+ghost use Rattle.lifting.specs.Samples.{sample_of, clipped_up};
+
+use crate::halves_narrow::{lift_even_half, lift_odd_half};
+use crate::kernels::shifts;
+use crate::kernels_narrow::half_of;
+use crate::roll_narrow::narrowed;
+use crate::{PairStep, Wavelet};
+
+// The nearest number from -half to half - 1.
+#[inline(always)]
+fn clip(v: i32, half: i32) -> i32
+    requires some { pos 1 ≤ℤ half }
+    requires most { half ≤ℤ pos 32768 }
+    ensures { result ≡ int_max (neg_ℤ half) (int_min (half -ℤ pos 1) v) }
+{
+    if v < -half {
+        -half
+    } else if v < half {
+        v
+    } else {
+        half - 1
+    }
+}
+
+// The same, counted from the lowest of them.
+#[inline(always)]
+fn offset(v: i32, half: i32) -> u16
+    requires some { pos 1 ≤ℤ half }
+    requires most { half ≤ℤ pos 32768 }
+    ensures { pos result ≡ clipped_up half v }
+{
+    (clip(v, half) + half) as u16
+}
+
+// A level's last step on a number.
+#[inline(always)]
+fn shifted(v: i32, wavelet: Wavelet) -> i32
+    requires { Within (2 ^ 29) v }
+    ensures { result ≡ halved wavelet v }
+{
+    if shifts(wavelet) { half_of(v) } else { v }
+}
+
+// The sample of a lifted number.
+#[inline(always)]
+fn sample(v: i32, wavelet: Wavelet, half: i32) -> u16
+    requires small { Within (2 ^ 29) v }
+    requires some { pos 1 ≤ℤ half }
+    requires most { half ≤ℤ pos 32768 }
+    ensures { pos result ≡ clipped_up half (halved wavelet v) }
+{
+    offset(shifted(v, wavelet), half)
+}
+
+// Half of the numbers of so many bits.
+#[tactic(auto, using(crate::proofs::SampleRows::half_some, crate::proofs::SampleRows::half_most))]
+fn half_range(depth: u32) -> i32
+    requires some { 1 ≤ depth }
+    requires most { depth ≤ 16 }
+    ensures value { result ≡ pos (2 ^ (depth - 1)) }
+    ensures some { pos 1 ≤ℤ result }
+    ensures most { result ≤ℤ pos 32768 }
+{
+    1 << (depth - 1)
+}
+
+// The sample of a band's number.
+#[inline(always)]
+fn sample_narrowed(v: i64, half: i32) -> u16
+    requires small { Within (2 ^ 29) v }
+    requires some { pos 1 ≤ℤ half }
+    requires most { half ≤ℤ pos 32768 }
+    ensures { pos result ≡ clipped_up half v }
+{
+    offset(narrowed(v), half)
+}
+
+/// The samples of the first numbers of a band's row.
+pub(crate) fn sample_band(dst: &mut [u16], row: &[i64], depth: u32)
+    requires some_bits { 1 ≤ depth }
+    requires bits { depth ≤ 16 }
+    requires room { length dst.old ≤ length row.now }
+    requires small { EachWithin (2 ^ 29) row.now }
+    ensures { (i : ℕ) → i < length dst.old → slice_index_or dst.new i 0 ≡ sample_of depth (place row.now i) }
+{
+    let half = half_range(depth);
+    for i in 0..dst.len() {
+        dst[i] = sample_narrowed(row[i], half);
+    }
+}
+
+// Pairs of samples of the even and the odd places.
+fn weave_pairs(dst: &mut [u16], even: &[i32], odd: &[i32], wavelet: Wavelet, half: i32)
+    requires some { pos 1 ≤ℤ half }
+    requires most { half ≤ℤ pos 32768 }
+    requires short { length even.now ≤ 8208 }
+    requires same_len { length odd.now ≡ length even.now }
+    requires room { length dst.old ≤ 2 * length even.now }
+    requires even_small { EachWithin (2 ^ 29) even.now }
+    requires odd_small { EachWithin (2 ^ 29) odd.now }
+    ensures { (i : ℕ) → i < 2 * (length dst.old / 2) → pos (slice_index_or dst.new i 0) ≡ clipped_up half (halved wavelet (woven (place even.now) (place odd.now) i)) }
+{
+    for k in 0..dst.len() / 2 {
+        dst[2 * k] = sample(even[k], wavelet, half);
+        dst[2 * k + 1] = sample(odd[k], wavelet, half);
+    }
+}
+
+// The samples of the even and the odd places, as many as there is room for.
+fn weave_samples(dst: &mut [u16], even: &[i32], odd: &[i32], wavelet: Wavelet, depth: u32)
+    requires some_bits { 1 ≤ depth }
+    requires bits { depth ≤ 16 }
+    requires short { length even.now ≤ 8208 }
+    requires same_len { length odd.now ≡ length even.now }
+    requires room { length dst.old ≤ 2 * length even.now }
+    requires even_small { EachWithin (2 ^ 29) even.now }
+    requires odd_small { EachWithin (2 ^ 29) odd.now }
+    ensures { (i : ℕ) → i < length dst.old → slice_index_or dst.new i 0 ≡ sample_of depth (halved wavelet (woven (place even.now) (place odd.now) i)) }
+{
+    let half = half_range(depth);
+    weave_pairs(dst, even, odd, wavelet, half);
+    let n = dst.len();
+    if n % 2 == 1 {
+        dst[n - 1] = sample(even[n / 2], wavelet, half);
+    }
+}
+
+// The samples of a line of a level from its even and its odd places. The two halves hold any values afterwards.
+fn sample_halves(dst: &mut [u16], even: &mut [i32], odd: &mut [i32], wavelet: Wavelet, depth: u32)
+    requires some_bits { 1 ≤ depth }
+    requires bits { depth ≤ 16 }
+    requires some { 1 ≤ length even.old }
+    requires short { length even.old ≤ 4104 }
+    requires same_len { length odd.old ≡ length even.old }
+    requires room { length dst.old ≤ 2 * length even.old }
+    requires even_small { EachWithin (line_reach (2 ^ 26)) even.old }
+    requires odd_small { EachWithin (line_reach (2 ^ 26)) odd.old }
+    ensures { (i : ℕ) → i < length dst.old
+        → slice_index_or dst.new i 0
+        ≡ sample_of depth (halved wavelet (synthesis_line wavelet (2 * length even.old) (woven (place even.old) (place odd.old)) i)) }
+{
+    lift_even_half(even, odd, wavelet, PairStep::EvenDown);
+    lift_odd_half(odd, even, wavelet, PairStep::OddUp);
+    weave_samples(dst, even, odd, wavelet, depth);
+}
+
+/// The same from a row that holds the even places in its first w and the odd ones in the w behind them.
+pub(crate) fn sample_sides(dst: &mut [u16], row: &mut [i32], w: usize, wavelet: Wavelet, depth: u32)
+    requires some_bits { 1 ≤ depth }
+    requires bits { depth ≤ 16 }
+    requires some { 1 ≤ w }
+    requires short { w ≤ 4104 }
+    requires inside { 2 * w ≤ length row.old }
+    requires room { length dst.old ≤ 2 * w }
+    requires small { LineWithin (2 * w) (line_reach (2 ^ 26)) (place row.old) }
+    ensures { (i : ℕ) → i < length dst.old
+        → slice_index_or dst.new i 0
+        ≡ sample_of depth (halved wavelet (synthesis_line wavelet (2 * w) (woven (place row.old) (λ j. place row.old (w + j))) i)) }
+{
+    let (even, rest) = row.split_at_mut(w);
+    sample_halves(dst, even, &mut rest[..w], wavelet, depth);
+}
