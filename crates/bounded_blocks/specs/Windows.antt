@@ -9,7 +9,8 @@ pub record HasBytes (bytes : List ℕ) (index : ℕ) (eight : List ℕ) : Type 0
   pub count : length eight ≡ 8
   pub same : (j : ℕ) → j < 8 → slice_index_or eight j 255 ≡ slice_index_or bytes (index + j) 255
 
--- The bits that a window shows are those of the block from its place on and, past the block's end, ones. Its place is no further past the end than it shows less.
+-- The bits that a window shows are those of the block from its place on and, past the block's end, ones. Its place is no
+-- further past the end than it shows less.
 pub record IsAt (bytes : List ℕ) (end : ℕ) (w : Window) : Type 0 where
   pub most : w.shown ≤ 57
   pub near : w.place + w.shown ≤ end + 57

@@ -45,4 +45,5 @@ pub record Puts (end place : ℕ) (bytes : List ℕ) (place' : ℕ) (bytes' : Li
 
 -- From a place to a block's end all is ones, and all else stays.
 abbrev pub Finishes : ℕ → ℕ → List ℕ → List ℕ → Type 0
-Finishes end place bytes bytes' = bits_of bytes' ≡ bits_before place bytes ++ (replicate (end - place) true ++ bits_behind end bytes)
+Finishes end place bytes bytes' =
+    bits_of bytes' ≡ bits_before place bytes ++ (replicate (end - place) true ++ bits_behind end bytes)

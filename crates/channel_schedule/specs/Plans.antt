@@ -41,11 +41,14 @@ pub record IsLeast (shapes : UnitList) (rate : Rate) (idle delay size : ℕ) : T
   pub no_size : (less : ℕ) → less < size → Run (course_of shapes rate idle delay) less (count_in shapes) → ⊥
 
 abbrev pub PlansAreLeast : Type 0
-PlansAreLeast = (shapes : UnitList) (rate : Rate) (idle delay size : ℕ) → IsPlan shapes rate idle delay size → IsLeast shapes rate idle delay size
+PlansAreLeast = (shapes : UnitList) (rate : Rate) (idle delay size : ℕ) → IsPlan shapes rate idle delay size
+    → IsLeast shapes rate idle delay size
 
 -- replayed, it comes out as one that runs, and in no other way
 abbrev pub PlansReplay : Type 0
-PlansReplay = (shapes : UnitList) (rate : Rate) (idle delay size : ℕ) (outcome : Outcome) → IsPlan shapes rate idle delay size → IsOutcome (course_of shapes rate idle delay) size (count_in shapes) outcome → outcome ≡ Runs
+PlansReplay = (shapes : UnitList) (rate : Rate) (idle delay size : ℕ) (outcome : Outcome)
+    → IsPlan shapes rate idle delay size → IsOutcome (course_of shapes rate idle delay) size (count_in shapes) outcome
+    → outcome ≡ Runs
 
 -- ---- the plan as a number, for texts
 
@@ -55,18 +58,22 @@ greatest f (suc n) = max (greatest f n) (f n)
 
 -- the slots that make up for the greatest lead
 abbrev pub plan_delay : UnitList → Rate → ℕ → ℕ
-plan_delay shapes rate idle = greatest (lead_of shapes rate idle) (count_in shapes) / rate.num + min 1 (greatest (lead_of shapes rate idle) (count_in shapes) % rate.num)
+plan_delay shapes rate idle = greatest (lead_of shapes rate idle) (count_in shapes) / rate.num + min 1
+    (greatest (lead_of shapes rate idle) (count_in shapes) % rate.num)
 
 abbrev pub plan_size : UnitList → Rate → ℕ → ℕ
 plan_size shapes rate idle = greatest (held (course_of shapes rate idle (plan_delay shapes rate idle))) (count_in shapes)
 
 abbrev pub plan_of : UnitList → Rate → ℕ → Schedule
-plan_of shapes rate idle = record { rate = rate; delay = plan_delay shapes rate idle; size = plan_size shapes rate idle; idle = idle }
+plan_of shapes rate idle =
+    record { rate = rate; delay = plan_delay shapes rate idle; size = plan_size shapes rate idle; idle = idle }
 
 -- these numbers are the plan, and no others are
 pub record OnePlan (shapes : UnitList) (rate : Rate) (idle : ℕ) : Type 0 where
   pub found : IsPlan shapes rate idle (plan_delay shapes rate idle) (plan_size shapes rate idle)
-  pub only : (delay size : ℕ) → IsPlan shapes rate idle delay size → (delay ≡ plan_delay shapes rate idle) × (size ≡ plan_size shapes rate idle)
+  pub only : (delay size : ℕ) → IsPlan shapes rate idle delay size → (delay ≡ plan_delay shapes rate idle)
+      × (size ≡ plan_size shapes rate idle)
 
 abbrev pub EachHasOnePlan : Type 0
-EachHasOnePlan = (shapes : UnitList) (rate : Rate) (idle : ℕ) → IsRate rate → StandInTurn 0 shapes.units shapes.total → OnePlan shapes rate idle
+EachHasOnePlan = (shapes : UnitList) (rate : Rate) (idle : ℕ) → IsRate rate → StandInTurn 0 shapes.units shapes.total
+    → OnePlan shapes rate idle

@@ -4,4 +4,5 @@ pub mod Rectangles
 pub mod RowSteps
 pub mod RowWritten
 pub mod Joined
+pub mod Stopped
 pub mod WorkedBands

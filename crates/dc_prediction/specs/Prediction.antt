@@ -8,8 +8,8 @@ use Rattle.planes.specs.Raster.{Grid}
 abbrev pub mean : ℤ → ℤ → ℤ → ℤ
 mean a b c = int_div_euclid (a +ℤ b +ℤ c +ℤ pos 1) (pos 3)
 
--- The prediction of the place in row y and column x: the mean of the values left, above-left and above; in the first row the value left, in the
--- first column the value above, in the corner 0.
+-- The prediction of the place in row y and column x: the mean of the values left, above-left and above; in the first row
+-- the value left, in the first column the value above, in the corner 0.
 unfoldable pub prediction : Grid → ℕ → ℕ → ℤ
 prediction g zero zero = pos 0
 prediction g zero (suc x) = g 0 x

@@ -3,6 +3,7 @@
 #![tactic(auto)]
 
 pub mod laws;
+mod narrow;
 
 ghost use Rattle.std.specs.Prelude.{◌≡◌, ◌+◌, ◌-◌, ◌^◌, ◌<◌, ◌+ℤ◌};
 ghost use Rattle.planes.specs.Numbers.{Within};
@@ -10,6 +11,7 @@ ghost use Rattle.planes.specs.Raster.{height, at};
 ghost use Rattle.dc_prediction.specs.Prediction.{mean, prediction, AllLookedAt};
 ghost use Rattle.dc_prediction.specs.Restoring.{row_rect, CanRestore, RestoresRect};
 
+pub use narrow::restore_narrow;
 use planes::{Plane, Rect, Three};
 
 // The mean of three numbers, rounded.

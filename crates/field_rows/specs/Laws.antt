@@ -11,7 +11,8 @@ use Rattle.field_rows.specs.Given.{checked, written, AreOfKind}
 
 -- Reading gives a value exactly where fields stand that make it, and a fault exactly where the rows are refused with it.
 pub record ReadsWhatStands {R A : Type 0} (reason_of : CodeFault → R) (rows : Rows R A) (c : Cursor) : Type 0 where
-  pub value : (a : A) (behind : Cursor) → (read reason_of rows c ≡ Ok (a, behind)) ↔ ((vs : List Value) × Stand rows vs c a behind)
+  pub value : (a : A) (behind : Cursor) → (read reason_of rows c ≡ Ok (a, behind))
+      ↔ ((vs : List Value) × Stand rows vs c a behind)
   pub fault : (f : Fault R) → (read reason_of rows c ≡ Err f) ↔ ((vs : List Value) × IsRefused reason_of rows vs c f)
 
 -- Either fields stand, and they alone, with one value and one cursor behind them, and nothing is refused;
@@ -25,11 +26,13 @@ HasOneAnswer {R = R} {A = A} reason_of rows c =
     × ((vs' : List Value) (f' : Fault R) → IsRefused reason_of rows vs' c f' → f ≡ f')
     × ((vs' : List Value) (a : A) (behind : Cursor) → Stand rows vs' c a behind → ⊥))
 
--- Bits behind change nothing, once rows are read or refused for another reason than shortness. The rows do not ask whether bits are left,
--- and the bits end with a byte.
+-- Bits behind change nothing, once rows are read or refused for another reason than shortness. The rows do not ask
+-- whether bits are left, and the bits end with a byte.
 pub record IgnoresMore {R A : Type 0} (reason_of : CodeFault → R) (rows : Rows R A) (c : Cursor) (bits : List Bool) : Type 0 where
-  pub value : (a : A) (behind : Cursor) → read reason_of rows c ≡ Ok (a, behind) → read reason_of rows (with_more c bits) ≡ Ok (a, with_more behind bits)
-  pub fault : (f : Fault R) → f.reason ≢ reason_of codes.Short → read reason_of rows c ≡ Err f → read reason_of rows (with_more c bits) ≡ Err f
+  pub value : (a : A) (behind : Cursor) → read reason_of rows c ≡ Ok (a, behind)
+      → read reason_of rows (with_more c bits) ≡ Ok (a, with_more behind bits)
+  pub fault : (f : Fault R) → f.reason ≢ reason_of codes.Short → read reason_of rows c ≡ Err f
+      → read reason_of rows (with_more c bits) ≡ Err f
 
 -- The same rows as many bytes further on, with places counted from there. They ask for no place and name none.
 abbrev pub ReadsTheSameMoved : {R A : Type 0} → (CodeFault → R) → Rows R A → ℕ → Cursor → Type 0
@@ -43,7 +46,8 @@ ReadsTheSameRenamed name reason_of others rows c = read others (renamed name row
 abbrev pub IsReadAgain : {R A : Type 0} → (CodeFault → R) → Rows R A → List Value → A → ℕ → List Bool → Type 0
 IsReadAgain reason_of rows vs a place rest =
     AreOfKind rows vs → checked rows vs ≡ Ok (a, [])
-    → read reason_of rows (record { place = place; rest = written vs ++ rest }) ≡ Ok (a, record { place = place + length (written vs); rest = rest })
+    → read reason_of rows (record { place = place; rest = written vs ++ rest })
+    ≡ Ok (a, record { place = place + length (written vs); rest = rest })
 
 -- A fault's place lies within the bits, their end included.
 abbrev pub HasFaultWithin : {R A : Type 0} → (CodeFault → R) → Rows R A → Cursor → Type 0

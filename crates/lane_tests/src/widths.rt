@@ -124,12 +124,9 @@ fn assert_samples(
         .ok()
         .expect(rt, "the slice is taken");
     assert!(rt; decoder.wanted().is_none());
-    decoder.finish();
-    assert_eq!(rt; decoder.picture().samples(Component::Luma), want.as_slice());
-    assert_eq!(rt;
-        decoder.picture().samples(Component::C2),
-        [0x8000u16; 4].as_slice()
-    );
+    let picture = decoder.finish();
+    assert_eq!(rt; picture.samples(Component::Luma), want.as_slice());
+    assert_eq!(rt; picture.samples(Component::C2), [0x8000u16; 4].as_slice());
     Ok(())
 }
 

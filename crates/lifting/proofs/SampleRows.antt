@@ -5,7 +5,7 @@ use Rattle.std.specs.Int.{int_min, int_max}
 use Rattle.std.proofs.Math.Nat.{pow-le-pow_right, mul-le-mul_right, suc-mul}
 use Rattle.std.proofs.lemmas.Bool.{cases_lt, cases_eq}
 use Rattle.std.proofs.lemmas.Int.{ints, to_z-of_z}
-use mir.Syntax.{w32, w64}
+use mir.Syntax.{w32}
 use mir.Val.{to_z, of_z, SFits}
 use Rattle.planes.specs.Numbers.{Within}
 use Rattle.std.proofs.lemmas.List.{get_or-set_other, get_or-set_same, length-set, get_or_append_left, get_or-append-add, length-take-le}
@@ -90,9 +90,3 @@ as_it_was z small = to_z-of_z w32 z (let f : SFits w32 z = fits z small in f)
 
 pub half_as_it_was : (z : ℤ) → pos 1 ≤ℤ z → z ≤ℤ pos 32768 → to_z w32 (of_z w32 z) ≡ z
 half_as_it_was z some most = as_it_was z (record { low = omega (arith, ints, some, most); high = omega (arith, ints, some, most) })
-
-pub wide_as_it_was : (z : ℤ) → Within (2 ^ 29) z → to_z w64 (of_z w64 z) ≡ z
-wide_as_it_was z small = to_z-of_z w64 z (let f : SFits w64 z = fits z small in f)
-  where
-    fits : (z : ℤ) → Within (2 ^ 29) z → SFits w64 z
-    fits z s = grind (arith, ints)

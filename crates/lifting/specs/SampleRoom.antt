@@ -8,8 +8,8 @@ use Rattle.planes.specs.Raster.{Raster, height}
 use Rattle.planes.specs.Subbands.{BandStack, HaveSizes}
 use Rattle.lifting.specs.declared.SampleArea.{SampleArea}
 
--- The bands are those of a component of w by h, multiples of 2 ^ depth and at least 1. The plane has room for the levels below the last, and the scratch for their
--- rows and for three of the last.
+-- The bands are those of a component of w by h, multiples of 2 ^ depth and at least 1. The plane has room for the levels
+-- below the last, and the scratch for their rows and for three of the last.
 pub record HaveRoom (b : BandStack) (w h : ℕ) (plane scratch : Raster ℤ) : Type 0 where
   pub some_columns : 1 ≤ w
   pub some_rows : 1 ≤ h

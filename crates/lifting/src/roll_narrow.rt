@@ -1,8 +1,7 @@
 //! A level of synthesis in 32 bits from its bands, with three rows of scratch. The rows come from below upward, so that
-//! the plane's own rows hold LL until they are read. HL, LH and HH are read as they lie, in 64 bits.
+//! the plane's own rows hold LL until they are read.
 
 ghost use Rattle.std.specs.Prelude.{◌≡◌, ◌≢◌, ℕ, ◌+◌, ◌-◌, ◌*◌, ◌%◌, ◌^◌, ◌<◌, ◌≤◌, length};
-ghost use Rattle.planes.specs.Numbers.{Within};
 ghost use Rattle.planes.specs.Raster.{height, at};
 ghost use Rattle.lifting.specs.declared.PairStep.TheVariants.{EvenDown, OddUp};
 ghost use Rattle.lifting.specs.Places.{place, EachWithin, beside, woven, side_place};
@@ -14,31 +13,11 @@ ghost use Rattle.lifting.specs.Ranges.{LineWithin, GridWithin, SameInside, line_
 use crate::halves_narrow::synthesise_sides;
 use crate::kernels_narrow::stepped;
 use crate::{PairStep, Wavelet};
-use planes::{NarrowPlane, Plane, Three};
+use planes::{NarrowPlane, Three};
 
-// A number of a band in 32 bits.
+// A step on each place of `v`, between those of `a` and `b`, put into `dst`.
 #[inline(always)]
-pub(crate) fn narrowed(v: i64) -> i32
-    requires { Within (2 ^ 29) v }
-    ensures { result ≡ v }
-{
-    v as i32
-}
-
-// A step on a number of a band, between two of a band.
-#[inline(always)]
-fn stepped_band(wavelet: Wavelet, kind: PairStep, v: i64, a: i64, b: i64) -> i32
-    requires v_small { Within (2 ^ 29) v }
-    requires a_small { Within (2 ^ 29) a }
-    requires b_small { Within (2 ^ 29) b }
-    ensures { result ≡ step wavelet kind v a b }
-{
-    stepped(wavelet, kind, narrowed(v), narrowed(a), narrowed(b))
-}
-
-// A step on each place of `v`, between those of `a` and `b` of a band, put into `dst`.
-#[inline(always)]
-fn step_low(dst: &mut [i32], v: &[i32], a: &[i64], b: &[i64], wavelet: Wavelet, kind: PairStep)
+fn step_from(dst: &mut [i32], v: &[i32], a: &[i32], b: &[i32], wavelet: Wavelet, kind: PairStep)
     requires v_len { length v.now ≡ length dst.old }
     requires a_len { length a.now ≡ length dst.old }
     requires b_len { length b.now ≡ length dst.old }
@@ -48,39 +27,7 @@ fn step_low(dst: &mut [i32], v: &[i32], a: &[i64], b: &[i64], wavelet: Wavelet, 
     ensures { (i : ℕ) → i < length dst.old → place dst.new i ≡ step wavelet kind (place v.now i) (place a.now i) (place b.now i) }
 {
     for i in 0..dst.len() {
-        dst[i] = stepped(wavelet, kind, v[i], narrowed(a[i]), narrowed(b[i]));
-    }
-}
-
-// The same where `v` is a band's too.
-#[inline(always)]
-fn step_band(dst: &mut [i32], v: &[i64], a: &[i64], b: &[i64], wavelet: Wavelet, kind: PairStep)
-    requires v_len { length v.now ≡ length dst.old }
-    requires a_len { length a.now ≡ length dst.old }
-    requires b_len { length b.now ≡ length dst.old }
-    requires v_small { EachWithin (2 ^ 29) v.now }
-    requires a_small { EachWithin (2 ^ 29) a.now }
-    requires b_small { EachWithin (2 ^ 29) b.now }
-    ensures { (i : ℕ) → i < length dst.old → place dst.new i ≡ step wavelet kind (place v.now i) (place a.now i) (place b.now i) }
-{
-    for i in 0..dst.len() {
-        dst[i] = stepped_band(wavelet, kind, v[i], a[i], b[i]);
-    }
-}
-
-// The same where `v` is a band's, and `a` and `b` are lifted rows.
-#[inline(always)]
-fn step_odd(dst: &mut [i32], v: &[i64], a: &[i32], b: &[i32], wavelet: Wavelet, kind: PairStep)
-    requires v_len { length v.now ≡ length dst.old }
-    requires a_len { length a.now ≡ length dst.old }
-    requires b_len { length b.now ≡ length dst.old }
-    requires v_small { EachWithin (2 ^ 29) v.now }
-    requires a_small { EachWithin (2 ^ 29) a.now }
-    requires b_small { EachWithin (2 ^ 29) b.now }
-    ensures { (i : ℕ) → i < length dst.old → place dst.new i ≡ step wavelet kind (place v.now i) (place a.now i) (place b.now i) }
-{
-    for i in 0..dst.len() {
-        dst[i] = stepped(wavelet, kind, narrowed(v[i]), a[i], b[i]);
+        dst[i] = stepped(wavelet, kind, v[i], a[i], b[i]);
     }
 }
 
@@ -88,11 +35,11 @@ fn step_odd(dst: &mut [i32], v: &[i64], a: &[i32], b: &[i32], wavelet: Wavelet, 
 fn even_sides(
     dst: &mut [i32],
     ll: &[i32],
-    hl: &[i64],
-    lh_above: &[i64],
-    hh_above: &[i64],
-    lh: &[i64],
-    hh: &[i64],
+    hl: &[i32],
+    lh_above: &[i32],
+    hh_above: &[i32],
+    lh: &[i32],
+    hh: &[i32],
     w: usize,
     wavelet: Wavelet,
 )
@@ -111,7 +58,7 @@ fn even_sides(
         (λ i. step wavelet EvenDown (place hl.now i) (place hh_above.now i) (place hh.now i)) x }
 {
     let (left, right) = dst.split_at_mut(w);
-    step_low(
+    step_from(
         left,
         &ll[..w],
         &lh_above[..w],
@@ -119,7 +66,7 @@ fn even_sides(
         wavelet,
         PairStep::EvenDown,
     );
-    step_band(
+    step_from(
         &mut right[..w],
         &hl[..w],
         &hh_above[..w],
@@ -132,8 +79,8 @@ fn even_sides(
 // An odd row, of LH and HH, between the even rows beside it.
 fn odd_sides(
     dst: &mut [i32],
-    lh: &[i64],
-    hh: &[i64],
+    lh: &[i32],
+    hh: &[i32],
     a: &[i32],
     b: &[i32],
     w: usize,
@@ -151,8 +98,8 @@ fn odd_sides(
         (λ i. step wavelet OddUp (place hh.now i) (place a.now (w + i)) (place b.now (w + i))) x }
 {
     let (left, right) = dst.split_at_mut(w);
-    step_odd(left, &lh[..w], &a[..w], &b[..w], wavelet, PairStep::OddUp);
-    step_odd(
+    step_from(left, &lh[..w], &a[..w], &b[..w], wavelet, PairStep::OddUp);
+    step_from(
         &mut right[..w],
         &hh[..w],
         &a[w..2 * w],
@@ -167,9 +114,9 @@ pub(crate) fn make_even(
     scratch: &mut NarrowPlane,
     r: u32,
     ll: &NarrowPlane,
-    hl: &Plane,
-    lh: &Plane,
-    hh: &Plane,
+    hl: &NarrowPlane,
+    lh: &NarrowPlane,
+    hh: &NarrowPlane,
     y: u32,
     w: u32,
     wavelet: Wavelet,
@@ -210,8 +157,8 @@ pub(crate) fn make_odd(
     r: u32,
     p: u32,
     q: u32,
-    lh: &Plane,
-    hh: &Plane,
+    lh: &NarrowPlane,
+    hh: &NarrowPlane,
     y: u32,
     w: u32,
     wavelet: Wavelet,
@@ -273,9 +220,9 @@ fn weave_row(
 pub(crate) fn roll_up(
     plane: &mut NarrowPlane,
     scratch: &mut NarrowPlane,
-    hl: &Plane,
-    lh: &Plane,
-    hh: &Plane,
+    hl: &NarrowPlane,
+    lh: &NarrowPlane,
+    hh: &NarrowPlane,
     w: u32,
     h: u32,
     wavelet: Wavelet,

@@ -12,7 +12,7 @@ ghost use Rattle.lifting.specs.Samples.{sample_of};
 use crate::roll_narrow::{make_even, make_odd};
 use crate::samples_narrow::sample_sides;
 use crate::{SampleArea, Wavelet};
-use planes::{NarrowPlane, Plane};
+use planes::NarrowPlane;
 
 // Row r of the scratch, lifted, shifted, woven, clipped and offset as row y of the samples, where they have that row.
 // The scratch's row holds any values afterwards.
@@ -65,9 +65,9 @@ pub(crate) fn roll_samples(
     area: SampleArea,
     plane: &NarrowPlane,
     scratch: &mut NarrowPlane,
-    hl: &Plane,
-    lh: &Plane,
-    hh: &Plane,
+    hl: &NarrowPlane,
+    lh: &NarrowPlane,
+    hh: &NarrowPlane,
     w: u32,
     h: u32,
     wavelet: Wavelet,

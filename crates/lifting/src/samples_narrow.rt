@@ -12,7 +12,6 @@ ghost use Rattle.lifting.specs.Samples.{sample_of, clipped_up};
 use crate::halves_narrow::{lift_even_half, lift_odd_half};
 use crate::kernels::shifts;
 use crate::kernels_narrow::half_of;
-use crate::roll_narrow::narrowed;
 use crate::{PairStep, Wavelet};
 
 // The nearest number from -half to half - 1.
@@ -73,19 +72,8 @@ fn half_range(depth: u32) -> i32
     1 << (depth - 1)
 }
 
-// The sample of a band's number.
-#[inline(always)]
-fn sample_narrowed(v: i64, half: i32) -> u16
-    requires small { Within (2 ^ 29) v }
-    requires some { pos 1 ≤ℤ half }
-    requires most { half ≤ℤ pos 32768 }
-    ensures { pos result ≡ clipped_up half v }
-{
-    offset(narrowed(v), half)
-}
-
 /// The samples of the first numbers of a band's row.
-pub(crate) fn sample_band(dst: &mut [u16], row: &[i64], depth: u32)
+pub(crate) fn sample_band(dst: &mut [u16], row: &[i32], depth: u32)
     requires some_bits { 1 ≤ depth }
     requires bits { depth ≤ 16 }
     requires room { length dst.old ≤ length row.now }
@@ -94,7 +82,7 @@ pub(crate) fn sample_band(dst: &mut [u16], row: &[i64], depth: u32)
 {
     let half = half_range(depth);
     for i in 0..dst.len() {
-        dst[i] = sample_narrowed(row[i], half);
+        dst[i] = offset(row[i], half);
     }
 }
 

@@ -11,17 +11,17 @@ ghost use Rattle.lifting.specs.Ranges.{LineWithin, GridWithin, SameInside, line_
 ghost use Rattle.lifting.specs.Bands.{coefficients_of, lowest, AgreeInSize, AreNarrow};
 
 use crate::Wavelet;
-use crate::roll_narrow::{narrowed, roll_up};
-use planes::{Bands, NarrowPlane, Plane};
+use crate::roll_narrow::roll_up;
+use planes::{NarrowBands, NarrowPlane};
 
 /// One level up: the plane's first w columns and h rows hold LL, and then its first 2w and 2h hold the level.
 pub(crate) fn synth_up(
     wavelet: Wavelet,
     plane: &mut NarrowPlane,
     scratch: &mut NarrowPlane,
-    hl: &Plane,
-    lh: &Plane,
-    hh: &Plane,
+    hl: &NarrowPlane,
+    lh: &NarrowPlane,
+    hh: &NarrowPlane,
 )
     requires widths { (lh.now.w ≡ hl.now.w) × (hh.now.w ≡ hl.now.w) }
     requires heights { (height lh.now ≡ height hl.now) × (height hh.now ≡ height hl.now) }
@@ -49,7 +49,7 @@ pub(crate) fn synth_up(
 }
 
 /// The lowest band, in the plane's first columns and rows.
-pub(crate) fn put_lowest(plane: &mut NarrowPlane, band: &Plane)
+pub(crate) fn put_lowest(plane: &mut NarrowPlane, band: &NarrowPlane)
     requires fits { band.now.w ≤ plane.old.w }
     requires high { height band.now ≤ height plane.old }
     requires small { GridWithin (height band.now) band.now.w (2 ^ 29) (at band.now) }
@@ -63,13 +63,13 @@ pub(crate) fn put_lowest(plane: &mut NarrowPlane, band: &Plane)
 }
 
 // A row over the front of another.
-fn put_front(dst: &mut [i32], row: &[i64])
+fn put_front(dst: &mut [i32], row: &[i32])
     requires fits { length row.now ≤ length dst.old }
     requires small { EachWithin (2 ^ 29) row.now }
     ensures { (i : ℕ) → i < length row.now → place dst.new i ≡ place row.now i }
 {
     for i in 0..row.len() {
-        dst[i] = narrowed(row[i]);
+        dst[i] = row[i];
     }
 }
 
@@ -78,7 +78,7 @@ fn put_front(dst: &mut [i32], row: &[i64])
 /// The sizes are as `synth` asks them. The scratch holds any values afterwards.
 pub fn synth_narrow(
     wavelet: Wavelet,
-    bands: &Bands,
+    bands: &NarrowBands,
     plane: &mut NarrowPlane,
     scratch: &mut NarrowPlane,
 )

@@ -14,12 +14,12 @@ use crate::roll_samples::roll_samples;
 use crate::samples_narrow::sample_band;
 use crate::synthesis_narrow::{put_lowest, synth_up};
 use crate::{SampleArea, Wavelet};
-use planes::{Bands, NarrowPlane, Plane};
+use planes::{NarrowBands, NarrowPlane};
 
 // All levels but the last, in the plane's first columns and rows.
 fn synth_below(
     wavelet: Wavelet,
-    bands: &Bands,
+    bands: &NarrowBands,
     w: u32,
     h: u32,
     plane: &mut NarrowPlane,
@@ -50,7 +50,7 @@ fn synth_below(
 // The samples of the last level, from the levels below it in the plane.
 fn synth_last(
     wavelet: Wavelet,
-    bands: &Bands,
+    bands: &NarrowBands,
     w: u32,
     h: u32,
     plane: &NarrowPlane,
@@ -92,7 +92,7 @@ fn synth_last(
 }
 
 // Row y of the samples, from that row of a band.
-fn sample_row_of(samples: &mut [u16], area: SampleArea, y: u32, band: &Plane)
+fn sample_row_of(samples: &mut [u16], area: SampleArea, y: u32, band: &NarrowPlane)
     requires some_bits { 1 ≤ area.depth }
     requires bits { area.depth ≤ 16 }
     requires count { length samples.old ≡ area.h * area.w }
@@ -111,7 +111,7 @@ fn sample_row_of(samples: &mut [u16], area: SampleArea, y: u32, band: &Plane)
 }
 
 // The samples of the lowest band, where there is no level.
-fn sample_lowest(samples: &mut [u16], area: SampleArea, band: &Plane)
+fn sample_lowest(samples: &mut [u16], area: SampleArea, band: &NarrowPlane)
     requires some_bits { 1 ≤ area.depth }
     requires bits { area.depth ≤ 16 }
     requires count { length samples.old ≡ area.h * area.w }
@@ -135,7 +135,7 @@ fn sample_lowest(samples: &mut [u16], area: SampleArea, band: &Plane)
 /// Both hold any values afterwards.
 pub fn synth_samples(
     wavelet: Wavelet,
-    bands: &Bands,
+    bands: &NarrowBands,
     w: u32,
     h: u32,
     plane: &mut NarrowPlane,

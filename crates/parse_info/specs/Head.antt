@@ -12,7 +12,8 @@ use Rattle.parse_info.specs.Code.{is_supported, code_in, code_byte}
 -- The rows of a head, for every reader of units. Each has its own names for a bad prefix and for a code outside the
 -- profile, and its own further rules: on the code, on the next offset behind the code, and on the previous offset behind
 -- both. The prefix is "BBCD".
-unfoldable pub head_rows : {R : Type 0} → R → (ℕ → R) → (Code → List (Rule R)) → (Code → ℕ → List (Rule R)) → (Code → ℕ → ℕ → List (Rule R)) → Rows R ParseInfo
+unfoldable pub head_rows : {R : Type 0} → R → (ℕ → R) → (Code → List (Rule R)) → (Code → ℕ → List (Rule R))
+    → (Code → ℕ → ℕ → List (Rule R)) → Rows R ParseInfo
 head_rows bad_prefix unsupported code_rules next_rules previous_rules = do
   prefix ← word_under (λ v. (v == 0x42424344 or_else bad_prefix) ∷ [])
   code ← byte_under (λ v. (is_supported v or_else unsupported v) ∷ code_rules (code_in v))
@@ -65,4 +66,5 @@ is_short other = true
 -- ---- a head as it is written: "BBCD", the code, and the two offsets
 
 abbrev pub head_bytes : ParseInfo → List ℕ
-head_bytes info = (0x42 ∷ 0x42 ∷ 0x43 ∷ 0x44 ∷ []) ++ ((code_byte info.code ∷ []) ++ (to_be_bytes w32 info.next ++ to_be_bytes w32 info.previous))
+head_bytes info = (0x42 ∷ 0x42 ∷ 0x43 ∷ 0x44 ∷ [])
+    ++ ((code_byte info.code ∷ []) ++ (to_be_bytes w32 info.next ++ to_be_bytes w32 info.previous))

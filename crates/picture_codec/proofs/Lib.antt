@@ -2,6 +2,7 @@ pub mod Halves
 pub mod Tables
 pub mod Taking
 pub mod Sizes
+pub mod DecodedBands
 pub mod Steps
 pub mod Whole
 pub mod WorkedPictures

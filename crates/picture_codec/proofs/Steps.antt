@@ -6,7 +6,7 @@ use Rattle.std.proofs.Math.Nat.{mul_comm}
 use Rattle.planes.specs.Numbers.{Within}
 use Rattle.planes.specs.Raster.{at}
 use Rattle.planes.specs.Rect.{IsInRect}
-use Rattle.planes.specs.Subbands.{BandStack, BandExists, band_of, subband_length, AreZeroBands}
+use Rattle.planes.specs.Subbands.{BandStack, band_of, AreZeroBands}
 use Rattle.planes.proofs.BandLemmas.{HaveSizes-zero}
 use Rattle.dc_prediction.specs.Prediction.{prediction, reach}
 use Rattle.slice_geometry.specs.declared.Size.{Size}
@@ -31,6 +31,7 @@ use Rattle.picture_codec.specs.Taking.{holder, TakesSlice}
 use Rattle.picture_codec.specs.Decoding.{AreTaken, AllTaken, stack_of}
 use Rattle.picture_codec.proofs.Tables.{row_below, column_below, place_again}
 use Rattle.picture_codec.proofs.Taking.{holder-rises, held-by}
+use Rattle.picture_codec.proofs.DecodedBands.{sizes_after}
 use Rattle.slice_decoder.proofs.Decodes.{within_abs}
 
 -- no slice yet
@@ -107,16 +108,7 @@ module _ (s : Slicing) (size : Size) (n : ℕ) (lt : n < slice_count s) (allowed
   pub taken_same : (old new : BandStack) → AreTaken s size n old → KeepsOthers s size column row old new → AreTaken s size n new
   taken_same old new taken keeps = record {
     depth = keeps.same_depth ∙ taken.depth;
-    sizes = record {
-      widths = λ level orient is.
-          (keeps.bands level orient (subst (λ d. BandExists d level orient) (keeps.same_depth ∙ taken.depth) is)).same_width
-          ∙ taken.sizes.widths level orient (subst (λ d. BandExists d level orient) keeps.same_depth is)
-          ∙ ap (λ d. subband_length d level (padded_length s.depth size.w)) (sym keeps.same_depth);
-      heights = λ level orient is.
-          (keeps.bands level orient (subst (λ d. BandExists d level orient) (keeps.same_depth ∙ taken.depth) is)).same_height
-          ∙ taken.sizes.heights level orient (subst (λ d. BandExists d level orient) keeps.same_depth is)
-          ∙ ap (λ d. subband_length d level (padded_length s.depth size.h)) (sym keeps.same_depth);
-    };
+    sizes = sizes_after s size column row old new keeps (padded_length s.depth size.w) (padded_length s.depth size.h) taken.depth taken.sizes;
     lowest = λ y x y_in x_in before. subst (λ v. Within (reach y x) v) (sym ((keeps.bands 0 0 (inl (refl, refl))).outside y x (not_in 0 y x before))) (taken.lowest y x y_in x_in before);
     upper = λ level orient y x is some y_in x_in before. subst (λ v. Within (2 ^ 36) v) (sym ((keeps.bands level orient is).outside y x (not_in level y x before))) (taken.upper level orient y x is some y_in x_in before);
   }

@@ -49,7 +49,8 @@ synthesised wavelet size depth b =
     tabulated size (λ y x. sample_of depth (synthesis wavelet lowest.h lowest.w (coefficients_of b) b.depth y x))
 
 abbrev pub with_synthesised : Wavelet → PictureSeen → Component → BandStack → PictureSeen
-with_synthesised wavelet p c b = record p { samples = with_component p.samples c (synthesised wavelet (size_of (frame_of p.shape) c) (bits_of p c) b) }
+with_synthesised wavelet p c b =
+    record p { samples = with_component p.samples c (synthesised wavelet (size_of (frame_of p.shape) c) (bits_of p c) b) }
 
 abbrev pub synthesised_picture : Decoding → PictureSamples
 synthesised_picture d = record {
@@ -60,12 +61,15 @@ synthesised_picture d = record {
 
 -- ---- what a decoder keeps
 
--- The bands have their sizes, and where one of the first n slices holds a place, the number there is one that restoring or dequantising gives.
+-- The bands have their sizes, and where one of the first n slices holds a place, the number there is one that restoring
+-- or dequantising gives.
 pub record AreTaken (s : Slicing) (size : Size) (n : ℕ) (b : BandStack) : Type 0 where
   pub depth : b.depth ≡ s.depth
   pub sizes : HaveSizes b (padded_length s.depth size.w) (padded_length s.depth size.h)
-  pub lowest : (y x : ℕ) → y < (band_size s.depth 0 size).h → x < (band_size s.depth 0 size).w → holder s (band_size s.depth 0 size) y x < n → Within (reach y x) (at (band_of b 0 0) y x)
-  pub upper : (level orient y x : ℕ) → BandExists s.depth level orient → 1 ≤ level → y < (band_size s.depth level size).h → x < (band_size s.depth level size).w → holder s (band_size s.depth level size) y x < n
+  pub lowest : (y x : ℕ) → y < (band_size s.depth 0 size).h → x < (band_size s.depth 0 size).w
+      → holder s (band_size s.depth 0 size) y x < n → Within (reach y x) (at (band_of b 0 0) y x)
+  pub upper : (level orient y x : ℕ) → BandExists s.depth level orient → 1 ≤ level → y < (band_size s.depth level size).h
+      → x < (band_size s.depth level size).w → holder s (band_size s.depth level size) y x < n
       → Within (2 ^ 36) (at (band_of b level orient) y x)
 
 pub record AllTaken (s : Slicing) (shape : PictureShape) (n : ℕ) (bands : Trio) : Type 0 where
@@ -114,7 +118,8 @@ pub record IsNewDecoder (shape : PictureShape) (params : Params) (d : Decoding) 
 
 -- the bytes of the next slice, until all were taken
 abbrev pub wanted_of : Decoding → Option ℕ
-wanted_of d = if nat_lt d.next (slice_count d.params.slicing) then Some (slice_bytes d.params.slicing.a d.params.slicing.b d.next) else None
+wanted_of d =
+    if nat_lt d.next (slice_count d.params.slicing) then Some (slice_bytes d.params.slicing.a d.params.slicing.b d.next) else None
 
 -- what these bytes say as the next slice
 abbrev pub next_slice : Decoding → List ℕ → Slice
@@ -124,13 +129,16 @@ next_slice d bytes = slice_at d.params.slicing d.shape.luma d.shape.colour (colu
 pub record IsTaken (bytes : List ℕ) (old new : Decoding) : Type 0 where
   pub state : new ≡ record old { bands = new.bands; next = old.next + 1 }
   pub fits : (next_slice old bytes).too_long ≡ false
-  pub small : is_small old.params.slicing old.shape.luma old.shape.colour (column_of old) (row_of_slices old) old.params.matrix (next_slice old bytes) ≡ true
-  pub each : (c : Component) → TakesSlice (frame_of old.shape) old.params c (column_of old) (row_of_slices old) bytes (stack_of old.bands c) (stack_of new.bands c)
+  pub small : is_small old.params.slicing old.shape.luma old.shape.colour (column_of old)
+      (row_of_slices old) old.params.matrix (next_slice old bytes) ≡ true
+  pub each : (c : Component) → TakesSlice (frame_of old.shape) old.params c (column_of old) (row_of_slices old) bytes
+      (stack_of old.bands c) (stack_of new.bands c)
 
 -- it was refused: its own places have any values, and all others stay
 pub record IsSliceRefused (bytes : List ℕ) (fault : SliceFault) (old new : Decoding) : Type 0 where
   pub state : new ≡ record old { bands = new.bands; refused = true }
-  pub why : IsRefused old.params.slicing old.shape (column_of old) (row_of_slices old) old.params.matrix (next_slice old bytes) fault
+  pub why : IsRefused old.params.slicing old.shape (column_of old) (row_of_slices old) old.params.matrix
+      (next_slice old bytes) fault
   pub others : AllKeepOthers old.params.slicing old.shape (column_of old) (row_of_slices old) old.bands new.bands
 
 -- what a decoder keeps: the room for synthesis, and bands that the slices so far were taken into

@@ -32,7 +32,8 @@ abbrev pub IsLowest : Slicing → Size → Raster ℤ → Type 0
 IsLowest s size p = let band = band_size s.depth 0 size in (p.w ≡ band.w) × (height p ≡ band.h)
 
 -- what stays from picture to picture
-pub record IsReadyToEncode (s : Slicing) (shape : PictureShape) (bands : Trio) (kept : ThreePlanes) (luma_plane luma_scratch colour_plane colour_scratch : Raster ℤ) : Type 0 where
+pub record IsReadyToEncode (s : Slicing) (shape : PictureShape) (bands : Trio) (kept : ThreePlanes)
+    (luma_plane luma_scratch colour_plane colour_scratch : Raster ℤ) : Type 0 where
   pub luma : HaveBandSizes s shape.luma bands.luma
   pub c1 : HaveBandSizes s shape.colour bands.c1
   pub c2 : HaveBandSizes s shape.colour bands.c2
@@ -45,9 +46,11 @@ pub record IsReadyToEncode (s : Slicing) (shape : PictureShape) (bands : Trio) (
 -- The bands hold the analysis of a component's samples of d bits, at each place of each band.
 pub record HoldComponent (p : Params) (size : Size) (d : ℕ) (s : SampleRows) (b : BandStack) : Type 0 where
   pub sizes : HaveBandSizes p.slicing size b
-  pub values : (level orient y x : ℕ) → BandExists p.slicing.depth level orient → y < (band_size p.slicing.depth level size).h → x < (band_size p.slicing.depth level size).w
+  pub values : (level orient y x : ℕ) → BandExists p.slicing.depth level orient
+      → y < (band_size p.slicing.depth level size).h → x < (band_size p.slicing.depth level size).w
       → at (band_of b level orient) y x ≡ at (band_of (analysed_bands p.wavelet p.slicing.depth size d s) level orient) y x
-  pub small : (level orient y x : ℕ) → BandExists p.slicing.depth level orient → Within (most_coefficient p.slicing.depth d) (at (band_of b level orient) y x)
+  pub small : (level orient y x : ℕ) → BandExists p.slicing.depth level orient
+      → Within (most_coefficient p.slicing.depth d) (at (band_of b level orient) y x)
 
 pub record HoldPicture (p : Params) (shape : PictureShape) (s : PictureSamples) (bands : Trio) : Type 0 where
   pub luma : HoldComponent p shape.luma shape.luma_depth s.luma bands.luma

@@ -19,7 +19,8 @@ use Rattle.picture_codec.specs.Samples.{SampleRows, sample_at, PictureSamples}
 
 -- ---- the coefficients
 
--- A component's samples of d bits, counted from the middle of their range. Beyond its edges each place has the sample of the nearest place inside.
+-- A component's samples of d bits, counted from the middle of their range. Beyond its edges each place has the sample of
+-- the nearest place inside.
 abbrev pub centred : ℕ → Size → SampleRows → Grid
 centred d size s y x = pos (sample_at s (min y (size.h - 1)) (min x (size.w - 1))) -ℤ pos (2 ^ (d - 1))
 
@@ -37,7 +38,11 @@ level_bands depth size c level =
 abbrev pub bands_from : ℕ → Size → Coefficients → BandStack
 bands_from depth size c =
     let lowest = band_size depth 0 size in
-    record { depth = depth; bands = raster_from lowest.w lowest.h c.ll ∷ flat_map (level_bands depth size c) (range_with_len 1 depth) }
+    record {
+      depth = depth;
+      bands = raster_from lowest.w lowest.h c.ll
+          ∷ flat_map (level_bands depth size c) (range_with_len 1 depth);
+    }
 
 -- the bands of a component: its padded samples, analysed
 abbrev pub analysed_bands : Wavelet → ℕ → Size → ℕ → SampleRows → BandStack

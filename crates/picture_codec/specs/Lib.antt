@@ -2,6 +2,7 @@ pub mod Pictures
 pub mod Samples
 pub mod Taking
 pub mod Decoding
+pub mod DecodedBands
 pub mod Written
 pub mod Encoding
 pub mod EncoderInside

@@ -20,5 +20,7 @@ IsLossless shape p s = (n level orient : ℕ) → n < slice_count p.slicing → 
 
 -- Then each sample that is decoded of what was written is the one that was there.
 abbrev pub LosslessIsGivenBack : Type 0
-LosslessIsGivenBack = (shape : PictureShape) (p : Params) (s : PictureSamples) → IsLawful p → IsSteepFor shape p → HaveShape shape s → IsLossless shape p s
-    → (c : Component) (y x : ℕ) → y < (size_of (frame_of shape) c).h → x < (size_of (frame_of shape) c).w → sample (frame_of shape) p (slices_of (frame_of shape) p s) c y x ≡ sample_at (component_of s c) y x
+LosslessIsGivenBack = (shape : PictureShape) (p : Params) (s : PictureSamples) → IsLawful p → IsSteepFor shape p
+    → HaveShape shape s → IsLossless shape p s
+    → (c : Component) (y x : ℕ) → y < (size_of (frame_of shape) c).h → x < (size_of (frame_of shape) c).w
+    → sample (frame_of shape) p (slices_of (frame_of shape) p s) c y x ≡ sample_at (component_of s c) y x

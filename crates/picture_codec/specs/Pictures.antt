@@ -1,4 +1,5 @@
--- The picture of one unit, place by place (SMPTE ST 2042-1:2017, 15.3 inverse_wavelet_transform, 15.5 clip_picture, offset_picture).
+-- The picture of one unit, place by place (SMPTE ST 2042-1:2017, 15.3 inverse_wavelet_transform, 15.5 clip_picture,
+-- offset_picture).
 use Rattle.std.specs.Prelude.{ℕ, ◌+◌, ◌-◌, ◌*◌, ◌^◌, List, [], slice_index_or, ℤ, pos, neg_ℤ, ◌+ℤ◌, unsigned_abs}
 use Rattle.std.specs.Int.{int_min, int_max}
 use Rattle.slice_geometry.specs.Frames.{Frame}
@@ -36,7 +37,8 @@ abbrev pub slice_value : Frame → Params → Component → ℕ → ℕ → List
 slice_value f p c sx sy bytes level orient y x =
     let s = p.slicing in
     let slice = slice_at s f.luma f.colour sx sy bytes in
-    value_in c (luma_values s f.luma sx sy p.matrix slice) (colour_values s f.colour sx sy p.matrix slice) (place_number s (size_of f c) sx sy level orient y x)
+    value_in c (luma_values s f.luma sx sy p.matrix slice) (colour_values s f.colour sx sy p.matrix slice)
+    (place_number s (size_of f c) sx sy level orient y x)
 
 -- The dequantised value at a place of a band: that of the one slice whose rectangle holds the place.
 unfoldable pub coefficient : Frame → Params → List (List ℕ) → Component → ℕ → ℕ → Grid

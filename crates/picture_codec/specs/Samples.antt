@@ -22,7 +22,8 @@ sample_at s y x = slice_index_or s.cells (y * s.w + x) 0
 
 -- the samples that a function of row and column gives
 abbrev pub tabulated : Size → (ℕ → ℕ → ℕ) → SampleRows
-tabulated size g = record { w = size.w; h = size.h; cells = map (λ k. g (k / size.w) (k % size.w)) (range_with_len 0 (size.h * size.w)) }
+tabulated size g =
+    record { w = size.w; h = size.h; cells = map (λ k. g (k / size.w) (k % size.w)) (range_with_len 0 (size.h * size.w)) }
 
 -- all samples 0
 abbrev pub blank : Size → SampleRows
@@ -100,4 +101,7 @@ bits_of p c = depth_of (frame_of p.shape) c
 
 -- a component's samples from a plane: its numbers clipped and offset
 abbrev pub with_shown : PictureSeen → Component → Grid → PictureSeen
-with_shown p c g = record p { samples = with_component p.samples c (tabulated (size_of (frame_of p.shape) c) (λ y x. sample_of (bits_of p c) (g y x))) }
+with_shown p c g = record p {
+  samples = with_component p.samples c
+      (tabulated (size_of (frame_of p.shape) c) (λ y x. sample_of (bits_of p c) (g y x)));
+}

@@ -19,14 +19,25 @@ holder s band y x = slice_number s (holding s.slices_x band.w x) (holding s.slic
 
 -- The first slices of a picture were taken in order: each place that one of them holds has its value.
 pub record Took (f : Frame) (p : Params) (slices : List (List ℕ)) (c : Component) (b : BandStack) : Type 0 where
-  pub lowest : (y x : ℕ) → y < (band_size p.slicing.depth 0 (size_of f c)).h → x < (band_size p.slicing.depth 0 (size_of f c)).w → holder p.slicing (band_size p.slicing.depth 0 (size_of f c)) y x < length slices
+  pub lowest : (y x : ℕ) → y < (band_size p.slicing.depth 0 (size_of f c)).h
+      → x < (band_size p.slicing.depth 0 (size_of f c)).w
+      → holder p.slicing (band_size p.slicing.depth 0 (size_of f c)) y x < length slices
       → at (band_of b 0 0) y x ≡ restored (coefficient f p slices c 0 0) y x
-  pub upper : (level orient y x : ℕ) → BandExists p.slicing.depth level orient → 1 ≤ level → y < (band_size p.slicing.depth level (size_of f c)).h → x < (band_size p.slicing.depth level (size_of f c)).w → holder p.slicing (band_size p.slicing.depth level (size_of f c)) y x < length slices
+  pub upper : (level orient y x : ℕ) → BandExists p.slicing.depth level orient → 1 ≤ level
+      → y < (band_size p.slicing.depth level (size_of f c)).h → x < (band_size p.slicing.depth level (size_of f c)).w
+      → holder p.slicing (band_size p.slicing.depth level (size_of f c)) y x < length slices
       → at (band_of b level orient) y x ≡ coefficient f p slices c level orient y x
 
--- The slice of these bytes was taken: its own places have its values, in the lowest band on their predictions, and all others stay.
+-- The slice of these bytes was taken: its own places have its values, in the lowest band on their predictions, and all
+-- others stay.
 pub record TakesSlice (f : Frame) (p : Params) (c : Component) (sx sy : ℕ) (bytes : List ℕ) (old new : BandStack) : Type 0 where
-  pub lowest : (y x : ℕ) → IsInRect (level_rect p.slicing (size_of f c) sx sy 0) y x → at (band_of new 0 0) y x ≡ slice_value f p c sx sy bytes 0 0 y x +ℤ prediction (at (band_of new 0 0)) y x
-  pub upper : (level orient y x : ℕ) → BandExists p.slicing.depth level orient → 1 ≤ level → IsInRect (level_rect p.slicing (size_of f c) sx sy level) y x → at (band_of new level orient) y x ≡ slice_value f p c sx sy bytes level orient y x
-  pub lowest_stays : (y x : ℕ) → (IsInRect (level_rect p.slicing (size_of f c) sx sy 0) y x → ⊥) → at (band_of new 0 0) y x ≡ at (band_of old 0 0) y x
-  pub upper_stays : (level orient y x : ℕ) → BandExists p.slicing.depth level orient → 1 ≤ level → (IsInRect (level_rect p.slicing (size_of f c) sx sy level) y x → ⊥) → at (band_of new level orient) y x ≡ at (band_of old level orient) y x
+  pub lowest : (y x : ℕ) → IsInRect (level_rect p.slicing (size_of f c) sx sy 0) y x
+      → at (band_of new 0 0) y x ≡ slice_value f p c sx sy bytes 0 0 y x +ℤ prediction (at (band_of new 0 0)) y x
+  pub upper : (level orient y x : ℕ) → BandExists p.slicing.depth level orient → 1 ≤ level
+      → IsInRect (level_rect p.slicing (size_of f c) sx sy level) y x
+      → at (band_of new level orient) y x ≡ slice_value f p c sx sy bytes level orient y x
+  pub lowest_stays : (y x : ℕ) → (IsInRect (level_rect p.slicing (size_of f c) sx sy 0) y x → ⊥)
+      → at (band_of new 0 0) y x ≡ at (band_of old 0 0) y x
+  pub upper_stays : (level orient y x : ℕ) → BandExists p.slicing.depth level orient → 1 ≤ level
+      → (IsInRect (level_rect p.slicing (size_of f c) sx sy level) y x → ⊥)
+      → at (band_of new level orient) y x ≡ at (band_of old level orient) y x

@@ -23,11 +23,19 @@ use Rattle.picture_codec.specs.Pictures.{size_of, coefficient}
 
 -- ---- a slice
 
--- The reader of slices gives back what was written: the index, the need of the luma list as the length of its block, and the two lists.
+-- The reader of slices gives back what was written: the index, the need of the luma list as the length of its block, and
+-- the two lists.
 abbrev pub WrittenIsRead : Type 0
-WrittenIsRead = (bytes : List ℕ) (index n : ℕ) (l : Lists) → 1 ≤ length bytes → index ≤ 127 → AreSmall l.luma → AreSmall l.colour → length l.colour ≡ 2 * n
+WrittenIsRead = (bytes : List ℕ) (index n : ℕ) (l : Lists) → 1 ≤ length bytes → index ≤ 127 → AreSmall l.luma
+    → AreSmall l.colour → length l.colour ≡ 2 * n
     → fits (length bytes) l ≡ true → bits_of bytes ≡ slice_bits (length bytes) index l
-    → slice_of bytes (length l.luma) n ≡ record { qindex = index; luma_bits = need l.luma; too_long = false; luma = l.luma; colour = l.colour }
+    → slice_of bytes (length l.luma) n ≡ record {
+      qindex = index;
+      luma_bits = need l.luma;
+      too_long = false;
+      luma = l.luma;
+      colour = l.colour;
+    }
 
 -- ---- a picture
 
@@ -58,15 +66,18 @@ quantiser_at j indices c level orient y x =
     let n = slice_number j.slicing (holding j.slicing.slices_x band.w x) (holding j.slicing.slices_y band.h y) in
     band_quantiser j.matrix (slice_index indices n) level orient
 
--- A decoder has in the lowest subbands the values that the encoder restored, and elsewhere the coefficients, quantised and dequantised. At a place
--- whose quantiser is 0 it has the coefficient itself.
-pub record RestoresWhatWasWritten (j : CodedPicture) (indices : List ℕ) (slices : List (List ℕ)) (wavelet : Wavelet) (c : Component) : Type 0 where
-  pub lowest : (y x : ℕ) → y < (band_size j.slicing.depth 0 (size_of j.frame c)).h → x < (band_size j.slicing.depth 0 (size_of j.frame c)).w
+-- A decoder has in the lowest subbands the values that the encoder restored, and elsewhere the coefficients, quantised
+-- and dequantised. At a place whose quantiser is 0 it has the coefficient itself.
+pub record RestoresWhatWasWritten (j : CodedPicture) (indices : List ℕ) (slices : List (List ℕ)) (wavelet : Wavelet)
+    (c : Component) : Type 0 where
+  pub lowest : (y x : ℕ) → y < (band_size j.slicing.depth 0 (size_of j.frame c)).h
+      → x < (band_size j.slicing.depth 0 (size_of j.frame c)).w
       → restored (coefficient j.frame (params_of wavelet j) slices c 0 0) y x ≡ restored_after (component_of j c) indices y x
   pub others : (level orient y x : ℕ) → BandExists j.slicing.depth level orient → 1 ≤ level
       → y < (band_size j.slicing.depth level (size_of j.frame c)).h → x < (band_size j.slicing.depth level (size_of j.frame c)).w
       → (let q = quantiser_at j indices c level orient y x in
-      coefficient j.frame (params_of wavelet j) slices c level orient y x ≡ inverse_of (forward_of (trials.coefficient (component_of j c) level orient y x) q) q)
+      coefficient j.frame (params_of wavelet j) slices c level orient y x
+      ≡ inverse_of (forward_of (trials.coefficient (component_of j c) level orient y x) q) q)
   pub lowest_lossless : (y x : ℕ)
       → y < (band_size j.slicing.depth 0 (size_of j.frame c)).h → x < (band_size j.slicing.depth 0 (size_of j.frame c)).w
       → quantiser_at j indices c 0 0 y x ≡ 0
@@ -74,8 +85,10 @@ pub record RestoresWhatWasWritten (j : CodedPicture) (indices : List ℕ) (slice
   pub others_lossless : (level orient y x : ℕ) → BandExists j.slicing.depth level orient → 1 ≤ level
       → y < (band_size j.slicing.depth level (size_of j.frame c)).h → x < (band_size j.slicing.depth level (size_of j.frame c)).w
       → quantiser_at j indices c level orient y x ≡ 0
-      → coefficient j.frame (params_of wavelet j) slices c level orient y x ≡ trials.coefficient (component_of j c) level orient y x
+      → coefficient j.frame (params_of wavelet j) slices c level orient y x
+      ≡ trials.coefficient (component_of j c) level orient y x
 
 abbrev pub WrittenIsRestored : Type 0
-WrittenIsRestored = (j : CodedPicture) (indices : List ℕ) (slices : List (List ℕ)) (wavelet : Wavelet) (c : Component) → IsAllowed j.slicing → AreGiven j → All IsIndex indices → AreWritten j indices slices
+WrittenIsRestored = (j : CodedPicture) (indices : List ℕ) (slices : List (List ℕ)) (wavelet : Wavelet) (c : Component)
+    → IsAllowed j.slicing → AreGiven j → All IsIndex indices → AreWritten j indices slices
     → RestoresWhatWasWritten j indices slices wavelet c

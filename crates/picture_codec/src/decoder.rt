@@ -1,102 +1,30 @@
 //! The decoder of pictures.
 
-ghost use Rattle.std.specs.Prelude.{◌≡◌, ◌≢◌, ◌^◌, ℕ, pos, List, length, IfOk, MatchResult, false, None, Some};
-ghost use Rattle.planes.specs.Bounded.{AreBandsWithin};
-ghost use Rattle.slice_geometry.specs.Shape.{IsSize};
-ghost use Rattle.slice_geometry.specs.Slicing.{IsAllowed, slice_count};
+ghost use Rattle.std.specs.Prelude.{◌≡◌, ◌≢◌, ℕ, List, length, IfOk, MatchResult, false, None, Some};
 ghost use Rattle.transform_params.specs.Views.{params_of};
-ghost use Rattle.picture_codec.specs.Pictures as pictures;
 ghost use Rattle.slice_geometry.specs.Frames.{frame_of};
 ghost use Rattle.picture_codec.specs.Samples.{picture_of};
-ghost use Rattle.picture_codec.specs.Decoding.{AreTaken, ArePadded, HasNarrowRoom, AreNewBands, IsNewDecoder, IsTaken, IsSliceRefused, HasTaken, with_synthesised, synthesised_picture, wanted_of};
+ghost use Rattle.picture_codec.specs.Decoding.{IsNewDecoder, IsTaken, IsSliceRefused, HasTaken, synthesised_picture, wanted_of};
 
+use crate::decoded_bands::DecodedBands;
 use crate::picture::Picture;
-use crate::workspace::{NarrowWorkspace, Workspace, size_of, zero_trio};
-use lifting::synth;
-use planes::{Bands, NoMemory, Trio};
-use slice_decoder::{SliceFault, decode_slice};
-use slice_geometry::{Component, Layout, PictureShape, Size};
+use crate::workspace::{NarrowWorkspace, Workspace};
+use planes::NoMemory;
+use slice_decoder::SliceFault;
+use slice_geometry::{Component, PictureShape};
 use std::alloc::Global;
 use std::marker::Model;
 use transform_params::TransformParams;
 
-// The greatest magnitude in bands that are synthesised in 32 bits.
-const MOST_NARROW: i64 = 262144;
-
-// The samples of a component from its bands, in 64 bits.
-fn show_in_64_bits(
-    params: &TransformParams,
-    bands: &Bands,
-    room: &mut Workspace,
-    c: Component,
-    picture: &mut Picture,
-)
-    requires taken { AreTaken params.now.layout (pictures.size_of (frame_of picture.old.shape) c) (slice_count params.now.layout) bands.now }
-    requires room { ArePadded params.now.layout (pictures.size_of (frame_of picture.old.shape) c) room.old.plane room.old.scratch }
-    ensures picture { picture.new ≡ with_synthesised params.now.wavelet picture.old c bands.now }
-    ensures room { ArePadded params.now.layout (pictures.size_of (frame_of picture.old.shape) c) room.new.plane room.new.scratch }
-    ensures allowed { IsAllowed params.now.layout }
-{
-    // The rules of a layout and of a size.
-    let _ = (params.layout.depth(), size_of(picture.shape(), c));
-    synth(params.wavelet, bands, &mut room.plane, &mut room.scratch);
-    picture.show(c, &room.plane);
-}
-
-// The same in 32 bits, of bands whose magnitudes are at most 2^18.
-fn show_in_32_bits(
-    params: &TransformParams,
-    bands: &Bands,
-    room: &mut NarrowWorkspace,
-    c: Component,
-    picture: &mut Picture,
-)
-    requires taken { AreTaken params.now.layout (pictures.size_of (frame_of picture.old.shape) c) (slice_count params.now.layout) bands.now }
-    requires narrow { AreBandsWithin (pos (2 ^ 18)) bands.now }
-    requires room { HasNarrowRoom params.now.layout (pictures.size_of (frame_of picture.old.shape) c) room.old.plane room.old.scratch }
-    ensures picture { picture.new ≡ with_synthesised params.now.wavelet picture.old c bands.now }
-    ensures room { HasNarrowRoom params.now.layout (pictures.size_of (frame_of picture.old.shape) c) room.new.plane room.new.scratch }
-    ensures allowed { IsAllowed params.now.layout }
-{
-    // The rules of a layout.
-    let _ = params.layout.depth();
-    let padded = params.layout.padded_size(size_of(picture.shape(), c));
-    picture.synthesise(c, params.wavelet, bands, padded, room);
-}
-
-// The samples of a component from its bands: in 32 bits where their magnitudes allow that.
-fn show_component(
-    params: &TransformParams,
-    bands: &Bands,
-    room: &mut Workspace,
-    narrow_room: &mut NarrowWorkspace,
-    c: Component,
-    picture: &mut Picture,
-)
-    requires taken { AreTaken params.now.layout (pictures.size_of (frame_of picture.old.shape) c) (slice_count params.now.layout) bands.now }
-    requires room { ArePadded params.now.layout (pictures.size_of (frame_of picture.old.shape) c) room.old.plane room.old.scratch }
-    requires narrow_room { HasNarrowRoom params.now.layout (pictures.size_of (frame_of picture.old.shape) c) narrow_room.old.plane narrow_room.old.scratch }
-    ensures picture { picture.new ≡ with_synthesised params.now.wavelet picture.old c bands.now }
-    ensures room { ArePadded params.now.layout (pictures.size_of (frame_of picture.old.shape) c) room.new.plane room.new.scratch }
-    ensures narrow_room { HasNarrowRoom params.now.layout (pictures.size_of (frame_of picture.old.shape) c) narrow_room.new.plane narrow_room.new.scratch }
-    ensures allowed { IsAllowed params.now.layout }
-{
-    if bands.within(MOST_NARROW) {
-        show_in_32_bits(params, bands, narrow_room, c, picture);
-    } else {
-        show_in_64_bits(params, bands, room, c, picture);
-    }
-}
-
 /// Makes pictures of slices, which come to it in order. Contracts see its bands, the number of its next slice, whether
 /// it refused a slice, and the picture that it finished.
 ///
-/// All memory is taken in `new`: about 8 bytes a sample for the subbands, 16 for two planes of each size, 3 for the room
-/// in 32 bits, and 2 for the picture. C1 and C2 share their planes.
+/// All memory is taken in `new`: about 12 bytes a sample for the subbands in 32 and in 64 bits, 16 for two planes of each
+/// size, 3 for the room in 32 bits, and 2 for the picture. C1 and C2 share their planes.
 #[derive(Drop)]
 pub struct PictureDecoder {
     params: TransformParams,
-    bands: Trio,
+    bands: DecodedBands,
     luma_room: Workspace,
     luma_narrow: NarrowWorkspace,
     colour_room: Workspace,
@@ -127,6 +55,11 @@ impl Model for PictureDecoder {
 }
 
 impl PictureDecoder {
+    ghost use Rattle.std.specs.Prelude.{⊤};
+    ghost use Rattle.std.specs.Borrow.{sem, follows_so};
+    ghost use mathlib.Core.Option.{none};
+    ghost use Rattle.picture_codec.specs.contracts.decoder.PictureDecoder.{the_row};
+
     /// A decoder of pictures of this shape. It has no bands but zeros.
     pub fn new(
         alloc: Global,
@@ -138,7 +71,7 @@ impl PictureDecoder {
         let layout = &params.layout;
         Ok(PictureDecoder {
             params: *params,
-            bands: zero_trio(alloc, layout, shape)?,
+            bands: DecodedBands::new(alloc, layout, shape)?,
             luma_room: Workspace::new(alloc, layout, shape.luma)?,
             luma_narrow: NarrowWorkspace::new(alloc, layout, shape.luma)?,
             colour_room: Workspace::new(alloc, layout, shape.colour)?,
@@ -185,15 +118,10 @@ impl PictureDecoder {
         let (params, shape) = (self.params, *self.picture.shape());
         let across = params.layout.slices_x();
         let (sx, sy) = (self.next % across, self.next / across);
-        match decode_slice(
-            &params.layout,
-            &shape,
-            &params.matrix,
-            sx,
-            sy,
-            bytes,
-            &mut self.bands,
-        ) {
+        match self
+            .bands
+            .decode(&params.layout, &shape, &params.matrix, sx, sy, bytes)
+        {
             Ok(_) => {
                 self.next += 1;
                 Ok(())
@@ -205,39 +133,49 @@ impl PictureDecoder {
         }
     }
 
-    /// Makes the picture of the slices, all of which were taken. `picture` lends it.
-    pub fn finish(&mut self)
+    // Makes the picture of the slices, all of which were taken.
+    fn synthesise(&mut self)
         requires unrefused { self.old.refused ≡ false }
         requires whole { wanted_of self.old ≡ None }
         ensures state { self.new ≡ record self.old { picture = Some (synthesised_picture self.old) } }
         ensures unit { (slices : List (List ℕ)) → HasTaken slices self.old → synthesised_picture self.old ≡ picture_of (frame_of self.old.shape) self.old.params slices }
     {
         let params = self.params;
-        show_component(
+        self.bands.show(
+            Component::Luma,
             &params,
-            &self.bands.luma,
             &mut self.luma_room,
             &mut self.luma_narrow,
-            Component::Luma,
             &mut self.picture,
         );
-        show_component(
-            &params,
-            &self.bands.c1,
-            &mut self.colour_room,
-            &mut self.colour_narrow,
+        self.bands.show(
             Component::C1,
-            &mut self.picture,
-        );
-        show_component(
             &params,
-            &self.bands.c2,
             &mut self.colour_room,
             &mut self.colour_narrow,
+            &mut self.picture,
+        );
+        self.bands.show(
             Component::C2,
+            &params,
+            &mut self.colour_room,
+            &mut self.colour_narrow,
             &mut self.picture,
         );
         self.finished = true;
+    }
+
+    /// Makes the picture of the slices, all of which were taken, and lends it.
+    pub fn finish(&mut self) -> &Picture
+        requires unrefused { self.old.refused ≡ false }
+        requires whole { wanted_of self.old ≡ None }
+        ensures shape { result.now.shape ≡ self.old.shape }
+        ensures samples { result.now.samples ≡ synthesised_picture self.old }
+        ensures* after { sem 𝓛 (follows_so the_row the_row self.entry.ghost_name none (λ _ _. ⊤) (λ v. v ≡ record self.old { picture = Some result.now.samples })) }
+        ensures unit { (slices : List (List ℕ)) → HasTaken slices self.old → synthesised_picture self.old ≡ picture_of (frame_of self.old.shape) self.old.params slices }
+    {
+        self.synthesise();
+        &self.picture
     }
 
     /// The picture that `finish` gave since the decoder was made or last restarted.
@@ -253,6 +191,7 @@ impl PictureDecoder {
     pub fn restart(&mut self)
         ensures { self.new ≡ record self.old { next = 0; refused = false; picture = None } }
     {
+        self.bands.settle();
         self.next = 0;
         self.refused = false;
         self.finished = false;

@@ -2,6 +2,7 @@
 #![tactic(auto)]
 
 pub mod closed_loop;
+mod decoded_bands;
 mod decoder;
 mod encoder;
 pub mod laws;

@@ -9,7 +9,7 @@ ghost use Rattle.picture_codec.specs.Samples.{AreBelow, PictureSeen, blank_pictu
 use crate::samples::Samples;
 use crate::workspace::NarrowWorkspace;
 use lifting::Wavelet;
-use planes::{Bands, NoMemory, Plane};
+use planes::{NarrowBands, NoMemory, Plane};
 use slice_geometry::{Component, PictureShape, Size};
 use std::alloc::Global;
 use std::marker::Model;
@@ -68,11 +68,12 @@ impl Picture {
         }
     }
 
-    /// The sample of a component in row y and column x.
+    /// The sample of a component in row y and column x, below 2^d, d being the component's depth.
     pub fn sample(&self, c: Component, y: u32, x: u32) -> u32
         requires down { y < height_of self.now c }
         requires across { x < width_of self.now c }
-        ensures { result ≡ sample_at (shown self.now c) y x }
+        ensures value { result ≡ sample_at (shown self.now c) y x }
+        ensures below { result < 2 ^ bits_of self.now c }
     {
         u32::from(self.component(c).get(y, x))
     }
@@ -137,7 +138,7 @@ impl Picture {
         &mut self,
         c: Component,
         wavelet: Wavelet,
-        bands: &Bands,
+        bands: &NarrowBands,
         padded: Size,
         room: &mut NarrowWorkspace,
     )

@@ -10,7 +10,7 @@ ghost use Rattle.picture_codec.specs.Samples.{sample_at, with_sample, with_run, 
 
 use crate::workspace::NarrowWorkspace;
 use lifting::{SampleArea, Wavelet, synth_samples};
-use planes::{Bands, NoMemory, Plane};
+use planes::{NarrowBands, NoMemory, Plane};
 use slice_geometry::Size;
 use std::alloc::Global;
 use std::marker::Model;
@@ -165,7 +165,7 @@ impl Samples {
     pub(crate) fn synthesise(
         &mut self,
         wavelet: Wavelet,
-        bands: &Bands,
+        bands: &NarrowBands,
         padded: Size,
         room: &mut NarrowWorkspace,
         depth: u32,

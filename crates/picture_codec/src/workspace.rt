@@ -6,7 +6,7 @@ ghost use Rattle.picture_codec.specs.Pictures as pictures;
 ghost use Rattle.slice_geometry.specs.Frames.{frame_of};
 ghost use Rattle.picture_codec.specs.Decoding.{ArePadded, HasNarrowRoom, AreNewBands};
 
-use planes::{Bands, NarrowPlane, NoMemory, Plane, Trio};
+use planes::{Bands, NarrowBands, NarrowPlane, NarrowTrio, NoMemory, Plane, Trio};
 use slice_geometry::{Component, Layout, PictureShape, Size};
 use std::alloc::Global;
 
@@ -80,6 +80,30 @@ pub(crate) fn zero_trio(
         luma: zero_bands(alloc, layout, shape.luma)?,
         c1: zero_bands(alloc, layout, shape.colour)?,
         c2: zero_bands(alloc, layout, shape.colour)?,
+    })
+}
+
+// The same in 32 bits.
+fn narrow_zero_bands(alloc: Global, layout: &Layout, size: Size) -> Result<NarrowBands, NoMemory>
+    requires { IsSize size.w size.h }
+    ensures { IfOk result (AreNewBands layout.now size) }
+{
+    let padded = layout.padded_size(size);
+    NarrowBands::new(alloc, layout.depth(), padded.w, padded.h)
+}
+
+/// The bands of the three components in 32 bits, all zero.
+pub(crate) fn narrow_zero_trio(
+    alloc: Global,
+    layout: &Layout,
+    shape: &PictureShape,
+) -> Result<NarrowTrio, NoMemory>
+    ensures { IfOk result (λ bands. AreNewBands layout.now shape.now.luma bands.luma × AreNewBands layout.now shape.now.colour bands.c1 × AreNewBands layout.now shape.now.colour bands.c2) }
+{
+    Ok(NarrowTrio {
+        luma: narrow_zero_bands(alloc, layout, shape.luma)?,
+        c1: narrow_zero_bands(alloc, layout, shape.colour)?,
+        c2: narrow_zero_bands(alloc, layout, shape.colour)?,
     })
 }
 

@@ -111,9 +111,9 @@ fn assert_taken(
 {
     take_all(rt, decoder, slices, is_exact);
     assert!(rt; decoder.wanted().is_none());
-    decoder.finish();
+    let made = decoder.finish();
     if is_exact {
-        assert_eq!(rt; samples_of(decoder.picture()), samples_of(picture));
+        assert_eq!(rt; samples_of(made), samples_of(picture));
     }
     decoder.restart();
 }

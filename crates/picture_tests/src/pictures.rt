@@ -69,8 +69,7 @@ fn finished<'a>(
 {
     take(rt, decoder, slices)?;
     assert!(rt; decoder.wanted().is_none());
-    decoder.finish();
-    Ok(samples_of(decoder.picture()))
+    Ok(samples_of(decoder.finish()))
 }
 
 /// The slices of a picture, and its samples or the fault of a slice.

@@ -7,4 +7,5 @@ pub mod LendingRows
 pub mod Lending
 pub mod LendingBands
 pub mod LendingNarrow
+pub mod LendingNarrowBands
 pub mod Bounded

@@ -16,7 +16,7 @@ use std::marker::Model;
 #[derive(Drop)]
 pub struct Bands {
     depth: u32,
-    planes: Vec<Plane>,
+    pub(crate) planes: Vec<Plane>,
 }
 
 impl Model for Bands {
@@ -30,7 +30,7 @@ impl Model for Bands {
     ghost invariant = { λ b. (length b.planes.items ≡ 3 * b.depth + 1) × (b.depth ≤ 4) };
 }
 
-fn place_of(level: u32, orient: u32) -> usize
+pub(crate) fn place_of(level: u32, orient: u32) -> usize
     requires level { level ≤ 4 }
     requires orient { orient ≤ 3 }
     ensures { result ≡ band_index level orient }
@@ -43,7 +43,7 @@ fn place_of(level: u32, orient: u32) -> usize
 }
 
 // The width of a level's bands, or their height.
-fn band_length(depth: u32, level: u32, padded: u32) -> u32
+pub(crate) fn band_length(depth: u32, level: u32, padded: u32) -> u32
     requires depth { depth ≤ 4 }
     requires level { level ≤ depth }
     ensures { result ≡ subband_length depth level padded }

@@ -10,10 +10,12 @@ ghost use Rattle.planes.specs.Bounded.{IsWithin, IsPlaneWithin};
 
 mod band_set;
 mod narrow;
+mod narrow_bands;
 mod row_store;
 
 pub use band_set::Bands;
 pub use narrow::{NarrowPlane, NarrowThree};
+pub use narrow_bands::NarrowBands;
 use row_store::Rows;
 pub use row_store::Three;
 use std::alloc::{AllocError, AllocFailed, Global};
@@ -76,6 +78,14 @@ pub struct Trio {
     pub luma: Bands,
     pub c1: Bands,
     pub c2: Bands,
+}
+
+/// The subbands of the three components, in numbers of 32 bits.
+#[derive(Drop)]
+pub struct NarrowTrio {
+    pub luma: NarrowBands,
+    pub c1: NarrowBands,
+    pub c2: NarrowBands,
 }
 
 /// A plane for each of the three components.

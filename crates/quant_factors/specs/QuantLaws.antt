@@ -13,7 +13,8 @@ NothingIsLostAtZero = (c : ℤ) → inverse_of (forward_of c 0) 0 ≡ c
 
 -- Twice the error is at most the number's magnitude plus 2, where anything is left of the number.
 abbrev pub TheErrorIsSmall : Type 0
-TheErrorIsSmall = (r : ℤ) (i : ℕ) → i ≤ 127 → forward_of r i ≢ pos 0 → 2 * unsigned_abs (inverse_of (forward_of r i) i -ℤ r) ≤ unsigned_abs r + 2
+TheErrorIsSmall = (r : ℤ) (i : ℕ) → i ≤ 127 → forward_of r i ≢ pos 0
+    → 2 * unsigned_abs (inverse_of (forward_of r i) i -ℤ r) ≤ unsigned_abs r + 2
 
 -- a coarser index gives no greater magnitude
 abbrev pub CoarserIsNoGreater : Type 0

@@ -3,8 +3,8 @@
 
 ghost use Rattle.std.specs.Prelude.{◌≡◌, ◌*◌, ◌/◌, ◌^◌, ◌<◌, ◌≤◌, MatchOption, unsigned_abs};
 ghost use Rattle.quant_factors.specs.Factors.{factor_of, offset_of, restored_of, forward_of, signed, IsDequantised};
-ghost use Rattle.quant_factors.specs.QuantLaws.{FactorsRise, DequantisingKeepsTheMagnitude, NothingIsLostAtZero, TheErrorIsSmall, CoarserIsNoGreater};
 
+pub mod laws;
 mod matrix;
 
 pub use matrix::Matrix;
@@ -184,14 +184,3 @@ pub fn forward(c: i64, i: u32) -> i64
 {
     with_sign(c, quantised(c.unsigned_abs(), i))
 }
-
-/// Laws, for every index from 0 to 127 and every number: the factors rise; dequantising keeps at least the
-/// magnitude; at index 0 nothing is lost; twice the error is at most the magnitude plus 2, where the quantised
-/// number isn't 0; and a coarser index gives no greater magnitude.
-pub fn quantisers_are_lawful()
-    ensures rise { FactorsRise }
-    ensures magnitude { DequantisingKeepsTheMagnitude }
-    ensures lossless { NothingIsLostAtZero }
-    ensures error { TheErrorIsSmall }
-    ensures coarser { CoarserIsNoGreater }
-{}

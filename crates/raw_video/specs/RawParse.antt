@@ -29,7 +29,8 @@ samples_in true other = []
 
 -- what the samples of a picture are below, in their order
 abbrev pub sample_bounds : Frame → List ℕ
-sample_bounds f = replicate (luma_count f) (2 ^ f.luma_depth) ++ (replicate (colour_count f) (2 ^ f.colour_depth) ++ replicate (colour_count f) (2 ^ f.colour_depth))
+sample_bounds f = replicate (luma_count f) (2 ^ f.luma_depth)
+    ++ (replicate (colour_count f) (2 ^ f.colour_depth) ++ replicate (colour_count f) (2 ^ f.colour_depth))
 
 abbrev pub later : Option ℕ → Option ℕ
 later None = None
@@ -109,7 +110,8 @@ ahead ending behind = record { pictures = []; ending = ending }
 -- so many turns at most
 abbrev pub parse_from : Frame → ℕ → ℕ → List ℕ → RawParse
 parse_from f zero place bytes = record { pictures = []; ending = Over }
-parse_from f (suc turns) place bytes = ahead (raw_front f place bytes) (parse_from f turns (place + raw_length f) (drop (raw_length f) bytes))
+parse_from f (suc turns) place bytes =
+    ahead (raw_front f place bytes) (parse_from f turns (place + raw_length f) (drop (raw_length f) bytes))
 
 abbrev pub raw_parse : Frame → List ℕ → RawParse
 raw_parse f bytes = parse_from f (length bytes + 1) 0 bytes

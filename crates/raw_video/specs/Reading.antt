@@ -22,15 +22,19 @@ whole_samples wide bytes = if wide then bytes / 2 else bytes
 -- by how it came out: the bytes that were taken, behind so many samples of the picture, for samples with these bounds
 abbrev pub SamplesAre : Bool → ℕ → ℕ → List ℕ → Option (List ℕ) → List ℕ → List ℕ → Result (Unit {0}) Halt → Type 0
 SamplesAre wide start room bounds rest taken samples (Ok x) =
-    (length taken ≡ sample_size wide * length bounds) × (samples_in wide taken ≡ samples) × (first_large bounds (samples_in wide taken) ≡ None)
-SamplesAre wide start room bounds rest taken samples (Err (halts.Ended total)) =
-    (total ≡ sample_size wide * start + length taken) × (length taken < sample_size wide * length bounds) × ((total ≡ room) ⊎ IsAtEnd rest)
+    (length taken ≡ sample_size wide * length bounds) × (samples_in wide taken ≡ samples)
     × (first_large bounds (samples_in wide taken) ≡ None)
-SamplesAre wide start room bounds rest taken samples (Err (halts.Large number)) = (k : ℕ) × (number ≡ start + k) × (first_large bounds (samples_in wide taken) ≡ Some k)
+SamplesAre wide start room bounds rest taken samples (Err (halts.Ended total)) =
+    (total ≡ sample_size wide * start + length taken) × (length taken < sample_size wide * length bounds)
+    × ((total ≡ room) ⊎ IsAtEnd rest)
+    × (first_large bounds (samples_in wide taken) ≡ None)
+SamplesAre wide start room bounds rest taken samples (Err (halts.Large number)) =
+    (k : ℕ) × (number ≡ start + k) × (first_large bounds (samples_in wide taken) ≡ Some k)
 SamplesAre wide start room bounds rest taken samples (Err halts.ReadFault) = length taken < sample_size wide * length bounds
 
 -- The samples were read, or what halted it is told; all bytes of the picture are at most so many as there is room for.
-pub record ReadsSamples (wide : Bool) (start room : ℕ) (bounds : List ℕ) (rest0 rest1 : Option (List ℕ)) (samples : List ℕ) (result : Result (Unit {0}) Halt) : Type 0 where
+pub record ReadsSamples (wide : Bool) (start room : ℕ) (bounds : List ℕ) (rest0 rest1 : Option (List ℕ))
+    (samples : List ℕ) (result : Result (Unit {0}) Halt) : Type 0 where
   pub taken : List ℕ
   pub took : Consumes rest0 rest1 taken
   pub few : length taken ≤ sample_size wide * length bounds
@@ -50,14 +54,16 @@ abbrev pub FrontIs : Frame → ℕ → List ℕ → Option (List ℕ) → Pictur
 FrontIs f place taken rest samples (Ok steps.Picture) = (length taken ≡ raw_length f) × (place + raw_length f ≤ 2 ^ 40)
     × ((more : List ℕ) → raw_front f place (taken ++ more) ≡ Shown samples)
 FrontIs f place taken rest samples (Ok steps.End) = (taken ≡ []) × IsAtEnd rest × (raw_front f place taken ≡ Over)
-FrontIs f place taken rest samples (Err (faults.SampleTooLarge at)) = (more : List ℕ) → raw_front f place (taken ++ more) ≡ LargeAt at
+FrontIs f place taken rest samples (Err (faults.SampleTooLarge at)) =
+    (more : List ℕ) → raw_front f place (taken ++ more) ≡ LargeAt at
 FrontIs f place taken rest samples (Err (faults.RawTruncated at)) = IsAtEnd rest × (raw_front f place taken ≡ CutAt at)
 FrontIs f place taken rest samples (Err faults.TooLong) = (more : List ℕ) → raw_front f place (taken ++ more) ≡ TooLong
 FrontIs f place taken rest samples (Err faults.ReadFault) = length taken < raw_length f
 
 -- What stands in front was read, behind so many bytes: at most a picture's bytes were taken, of which at most one lies
 -- past the limit.
-pub record ReadsFront (f : Frame) (place : ℕ) (rest0 rest1 : Option (List ℕ)) (samples : PictureSamples) (result : Result RawStep RawFault) : Type 0 where
+pub record ReadsFront (f : Frame) (place : ℕ) (rest0 rest1 : Option (List ℕ)) (samples : PictureSamples)
+    (result : Result RawStep RawFault) : Type 0 where
   pub taken : List ℕ
   pub took : Consumes rest0 rest1 taken
   pub most : length taken ≤ raw_length f

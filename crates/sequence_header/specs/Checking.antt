@@ -56,7 +56,8 @@ abbrev pub Checks : {A : Type 0} → Result (Unit {0}) HeaderReason → Rows Hea
 Checks (Ok _) rows fields a = Pass rows fields a
 Checks (Err reason) rows fields a = Fail rows fields reason
 
--- What a check of all parts answers: a header of these parts, which pass every rule of the table, or the first broken rule in field order.
+-- What a check of all parts answers: a header of these parts, which pass every rule of the table, or the first broken
+-- rule in field order.
 abbrev pub IsCheckOf : Result HeaderParts HeaderReason → HeaderParts → Type 0
 IsCheckOf (Ok header) parts = (header ≡ parts) × (checked header_fields (fields_of parts) ≡ Ok (parts, []))
 IsCheckOf (Err reason) parts = checked header_fields (fields_of parts) ≡ Err reason

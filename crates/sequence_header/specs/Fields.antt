@@ -47,7 +47,8 @@ clean_fields (Some a) = Flag true ∷ Number a.width ∷ Number a.height ∷ Num
 abbrev pub signal_fields : SignalField → List Value
 signal_fields (signals.Index zero) = Flag true ∷ Number 0 ∷ Number 0 ∷ Number 0 ∷ Number 0 ∷ Number 0 ∷ []
 signal_fields (signals.Index (suc n)) = Flag true ∷ Number (suc n) ∷ []
-signal_fields (signals.Custom s) = Flag true ∷ Number 0 ∷ Number s.luma_offset ∷ Number s.luma_excursion ∷ Number s.colour_offset ∷ Number s.colour_excursion ∷ []
+signal_fields (signals.Custom s) = Flag true ∷ Number 0 ∷ Number s.luma_offset ∷ Number s.luma_excursion
+    ∷ Number s.colour_offset ∷ Number s.colour_excursion ∷ []
 
 abbrev pub index_fields : Option ℕ → List Value
 index_fields None = Flag false ∷ []
@@ -56,7 +57,8 @@ index_fields (Some n) = Flag true ∷ Number n ∷ []
 abbrev pub colour_fields : ColourField → List Value
 colour_fields colours.Default = Flag false ∷ []
 colour_fields (colours.Index n) = Flag true ∷ Number n ∷ []
-colour_fields (colours.Custom primaries matrix transfer) = Flag true ∷ Number 0 ∷ (index_fields primaries ++ (index_fields matrix ++ index_fields transfer))
+colour_fields (colours.Custom primaries matrix transfer) =
+    Flag true ∷ Number 0 ∷ (index_fields primaries ++ (index_fields matrix ++ index_fields transfer))
 
 abbrev pub coding_fields : ℕ → List Value
 coding_fields coding = Number coding ∷ []
@@ -71,5 +73,7 @@ frame_size p = record { w = p.width; h = p.height }
 -- all fields of the header, in order
 unfoldable pub fields_of : HeaderParts → List Value
 fields_of p =
-    version_fields (version_of p) ++ (size_fields (frame_size p) ++ (sampling_fields p.sampling ++ (scan_fields p.scan ++ (rate_fields p.rate
-    ++ (aspect_fields p.aspect ++ (clean_fields p.clean ++ (signal_fields p.signal ++ (colour_fields p.colour ++ coding_fields p.coding))))))))
+    version_fields (version_of p) ++ (size_fields (frame_size p)
+    ++ (sampling_fields p.sampling ++ (scan_fields p.scan ++ (rate_fields p.rate
+    ++ (aspect_fields p.aspect ++ (clean_fields p.clean
+    ++ (signal_fields p.signal ++ (colour_fields p.colour ++ coding_fields p.coding))))))))

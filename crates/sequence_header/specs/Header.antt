@@ -1,5 +1,5 @@
--- The rows of the sequence header, in order (SMPTE ST 2042-1:2017, 11: sequence_header). Beside each group stands its name there. A number past its
--- rule is refused at its own field.
+-- The rows of the sequence header, in order (SMPTE ST 2042-1:2017, 11: sequence_header). Beside each group stands its
+-- name there. A number past its rule is refused at its own field.
 use Rattle.std.specs.Prelude.{ℕ, ◌*◌, ◌-◌, ◌^◌, ◌%◌, ◌&&◌, ◌||◌, not, List, [], ◌∷◌, Option, nat_le, ◌==◌, if◌then◌else◌}
 use Rattle.std.specs.Int.{is_in_range}
 use Rattle.bit_codes.specs.declared.CodeFault.{CodeFault}
@@ -125,7 +125,12 @@ signal_rows = do
         luma_excursion ← excursion
         colour_offset ← number
         colour_excursion ← excursion
-        done (signals.Custom (record { luma_offset = luma_offset; luma_excursion = luma_excursion; colour_offset = colour_offset; colour_excursion = colour_excursion })))
+        done (signals.Custom (record {
+          luma_offset = luma_offset;
+          luma_excursion = luma_excursion;
+          colour_offset = colour_offset;
+          colour_excursion = colour_excursion;
+        })))
       else done (signals.Index index)
 
 -- an index behind its flag, as of color_primaries, color_matrix and transfer_function

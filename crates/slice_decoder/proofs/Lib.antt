@@ -6,6 +6,7 @@ pub mod Heads
 pub mod Whole
 pub mod Decodes
 pub mod Ready
+pub mod NarrowBands
 pub mod LevelLemmas
 pub mod Restores
 pub mod Placed

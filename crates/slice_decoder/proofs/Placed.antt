@@ -1,18 +1,17 @@
 -- Restored values at the places of a slice.
-use Rattle.std.proofs.Common.{◌≡◌, ◌≢◌, ℕ, zero, suc, ◌+◌, ◌-◌, ◌*◌, ◌<◌, ◌≤◌, ◌⊎◌, Bool, List, length, drop, get_or, ℤ, pos, refl, sym, ap, subst, ◌∙◌, inl, inr, arith}
+use Rattle.std.proofs.Common.{◌≡◌, ℕ, ◌+◌, ◌*◌, ◌<◌, ◌≤◌, ◌⊎◌, Bool, List, length, drop, get_or, ℤ, pos, refl, sym, ap, subst, ◌∙◌, inl, inr, arith}
 use Rattle.std.proofs.lemmas.Bool.{cases_lt, cases_eq}
 use Rattle.std.proofs.lemmas.List.{get_or-drop}
 use Rattle.planes.specs.declared.Rect.{Rect}
 use Rattle.planes.specs.Raster.{Raster, height, row_of, at, with_row}
-use Rattle.planes.specs.Rect.{IsInRect}
 use Rattle.planes.specs.Subbands.{BandStack, band_index, with_band}
 use Rattle.planes.proofs.RasterLemmas.{height-with_row}
 use Rattle.slice_geometry.specs.declared.Size.{Size}
 use Rattle.slice_geometry.specs.Slicing.{Slicing}
 use Rattle.slice_geometry.specs.SliceOrder.{level_rect, area, number_in, level_of, numbered}
 use Rattle.slice_geometry.proofs.NumberedBands.{numbered-same, numbered-other}
-use Rattle.slice_decoder.specs.Dealing.{dealt, behind, HoldsRect, KeepsOutside}
-use Rattle.slice_decoder.specs.Components.{Part, rect_of, quantisers_of, quantisers_before, BandsHold, BandsKeep}
+use Rattle.slice_decoder.specs.Dealing.{dealt, HoldsRect, KeepsOutside}
+use Rattle.slice_decoder.specs.Components.{Part, rect_of, quantisers_before, BandsHold, BandsKeep}
 use Rattle.slice_decoder.specs.Levels.{places_in, BandsTake}
 use Rattle.slice_decoder.proofs.Rects.{RowsHold, at_same, at_other, rows-kept}
 use Rattle.slice_decoder.proofs.Whole.{number_below, in_all}

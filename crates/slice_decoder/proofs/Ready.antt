@@ -16,7 +16,7 @@ zero_in_row zero x = refl
 zero_in_row (suc w) zero = refl
 zero_in_row (suc w) (suc x) = zero_in_row w x
 
-at-zeros : (w h y x : ℕ) → get_or (get_or (replicate h (replicate w (pos 0))) y []) x (pos 0) ≡ pos 0
+pub at-zeros : (w h y x : ℕ) → get_or (get_or (replicate h (replicate w (pos 0))) y []) x (pos 0) ≡ pos 0
 at-zeros w zero y x = refl
 at-zeros w (suc h) zero x = zero_in_row w x
 at-zeros w (suc h) (suc y) x = at-zeros w h y x

@@ -1,12 +1,12 @@
 -- Values of a block, restored place by place.
-use Rattle.std.proofs.Common.{◌≡◌, ℕ, zero, suc, ◌+◌, ◌-◌, ◌*◌, ◌/◌, ◌^◌, ◌<◌, ◌≤◌, Bool, true, false, ◌&&◌, List, [], ◌∷◌, ◌++◌, length, map, replicate, get_or, take, drop, ℤ, pos, unsigned_abs, append_assoc, refl, sym, ap, subst, ◌∙◌, inl, inr, arith}
+use Rattle.std.proofs.Common.{◌≡◌, ℕ, zero, suc, ◌+◌, ◌-◌, ◌*◌, ◌^◌, ◌<◌, ◌≤◌, Bool, true, false, List, [], ◌∷◌, ◌++◌, length, map, replicate, get_or, take, drop, ℤ, pos, unsigned_abs, append_assoc, refl, sym, ap, subst, ◌∙◌, inl, inr, arith}
 use Rattle.std.specs.Prelude.{nat_le}
 use Rattle.std.specs.List.{AllByRecursion}
 use Rattle.std.proofs.Math.Nat.{mul-le-mul_left, mul-le-mul_right}
 use Rattle.std.proofs.lemmas.List.{get_or-map, length-map, length-replicate, get_or_append_left, get_or-append-add, get_or-append_right, get_or-replicate, get_or-take, get_or-drop, length-take-le, length-drop}
 use Rattle.bounded_blocks.specs.Reading.{value_at, values}
 use Rattle.bounded_blocks.specs.Parts.{IsSmall, HasHuge}
-use Rattle.quant_factors.specs.Factors.{factor_of, offset_of, restored_of, inverse_of}
+use Rattle.quant_factors.specs.Factors.{factor_of, restored_of, inverse_of}
 use Rattle.quant_factors.proofs.Tables.{factors_rise, factor_most, offset_most}
 use Rattle.quant_factors.proofs.QuantLemmas.{restored-zero, restored-some, abs-inverse, magnitude_kept}
 use Rattle.slice_geometry.specs.SliceOrder.{area}

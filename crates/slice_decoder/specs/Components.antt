@@ -39,7 +39,8 @@ quantisers_before each p (suc k) = quantisers_before each p k ++ quantisers_of e
 -- the first n bands hold their values
 pub record BandsHold (each from : ℕ) (p : Part) (n : ℕ) (block : List Bool) (old new : BandStack) : Type 0 where
   pub same_depth : new.depth ≡ old.depth
-  pub bands : (k : ℕ) → k < n → HoldsRect each from (rect_of p k) (dealt (behind block (quantisers_before each p k)) (quantisers_of each p k)) (numbered old k) (numbered new k)
+  pub bands : (k : ℕ) → k < n → HoldsRect each from (rect_of p k)
+      (dealt (behind block (quantisers_before each p k)) (quantisers_of each p k)) (numbered old k) (numbered new k)
 
 -- nothing is known of the places inside
 pub record BandsKeep (p : Part) (old new : BandStack) : Type 0 where

@@ -28,8 +28,8 @@ behind_next block n q = behind block (replicate n q)
 abbrev pub StaysBeside : ℕ → ℕ → List ℤ → List ℤ → Type 0
 StaysBeside x0 x1 old new = (x : ℕ) → (x < x0) ⊎ (x1 ≤ x) → slice_index_or new x (pos 0) ≡ slice_index_or old x (pos 0)
 
--- The places of a rectangle hold values of a list. Each place, row by row, has so many values there, of which it holds the one that is counted from 0 by
--- `from`; and all other places stay.
+-- The places of a rectangle hold values of a list. Each place, row by row, has so many values there, of which it holds
+-- the one that is counted from 0 by `from`; and all other places stay.
 pub record HoldsRect (each from : ℕ) (r : Rect) (values : List ℤ) (old new : Raster ℤ) : Type 0 where
   pub same_width : new.w ≡ old.w
   pub same_height : height new ≡ height old

@@ -19,8 +19,8 @@ use Rattle.slice_decoder.specs.Slice.{Slice, luma_values, colour_values, is_smal
 use Rattle.slice_geometry.specs.SliceOrder.{level_rect, place_number}
 use Rattle.slice_decoder.specs.Dealing.{KeepsOutside}
 
--- The bands of one component are ready for the slice in column sx and row sy: they have their sizes, and what is looked at outside the slice
--- when its residuals are restored is no greater than a restored value there can be.
+-- The bands of one component are ready for the slice in column sx and row sy: they have their sizes, and what is looked
+-- at outside the slice when its residuals are restored is no greater than a restored value there can be.
 pub record IsReady (s : Slicing) (size : Size) (sx sy : ℕ) (b : BandStack) : Type 0 where
   pub depth : b.depth ≡ s.depth
   pub sizes : HaveSizes b (padded_length s.depth size.w) (padded_length s.depth size.h)
@@ -31,18 +31,23 @@ pub record AreReady (s : Slicing) (shape : PictureShape) (sx sy : ℕ) (bands : 
   pub c1 : IsReady s shape.colour sx sy bands.c1
   pub c2 : IsReady s shape.colour sx sy bands.c2
 
--- The slice's places of one component hold their values. The list has so many values a place, of which this component has the one that is counted
--- from 0 by `from`. In the lowest subband the values are residuals, and the places hold what they restore.
+-- The slice's places of one component hold their values. The list has so many values a place, of which this component has
+-- the one that is counted from 0 by `from`. In the lowest subband the values are residuals, and the places hold what they
+-- restore.
 pub record HoldsSlice (each from : ℕ) (s : Slicing) (size : Size) (sx sy : ℕ) (values : List ℤ) (b : BandStack) : Type 0 where
-  pub restored : (y x : ℕ) → IsInRect (level_rect s size sx sy 0) y x → at (band_of b 0 0) y x ≡ slice_index_or values (each * place_number s size sx sy 0 0 y x + from) (pos 0) +ℤ prediction (at (band_of b 0 0)) y x
+  pub restored : (y x : ℕ) → IsInRect (level_rect s size sx sy 0) y x
+      → at (band_of b 0 0) y x ≡ slice_index_or values (each * place_number s size sx sy 0 0 y x + from) (pos 0)
+      +ℤ prediction (at (band_of b 0 0)) y x
   pub small : (y x : ℕ) → IsInRect (level_rect s size sx sy 0) y x → Within (reach y x) (at (band_of b 0 0) y x)
-  pub dequantised : (level orient y x : ℕ) → BandExists s.depth level orient → 1 ≤ level → IsInRect (level_rect s size sx sy level) y x
+  pub dequantised : (level orient y x : ℕ) → BandExists s.depth level orient → 1 ≤ level
+      → IsInRect (level_rect s size sx sy level) y x
       → at (band_of b level orient) y x ≡ slice_index_or values (each * place_number s size sx sy level orient y x + from) (pos 0)
 
 -- All other places of one component are as they were.
 pub record KeepsOthers (s : Slicing) (size : Size) (sx sy : ℕ) (old new : BandStack) : Type 0 where
   pub same_depth : new.depth ≡ old.depth
-  pub bands : (level orient : ℕ) → BandExists s.depth level orient → KeepsOutside (level_rect s size sx sy level) (band_of old level orient) (band_of new level orient)
+  pub bands : (level orient : ℕ) → BandExists s.depth level orient
+      → KeepsOutside (level_rect s size sx sy level) (band_of old level orient) (band_of new level orient)
 
 pub record AllKeepOthers (s : Slicing) (shape : PictureShape) (sx sy : ℕ) (old new : Trio) : Type 0 where
   pub luma : KeepsOthers s shape.luma sx sy old.luma new.luma
@@ -50,7 +55,8 @@ pub record AllKeepOthers (s : Slicing) (shape : PictureShape) (sx sy : ℕ) (old
   pub c2 : KeepsOthers s shape.colour sx sy old.c2 new.c2
 
 -- the slice of these bytes was decoded
-pub record IsDecoded (s : Slicing) (shape : PictureShape) (sx sy : ℕ) (matrix : Weights) (slice : Slice) (head : SliceHead) (bands : Trio) : Type 0 where
+pub record IsDecoded (s : Slicing) (shape : PictureShape) (sx sy : ℕ) (matrix : Weights) (slice : Slice)
+    (head : SliceHead) (bands : Trio) : Type 0 where
   pub qindex : head.qindex ≡ slice.qindex
   pub luma_bits : head.luma_bits ≡ slice.luma_bits
   pub fits : slice.too_long ≡ false
@@ -62,4 +68,5 @@ pub record IsDecoded (s : Slicing) (shape : PictureShape) (sx sy : ℕ) (matrix 
 -- why a slice is refused: its luma length is above the bits left, or else some dequantised magnitude passes 2 ^ 36
 abbrev pub IsRefused : Slicing → PictureShape → ℕ → ℕ → Weights → Slice → SliceFault → Type 0
 IsRefused s shape sx sy matrix slice LumaLengthTooLong = slice.too_long ≡ true
-IsRefused s shape sx sy matrix slice CoefficientTooLarge = (slice.too_long ≡ false) × (is_small s shape.luma shape.colour sx sy matrix slice ≡ false)
+IsRefused s shape sx sy matrix slice CoefficientTooLarge =
+    (slice.too_long ≡ false) × (is_small s shape.luma shape.colour sx sy matrix slice ≡ false)

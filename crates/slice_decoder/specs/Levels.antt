@@ -28,7 +28,10 @@ unfoldable pub places_in : Slicing → Size → ℕ → ℕ → ℕ → ℕ
 places_in s size sx sy zero = 0
 places_in s size sx sy (suc k) = places_in s size sx sy k + area (level_rect s size sx sy (level_of k))
 
--- The first n bands hold values of a list at the slice's places: a place has so many values there, of which it holds the one that is counted from 0 by `from`.
-pub record BandsTake (each from : ℕ) (s : Slicing) (size : Size) (sx sy n : ℕ) (values : List ℤ) (old new : BandStack) : Type 0 where
+-- The first n bands hold values of a list at the slice's places: a place has so many values there, of which it holds the
+-- one that is counted from 0 by `from`.
+pub record BandsTake (each from : ℕ) (s : Slicing) (size : Size) (sx sy n : ℕ) (values : List ℤ)
+    (old new : BandStack) : Type 0 where
   pub same_depth : new.depth ≡ old.depth
-  pub bands : (k : ℕ) → k < n → HoldsRect each from (level_rect s size sx sy (level_of k)) (drop (each * places_in s size sx sy k) values) (numbered old k) (numbered new k)
+  pub bands : (k : ℕ) → k < n → HoldsRect each from (level_rect s size sx sy (level_of k))
+      (drop (each * places_in s size sx sy k) values) (numbered old k) (numbered new k)

@@ -5,3 +5,4 @@ pub mod Restored
 pub mod Components
 pub mod Decoded
 pub mod Read
+pub mod Narrow

@@ -1,4 +1,5 @@
--- A slice as a function of its bytes (SMPTE ST 2042-1:2017, 13.5.3.1 ld_slice, 13.5.6.3 slice_band, 13.5.6.4 color_diff_slice_band).
+-- A slice as a function of its bytes (SMPTE ST 2042-1:2017, 13.5.3.1 ld_slice, 13.5.6.3 slice_band, 13.5.6.4
+-- color_diff_slice_band).
 use Rattle.std.specs.Prelude.{ℕ, zero, suc, ◌+◌, ◌*◌, ◌^◌, ◌&&◌, Bool, true, if◌then◌else◌, nat_le, nat_lt, List, [], ◌∷◌, ◌++◌, length, take, drop, replicate, ℤ, unsigned_abs}
 use Rattle.bit_codes.specs.Bits.{bits_of, binary_after}
 use Rattle.bounded_blocks.specs.Reading.{values}
@@ -10,8 +11,8 @@ use Rattle.quant_factors.specs.Weights.{Weights, band_quantiser}
 
 -- ---- the bytes
 
--- What a slice's bytes hold: its quantisation index, the length of its luma block in bits, whether that is above the bits left, and the
--- quantised values of its two blocks.
+-- What a slice's bytes hold: its quantisation index, the length of its luma block in bits, whether that is above the bits
+-- left, and the quantised values of its two blocks.
 pub record Slice : Type 0 where
   pub qindex : ℕ
   pub luma_bits : ℕ
@@ -19,8 +20,8 @@ pub record Slice : Type 0 where
   pub luma : List ℤ
   pub colour : List ℤ
 
--- Its index has 7 bits, the luma length as many as it takes, and the two blocks all the others. A block past whose end values are read is
--- as if ones followed. At each place the colour block has the value of C1 and then that of C2.
+-- Its index has 7 bits, the luma length as many as it takes, and the two blocks all the others. A block past whose end
+-- values are read is as if ones followed. At each place the colour block has the value of C1 and then that of C2.
 abbrev pub slice_of : List ℕ → ℕ → ℕ → Slice
 slice_of bytes lumas colours =
     let bits = bits_of bytes in
@@ -44,11 +45,14 @@ slice_at s luma colour sx sy bytes = slice_of bytes (place_count s luma sx sy) (
 
 -- the quantiser of each value of a block, in the slice's order, where each place has so many values
 abbrev pub quantisers : ℕ → Slicing → Size → ℕ → ℕ → Weights → ℕ → ℕ → List ℕ
-quantisers each s size sx sy matrix qindex zero = replicate (each * area (level_rect s size sx sy 0)) (band_quantiser matrix qindex 0 0)
+quantisers each s size sx sy matrix qindex zero =
+    replicate (each * area (level_rect s size sx sy 0)) (band_quantiser matrix qindex 0 0)
 quantisers each s size sx sy matrix qindex (suc level) =
     let count = each * area (level_rect s size sx sy (suc level)) in
     quantisers each s size sx sy matrix qindex level
-    ++ (replicate count (band_quantiser matrix qindex (suc level) 1) ++ (replicate count (band_quantiser matrix qindex (suc level) 2) ++ replicate count (band_quantiser matrix qindex (suc level) 3)))
+    ++ (replicate count (band_quantiser matrix qindex (suc level) 1)
+    ++ (replicate count (band_quantiser matrix qindex (suc level) 2)
+    ++ replicate count (band_quantiser matrix qindex (suc level) 3)))
 
 -- each value by its quantiser (13.3.1 inverse_quant)
 abbrev pub dequantised : List ℤ → List ℕ → List ℤ
@@ -71,4 +75,5 @@ colour_values s size sx sy matrix slice = dequantised slice.colour (quantisers 2
 
 -- no dequantised value of the slice passes 2 ^ 36
 abbrev pub is_small : Slicing → Size → Size → ℕ → ℕ → Weights → Slice → Bool
-is_small s luma colour sx sy matrix slice = are_small (luma_values s luma sx sy matrix slice) && are_small (colour_values s colour sx sy matrix slice)
+is_small s luma colour sx sy matrix slice =
+    are_small (luma_values s luma sx sy matrix slice) && are_small (colour_values s colour sx sy matrix slice)

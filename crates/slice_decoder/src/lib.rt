@@ -17,6 +17,9 @@ mod bands;
 mod components;
 mod dealing;
 mod levels;
+mod narrow;
+mod narrow_placing;
+mod narrow_slice;
 mod placing;
 mod restoring;
 
@@ -24,6 +27,7 @@ use bit_codes::BitReader;
 use bounded_blocks::Block;
 use components::{Place, read_colour, read_luma};
 use dc_prediction::restore_rect;
+pub use narrow_slice::decode_narrow;
 use planes::{Bands, Rect, Trio};
 use quant_factors::Matrix;
 use slice_geometry::{Layout, PictureShape, SliceHead, length_bits};

@@ -1,5 +1,5 @@
 -- How many bits a code takes: by the magnitude alone, and one bit for 0 alone.
-use Rattle.std.proofs.Common.{◌≡◌, ◌∙◌, sym, ap, ℕ, Bool, ◌+◌, ◌*◌, ◌/◌, ◌^◌, ◌-◌, ◌<◌, ◌≤◌, List, [], ◌∷◌, ◌++◌, length, set, get_or, arith, ℤ, pos, inl, inr, subst}
+use Rattle.std.proofs.Common.{◌≡◌, ◌∙◌, sym, ap, ℕ, Bool, ◌+◌, ◌*◌, ◌/◌, ◌^◌, ◌<◌, ◌≤◌, List, [], ◌∷◌, ◌++◌, length, set, get_or, arith, ℤ, pos, inl, inr, subst}
 use Rattle.std.proofs.lemmas.Bool.{cases_eq}
 use Rattle.std.proofs.lemmas.Bool.Decides.{nat_tests}
 use Rattle.std.specs.Prelude.{unsigned_abs, slice_index_or}
@@ -14,7 +14,7 @@ use Rattle.planes.specs.Numbers.{Within}
 use Rattle.slice_encoder.specs.Gathering.{with_code}
 use Rattle.slice_encoder.proofs.CountedBits.{one_code-most}
 use Rattle.slice_encoder.proofs.Gathers.{value_small}
-use Rattle.slice_encoder.specs.CodeLengths.{code_length, IsRow}
+use Rattle.slice_encoder.specs.CodeLengths.{code_length}
 use Rattle.slice_encoder.proofs.Reaches.{code_rises, code_long, with_some}
 
 same_length : (v w : ℤ) → unsigned_abs v ≡ unsigned_abs w → length (signed_code_of v) ≡ length (signed_code_of w)
@@ -63,9 +63,9 @@ row_more q row i bits lt is so_far k below = elim (cases_eq k i) [
   | inr other ↦ get_or-set_other row i k bits 0 other ∙ so_far k (omega (arith, below, other))
 ]
 
-pub rows_more : (rows : List (List ℕ)) (row : List ℕ) → IsRow (length rows) row
-    → ((q : ℕ) → q < length rows → IsRow q (slice_index_or rows q [])) → (q : ℕ) → q < length rows + 1 → IsRow q (slice_index_or (rows ++ row ∷ []) q [])
-rows_more rows row here so_far q below = elim (cases_eq q (length rows)) [
-  | inl same ↦ subst (λ (n : ℕ). IsRow n (get_or (rows ++ row ∷ []) n [])) (sym same) (subst (IsRow (length rows)) (sym (get_or-append_seam rows row [] [])) here)
-  | inr other ↦ subst (IsRow q) (sym (get_or-append rows (row ∷ []) [] q (omega (arith, below, other)))) (so_far q (omega (arith, below, other)))
+pub rows_more : (Is : ℕ → List ℕ → Type 0) (rows : List (List ℕ)) (row : List ℕ) → Is (length rows) row
+    → ((q : ℕ) → q < length rows → Is q (slice_index_or rows q [])) → (q : ℕ) → q < length rows + 1 → Is q (slice_index_or (rows ++ row ∷ []) q [])
+rows_more Is rows row here so_far q below = elim (cases_eq q (length rows)) [
+  | inl same ↦ subst (λ (n : ℕ). Is n (get_or (rows ++ row ∷ []) n [])) (sym same) (subst (Is (length rows)) (sym (get_or-append_seam rows row [] [])) here)
+  | inr other ↦ subst (Is q) (sym (get_or-append rows (row ∷ []) [] q (omega (arith, below, other)))) (so_far q (omega (arith, below, other)))
 ]

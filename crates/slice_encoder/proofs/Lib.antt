@@ -1,4 +1,9 @@
 pub mod Made
+pub mod FrontBits
+pub mod BlockTexts
+pub mod LastValues
+pub mod Signs
+pub mod ShortTexts
 pub mod Near
 pub mod Holders
 pub mod Coarsest

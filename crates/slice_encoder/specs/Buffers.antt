@@ -37,4 +37,5 @@ coded_component s size matrix bands = record { slicing = s; size = size; matrix 
 
 -- each band can be listed
 abbrev pub CanListAll : CodedComponent → ℕ → ℕ → Raster ℤ → Type 0
-CanListAll c sx sy kept = (k : ℕ) → k < 3 * c.slicing.depth + 1 → CanList (level_rect c.slicing c.size sx sy (level_of k)) (level_of k) (numbered c.bands k) kept
+CanListAll c sx sy kept = (k : ℕ) → k < 3 * c.slicing.depth + 1
+    → CanList (level_rect c.slicing c.size sx sy (level_of k)) (level_of k) (numbered c.bands k) kept

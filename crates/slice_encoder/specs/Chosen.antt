@@ -29,7 +29,8 @@ chosen j (suc n) = chosen j n ++ least_index (share_of_slice j n) (λ i. lists_o
 
 -- the bytes of slice n
 abbrev pub written_slice : CodedPicture → ℕ → List ℕ
-written_slice j n = bytes_of (slice_bits (share_of_slice j n) (slice_index (chosen j (suc n)) n) (lists_of_slice j n (chosen j (suc n))))
+written_slice j n =
+    bytes_of (slice_bits (share_of_slice j n) (slice_index (chosen j (suc n)) n) (lists_of_slice j n (chosen j (suc n))))
 
 -- the bytes of all slices, in order
 abbrev pub written_slices : CodedPicture → List (List ℕ)

@@ -94,7 +94,8 @@ gathered_reach g matrix index = reach (flat_map (quantised_piece g matrix index)
 
 -- of the slice's values outside the lowest subband
 abbrev pub high_part : CodedComponent → ℕ → ℕ → ℕ → ℕ → List ℤ
-high_part c index sx sy k = quantised (band_quantiser c.matrix index (level_of k) (orient_of k)) (raw_part c.slicing c.size c.bands sx sy k)
+high_part c index sx sy k =
+    quantised (band_quantiser c.matrix index (level_of k) (orient_of k)) (raw_part c.slicing c.size c.bands sx sy k)
 
 abbrev pub high_reach : CodedComponent → ℕ → ℕ → ℕ → ℕ
 high_reach c index sx sy = reach (flat_map (high_part c index sx sy) (range_with_len 1 (3 * c.slicing.depth))) 0
@@ -107,5 +108,6 @@ behind_lowest places bits = if bits == 0 then 0 else places + bits
 abbrev pub reach_of : CodedPicture → ℕ → ℕ → ℕ → Lower
 reach_of j sx sy index = record {
   luma = behind_lowest (area (level_rect j.slicing j.frame.luma sx sy 0)) (high_reach (luma_of j) index sx sy) - 3;
-  colour = behind_lowest (2 * area (level_rect j.slicing j.frame.colour sx sy 0)) (high_reach (c1_of j) index sx sy + high_reach (c2_of j) index sx sy) - 3;
+  colour = behind_lowest (2 * area (level_rect j.slicing j.frame.colour sx sy 0))
+      (high_reach (c1_of j) index sx sy + high_reach (c2_of j) index sx sy) - 3;
 }

@@ -23,8 +23,10 @@ IsIndex i = i ≤ 127
 
 -- For all indices, where coefficients are within m, restored values are within 3 * m + 2 and residuals within 4 * m + 2.
 abbrev pub RestoredStaysNear : Type 0
-RestoredStaysNear = (c : CodedComponent) (m : ℕ) (indices : List ℕ) → All IsIndex indices → ((y x : ℕ) → Within m (coefficient c 0 0 y x))
-    → (y x : ℕ) → Within (3 * m + 2) (restored_after c indices y x) × Within (4 * m + 2) (coefficient c 0 0 y x -ℤ prediction (restored_after c indices) y x)
+RestoredStaysNear =
+    (c : CodedComponent) (m : ℕ) (indices : List ℕ) → All IsIndex indices → ((y x : ℕ) → Within m (coefficient c 0 0 y x))
+    → (y x : ℕ) → Within (3 * m + 2) (restored_after c indices y x)
+    × Within (4 * m + 2) (coefficient c 0 0 y x -ℤ prediction (restored_after c indices) y x)
 
 -- the greatest magnitude of a coefficient of a component of d bits
 abbrev pub most_coefficient : ℕ → ℕ → ℕ
@@ -32,11 +34,13 @@ most_coefficient depth d = 2 ^ (d - 1 + 3 * depth)
 
 -- each entry of the matrix leaves index 127 so coarse that nothing is left of any residual
 abbrev pub IsSteepOk : ℕ → ℕ → Weights → Type 0
-IsSteepOk depth d matrix = (level orient : ℕ) → BandExists depth level orient → entry_of matrix level orient + 4 * (d + 2 + 3 * depth) ≤ 127
+IsSteepOk depth d matrix =
+    (level orient : ℕ) → BandExists depth level orient → entry_of matrix level orient + 4 * (d + 2 + 3 * depth) ≤ 127
 
 -- all coefficients are as large as those of a component of d bits at most
 abbrev pub AreCoefficients : ℕ → CodedComponent → Type 0
-AreCoefficients d c = (level orient y x : ℕ) → BandExists c.slicing.depth level orient → Within (most_coefficient c.slicing.depth d) (coefficient c level orient y x)
+AreCoefficients d c = (level orient y x : ℕ) → BandExists c.slicing.depth level orient
+    → Within (most_coefficient c.slicing.depth d) (coefficient c level orient y x)
 
 pub record IsPicture (j : CodedPicture) : Type 0 where
   pub luma_bits : IsDepth j.frame.luma_depth
@@ -47,7 +51,8 @@ pub record IsPicture (j : CodedPicture) : Type 0 where
 
 -- The coarsest index fits each slice after whatever indices.
 abbrev pub CoarsestFits : Type 0
-CoarsestFits = (j : CodedPicture) (indices : List ℕ) (bytes sx sy : ℕ) → IsPicture j → IsSteepOk j.slicing.depth (max j.frame.luma_depth j.frame.colour_depth) j.matrix
+CoarsestFits = (j : CodedPicture) (indices : List ℕ) (bytes sx sy : ℕ) → IsPicture j
+    → IsSteepOk j.slicing.depth (max j.frame.luma_depth j.frame.colour_depth) j.matrix
     → All IsIndex indices → length indices ≡ slice_number j.slicing sx sy
     → fits bytes (last_lists j (indices ++ 127 ∷ []) sx sy) ≡ true
 

@@ -1,3 +1,4 @@
+pub mod Fronts
 pub mod Loop
 pub mod Order
 pub mod Trials
@@ -12,6 +13,7 @@ pub mod Gathering
 pub mod GatheredSlices
 pub mod Ready
 pub mod Buffers
+pub mod Restored
 pub mod Encoded
 pub mod Room
 pub mod Chosen

@@ -46,7 +46,8 @@ pub record CanList (r : Rect) (level : ℕ) (coefficients kept : Raster ℤ) : T
 -- the values of the slice in band number k (LL, then HL, LH and HH of each level)
 abbrev pub band_part : CodedComponent → Raster ℤ → ℕ → ℕ → ℕ → ℕ → List ℤ
 band_part c kept index sx sy k =
-    rect_values (band_value (numbered c.bands k) kept (level_of k) (band_quantiser c.matrix index (level_of k) (orient_of k))) (level_rect c.slicing c.size sx sy (level_of k))
+    rect_values (band_value (numbered c.bands k) kept (level_of k)
+    (band_quantiser c.matrix index (level_of k) (orient_of k))) (level_rect c.slicing c.size sx sy (level_of k))
 
 abbrev pub parts_before : CodedComponent → Raster ℤ → ℕ → ℕ → ℕ → ℕ → List ℤ
 parts_before c kept index sx sy k = flat_map (band_part c kept index sx sy) (range_with_len 0 k)

@@ -1,4 +1,5 @@
--- A band that is made place by place, each of what is predicted for it. It is the writer's side of DC prediction (SMPTE ST 2042-1:2017, 13.4).
+-- A band that is made place by place, each of what is predicted for it. It is the writer's side of DC prediction (SMPTE
+-- ST 2042-1:2017, 13.4).
 use Rattle.std.specs.Prelude.{◌≡◌, ℕ, zero, suc, ℤ, pos, ◌+ℤ◌, ◌-ℤ◌}
 use Rattle.planes.specs.Raster.{Grid}
 use Rattle.dc_prediction.specs.Prediction.{mean, prediction}

@@ -32,7 +32,8 @@ band_bits c index sx sy level orient =
     rect_bits (coefficient c level orient) (band_quantiser c.matrix index level orient) (level_rect c.slicing c.size sx sy level)
 
 abbrev pub level_bits : CodedComponent → ℕ → ℕ → ℕ → ℕ → ℕ
-level_bits c index sx sy level = band_bits c index sx sy level 1 + (band_bits c index sx sy level 2 + band_bits c index sx sy level 3)
+level_bits c index sx sy level =
+    band_bits c index sx sy level 1 + (band_bits c index sx sy level 2 + band_bits c index sx sy level 3)
 
 -- and in the levels from 1 to this one
 abbrev pub bits_to : CodedComponent → ℕ → ℕ → ℕ → ℕ → ℕ
@@ -69,7 +70,8 @@ pub record IsFirstCandidate (bytes : ℕ) (lower_at : ℕ → Lower) (index : �
 -- The bounds are at most the needs, whatever is restored.
 abbrev pub LowerIsNoGreater : Type 0
 LowerIsNoGreater = (j : CodedPicture) (luma c1 c2 : Grid) (index sx sy : ℕ)
-    → (low_luma j index sx sy ≤ need (lists j luma c1 c2 index sx sy).luma) × (low_colour j index sx sy ≤ need (lists j luma c1 c2 index sx sy).colour)
+    → (low_luma j index sx sy ≤ need (lists j luma c1 c2 index sx sy).luma)
+    × (low_colour j index sx sy ≤ need (lists j luma c1 c2 index sx sy).colour)
 
 -- They don't rise with the index.
 abbrev pub LowerFalls : Type 0

@@ -1,4 +1,5 @@
--- The places of a slice in their order: LL, then per level HL, LH, HH, and in each band row by row (SMPTE ST 2042-1:2017, 13.5.6.3 slice_band).
+-- The places of a slice in their order: LL, then per level HL, LH, HH, and in each band row by row (SMPTE ST 2042-1:2017,
+-- 13.5.6.3 slice_band).
 use Rattle.std.specs.Prelude.{ℕ, zero, suc, ◌-◌, List, ◌++◌, map}
 use Rattle.std.specs.List.{flat_map, range_with_len}
 use Rattle.planes.specs.declared.Rect.{Rect}
@@ -13,7 +14,8 @@ pub record Place : Type 0 where
   pub x : ℕ
 
 abbrev pub row_places : ℕ → ℕ → Rect → ℕ → List Place
-row_places level orient r y = map (λ x. record { level = level; orient = orient; y = y; x = x }) (range_with_len r.x0 (r.x1 - r.x0))
+row_places level orient r y =
+    map (λ x. record { level = level; orient = orient; y = y; x = x }) (range_with_len r.x0 (r.x1 - r.x0))
 
 abbrev pub rect_places : ℕ → ℕ → Rect → List Place
 rect_places level orient r = flat_map (row_places level orient r) (range_with_len r.y0 (r.y1 - r.y0))

@@ -19,14 +19,15 @@ use Rattle.slice_encoder.specs.Trials.{CodedComponent, CodedPicture, luma_of, c1
 use Rattle.slice_encoder.specs.Tries.{KeptHasSize, KeptHaveSizes, IsNext}
 use Rattle.slice_encoder.specs.Laws.{IsIndex, AreCoefficients, most_coefficient}
 
--- A component is ready for slice (sx, sy): bands and kept plane have their sizes, the coefficients are those of d bits, and what is looked at outside
--- the slice is no greater than a restored value there can be.
+-- A component is ready for slice (sx, sy): bands and kept plane have their sizes, the coefficients are those of d bits,
+-- and what is looked at outside the slice is no greater than a restored value there can be.
 pub record IsReady (c : CodedComponent) (d sx sy : ℕ) (kept : Raster ℤ) : Type 0 where
   pub depth : c.bands.depth ≡ c.slicing.depth
   pub sizes : HaveSizes c.bands (padded_length c.slicing.depth c.size.w) (padded_length c.slicing.depth c.size.h)
   pub small : AreCoefficients d c
   pub kept_size : KeptHasSize c kept
-  pub outside : AllLookedAtOutside (λ y x. Within (3 * most_coefficient c.slicing.depth d + 2) (at kept y x)) (level_rect c.slicing c.size sx sy 0)
+  pub outside : AllLookedAtOutside (λ y x. Within (3 * most_coefficient c.slicing.depth d + 2) (at kept y x))
+      (level_rect c.slicing c.size sx sy 0)
 
 pub record AreReady (j : CodedPicture) (sx sy : ℕ) (kept : ThreePlanes) : Type 0 where
   pub across : sx < j.slicing.slices_x
@@ -63,11 +64,13 @@ pub record AllKeepOthers (j : CodedPicture) (sx sy : ℕ) (old new : ThreePlanes
 
 -- what is asked of a picture, its shape and its slices
 abbrev pub coded_picture : Slicing → PictureShape → Weights → Trio → CodedPicture
-coded_picture s shape matrix coefficients = record { slicing = s; frame = frame_of shape; matrix = matrix; coefficients = coefficients }
+coded_picture s shape matrix coefficients =
+    record { slicing = s; frame = frame_of shape; matrix = matrix; coefficients = coefficients }
 
 -- ---- from slice to slice
 
 -- Where the values of all slices before are kept, the next slice can be encoded.
 abbrev pub NextIsReady : Type 0
-NextIsReady = (j : CodedPicture) (indices : List ℕ) (sx sy : ℕ) (kept : ThreePlanes) → AreGiven j → IsNext j indices sx sy → KeptHaveSizes j kept → AreKept j indices kept
+NextIsReady = (j : CodedPicture) (indices : List ℕ) (sx sy : ℕ) (kept : ThreePlanes) → AreGiven j → IsNext j indices sx sy
+    → KeptHaveSizes j kept → AreKept j indices kept
     → All IsIndex indices → AreReady j sx sy kept

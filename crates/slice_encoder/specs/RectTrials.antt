@@ -1,5 +1,5 @@
--- The lowest subband of a slice as a trial restores it, place by place. A coefficient of any picture is within 2 ^ 27, and so a restored value within
--- 3 * 2 ^ 27 + 2.
+-- The lowest subband of a slice as a trial restores it, place by place. A coefficient of any picture is within 2 ^ 27,
+-- and so a restored value within 3 * 2 ^ 27 + 2.
 use Rattle.std.specs.Prelude.{◌≡◌, ℕ, ◌+◌, ◌*◌, ◌^◌, ◌<◌, ◌≤◌, ◌⊎◌, ℤ}
 use Rattle.planes.specs.declared.Rect.{Rect}
 use Rattle.planes.specs.Numbers.{Within}

@@ -17,7 +17,8 @@ pub record HasRoomForAll (s : Slicing) (shape : PictureShape) (lumas colours : V
   pub few_colour : vec_len colours ≤ 2 ^ 32
 
 -- Its buffers have room, and it looks for an index from one that there is.
-pub record IsUsable (s : Slicing) (shape : PictureShape) (gathered : GatheredSlice) (near : ℕ) (lumas colours : Vec ℤ Global) : Type 0 where
+pub record IsUsable (s : Slicing) (shape : PictureShape) (gathered : GatheredSlice) (near : ℕ)
+    (lumas colours : Vec ℤ Global) : Type 0 where
   pub holds : CanHoldAll s shape gathered
   pub index : near ≤ 127
   pub room : HasRoomForAll s shape lumas colours

@@ -33,17 +33,21 @@ slice_holding s size y x =
 
 -- ---- the lowest subband as a reader restores it
 
--- Its values where slice n has index number n of a list: each is the prediction from them and the dequantised residual. A slice past the list has index 0.
+-- Its values where slice n has index number n of a list: each is the prediction from them and the dequantised residual. A
+-- slice past the list has index 0.
 unfoldable pub restored_after : CodedComponent → List ℕ → Grid
-restored_after c indices = made (λ y x. restored_value (coefficient c 0 0 y x) (band_quantiser c.matrix (slice_index indices (slice_holding c.slicing c.size y x)) 0 0))
+restored_after c indices = made (λ y x. restored_value (coefficient c 0 0 y x)
+    (band_quantiser c.matrix (slice_index indices (slice_holding c.slicing c.size y x)) 0 0))
 
 -- ---- the values of a slice
 
--- a place's value at an index: a residual in the lowest subband, by the values that are restored there, and else the coefficient, quantised
+-- a place's value at an index: a residual in the lowest subband, by the values that are restored there, and else the
+-- coefficient, quantised
 abbrev pub value_of : CodedComponent → Grid → ℕ → Place → ℤ
 value_of c restored index p =
     let q = band_quantiser c.matrix index p.level p.orient in
-    if p.level == 0 then residual_of (coefficient c 0 0 p.y p.x) q (prediction restored p.y p.x) else forward_of (coefficient c p.level p.orient p.y p.x) q
+    if p.level == 0 then residual_of (coefficient c 0 0 p.y p.x) q (prediction restored p.y p.x)
+    else forward_of (coefficient c p.level p.orient p.y p.x) q
 
 -- the luma list of a slice
 abbrev pub luma_list : CodedComponent → Grid → ℕ → ℕ → ℕ → List ℤ
@@ -52,7 +56,8 @@ luma_list c restored index sx sy = map (value_of c restored index) (places_of c.
 -- and its colour list: at each place the value of C1 and then that of C2
 abbrev pub colour_list : CodedComponent → CodedComponent → Grid → Grid → ℕ → ℕ → ℕ → List ℤ
 colour_list c1 c2 restored1 restored2 index sx sy =
-    flat_map (λ p. value_of c1 restored1 index p ∷ value_of c2 restored2 index p ∷ []) (places_of c1.slicing c1.size sx sy c1.slicing.depth)
+    flat_map (λ p. value_of c1 restored1 index p ∷ value_of c2 restored2 index p ∷ [])
+    (places_of c1.slicing c1.size sx sy c1.slicing.depth)
 
 -- ---- a picture
 
@@ -85,13 +90,15 @@ lists j luma c1 c2 index sx sy = record {
 -- the lists of slice (sx, sy), the last one of those that have these indices
 abbrev pub last_lists : CodedPicture → List ℕ → ℕ → ℕ → Lists
 last_lists j indices sx sy =
-    lists j (restored_after (luma_of j) indices) (restored_after (c1_of j) indices) (restored_after (c2_of j) indices) (slice_index indices (slice_number j.slicing sx sy)) sx sy
+    lists j (restored_after (luma_of j) indices) (restored_after (c1_of j) indices) (restored_after (c2_of j) indices)
+    (slice_index indices (slice_number j.slicing sx sy)) sx sy
 
 -- ---- kept values
 
 -- In the slices that have an index the plane holds the values that are restored.
 abbrev pub IsKept : CodedComponent → List ℕ → Raster ℤ → Type 0
-IsKept c indices p = (y x : ℕ) → y < height p → x < p.w → slice_holding c.slicing c.size y x < length indices → at p y x ≡ restored_after c indices y x
+IsKept c indices p = (y x : ℕ) → y < height p → x < p.w → slice_holding c.slicing c.size y x < length indices
+    → at p y x ≡ restored_after c indices y x
 
 pub record AreKept (j : CodedPicture) (indices : List ℕ) (kept : ThreePlanes) : Type 0 where
   pub luma : IsKept (luma_of j) indices kept.luma

@@ -13,10 +13,12 @@ use Rattle.slice_encoder.specs.Trials.{CodedComponent, coefficient, CodedPicture
 abbrev pub in_rect : Rect → ℕ → ℕ → Bool
 in_rect r y x = nat_le r.x0 x && (nat_lt x r.x1 && (nat_le r.y0 y && nat_lt y r.y1))
 
--- The slice's places of the lowest subband are restored at this index, in their order, from the values that were kept outside; these stay.
+-- The slice's places of the lowest subband are restored at this index, in their order, from the values that were kept
+-- outside; these stay.
 unfoldable pub tried : CodedComponent → ℕ → ℕ → ℕ → Grid → Grid
 tried c sx sy index kept =
-    made (λ y x p. if in_rect (level_rect c.slicing c.size sx sy 0) y x then restored_value (coefficient c 0 0 y x) (band_quantiser c.matrix index 0 0) p else kept y x)
+    made (λ y x p. if in_rect (level_rect c.slicing c.size sx sy 0) y x
+    then restored_value (coefficient c 0 0 y x) (band_quantiser c.matrix index 0 0) p else kept y x)
 
 -- the plane after a trial
 pub record IsTried (c : CodedComponent) (sx sy index : ℕ) (old new : Raster ℤ) : Type 0 where
@@ -32,7 +34,8 @@ pub record AreTried (j : CodedPicture) (sx sy index : ℕ) (old new : ThreePlane
 -- the lists of a slice at an index
 abbrev pub tried_lists : CodedPicture → ThreePlanes → ℕ → ℕ → ℕ → Lists
 tried_lists j kept sx sy index =
-    lists j (tried (luma_of j) sx sy index (at kept.luma)) (tried (c1_of j) sx sy index (at kept.c1)) (tried (c2_of j) sx sy index (at kept.c2)) index sx sy
+    lists j (tried (luma_of j) sx sy index (at kept.luma)) (tried (c1_of j) sx sy index (at kept.c1))
+    (tried (c2_of j) sx sy index (at kept.c2)) index sx sy
 
 -- ---- where the values that were kept are those of earlier trials
 
@@ -53,6 +56,7 @@ pub record IsNext (j : CodedPicture) (indices : List ℕ) (sx sy : ℕ) : Type 0
 
 -- A trial goes on from them: its lists are those of the longer list of indices, and what it leaves are that list's values.
 abbrev pub TrialsGoOn : Type 0
-TrialsGoOn = (j : CodedPicture) (indices : List ℕ) (sx sy index : ℕ) (old new : ThreePlanes) → IsNext j indices sx sy → KeptHaveSizes j old
+TrialsGoOn =
+    (j : CodedPicture) (indices : List ℕ) (sx sy index : ℕ) (old new : ThreePlanes) → IsNext j indices sx sy → KeptHaveSizes j old
     → AreKept j indices old → AreTried j sx sy index old new
     → (tried_lists j old sx sy index ≡ last_lists j (indices ++ index ∷ []) sx sy) × AreKept j (indices ++ index ∷ []) new

@@ -4,7 +4,7 @@ ghost use Rattle.std.specs.Prelude.{◌≡◌, ℕ, ◌+◌, ◌^◌, ◌<◌, �
 ghost use Rattle.planes.specs.Numbers.{Within};
 ghost use Rattle.bit_codes.specs.Codes.{signed_code_of};
 ghost use Rattle.quant_factors.specs.Factors.{forward_of};
-ghost use Rattle.slice_encoder.specs.CodeLengths.{code_length, IsRow};
+ghost use Rattle.slice_encoder.specs.CodeLengths.{code_length, IsRow, AreRows};
 
 use bit_codes::sint_len;
 use planes::NoMemory;
@@ -32,7 +32,9 @@ impl Model for CodeLengths {
     ghost invariant = { λ t. AreRows t.rows.items };
 }
 
-// How many bits the code of a coefficient takes at an index.
+// How many bits the code of a coefficient takes at an index. It stays out of the loops that look codes up: with it in
+// them they would branch on signs.
+#[inline(never)]
 fn counted(v: i64, index: u32) -> u32
     requires index { index ≤ 127 }
     requires small { Within (2 ^ 27) v }
@@ -45,7 +47,8 @@ fn counted(v: i64, index: u32) -> u32
 // The row of an index.
 fn row_of(index: u32) -> [u8; ENTRIES]
     requires index { index ≤ 127 }
-    ensures { IsRow index result }
+    ensures row { IsRow index result }
+    ensures count { length result ≡ 512 }
 {
     let mut row = [0; ENTRIES];
     for magnitude in 0..ENTRIES {
@@ -56,7 +59,9 @@ fn row_of(index: u32) -> [u8; ENTRIES]
 
 impl CodeLengths {
     /// All rows.
-    pub fn new(alloc: Global) -> Result<CodeLengths, NoMemory> {
+    pub fn new(alloc: Global) -> Result<CodeLengths, NoMemory>
+        ensures { IfOk result AreRows }
+    {
         let mut rows = Vec::with_capacity(alloc, 128)?;
         for index in 0..128 {
             rows.push(row_of(index))?;

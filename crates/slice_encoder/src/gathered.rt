@@ -1,13 +1,14 @@
 // The coefficients of a slice in one component, gathered once for all the indices that are tried.
 
-ghost use Rattle.std.specs.Prelude.{◌≡◌, ℕ, ◌+◌, ◌-◌, ◌*◌, ◌^◌, ◌<◌, ◌≤◌, ◌++◌, length, take, slice_index, IfOk, ℤ};
+ghost use Rattle.std.specs.Prelude.{◌≡◌, ℕ, ◌+◌, ◌-◌, ◌*◌, ◌^◌, ◌<◌, ◌≤◌, ◌++◌, length, take, slice_index, IfOk, ℤ, pos, unsigned_abs};
 ghost use Rattle.std.specs.List.{All, flat_map, range_with_len};
 ghost use Rattle.planes.specs.Numbers.{Within};
 ghost use Rattle.bit_codes.specs.Codes.{signed_code_of};
+ghost use Rattle.quant_factors.specs.Factors.{forward_of, signed};
 ghost use Rattle.slice_encoder.specs.CodeLengths.{IsRow};
 ghost use Rattle.planes.specs.Raster.{at};
 ghost use Rattle.slice_geometry.specs.Shape.{IsSize};
-ghost use Rattle.slice_geometry.specs.SliceOrder.{area, place_count};
+ghost use Rattle.slice_geometry.specs.SliceOrder.{level_rect, level_of, area, place_count};
 ghost use Rattle.slice_encoder.specs.Listing.{rect_values};
 ghost use Rattle.slice_encoder.specs.Gathering.{raw_before, piece_of, quantised, quantised_piece, in_turn, with_code, reach, CanGather, CanGatherAll, AreGathered, gathered_reach, behind_lowest};
 ghost use Rattle.slice_encoder.specs.GatheredSlices.{AreAllGathered, gathered_low, CanHoldAll};
@@ -70,6 +71,25 @@ fn gather_rect(coefficients: &Plane, rect: Rect, out: &mut [i64], from: usize)
     }
 }
 
+// The rectangle of band number k, by that of the band before it: those of a level have the same.
+#[inline(always)]
+fn next_rect(layout: &Layout, size: Size, sx: u32, sy: u32, k: u32, before: Rect) -> Rect
+    requires size { IsSize size.w size.h }
+    requires across { sx < layout.now.slices_x }
+    requires down { sy < layout.now.slices_y }
+    requires number { k < 3 * layout.now.depth + 1 }
+    requires before { before ≡ level_rect layout.now size sx sy (level_of (k - 1)) }
+    ensures { result ≡ level_rect layout.now size sx sy (level_of k) }
+{
+    let _depth = layout.depth();
+    let (level, orient) = band_numbered(k);
+    if orient == 1 {
+        layout.band_rect(size, level, sx, sy)
+    } else {
+        before
+    }
+}
+
 // Copies the slice's coefficients, and notes where each band's end.
 fn gather_bands(
     layout: &Layout,
@@ -91,14 +111,45 @@ fn gather_bands(
 {
     let mut ends = [0; 13];
     let mut place = 0;
+    let mut rect = layout.band_rect(size, 0, sx, sy);
     for k in 0..3 * layout.depth() + 1 {
         let (level, orient) = band_numbered(k);
-        let rect = layout.band_rect(size, level, sx, sy);
+        rect = next_rect(layout, size, sx, sy, k, rect);
         gather_rect(bands.band(level, orient), rect, out, place);
         place += (rect.x1 - rect.x0) as usize * (rect.y1 - rect.y0) as usize;
         ends[k as usize] = place;
     }
     ends
+}
+
+// 1 or -1, with the sign of a number.
+#[inline(always)]
+fn sign_of(v: i64) -> i64
+    ensures { result ≡ signed v 1 }
+{
+    if v < 0 { -1 } else { 1 }
+}
+
+// The magnitude of a coefficient.
+#[inline(always)]
+fn magnitude_of(v: i64) -> i64
+    requires { Within (2 ^ 27) v }
+    ensures { result ≡ pos (unsigned_abs v) }
+{
+    v.unsigned_abs() as i64
+}
+
+// A coefficient, quantised. Its sign is put on by a product, since a branch on it is guessed wrong half of the time.
+#[inline(always)]
+fn quantised_value(coefficient: i64, index: u32) -> i64
+    requires index { index ≤ 127 }
+    requires small { Within (2 ^ 27) coefficient }
+    ensures { result ≡ forward_of coefficient index }
+{
+    let sign = sign_of(coefficient);
+    let size = magnitude_of(coefficient);
+    let magnitude = forward(size, index);
+    sign * magnitude
 }
 
 // Quantises coefficients.
@@ -109,7 +160,7 @@ fn quantise(coefficients: &[i64], index: u32, out: &mut [i64])
     ensures { out.new ≡ quantised index coefficients.now }
 {
     for place in 0..coefficients.len() {
-        out[place] = forward(coefficients[place], index);
+        out[place] = quantised_value(coefficients[place], index);
     }
 }
 
@@ -123,8 +174,8 @@ fn quantise_pair(first: &[i64], second: &[i64], index: u32, out: &mut [i64])
     ensures { out.new ≡ in_turn (quantised index first.now) (quantised index second.now) }
 {
     for place in 0..first.len() {
-        out[2 * place] = forward(first[place], index);
-        out[2 * place + 1] = forward(second[place], index);
+        out[2 * place] = quantised_value(first[place], index);
+        out[2 * place + 1] = quantised_value(second[place], index);
     }
 }
 

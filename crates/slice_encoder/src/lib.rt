@@ -5,18 +5,22 @@
 //! what later slices are predicted from.
 #![tactic(auto)]
 
+mod block_texts;
 mod bounding;
 mod candidates;
 mod code_lengths;
 mod encoder;
 mod fitting;
+mod fronts;
 mod gathered;
 pub mod laws;
 mod listing;
+mod needs;
 mod packing;
 mod rect_trials;
 mod room;
 mod search;
+mod short_texts;
 mod steep;
 mod trying;
 

@@ -2,38 +2,45 @@
 
 ghost use Rattle.std.specs.Prelude.{◌≡◌, ◌+◌, ◌-◌, ◌*◌, ◌^◌, ◌<◌, ◌≤◌, ◌++◌, true, length, unsigned_abs};
 ghost use Rattle.std.specs.List.{All};
-ghost use Rattle.bit_codes.specs.Bits.{bits_of, bits_before, bits_behind, digits_below};
+ghost use Rattle.bit_codes.specs.Bits.{bits_of, digits_below};
 ghost use Rattle.bounded_blocks.specs.Writing.{codes_of, need, filled};
 ghost use Rattle.slice_encoder.specs.Choice.{fits, slice_bits};
+ghost use Rattle.slice_encoder.specs.Fronts.{front_bits, IsBlock};
 
-use bit_codes::BitWriter;
-use bounded_blocks::Fill;
+use crate::block_texts::{Block, put_ones, put_values};
+use crate::fronts::{Front, put_bits, store_rest};
 use slice_geometry::length_bits;
 
 // The index, and the length of the luma block in so many bits.
-fn put_head(bytes: &mut [u8], index: u32, m: u32, luma_need: u64)
+fn put_head(bytes: &mut [u8], index: u32, m: u32, luma_need: u64) -> Front
     requires most { length bytes.old ≤ 2 ^ 28 }
     requires index { index ≤ 127 }
     requires few { m ≤ 31 }
     requires inside { 7 + m ≤ 8 * length bytes.old }
     requires fits { luma_need < 2 ^ m }
-    ensures { bits_before (7 + m) bytes.new ≡ digits_below 7 index ++ digits_below m luma_need }
+    ensures block { IsBlock (length bytes.old) (record { front = result; left = 0 }) }
+    ensures place { 8 * result.whole + result.count ≡ 7 + m }
+    ensures text { front_bits bytes.new result ≡ digits_below 7 index ++ digits_below m luma_need }
 {
-    let mut writer = BitWriter::new(bytes);
-    writer.put_bits(u64::from(index), 7);
-    writer.put_bits(luma_need, m);
+    let start = Front {
+        whole: 0,
+        count: 0,
+        number: 0,
+    };
+    let front = put_bits(bytes, start, u64::from(index), 7);
+    put_bits(bytes, front, luma_need, m)
 }
 
-// Values into a block, which is filled with ones.
-fn put_block(bytes: &mut [u8], from: u64, bits: u64, values: &[i64])
-    requires room { length bytes.old ≤ 2 ^ 40 }
-    requires inside { from + bits ≤ 8 * length bytes.old }
+// Values into a block of so many bits, which is filled with ones.
+fn put_block(bytes: &mut [u8], front: Front, bits: u64, values: &[i64]) -> Front
+    requires inside { IsBlock (length bytes.old) (record { front = front; left = bits }) }
     requires small { All (λ v. unsigned_abs v ≤ 2 ^ 36) values.now }
-    ensures { bits_of bytes.new ≡ bits_before from bytes.old ++ (filled bits (codes_of values.now) ++ bits_behind (from + bits) bytes.old) }
+    ensures block { IsBlock (length bytes.old) (record { front = result; left = 0 }) }
+    ensures place { 8 * result.whole + result.count ≡ 8 * front.whole + front.count + bits }
+    ensures text { front_bits bytes.new result ≡ front_bits bytes.old front ++ filled bits (codes_of values.now) }
 {
-    let mut block = Fill::new(bytes, from, bits);
-    block.put_all(values);
-    block.finish();
+    let block = put_values(bytes, Block { front, left: bits }, values);
+    put_ones(bytes, block)
 }
 
 // A slice of values that fit, by the need of its luma values.
@@ -48,10 +55,10 @@ pub fn put_slice(bytes: &mut [u8], index: u32, luma_need: u64, luma: &[i64], col
     ensures { bits_of bytes.new ≡ slice_bits (length bytes.old) index (record { luma = luma.now; colour = colour.now }) }
 {
     let m = length_bits(bytes.len() as u32);
-    let start = 7 + u64::from(m);
-    let middle = start + luma_need;
+    let middle = 7 + u64::from(m) + luma_need;
     let end = 8 * bytes.len() as u64;
-    put_head(bytes, index, m, luma_need);
-    put_block(bytes, start, luma_need, luma);
-    put_block(bytes, middle, end - middle, colour);
+    let head = put_head(bytes, index, m, luma_need);
+    let front = put_block(bytes, head, luma_need, luma);
+    let front = put_block(bytes, front, end - middle, colour);
+    store_rest(bytes, front);
 }

@@ -3,18 +3,18 @@
 ghost use Rattle.std.specs.Prelude.{◌≡◌, ◌+◌, ◌*◌, ◌^◌, ◌<◌, ◌≤◌, max, length};
 ghost use Rattle.slice_encoder.specs.Choice.{IsLeast};
 ghost use Rattle.slice_geometry.specs.Slicing.{slice_bytes, slice_number};
-ghost use Rattle.bounded_blocks.specs.Writing.{need};
-ghost use Rattle.slice_encoder.specs.Laws.{AreSmall, IsSteepOk};
+ghost use Rattle.slice_encoder.specs.Laws.{IsSteepOk};
 ghost use Rattle.slice_encoder.specs.Tries.{AreTried, tried_lists};
 ghost use Rattle.slice_encoder.specs.Buffers.{HasRoom, Holds};
 ghost use Rattle.slice_encoder.specs.GatheredSlices.{AreAllGathered};
+ghost use Rattle.slice_encoder.specs.Restored.{WasTried, HoldsWhatWasTried};
 ghost use Rattle.slice_encoder.specs.Ready.{coded_picture, AreReady};
 
 use crate::candidates::find_first;
 use crate::fitting::do_fit;
 use crate::gathered::GatheredSlice;
+use crate::needs::need_of_values;
 use crate::trying::{list_colour, list_luma, try_lowest};
-use bounded_blocks::Need;
 use planes::{ThreePlanes, Trio};
 use quant_factors::Matrix;
 use slice_geometry::{Layout, PictureShape};
@@ -40,40 +40,21 @@ pub fn share_of(layout: &Layout, sx: u32, sy: u32) -> u32
     layout.share(sy * layout.slices_x() + sx)
 }
 
-// The need of values.
-fn need_of_values(values: &[i64]) -> u64
-    requires few { length values.now ≤ 2 ^ 32 }
-    requires small { AreSmall values.now }
-    ensures { result ≡ need values.now }
-{
-    Need::of(values).bits()
-}
-
-// Tries one index: its restored values are kept, and its values listed and counted.
-pub fn try_at(
+// Restores the slice's places of the lowest subbands at an index.
+fn restore_lowest(
     layout: &Layout,
     shape: &PictureShape,
     matrix: &Matrix,
     sx: u32,
     sy: u32,
     index: u32,
-    bytes: u32,
     coefficients: &Trio,
-    gathered: &GatheredSlice,
     kept: &mut ThreePlanes,
-    luma: &mut [i64],
-    colour: &mut [i64],
-) -> Trying
+)
     requires index { index ≤ 127 }
-    requires some { 1 ≤ bytes }
-    requires most { bytes ≤ 2 ^ 28 }
     requires ready { AreReady (coded_picture layout.now shape.now matrix.now coefficients.now) sx sy kept.old }
-    requires gathered { AreAllGathered (coded_picture layout.now shape.now matrix.now coefficients.now) sx sy gathered.now }
-    requires room { HasRoom (coded_picture layout.now shape.now matrix.now coefficients.now) sx sy (length luma.old) (length colour.old) }
-    ensures holds { Holds (tried_lists (coded_picture layout.now shape.now matrix.now coefficients.now) kept.old sx sy index) bytes result luma.new colour.new }
-    ensures kept { AreTried (coded_picture layout.now shape.now matrix.now coefficients.now) sx sy index kept.old kept.new }
+    ensures { AreTried (coded_picture layout.now shape.now matrix.now coefficients.now) sx sy index kept.old kept.new }
 {
-    let _depth = layout.depth();
     try_lowest(
         layout,
         shape.luma,
@@ -107,6 +88,32 @@ pub fn try_at(
         &coefficients.c2,
         &mut kept.c2,
     );
+}
+
+// Lists the values of a slice that is restored at an index, and counts what they need.
+fn list_and_count(
+    layout: &Layout,
+    shape: &PictureShape,
+    matrix: &Matrix,
+    sx: u32,
+    sy: u32,
+    index: u32,
+    bytes: u32,
+    coefficients: &Trio,
+    gathered: &GatheredSlice,
+    kept: &ThreePlanes,
+    luma: &mut [i64],
+    colour: &mut [i64],
+) -> Trying
+    requires index { index ≤ 127 }
+    requires some { 1 ≤ bytes }
+    requires most { bytes ≤ 2 ^ 28 }
+    requires restored { WasTried (coded_picture layout.now shape.now matrix.now coefficients.now) sx sy index kept.now }
+    requires gathered { AreAllGathered (coded_picture layout.now shape.now matrix.now coefficients.now) sx sy gathered.now }
+    requires room { HasRoom (coded_picture layout.now shape.now matrix.now coefficients.now) sx sy (length luma.old) (length colour.old) }
+    ensures { HoldsWhatWasTried (coded_picture layout.now shape.now matrix.now coefficients.now) sx sy index kept.now bytes result luma.new colour.new }
+{
+    let _depth = layout.depth();
     let lumas = list_luma(
         layout,
         shape.luma,
@@ -133,14 +140,54 @@ pub fn try_at(
     );
     let luma_need = need_of_values(&luma[..lumas]);
     let colour_need = need_of_values(&colour[..colours]);
-    let fits = do_fit(bytes, luma_need, colour_need);
     Trying {
         luma: lumas,
         colour: colours,
         luma_need,
         colour_need,
-        fits,
+        fits: do_fit(bytes, luma_need, colour_need),
     }
+}
+
+// Tries one index: its restored values are kept, and its values listed and counted.
+pub fn try_at(
+    layout: &Layout,
+    shape: &PictureShape,
+    matrix: &Matrix,
+    sx: u32,
+    sy: u32,
+    index: u32,
+    bytes: u32,
+    coefficients: &Trio,
+    gathered: &GatheredSlice,
+    kept: &mut ThreePlanes,
+    luma: &mut [i64],
+    colour: &mut [i64],
+) -> Trying
+    requires index { index ≤ 127 }
+    requires some { 1 ≤ bytes }
+    requires most { bytes ≤ 2 ^ 28 }
+    requires ready { AreReady (coded_picture layout.now shape.now matrix.now coefficients.now) sx sy kept.old }
+    requires gathered { AreAllGathered (coded_picture layout.now shape.now matrix.now coefficients.now) sx sy gathered.now }
+    requires room { HasRoom (coded_picture layout.now shape.now matrix.now coefficients.now) sx sy (length luma.old) (length colour.old) }
+    ensures holds { Holds (tried_lists (coded_picture layout.now shape.now matrix.now coefficients.now) kept.old sx sy index) bytes result luma.new colour.new }
+    ensures kept { AreTried (coded_picture layout.now shape.now matrix.now coefficients.now) sx sy index kept.old kept.new }
+{
+    restore_lowest(layout, shape, matrix, sx, sy, index, coefficients, kept);
+    list_and_count(
+        layout,
+        shape,
+        matrix,
+        sx,
+        sy,
+        index,
+        bytes,
+        coefficients,
+        gathered,
+        kept,
+        luma,
+        colour,
+    )
 }
 
 // Tries the indices from the first candidate on, and keeps the trial of the first that fits.

@@ -11,4 +11,5 @@ pub record Frame : Type 0 where
   pub colour_depth : ℕ
 
 abbrev pub frame_of : PictureShape → Frame
-frame_of shape = record { luma = shape.luma; colour = shape.colour; luma_depth = shape.luma_depth; colour_depth = shape.colour_depth }
+frame_of shape =
+    record { luma = shape.luma; colour = shape.colour; luma_depth = shape.luma_depth; colour_depth = shape.colour_depth }

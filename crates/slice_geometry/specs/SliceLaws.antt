@@ -24,4 +24,5 @@ EachPlaceIsHeld = (s : Slicing) (band : Size) (y x : ℕ) → AreSlicesAllowed s
 
 -- and in no other's
 abbrev pub NoPlaceIsShared : Type 0
-NoPlaceIsShared = (s : Slicing) (band : Size) (y x sx sy : ℕ) → AreSlicesAllowed s → IsInRect (slice_rect s band sx sy) y x → (sx ≡ holding s.slices_x band.w x) × (sy ≡ holding s.slices_y band.h y)
+NoPlaceIsShared = (s : Slicing) (band : Size) (y x sx sy : ℕ) → AreSlicesAllowed s
+    → IsInRect (slice_rect s band sx sy) y x → (sx ≡ holding s.slices_x band.w x) × (sy ≡ holding s.slices_y band.h y)

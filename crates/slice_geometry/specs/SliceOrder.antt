@@ -30,7 +30,8 @@ place_count s size sx sy = places_to s size sx sy s.depth
 -- how many come before those of a band
 abbrev pub places_before : Slicing → Size → ℕ → ℕ → ℕ → ℕ → ℕ
 places_before s size sx sy zero orient = 0
-places_before s size sx sy (suc level) orient = places_to s size sx sy level + (orient - 1) * area (level_rect s size sx sy (suc level))
+places_before s size sx sy (suc level) orient =
+    places_to s size sx sy level + (orient - 1) * area (level_rect s size sx sy (suc level))
 
 -- the number of a place in a rectangle, row by row
 abbrev pub number_in : Rect → ℕ → ℕ → ℕ
@@ -38,7 +39,8 @@ number_in r y x = (y - r.y0) * (r.x1 - r.x0) + (x - r.x0)
 
 -- the number of a place among all of the slice's in its component
 abbrev pub place_number : Slicing → Size → ℕ → ℕ → ℕ → ℕ → ℕ → ℕ → ℕ
-place_number s size sx sy level orient y x = places_before s size sx sy level orient + number_in (level_rect s size sx sy level) y x
+place_number s size sx sy level orient y x =
+    places_before s size sx sy level orient + number_in (level_rect s size sx sy level) y x
 
 -- ---- bands by their numbers in this order, from 0 on
 

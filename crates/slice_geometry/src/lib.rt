@@ -4,8 +4,8 @@
 ghost use Rattle.std.specs.Prelude.{◌≡◌, ◌≤◌, ◌^◌};
 ghost use Rattle.slice_geometry.specs.Shape.{IsSize, IsDepth};
 ghost use Rattle.slice_geometry.specs.Slicing as slicing;
-ghost use Rattle.slice_geometry.specs.SliceLaws.{SharesSumToTheWhole, EachShareIsAtLeastOne, EachPlaceIsHeld, NoPlaceIsShared};
 
+pub mod laws;
 mod slice_layout;
 mod unit_list;
 
@@ -58,15 +58,3 @@ pub fn length_bits(bytes: u32) -> u32
 {
     intlog2(8 * bytes - 7)
 }
-
-/// A law: the bytes of the slices sum to the whole, and each slice has at least one.
-pub fn shares_sum_to_the_whole()
-    ensures whole { SharesSumToTheWhole }
-    ensures some { EachShareIsAtLeastOne }
-{}
-
-/// A law: each place of a subband lies in the rectangle of exactly one slice.
-pub fn each_place_lies_in_one_slice()
-    ensures held { EachPlaceIsHeld }
-    ensures alone { NoPlaceIsShared }
-{}

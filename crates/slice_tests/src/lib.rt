@@ -7,6 +7,10 @@ mod block_writing;
 #[cfg(test)]
 mod blocks;
 #[cfg(test)]
+mod narrow_prediction;
+#[cfg(test)]
+mod narrow_slices;
+#[cfg(test)]
 mod planes_and_bands;
 #[cfg(test)]
 mod prediction;

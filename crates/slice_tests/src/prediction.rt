@@ -1,11 +1,11 @@
 //! The lowest subband restored, whole and by slices.
 
-ghost use Rattle.std.specs.Prelude.{◌≡◌, ℕ, ◌^◌, true, pos, slice_index_or, IfOk};
+ghost use Rattle.std.specs.Prelude.{◌≡◌, ℕ, ◌^◌, ◌<◌, true, pos, slice_index_or, IfOk};
 ghost use Rattle.planes.specs.Numbers.{Within};
-ghost use Rattle.planes.specs.Raster.{height};
+ghost use Rattle.planes.specs.Raster.{height, at};
 ghost use Rattle.dc_prediction.specs.Restoring.{CanRestore};
 
-use dc_prediction::restore_rect;
+use dc_prediction::{predict, restore_rect};
 use planes::{NoMemory, Plane, Rect};
 use std::alloc::Global;
 use std::process::Abort;
@@ -16,17 +16,20 @@ const RESIDUALS: [[i64; 4]; 3] = [[-3, 1, -4, 2], [5, -2, 0, -7], [-1, -1, 8, -6
 
 const VALUES: [[i64; 4]; 3] = [[-3, -2, -6, -4], [2, -3, -4, -12], [1, -1, 5, -10]];
 
+/// The predictions over the values.
+const PREDICTIONS: [[i64; 4]; 3] = [[0, -3, -2, -6], [-3, -1, -4, -5], [2, 0, -3, -4]];
+
 const fn rect(x0: u32, x1: u32, y0: u32, y1: u32) -> Rect {
     Rect { x0, x1, y0, y1 }
 }
 
-fn residuals(alloc: Global) -> Result<Plane, NoMemory>
+fn plane_of(alloc: Global, rows: &[[i64; 4]; 3]) -> Result<Plane, NoMemory>
     ensures width { IfOk result (λ p. p.w ≡ 4) }
     ensures height { IfOk result (λ p. height p ≡ 3) }
 {
     let mut plane = Plane::new(alloc, 4, 3)?;
     for y in 0..3u32 {
-        plane.row_mut(y).copy_from_slice(&RESIDUALS[y as usize]);
+        plane.row_mut(y).copy_from_slice(&rows[y as usize]);
     }
     Ok(plane)
 }
@@ -43,16 +46,27 @@ fn are_small(row: &[i64]) -> bool
     true
 }
 
-// Whether a plane of small values can be restored there.
-fn can_restore(plane: &Plane, rect: Rect) -> bool
-    ensures { result ≡ true → CanRestore rect plane.now }
+// Whether all values of a plane are so.
+fn is_small(plane: &Plane) -> bool
+    ensures { result ≡ true → (y x : ℕ) → y < height plane.now → Within (2 ^ 36) (at plane.now y x) }
 {
     for y in 0..plane.h() {
         if !are_small(plane.row(y)) {
             return false;
         }
     }
-    rect.x1 <= plane.w() && rect.y1 <= plane.h() && plane.w() <= 8192 && plane.h() <= 8192
+    true
+}
+
+// Whether a plane of small values can be restored there.
+fn can_restore(plane: &Plane, rect: Rect) -> bool
+    ensures { result ≡ true → CanRestore rect plane.now }
+{
+    is_small(plane)
+        && rect.x1 <= plane.w()
+        && rect.y1 <= plane.h()
+        && plane.w() <= 8192
+        && plane.h() <= 8192
 }
 
 /// Restores the rectangles in turn.
@@ -86,9 +100,32 @@ fn bands_restored(rt: HostRuntime) -> Result<(), Fail> {
         ],
     ];
     for rects in partitions {
-        let mut plane = residuals(rt.alloc())?;
+        let mut plane = plane_of(rt.alloc(), &RESIDUALS)?;
         restore_all(&rt, &mut plane, rects);
         assert_values(&rt, &plane);
+    }
+    Ok(())
+}
+
+/// Asserts the predictions of a row.
+fn assert_predictions(rt: &impl Abort, plane: &Plane, y: u32)
+    requires width { plane.now.w ≡ 4 }
+    requires height { height plane.now ≡ 3 }
+    requires row { y < 3 }
+    requires small { (j i : ℕ) → j < height plane.now → Within (2 ^ 36) (at plane.now j i) }
+{
+    for x in 0..4u32 {
+        assert_eq!(rt; predict(plane, y, x), PREDICTIONS[y as usize][x as usize]);
+    }
+}
+
+/// Each value is its residual on its prediction.
+#[test]
+fn worked_predictions(rt: HostRuntime) -> Result<(), Fail> {
+    let plane = plane_of(rt.alloc(), &VALUES)?;
+    assert!(&rt; is_small(&plane));
+    for y in 0..3u32 {
+        assert_predictions(&rt, &plane, y);
     }
     Ok(())
 }

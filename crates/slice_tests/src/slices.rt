@@ -16,7 +16,7 @@ use std::test::Fail;
 
 const ONE: Size = Size { w: 1, h: 1 };
 
-fn layout(rt: &impl Abort, depth: u32, across: u32, a: u32) -> Layout {
+pub fn layout(rt: &impl Abort, depth: u32, across: u32, a: u32) -> Layout {
     let layout = Layout::check(depth, across, 1, a, 1)
         .ok()
         .expect(rt, "a layout");
@@ -43,7 +43,7 @@ fn zeros(alloc: Global, layout: &Layout, shape: &PictureShape) -> Result<Trio, N
     Ok(Trio { luma, c1, c2 })
 }
 
-fn shape(size: Size) -> PictureShape
+pub fn shape(size: Size) -> PictureShape
     requires { IsSize size.w size.h }
     ensures luma { result.luma ≡ size }
     ensures colour { result.colour ≡ size }
@@ -150,19 +150,20 @@ fn assert_head(
     assert_eq!(rt; decode_first(rt, layout, shape, bytes, bands), Ok(head));
 }
 
-/// Asserts the values of luma and of C1 in the four bands of one level.
+/// Asserts the values of luma in the four bands of one level, and zeros in both colour components.
 fn assert_one_level(rt: &impl Abort, bands: &Trio) {
-    for (level, orient, luma, c1) in [
-        (1, Orient::Hl, 3, 0),
-        (1, Orient::Lh, -5, 0),
-        (1, Orient::Hh, 2, 0),
-        (0, Orient::Ll, 21, 0),
+    for (level, orient, luma) in [
+        (1, Orient::Hl, 3),
+        (1, Orient::Lh, -5),
+        (1, Orient::Hh, 2),
+        (0, Orient::Ll, 21),
     ] {
-        let values = (
+        let values = [
             value(rt, &bands.luma, level, orient),
             value(rt, &bands.c1, level, orient),
-        );
-        assert_eq!(rt; values, (luma, c1));
+            value(rt, &bands.c2, level, orient),
+        ];
+        assert_eq!(rt; values, [luma, 0, 0]);
     }
 }
 

@@ -19,4 +19,6 @@ mod smallest;
 #[cfg(test)]
 mod sources;
 #[cfg(test)]
+mod std_streams;
+#[cfg(test)]
 mod writing;

@@ -14,10 +14,10 @@ use Rattle.parse_info.specs.Head.{head_rows, info_at, is_short}
 use Rattle.parse_info.proofs.Told.{Reader, told, read-told}
 use Rattle.unit_table.specs.Grammar.{bytes_at}
 use Rattle.unit_table.proofs.GrammarLaws.{IsGrammar}
-use Rattle.stream_units.specs.declared.reason.Reason.{Reason}
-use Rattle.stream_units.specs.declared.reason.Reason.TheVariants as reasons
-use Rattle.stream_units.specs.declared.reason.Refusal.{Refusal}
-use Rattle.stream_units.specs.Units.{reason_of}
+use Rattle.stream_rows.specs.declared.reason.Reason.{Reason}
+use Rattle.stream_rows.specs.declared.reason.Reason.TheVariants as reasons
+use Rattle.stream_rows.specs.declared.reason.Refusal.{Refusal}
+use Rattle.stream_rows.specs.Units.{reason_of}
 use Rattle.stream_units.specs.HeadUnits.{leads_on, head_alone, payload_alone, unit_alone, heads}
 use Rattle.stream_units.specs.Heads.{passes, alone_rules, judged_alone, HeadAt}
 use Rattle.stream_units.proofs.HeadRows.{thirteen, Tells, tells_judged, tells_fault, tells_head}

@@ -7,11 +7,11 @@ use Rattle.unit_table.specs.Begun.{Begun, Needs}
 use Rattle.unit_table.proofs.Begins.{begun_more, begun_held, got_back}
 use Rattle.unit_table.proofs.Fields.{needs_row, moves_blind, short_row}
 use Rattle.stream_units.specs.declared.window.Halt.{Halt}
-use Rattle.stream_units.specs.declared.reason.Reason.TheVariants as reasons
+use Rattle.stream_rows.specs.declared.reason.Reason.TheVariants as reasons
 use Rattle.stream_units.specs.declared.stop.ReadStop.{ReadStop}
 use Rattle.stream_units.specs.declared.stop.ReadStop.TheVariants as stops
 use Rattle.stream_units.specs.Asking.{WindowSeen, Dropped}
-use Rattle.stream_units.specs.Streams.{limit}
+use Rattle.stream_rows.specs.Streams.{limit}
 use Rattle.stream_units.specs.Stops.{stop_of, StopsOver, LimitStops}
 use Rattle.stream_units.specs.HeadUnits.{heads, head_alone, payload_alone, payload_length, unit_alone, AloneOver}
 use Rattle.stream_units.specs.HeadReader.{HeadReaderState}

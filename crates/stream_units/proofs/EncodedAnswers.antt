@@ -10,12 +10,12 @@ use Rattle.unit_table.specs.Grammar.{Inner, ends_by, bytes_at}
 use Rattle.unit_table.specs.Begun.{Moves}
 use Rattle.unit_table.specs.Fronts.{Stands, Finishes, front_of, front_within, Between, Command, step_by}
 use Rattle.unit_table.proofs.FrontLaws.{front_before, step-stands}
-use Rattle.stream_units.specs.declared.reason.Reason.{Reason}
-use Rattle.stream_units.specs.Units.{Past, nothing_yet, DataUnit, End, unit_behind, body_rows, after, units}
-use Rattle.stream_units.specs.Streams.{Entry, limit, past_limit}
-use Rattle.stream_units.proofs.Steady.{units_laws}
-use Rattle.stream_units.proofs.StreamLaws.{stands_front}
-use Rattle.stream_units.proofs.Answering.{machine, laws_of, last-front}
+use Rattle.stream_rows.specs.declared.reason.Reason.{Reason}
+use Rattle.stream_rows.specs.Units.{Past, nothing_yet, DataUnit, End, unit_behind, body_rows, after, units}
+use Rattle.stream_rows.specs.Streams.{Entry, limit, past_limit}
+use Rattle.stream_rows.proofs.Steady.{units_laws}
+use Rattle.stream_rows.proofs.StreamLaws.{stands_front}
+use Rattle.stream_rows.proofs.Answering.{machine, laws_of, last-front}
 use Rattle.stream_units.proofs.EncodedStreams.{stands, end_stands}
 
 unit_front : (z : Past) (unit : DataUnit) (bytes more : List ℕ) → Moves units (body_rows z) z.place bytes (done unit) → unit_behind unit ≡ Inner → z.place + length (bytes ++ more) ≤ limit → front_within limit past_limit units z (bytes ++ more) ≡ Stands (length bytes) unit

@@ -25,12 +25,12 @@ use Rattle.transform_params.proofs.WrittenBack.{written_back}
 use Rattle.unit_table.specs.Grammar.{bytes_at}
 use Rattle.unit_table.specs.Begun.{Moves}
 use Rattle.unit_table.proofs.Fields.{moves_row}
-use Rattle.stream_units.specs.declared.reason.Reason.{Reason}
-use Rattle.stream_units.specs.declared.reason.Reason.TheVariants as reasons
-use Rattle.stream_units.specs.Units.{Past, DataUnit, Sequence, reason_of, transform_reason, code_rules, next_rules, unit_head, next_checked, first_payload, slice_rows, slice_rules, share, units}
+use Rattle.stream_rows.specs.declared.reason.Reason.{Reason}
+use Rattle.stream_rows.specs.declared.reason.Reason.TheVariants as reasons
+use Rattle.stream_rows.specs.Units.{Past, DataUnit, Sequence, reason_of, transform_reason, code_rules, next_rules, unit_head, next_checked, first_payload, slice_rows, slice_rules, share, units}
 use Rattle.stream_units.specs.Heads.{leads_behind}
-use Rattle.stream_units.proofs.Groups.{group_moves}
-use Rattle.stream_units.proofs.UnitGroups.{params_group}
+use Rattle.stream_rows.proofs.Groups.{group_moves}
+use Rattle.stream_rows.proofs.UnitGroups.{params_group}
 use Rattle.stream_units.proofs.HeadRows.{payload_is, read-checked_unit}
 use Rattle.stream_units.specs.Encoded.{AreSlices}
 use Rattle.stream_units.proofs.EncodedPieces.{moves_then, moves_none, moves_word, moves_bytes, moves_code}

@@ -11,7 +11,7 @@ use Rattle.transform_params.specs.Fields.{IsLawful}
 use Rattle.picture_codec.specs.Samples.{PictureSamples, HaveShape}
 use Rattle.picture_codec.specs.Encoding.{coded_from, slices_of, IsSteepFor}
 use Rattle.picture_codec.proofs.CodedBands.{coded_is_given}
-use Rattle.stream_units.specs.Streams.{frame_under}
+use Rattle.stream_rows.specs.Streams.{frame_under}
 use Rattle.stream_units.specs.Encoded.{IsSliced}
 use Rattle.stream_units.specs.EncodedPictures.{PicturesAreAStream}
 use Rattle.stream_units.proofs.SameShapes.{frame_is}

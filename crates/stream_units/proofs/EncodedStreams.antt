@@ -26,9 +26,10 @@ use Rattle.transform_params.specs.Fields as written_params
 use Rattle.transform_params.specs.Fields.{bit_length, unit_length, params_bytes, IsLawful}
 use Rattle.unit_table.specs.Grammar.{Inner, ends_by, tail_rows, bytes_at}
 use Rattle.unit_table.specs.Begun.{Moves}
-use Rattle.stream_units.specs.declared.reason.Reason.TheVariants as reasons
-use Rattle.stream_units.specs.Units.{First, Past, nothing_yet, DataUnit, Sequence, Repeated, Picture, Skipped, End, unit_behind, reason_of, code_rules, number_rules, body_rows, unit_rows, after, units}
-use Rattle.stream_units.specs.Streams.{bytes_between, Entry, Units, IsStreamFrom, limit, frame_under, pictures_of}
+use Rattle.stream_rows.specs.declared.reason.Reason.TheVariants as reasons
+use Rattle.stream_rows.specs.Units.{First, Past, nothing_yet, DataUnit, Sequence, Repeated, Picture, Skipped, End, unit_behind, reason_of, code_rules, number_rules, body_rows, unit_rows, after, units}
+use Rattle.stream_rows.specs.Streams.{bytes_between, Entry, Units, IsStreamFrom, limit, frame_under}
+use Rattle.stream_units.specs.StreamPictures.{pictures_of}
 use Rattle.picture_codec.specs.Samples.{picture_of}
 use Rattle.picture_codec.specs.Encoding.{picture_bytes}
 use Rattle.stream_units.specs.Encoded.{header_unit, picture_unit, end_unit, number_after, units_behind, Settings, encoded, pictures_under, units_of, AreSlices, IsSliced, AreLawful, IsStreamOf}

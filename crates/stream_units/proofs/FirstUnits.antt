@@ -10,13 +10,13 @@ use Rattle.sequence_header.specs.declared.parts.HeaderParts.{HeaderParts}
 use Rattle.unit_table.specs.Grammar.{bytes_at}
 use Rattle.unit_table.specs.Fronts.{Stands, Refuses, front_by, front_of}
 use Rattle.unit_table.proofs.GrammarLaws.{bytes_at-append}
-use Rattle.stream_units.specs.declared.reason.Reason.{Reason}
-use Rattle.stream_units.specs.declared.reason.Reason.TheVariants as reasons
-use Rattle.stream_units.specs.declared.reason.Refusal.{Refusal}
-use Rattle.stream_units.specs.Streams.{refusal_of}
-use Rattle.stream_units.specs.Units.{nothing_yet, Sequence, reason_of, body_rows, units}
+use Rattle.stream_rows.specs.declared.reason.Reason.{Reason}
+use Rattle.stream_rows.specs.declared.reason.Reason.TheVariants as reasons
+use Rattle.stream_rows.specs.declared.reason.Refusal.{Refusal}
+use Rattle.stream_rows.specs.Streams.{refusal_of}
+use Rattle.stream_rows.specs.Units.{nothing_yet, Sequence, reason_of, body_rows, units}
 use Rattle.stream_units.specs.Heads.{IsFirstUnit}
-use Rattle.stream_units.proofs.Steady.{body_steady}
+use Rattle.stream_rows.proofs.Steady.{body_steady}
 use Rattle.stream_units.proofs.Before.{read-before}
 
 -- it stands in front

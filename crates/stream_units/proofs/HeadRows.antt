@@ -20,13 +20,13 @@ use Rattle.sequence_header.specs.Header.{header_rows}
 use Rattle.sequence_header.specs.Header as header
 use Rattle.sequence_header.proofs.Movable.{header_movable}
 use Rattle.unit_table.specs.Grammar.{bytes_at, unit_at}
-use Rattle.stream_units.specs.declared.reason.Reason.{Reason}
-use Rattle.stream_units.specs.declared.reason.Reason.TheVariants as reasons
-use Rattle.stream_units.specs.declared.reason.Refusal.{Refusal}
-use Rattle.stream_units.specs.Streams.{refusal_of}
-use Rattle.stream_units.specs.Units.{First, Past, nothing_yet, DataUnit, Sequence, reason_of, header_reason, is_header, is_end_code, has_fields, code_rules, next_rules, unit_head, next_checked, first_payload, payload_rows, body_rows, units}
+use Rattle.stream_rows.specs.declared.reason.Reason.{Reason}
+use Rattle.stream_rows.specs.declared.reason.Reason.TheVariants as reasons
+use Rattle.stream_rows.specs.declared.reason.Refusal.{Refusal}
+use Rattle.stream_rows.specs.Streams.{refusal_of}
+use Rattle.stream_rows.specs.Units.{First, Past, nothing_yet, DataUnit, Sequence, reason_of, header_reason, is_header, is_end_code, has_fields, code_rules, next_rules, unit_head, next_checked, first_payload, payload_rows, body_rows, units}
 use Rattle.stream_units.specs.Heads.{coding_of, looking_back, are_fields, passes, code_rules_behind, previous_rules_behind, judged_head, leads_behind, HeadAt, IsFirstUnit}
-use Rattle.stream_units.proofs.Whole.{header_names}
+use Rattle.stream_rows.proofs.Whole.{header_names}
 
 -- ---- a head
 

@@ -13,10 +13,10 @@ use Rattle.unit_table.specs.Begun.{Begun}
 use Rattle.unit_table.proofs.Begins.{begun_use}
 use Rattle.unit_table.proofs.Fields.{moves_group}
 use Rattle.unit_table.proofs.GrammarLaws.{bytes_at-append}
-use Rattle.stream_units.specs.declared.reason.Reason.{Reason}
-use Rattle.stream_units.specs.declared.reason.Refusal.{Refusal}
-use Rattle.stream_units.specs.Units.{reason_of, is_truncated}
-use Rattle.stream_units.specs.Streams.{refusal_of}
+use Rattle.stream_rows.specs.declared.reason.Reason.{Reason}
+use Rattle.stream_rows.specs.declared.reason.Refusal.{Refusal}
+use Rattle.stream_rows.specs.Units.{reason_of, is_truncated}
+use Rattle.stream_rows.specs.Streams.{refusal_of}
 use Rattle.stream_units.specs.Heads.{HeadAt}
 use Rattle.stream_units.proofs.Stopping.{IsTable, truncated, not_truncated}
 

@@ -10,18 +10,18 @@ use Rattle.sequence_header.specs.declared.parts.HeaderParts.{HeaderParts}
 use Rattle.sequence_header.specs.declared.parts.HeaderReason.{HeaderReason}
 use Rattle.sequence_header.specs.Header.{header_rows}
 use Rattle.sequence_header.specs.Header as header
-use Rattle.stream_units.specs.declared.reason.Reason.{Reason}
-use Rattle.stream_units.specs.declared.reason.Reason.TheVariants as reasons
+use Rattle.stream_rows.specs.declared.reason.Reason.{Reason}
+use Rattle.stream_rows.specs.declared.reason.Reason.TheVariants as reasons
 use Rattle.stream_units.specs.declared.stop.ReadStop.{ReadStop}
 use Rattle.stream_units.specs.declared.stop.ReadStop.TheVariants as stops
-use Rattle.stream_units.specs.Units.{is_truncated, Past, First, DataUnit, Sequence, reason_of, header_reason, next_checked, first_payload, units}
-use Rattle.stream_units.specs.Streams.{limit}
+use Rattle.stream_rows.specs.Units.{is_truncated, Past, First, DataUnit, Sequence, reason_of, header_reason, next_checked, first_payload, units}
+use Rattle.stream_rows.specs.Streams.{limit}
 use Rattle.stream_units.specs.Turns.{Takes, IsFirst, ReadsHeader}
 use Rattle.stream_units.specs.Stops.{StopsOver}
 use Rattle.stream_units.specs.Heads.{leads_behind}
-use Rattle.stream_units.proofs.Steady.{units_laws}
-use Rattle.stream_units.proofs.Groups.{group_moves, group_refused}
-use Rattle.stream_units.proofs.UnitGroups.{header_group}
+use Rattle.stream_rows.proofs.Steady.{units_laws}
+use Rattle.stream_rows.proofs.Groups.{group_moves, group_refused}
+use Rattle.stream_rows.proofs.UnitGroups.{header_group}
 use Rattle.stream_units.proofs.PartTurns.{checked_refused, checked_takes_gone}
 use Rattle.stream_units.proofs.Stopping.{units_table, stops_refused, stops_due, not_truncated}
 

@@ -11,11 +11,11 @@ use Rattle.unit_table.specs.Begun.{Begun}
 use Rattle.unit_table.proofs.Begins.{begun_same}
 use Rattle.stream_units.specs.declared.stop.ReadStop.{ReadStop}
 use Rattle.stream_units.specs.declared.stop.ReadStop.TheVariants as stops
-use Rattle.stream_units.specs.declared.reason.Refusal.{Refusal}
+use Rattle.stream_rows.specs.declared.reason.Refusal.{Refusal}
 use Rattle.stream_units.specs.declared.stop.Item.{Item}
 use Rattle.stream_units.specs.declared.parts.Found.{Found}
 use Rattle.stream_units.specs.declared.parts.Found.TheVariants as founds
-use Rattle.stream_units.specs.Units.{Past, DataUnit, Sequence, Repeated, Picture, Skipped, End, units}
+use Rattle.stream_rows.specs.Units.{Past, DataUnit, Sequence, Repeated, Picture, Skipped, End, units}
 use Rattle.stream_units.specs.Turns.{IsFound, is_end_found, shape_of}
 use Rattle.stream_units.specs.Reader.{ReaderState, item_of, IsDecoderOf, GreatestOver}
 use Rattle.stream_units.specs.ReaderInside.{Keeps}

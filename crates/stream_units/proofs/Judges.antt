@@ -16,14 +16,14 @@ use Rattle.stream_units.specs.declared.stop.ReadStop.{ReadStop}
 use Rattle.stream_units.specs.declared.stop.ReadStop.TheVariants as stops
 use Rattle.stream_units.specs.declared.judging.Verdict.{Verdict}
 use Rattle.stream_units.specs.declared.judging.Verdict.TheVariants as verdicts
-use Rattle.stream_units.specs.Units.{Past, nothing_yet, units}
-use Rattle.stream_units.specs.Streams.{limit, past_limit, refusal_of, HasOneAnswer}
+use Rattle.stream_rows.specs.Units.{Past, nothing_yet, units}
+use Rattle.stream_rows.specs.Streams.{limit, past_limit, refusal_of, HasOneAnswer}
 use Rattle.stream_units.specs.Stops.{LimitStops}
 use Rattle.stream_units.specs.Reader.{ReaderState, new_reader, is_end_item, TakesItem, TakesEnd, NextOver}
 use Rattle.stream_units.specs.Judging.{IsVerdict, IsStopped, judging}
-use Rattle.stream_units.proofs.Steady.{units_laws}
-use Rattle.stream_units.proofs.OneAnswer.{one_answer}
-use Rattle.stream_units.proofs.Answering.{machine, IsPlain, answer_stream, answer_refusal, after-place}
+use Rattle.stream_rows.proofs.Steady.{units_laws}
+use Rattle.stream_rows.proofs.OneAnswer.{one_answer}
+use Rattle.stream_rows.proofs.Answering.{machine, IsPlain, answer_stream, answer_refusal, after-place}
 
 abbrev pub judge_machine : Machine (Between Past Unit) Verdict
 judge_machine = machine judging

@@ -1,13 +1,4 @@
-pub mod Steady
-pub mod Whole
-pub mod OneAnswer
-pub mod StreamLaws
-pub mod Answering
-pub mod WorkedStreams
 pub mod Gets
-pub mod Exact
-pub mod Groups
-pub mod UnitGroups
 pub mod Stopping
 pub mod HeadRows
 pub mod HeadTurns
@@ -38,7 +29,3 @@ pub mod Refills
 pub mod HeldTurns
 pub mod HeldCalls
 pub mod WorkedHeld
-pub mod Longest
-pub mod LongestHeader
-pub mod LongestParams
-pub mod FrontIs

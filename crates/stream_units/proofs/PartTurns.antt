@@ -12,16 +12,16 @@ use Rattle.unit_table.specs.Begun.{Begun, Needs, Moves, Got}
 use Rattle.unit_table.proofs.Begins.{begun_more, begun_held, begun_use, begun_use-gone, got_back}
 use Rattle.unit_table.proofs.Fields.{needs_row, moves_row, moves_blind, short_row, broken_row, all_fit}
 use Rattle.stream_units.specs.declared.window.Halt.{Halt}
-use Rattle.stream_units.specs.declared.reason.Reason.TheVariants as reasons
+use Rattle.stream_rows.specs.declared.reason.Reason.TheVariants as reasons
 use Rattle.stream_units.specs.declared.stop.ReadStop.{ReadStop}
 use Rattle.stream_units.specs.declared.stop.ReadStop.TheVariants as stops
 use Rattle.stream_units.specs.Asking.{WindowSeen, Dropped}
-use Rattle.stream_units.specs.Units.{Past, First, DataUnit, Repeated, Skipped, reason_of, next_checked, repeated_payload, skipped_payload, units}
-use Rattle.stream_units.specs.Streams.{limit}
+use Rattle.stream_rows.specs.Units.{Past, First, DataUnit, Repeated, Skipped, reason_of, next_checked, repeated_payload, skipped_payload, units}
+use Rattle.stream_rows.specs.Streams.{limit}
 use Rattle.stream_units.specs.Turns.{Takes}
 use Rattle.stream_units.specs.Stops.{stop_of, StopsOver}
 use Rattle.stream_units.specs.Heads.{leads_behind}
-use Rattle.stream_units.proofs.Steady.{units_laws}
+use Rattle.stream_rows.proofs.Steady.{units_laws}
 use Rattle.stream_units.proofs.HeadRows.{read-checked_unit}
 use Rattle.stream_units.proofs.Stopping.{units_table, stops_lost, stops_short, stops_refused}
 

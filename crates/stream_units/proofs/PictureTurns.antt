@@ -35,23 +35,23 @@ use Rattle.unit_table.specs.Grammar.{bytes_at}
 use Rattle.unit_table.specs.Begun.{Begun, Needs, Moves, Got}
 use Rattle.unit_table.proofs.Begins.{begun_held, begun_use, begun_same}
 use Rattle.unit_table.proofs.Fields.{needs_row, moves_row, short_row, broken_row, all_fit}
-use Rattle.stream_units.specs.declared.reason.Reason.{Reason}
-use Rattle.stream_units.specs.declared.reason.Reason.TheVariants as reasons
+use Rattle.stream_rows.specs.declared.reason.Reason.{Reason}
+use Rattle.stream_rows.specs.declared.reason.Reason.TheVariants as reasons
 use Rattle.stream_units.specs.declared.stop.ReadStop.{ReadStop}
 use Rattle.stream_units.specs.declared.stop.ReadStop.TheVariants as stops
 use Rattle.stream_units.specs.declared.window.Halt.{Halt}
-use Rattle.stream_units.specs.Units.{is_truncated, Past, DataUnit, units, reason_of, transform_reason, has_fields, number_rules, share, slice_rules, slice_rows, next_checked, picture_payload, Picture}
-use Rattle.stream_units.specs.Streams.{limit, frame_under}
+use Rattle.stream_rows.specs.Units.{is_truncated, Past, DataUnit, units, reason_of, transform_reason, has_fields, number_rules, share, slice_rules, slice_rows, next_checked, picture_payload, Picture}
+use Rattle.stream_rows.specs.Streams.{limit, frame_under}
 use Rattle.stream_units.specs.Heads.{leads_behind}
 use Rattle.stream_units.specs.declared.pictures.Shown.{Shown}
 use Rattle.stream_units.specs.Turns.{Takes, IsShown, Shows}
 use Rattle.stream_units.specs.Stops.{stop_of, StopsOver}
 use Rattle.stream_units.specs.Parts.{IsReady, TookSlices, slice_reason}
 use Rattle.stream_units.proofs.SameShapes.{frame_is}
-use Rattle.stream_units.proofs.Steady.{units_laws}
+use Rattle.stream_rows.proofs.Steady.{units_laws}
 use Rattle.stream_units.proofs.Stopping.{units_table, stops_lost, stops_short, stops_refused}
-use Rattle.stream_units.proofs.Groups.{group_moves, group_refused}
-use Rattle.stream_units.proofs.UnitGroups.{params_group}
+use Rattle.stream_rows.proofs.Groups.{group_moves, group_refused}
+use Rattle.stream_rows.proofs.UnitGroups.{params_group}
 use Rattle.bit_codes.proofs.Numbers.{bits_of-append}
 
 -- ---- a field of so many bytes

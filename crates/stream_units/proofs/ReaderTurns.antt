@@ -17,11 +17,11 @@ use Rattle.stream_units.specs.declared.pictures.Shown.{Shown}
 use Rattle.stream_units.specs.declared.parts.Found.{Found}
 use Rattle.stream_units.specs.declared.parts.Found.TheVariants as founds
 use Rattle.stream_units.specs.Asking.{WindowSeen}
-use Rattle.stream_units.specs.Units.{Past, DataUnit, Sequence, Repeated, Picture, Skipped, End, unit_behind, units}
-use Rattle.stream_units.specs.Streams.{limit, past_limit}
+use Rattle.stream_rows.specs.Units.{Past, DataUnit, Sequence, Repeated, Picture, Skipped, End, unit_behind, units}
+use Rattle.stream_rows.specs.Streams.{limit, past_limit}
 use Rattle.stream_units.specs.Turns.{IsFound, is_end_found, IsRead, LimitOver, shape_of}
 use Rattle.stream_units.specs.Taking.{TakesSuch, EndsSuch}
-use Rattle.stream_units.specs.declared.reason.Reason.TheVariants as reasons
+use Rattle.stream_rows.specs.declared.reason.Reason.TheVariants as reasons
 use Rattle.stream_units.proofs.Stopping.{units_table}
 use Rattle.stream_units.proofs.Taking.{takes_inner}
 use Rattle.unit_table.specs.Grammar.{Final}

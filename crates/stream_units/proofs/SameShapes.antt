@@ -10,7 +10,7 @@ use Rattle.slice_geometry.specs.Shape.{IsSize, IsDepth}
 use Rattle.slice_geometry.specs.Frames.{Frame, frame_of}
 use Rattle.slice_encoder.specs.Laws.{IsSteepOk}
 use Rattle.picture_codec.specs.Encoding.{IsSteepFor}
-use Rattle.stream_units.specs.Streams.{frame_under}
+use Rattle.stream_rows.specs.Streams.{frame_under}
 use Rattle.stream_units.specs.Encoded.{Settings}
 use Rattle.stream_units.specs.Writer.{IsSteepUnder}
 

@@ -8,17 +8,17 @@ use Rattle.unit_table.specs.Grammar.{Grammar, bytes_at, is_settled_by}
 use Rattle.unit_table.specs.Begun.{Begun, Needs, Lacks, Got, Lost}
 use Rattle.unit_table.proofs.GrammarLaws.{IsGrammar}
 use Rattle.unit_table.proofs.Begins.{begun_lost, begun_none, begun_lacking, begun_short, begun_refused, begun_due, lost_due}
-use Rattle.stream_units.specs.declared.reason.Reason.{Reason}
-use Rattle.stream_units.specs.declared.reason.Reason.TheVariants as reasons
-use Rattle.stream_units.specs.declared.reason.Refusal.{Refusal}
+use Rattle.stream_rows.specs.declared.reason.Reason.{Reason}
+use Rattle.stream_rows.specs.declared.reason.Reason.TheVariants as reasons
+use Rattle.stream_rows.specs.declared.reason.Refusal.{Refusal}
 use Rattle.stream_units.specs.declared.stop.ReadStop.{ReadStop}
 use Rattle.stream_units.specs.declared.stop.ReadStop.TheVariants as stops
 use Rattle.stream_units.specs.declared.window.Halt.{Halt}
 use Rattle.stream_units.specs.declared.window.Halt.TheVariants as halts
-use Rattle.stream_units.specs.Units.{units, reason_of, is_truncated}
-use Rattle.stream_units.specs.Streams.{limit, refusal_of}
+use Rattle.stream_rows.specs.Units.{units, reason_of, is_truncated}
+use Rattle.stream_rows.specs.Streams.{limit, refusal_of}
 use Rattle.stream_units.specs.Stops.{stop_of, StopsOver, StopCause}
-use Rattle.stream_units.proofs.Steady.{units_laws}
+use Rattle.stream_rows.proofs.Steady.{units_laws}
 use Rattle.stream_units.proofs.Gets.{got_nothing}
 
 -- What is asked of a table of units with the reasons of a stream.

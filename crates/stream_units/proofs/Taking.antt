@@ -21,16 +21,16 @@ use Rattle.unit_table.proofs.FrontLaws.{stands_behind}
 use Rattle.unit_table.proofs.Begins.{begun_start, begun_held, begun_few, begun_short, begun_lost, lost_due}
 use Rattle.unit_table.proofs.Fields.{needs_row, needs_last}
 use Rattle.unit_table.proofs.Limited.{taken_within, finishes_within, refuses_within, faults_stays, faults_lost, faults_past, faults_none}
-use Rattle.stream_units.specs.declared.reason.Reason.{Reason}
-use Rattle.stream_units.specs.declared.reason.Reason.TheVariants as reasons
-use Rattle.stream_units.specs.declared.reason.Refusal.{Refusal}
+use Rattle.stream_rows.specs.declared.reason.Reason.{Reason}
+use Rattle.stream_rows.specs.declared.reason.Reason.TheVariants as reasons
+use Rattle.stream_rows.specs.declared.reason.Refusal.{Refusal}
 use Rattle.stream_units.specs.declared.stop.ReadStop.{ReadStop}
 use Rattle.stream_units.specs.declared.stop.ReadStop.TheVariants as stops
 use Rattle.stream_units.specs.declared.window.Halt.{Halt}
 use Rattle.stream_units.specs.declared.window.Halt.TheVariants as halts
 use Rattle.stream_units.specs.Asking.{WindowSeen}
-use Rattle.stream_units.specs.Streams.{limit, past_limit, refusal_of}
-use Rattle.stream_units.specs.Units.{is_truncated}
+use Rattle.stream_rows.specs.Streams.{limit, past_limit, refusal_of}
+use Rattle.stream_rows.specs.Units.{is_truncated}
 use Rattle.stream_units.specs.Stops.{stop_of, Refused, StopsOver, LimitStops, ReadsRows}
 use Rattle.stream_units.specs.Taking.{PastOver, TakesSuch, EndsSuch}
 use Rattle.stream_units.proofs.Stopping.{IsTable}

@@ -5,8 +5,8 @@ use Rattle.unit_table.specs.Begun.{Begun}
 use Rattle.unit_table.proofs.Begins.{begun_start}
 use Rattle.parse_info.specs.declared.ParseInfo.{ParseInfo}
 use Rattle.parse_info.specs.declared.Code.TheVariants.{SequenceHeader, EndOfSequence, Auxiliary, Padding, LowDelayPicture}
-use Rattle.stream_units.specs.declared.reason.Reason.{Reason}
-use Rattle.stream_units.specs.Units.{Past, First, DataUnit, End, unit_head, first_payload, repeated_payload, picture_payload, skipped_payload, payload_rows, payload_of, body_rows, units}
+use Rattle.stream_rows.specs.declared.reason.Reason.{Reason}
+use Rattle.stream_rows.specs.Units.{Past, First, DataUnit, End, unit_head, first_payload, repeated_payload, picture_payload, skipped_payload, payload_rows, payload_of, body_rows, units}
 use Rattle.stream_units.specs.Turns.{Takes}
 
 -- ---- the rows behind a head

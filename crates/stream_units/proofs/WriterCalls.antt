@@ -8,7 +8,7 @@ use Rattle.slice_geometry.specs.Slicing.{slice_count}
 use Rattle.transform_params.specs.Params.{Params}
 use Rattle.transform_params.specs.Fields.{unit_length, IsLawful}
 use Rattle.stream_units.specs.Encoded.{Settings, header_unit, picture_unit, end_unit, number_after, units_behind, encoded, units_of, AreLawful, IsSliced, IsStreamOf}
-use Rattle.stream_units.specs.Streams.{limit}
+use Rattle.stream_rows.specs.Streams.{limit}
 use Rattle.stream_units.specs.Writer.{WriterState, next_place, next_previous, next_number, picture_shape, started, after_picture, texts_from, HaveRoom}
 use Rattle.stream_units.proofs.EncodedUnits.{length-header_unit, length-picture_unit}
 use Rattle.stream_units.proofs.EncodedStreams.{encoded_stream}

@@ -20,7 +20,7 @@ use Rattle.picture_codec.proofs.WrittenPictures as pictures
 use Rattle.picture_codec.proofs.WrittenPasses.{not_too_long, is_small_there}
 use Rattle.picture_codec.proofs.ChosenSlices.{chosen_indices}
 use Rattle.picture_codec.proofs.WrittenChosen.{slice_there, share_is, bytes_there, chosen_are_written}
-use Rattle.stream_units.specs.declared.reason.Reason.TheVariants as reasons
+use Rattle.stream_rows.specs.declared.reason.Reason.TheVariants as reasons
 use Rattle.stream_units.specs.Encoded.{IsSlice, AreSlices, IsSliced}
 use Rattle.stream_units.specs.WrittenSlices.{HaveShares, WrittenAreSliced, ChosenAreSliced}
 

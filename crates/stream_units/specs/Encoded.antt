@@ -12,18 +12,20 @@ use Rattle.slice_geometry.specs.Slicing.{slice_count}
 use Rattle.transform_params.specs.Params.{Params}
 use Rattle.transform_params.specs.Fields.{unit_length, IsLawful}
 use Rattle.picture_codec.specs.Encoding.{picture_bytes}
-use Rattle.stream_units.specs.Units.{DataUnit, Sequence, Picture, End, share, slice_rules}
-use Rattle.stream_units.specs.Streams.{Entry, IsStream}
+use Rattle.stream_rows.specs.Units.{DataUnit, Sequence, Picture, End, share, slice_rules}
+use Rattle.stream_rows.specs.Streams.{Entry, IsStream}
 
 -- ---- units as bytes
 
 -- the first unit: its next offset is its length
 abbrev pub header_unit : HeaderParts → List ℕ
-header_unit parts = head_bytes (record { code = SequenceHeader; next = 13 + header_len parts; previous = 0 }) ++ header_bytes parts
+header_unit parts =
+    head_bytes (record { code = SequenceHeader; next = 13 + header_len parts; previous = 0 }) ++ header_bytes parts
 
 -- the unit of a picture, behind a unit of so many bytes
 abbrev pub picture_unit : Params → ℕ → ℕ → List (List ℕ) → List ℕ
-picture_unit p previous number slices = head_bytes (record { code = LowDelayPicture; next = unit_length p; previous = previous }) ++ picture_bytes p number slices
+picture_unit p previous number slices =
+    head_bytes (record { code = LowDelayPicture; next = unit_length p; previous = previous }) ++ picture_bytes p number slices
 
 -- the last unit
 abbrev pub end_unit : ℕ → List ℕ
@@ -44,7 +46,8 @@ number_after number = (number + 1) % 2 ^ 32
 -- the pictures and the end, behind a unit of so many bytes
 abbrev pub units_behind : Params → ℕ → ℕ → List (List (List ℕ)) → List ℕ
 units_behind p previous number [] = end_unit previous
-units_behind p previous number (slices ∷ pictures) = picture_unit p previous number slices ++ units_behind p (unit_length p) (number_after number) pictures
+units_behind p previous number (slices ∷ pictures) =
+    picture_unit p previous number slices ++ units_behind p (unit_length p) (number_after number) pictures
 
 -- The stream of pictures, each given by the bytes of its slices.
 abbrev pub encoded : Settings → List (List (List ℕ)) → List ℕ
@@ -54,14 +57,16 @@ encoded s pictures = header_unit s.parts ++ units_behind s.params (13 + header_l
 
 abbrev pub pictures_under : HeaderParts → Params → ℕ → List (List (List ℕ)) → List DataUnit
 pictures_under parts p number [] = []
-pictures_under parts p number (slices ∷ pictures) = Picture parts number p slices ∷ pictures_under parts p (number_after number) pictures
+pictures_under parts p number (slices ∷ pictures) =
+    Picture parts number p slices ∷ pictures_under parts p (number_after number) pictures
 
 abbrev pub units_of : Settings → List (List (List ℕ)) → List DataUnit
 units_of s pictures = Sequence s.parts ∷ pictures_under s.parts s.params s.first pictures
 
 -- ---- what has to hold of the settings and the slices
 
--- The bytes of slice n: its share of them, and a reader's rules hold: its luma length fits and no dequantised magnitude is too large.
+-- The bytes of slice n: its share of them, and a reader's rules hold: its luma length fits and no dequantised magnitude
+-- is too large.
 pub record IsSlice (parts : HeaderParts) (p : Params) (n : ℕ) (bytes : List ℕ) : Type 0 where
   pub many : length bytes ≡ share p n
   pub fit : AllByRecursion (λ b. b < 256) bytes

@@ -4,7 +4,7 @@ use Rattle.parse_info.specs.declared.ParseInfo.{ParseInfo}
 use Rattle.unit_table.specs.Turn.{TakesUnit, RestsHere}
 use Rattle.stream_units.specs.declared.stop.ReadStop.{ReadStop}
 use Rattle.stream_units.specs.Asking.{WindowSeen}
-use Rattle.stream_units.specs.Streams.{limit, past_limit}
+use Rattle.stream_rows.specs.Streams.{limit, past_limit}
 use Rattle.stream_units.specs.Stops.{LimitStops}
 use Rattle.stream_units.specs.Taking.{TakesSuch}
 use Rattle.stream_units.specs.HeadUnits.{heads}
@@ -32,14 +32,17 @@ pub record RestsOver (old new : HeadReaderState) (rest0 rest1 : Option (List ℕ
   pub over : (new.held ≡ []) × (new.place ≡ old.place) × (new.stop ≡ None) × (new.ended ≡ true)
 
 -- By how the call came out, of a reader that keeps no stop and whose input isn't over.
-abbrev pub NextHeadOver : HeadReaderState → HeadReaderState → Option (List ℕ) → Option (List ℕ) → Result (Option ParseInfo) ReadStop → Type 0
+abbrev pub NextHeadOver : HeadReaderState → HeadReaderState → Option (List ℕ) → Option (List ℕ)
+    → Result (Option ParseInfo) ReadStop → Type 0
 NextHeadOver old new rest0 rest1 (Ok (Some info)) = TakesHead old new rest0 rest1 info
 NextHeadOver old new rest0 rest1 (Ok None) = RestsOver old new rest0 rest1
-NextHeadOver old new rest0 rest1 (Err stop) = LimitStops heads old.place old.held rest0 rest1 stop × (new.place ≡ old.place) × (new.stop ≡ Some stop) × (new.ended ≡ false)
+NextHeadOver old new rest0 rest1 (Err stop) =
+    LimitStops heads old.place old.held rest0 rest1 stop × (new.place ≡ old.place) × (new.stop ≡ Some stop) × (new.ended ≡ false)
 
 -- the same, of the window alone
 abbrev pub LimitAlone : ℕ → List ℕ → Option (List ℕ) → Option (List ℕ) → WindowSeen → Result (Option ParseInfo) ReadStop → Type 0
-LimitAlone place held0 rest0 rest1 window (Ok (Some info)) = TakesSuch heads place held0 rest0 rest1 window (λ unit bytes. unit ≡ info)
+LimitAlone place held0 rest0 rest1 window (Ok (Some info)) =
+    TakesSuch heads place held0 rest0 rest1 window (λ unit bytes. unit ≡ info)
 LimitAlone place held0 rest0 rest1 window (Ok None) = RestsHere heads place held0 rest0 rest1 × (window.held ≡ [])
 LimitAlone place held0 rest0 rest1 window (Err stop) = LimitStops heads place held0 rest0 rest1 stop
 

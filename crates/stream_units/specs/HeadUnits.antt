@@ -5,11 +5,11 @@ use Rattle.parse_info.specs.declared.Code.{Code}
 use Rattle.parse_info.specs.declared.ParseInfo.{ParseInfo}
 use Rattle.parse_info.specs.Head.{head_rows}
 use Rattle.unit_table.specs.Grammar.{Grammar, Inner}
-use Rattle.stream_units.specs.declared.reason.Reason.{Reason}
-use Rattle.stream_units.specs.declared.reason.Reason.TheVariants as reasons
+use Rattle.stream_rows.specs.declared.reason.Reason.{Reason}
+use Rattle.stream_rows.specs.declared.reason.Reason.TheVariants as reasons
 use Rattle.stream_units.specs.declared.stop.ReadStop.{ReadStop}
 use Rattle.stream_units.specs.Asking.{WindowSeen}
-use Rattle.stream_units.specs.Units.{is_truncated, reason_of, is_end_code}
+use Rattle.stream_rows.specs.Units.{is_truncated, reason_of, is_end_code}
 use Rattle.stream_units.specs.Stops.{StopsOver, ReadsRows}
 
 -- a next offset leads past its own head; that of an end of sequence has no meaning
@@ -22,7 +22,8 @@ payload_length info = if is_end_code info.code then 0 else info.next - 13
 
 -- the head: prefix, code and offsets
 unfoldable pub head_alone : Rows Reason ParseInfo
-head_alone = head_rows reasons.BadPrefix reasons.UnsupportedCode (λ code. []) (λ code next. (leads_on code next or_else reasons.OffsetShort) ∷ []) (λ code next previous. [])
+head_alone = head_rows reasons.BadPrefix reasons.UnsupportedCode (λ code. [])
+    (λ code next. (leads_on code next or_else reasons.OffsetShort) ∷ []) (λ code next previous. [])
 
 -- the payload, whatever it is
 unfoldable pub payload_alone : ParseInfo → Rows Reason ParseInfo
@@ -50,4 +51,6 @@ heads = record {
 -- ---- how one is read from a source, of an input that ends where the room does
 
 abbrev pub AloneOver : ℕ → List ℕ → Option (List ℕ) → Option (List ℕ) → WindowSeen → Result ParseInfo ReadStop → Type 0
-AloneOver place held0 rest0 rest1 window result = MatchResult result (λ info. ReadsRows heads place held0 rest0 rest1 window (λ unit bytes. unit ≡ info)) (λ stop. StopsOver heads place held0 rest0 rest1 window.room stop)
+AloneOver place held0 rest0 rest1 window result = MatchResult result
+    (λ info. ReadsRows heads place held0 rest0 rest1 window (λ unit bytes. unit ≡ info))
+    (λ stop. StopsOver heads place held0 rest0 rest1 window.room stop)

@@ -7,12 +7,12 @@ use Rattle.parse_info.specs.declared.InfoFault.TheVariants as faults
 use Rattle.parse_info.specs.declared.ParseInfo.{ParseInfo}
 use Rattle.sequence_header.specs.declared.parts.HeaderParts.{HeaderParts}
 use Rattle.unit_table.specs.Grammar.{bytes_at, unit_at}
-use Rattle.stream_units.specs.declared.reason.Reason.{Reason}
-use Rattle.stream_units.specs.declared.reason.Reason.TheVariants as reasons
-use Rattle.stream_units.specs.declared.reason.Refusal.{Refusal}
+use Rattle.stream_rows.specs.declared.reason.Reason.{Reason}
+use Rattle.stream_rows.specs.declared.reason.Reason.TheVariants as reasons
+use Rattle.stream_rows.specs.declared.reason.Refusal.{Refusal}
 use Rattle.stream_units.specs.declared.heads.Before.{Before}
-use Rattle.stream_units.specs.Units.{First, Past, nothing_yet, Sequence, reason_of, is_header, is_end_code, next_rules, units}
-use Rattle.stream_units.specs.Streams.{refusal_of}
+use Rattle.stream_rows.specs.Units.{First, Past, nothing_yet, Sequence, reason_of, is_header, is_end_code, next_rules, units}
+use Rattle.stream_rows.specs.Streams.{refusal_of}
 use Rattle.stream_units.specs.HeadUnits.{leads_on}
 
 -- the picture coding mode of the first sequence header
@@ -24,15 +24,20 @@ coding_of (Some first) = Some first.parts.coding
 abbrev pub looking_back : Past → Before
 looking_back z = record { place = z.place; previous = z.previous; coding = coding_of z.first; pictures = z.pictures }
 
--- The head of the unit at a place, in front of bytes, by its rows: it was read whole, or has its first fault, which is a short field only where the bytes end inside the head.
+-- The head of the unit at a place, in front of bytes, by its rows: it was read whole, or has its first fault, which is a
+-- short field only where the bytes end inside the head.
 abbrev pub HeadAt : Rows Reason ParseInfo → ℕ → List ℕ → Result ParseInfo Refusal → Type 0
-HeadAt rows place bytes (Ok info) = (13 ≤ length bytes) × (read reason_of rows (bytes_at place bytes) ≡ Ok (info, bytes_at (place + 13) (drop 13 bytes)))
-HeadAt rows place bytes (Err refusal) = (fault : Fault Reason) × (refusal ≡ refusal_of fault) × (read reason_of rows (bytes_at place bytes) ≡ Err fault) × (fault.reason ≡ reasons.Truncated → length bytes < 13)
+HeadAt rows place bytes (Ok info) =
+    (13 ≤ length bytes) × (read reason_of rows (bytes_at place bytes) ≡ Ok (info, bytes_at (place + 13) (drop 13 bytes)))
+HeadAt rows place bytes (Err refusal) = (fault : Fault Reason) × (refusal ≡ refusal_of fault)
+    × (read reason_of rows (bytes_at place bytes) ≡ Err fault) × (fault.reason ≡ reasons.Truncated → length bytes < 13)
 
 -- The first unit in front of bytes: its sequence header and its length, or its first fault.
 abbrev pub IsFirstUnit : List ℕ → Result (HeaderParts × ℕ) Refusal → Type 0
-IsFirstUnit bytes (Ok x) = (x.1 ≤ length bytes) × (unit_at units nothing_yet bytes ≡ Ok (Sequence x.0, bytes_at x.1 (drop x.1 bytes)))
-IsFirstUnit bytes (Err refusal) = (fault : Fault Reason) × (refusal ≡ refusal_of fault) × (unit_at units nothing_yet bytes ≡ Err fault)
+IsFirstUnit bytes (Ok x) =
+    (x.1 ≤ length bytes) × (unit_at units nothing_yet bytes ≡ Ok (Sequence x.0, bytes_at x.1 (drop x.1 bytes)))
+IsFirstUnit bytes (Err refusal) =
+    (fault : Fault Reason) × (refusal ≡ refusal_of fault) × (unit_at units nothing_yet bytes ≡ Err fault)
 
 -- ---- for the code
 
@@ -64,12 +69,15 @@ judged_head before (Ok info) =
 judged_head before (Err faults.PrefixShort) = Err (record { place = before.place; reason = reasons.Truncated })
 judged_head before (Err faults.BadPrefix) = Err (record { place = before.place; reason = reasons.BadPrefix })
 judged_head before (Err faults.CodeShort) = Err (record { place = before.place + 4; reason = reasons.Truncated })
-judged_head before (Err (faults.UnsupportedCode code)) = Err (record { place = before.place + 4; reason = reasons.UnsupportedCode code })
+judged_head before (Err (faults.UnsupportedCode code)) =
+    Err (record { place = before.place + 4; reason = reasons.UnsupportedCode code })
 judged_head before (Err (faults.NextShort code)) =
-    and_then (passes (before.place + 4) (first_broken (code_rules_behind before code))) (λ code. Err (record { place = before.place + 5; reason = reasons.Truncated }))
+    and_then (passes (before.place + 4) (first_broken (code_rules_behind before code)))
+    (λ code. Err (record { place = before.place + 5; reason = reasons.Truncated }))
 judged_head before (Err (faults.PreviousShort code next)) =
     and_then (passes (before.place + 4) (first_broken (code_rules_behind before code))) (λ checked.
-    and_then (passes (before.place + 5) (first_broken (next_rules code next))) (λ checked. Err (record { place = before.place + 9; reason = reasons.Truncated })))
+    and_then (passes (before.place + 5) (first_broken (next_rules code next)))
+    (λ checked. Err (record { place = before.place + 9; reason = reasons.Truncated })))
 
 -- a next offset of 0, or of the unit's length
 abbrev pub leads_behind : ℕ → ℕ → Bool
@@ -87,4 +95,6 @@ judged_alone place (Err faults.BadPrefix) = Err (record { place = place; reason 
 judged_alone place (Err faults.CodeShort) = Err (record { place = place + 4; reason = reasons.Truncated })
 judged_alone place (Err (faults.UnsupportedCode code)) = Err (record { place = place + 4; reason = reasons.UnsupportedCode code })
 judged_alone place (Err (faults.NextShort code)) = Err (record { place = place + 5; reason = reasons.Truncated })
-judged_alone place (Err (faults.PreviousShort code next)) = and_then (passes (place + 5) (first_broken (alone_rules code next))) (λ checked. Err (record { place = place + 9; reason = reasons.Truncated }))
+judged_alone place (Err (faults.PreviousShort code next)) = and_then
+    (passes (place + 5) (first_broken (alone_rules code next)))
+    (λ checked. Err (record { place = place + 9; reason = reasons.Truncated }))

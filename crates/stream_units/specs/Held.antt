@@ -6,12 +6,12 @@ use Rattle.sequence_header.specs.declared.parts.HeaderParts.{HeaderParts}
 use Rattle.transform_params.specs.Params.{Params}
 use Rattle.picture_codec.specs.Decoding.{Decoding}
 use Rattle.unit_table.specs.Begun.{Begun}
-use Rattle.stream_units.specs.declared.reason.Reason.{Reason}
+use Rattle.stream_rows.specs.declared.reason.Reason.{Reason}
 use Rattle.stream_units.specs.declared.stop.ReadStop.{ReadStop}
 use Rattle.stream_units.specs.declared.stop.ReadStop.TheVariants as stops
 use Rattle.stream_units.specs.declared.parts.Found.{Found}
 use Rattle.stream_units.specs.declared.parts.Found.TheVariants as founds
-use Rattle.stream_units.specs.Units.{Past, DataUnit, Picture, units, next_checked, slice_rows}
+use Rattle.stream_rows.specs.Units.{Past, DataUnit, Picture, units, next_checked, slice_rows}
 
 -- ---- the bound
 
@@ -43,7 +43,8 @@ slices_under z next parts number p = do
   length ← next_checked z next
   done (Picture parts number p slices)
 
--- These transform parameters stand in the unit in front: whatever follows, what is left of it are the slices of a picture under them.
+-- These transform parameters stand in the unit in front: whatever follows, what is left of it are the slices of a picture
+-- under them.
 pub record ReadsParams (z : Past) (held0 : List ℕ) (rest0 : Option (List ℕ)) (p : Params) : Type 0 where
   pub next : ℕ
   pub parts : HeaderParts
@@ -53,23 +54,29 @@ pub record ReadsParams (z : Past) (held0 : List ℕ) (rest0 : Option (List ℕ))
   pub rest1 : Option (List ℕ)
   pub begun : Begun units z held0 rest0 rest1 at held1 (slices_under z next parts number p)
 
--- The greatest share behind a call that stops: that of the picture in which it stops, as before where few bytes are held, or none where there is no memory for a decoder.
-pub data IsGreatest (z : Past) (held0 : List ℕ) (rest0 : Option (List ℕ)) (old new : Option ℕ) (held : List ℕ) (stop : ReadStop) : Type 0 where
+-- The greatest share behind a call that stops: that of the picture in which it stops, as before where few bytes are held,
+-- or none where there is no memory for a decoder.
+pub data IsGreatest (z : Past) (held0 : List ℕ) (rest0 : Option (List ℕ)) (old new : Option ℕ) (held : List ℕ)
+    (stop : ReadStop) : Type 0 where
   AsBefore : new ≡ old → length held ≤ 8192 → IsGreatest z held0 rest0 old new held stop
-  OfStopped : (p : Params) → ReadsParams z held0 rest0 p → new ≡ Some (greatest_share p.slicing) → IsGreatest z held0 rest0 old new held stop
+  OfStopped : (p : Params) → ReadsParams z held0 rest0 p → new ≡ Some (greatest_share p.slicing)
+      → IsGreatest z held0 rest0 old new held stop
   OfNone : stop ≡ stops.NoMemory → new ≡ None → IsGreatest z held0 rest0 old new held stop
 
 -- ---- inside a call
 
 -- What is held where a unit stops, by the decoder that was kept and the one that is: it stops before its slices, or in them
 -- or behind them, or there is no memory for a decoder.
-pub data StopsHeld (z : Past) (held0 : List ℕ) (rest0 : Option (List ℕ)) (old new : Option Decoding) (held : List ℕ) (stop : ReadStop) : Type 0 where
+pub data StopsHeld (z : Past) (held0 : List ℕ) (rest0 : Option (List ℕ)) (old new : Option Decoding) (held : List ℕ)
+    (stop : ReadStop) : Type 0 where
   BeforeSlices : new ≡ old → length held ≤ 8192 → StopsHeld z held0 rest0 old new held stop
-  InSlices : (p : Params) → ReadsParams z held0 rest0 p → (d : Decoding) → new ≡ Some d → d.params ≡ p → length held ≤ 8192 + greatest_share p.slicing → StopsHeld z held0 rest0 old new held stop
+  InSlices : (p : Params) → ReadsParams z held0 rest0 p → (d : Decoding) → new ≡ Some d → d.params ≡ p
+      → length held ≤ 8192 + greatest_share p.slicing → StopsHeld z held0 rest0 old new held stop
   NoDecoder : stop ≡ stops.NoMemory → new ≡ None → length held ≤ 8192 → StopsHeld z held0 rest0 old new held stop
 
 -- The same of a unit that was found or stops; a decoder is kept but where a picture was found.
-abbrev pub HeldOver : Past → List ℕ → Option (List ℕ) → Option Decoding → Option Decoding → List ℕ → Result Found ReadStop → Type 0
+abbrev pub HeldOver : Past → List ℕ → Option (List ℕ) → Option Decoding → Option Decoding → List ℕ → Result Found ReadStop
+    → Type 0
 HeldOver z held0 rest0 old new held (Ok (founds.Picture shown)) = Unit {0}
 HeldOver z held0 rest0 old new held (Ok founds.End) = (new ≡ old) × (length held ≤ 8192)
 HeldOver z held0 rest0 old new held (Ok found) = new ≡ old

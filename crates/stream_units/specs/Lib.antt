@@ -1,5 +1,3 @@
-pub mod Units
-pub mod Streams
 pub mod Asking
 pub mod Heads
 pub mod Turns
@@ -7,7 +5,6 @@ pub mod Reader
 pub mod ReaderInside
 pub mod Parts
 pub mod Judging
-pub mod Laws
 pub mod HeadUnits
 pub mod HeadReader
 pub mod Encoded
@@ -18,3 +15,4 @@ pub mod Taking
 pub mod WrittenSlices
 pub mod EncodedPictures
 pub mod Held
+pub mod StreamPictures

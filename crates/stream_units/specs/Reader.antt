@@ -9,14 +9,16 @@ use Rattle.unit_table.specs.Turn.{TakesUnit, MeetsFront}
 use Rattle.stream_units.specs.declared.stop.ReadStop.{ReadStop}
 use Rattle.stream_units.specs.declared.stop.Item.{Item}
 use Rattle.stream_units.specs.declared.stop.Item.TheVariants as items
-use Rattle.stream_units.specs.Units.{Past, DataUnit, Sequence, Repeated, Picture, Skipped, End, units, after, nothing_yet}
-use Rattle.stream_units.specs.Streams.{limit, past_limit, frame_under}
+use Rattle.stream_rows.specs.Units.{Past, DataUnit, Sequence, Repeated, Picture, Skipped, End, units, after, nothing_yet}
+use Rattle.stream_rows.specs.Streams.{limit, past_limit, frame_under}
 use Rattle.picture_codec.specs.Decoding.{Decoding}
 use Rattle.stream_units.specs.Turns.{Shows, shape_of}
 use Rattle.stream_units.specs.Stops.{LimitStops}
 use Rattle.stream_units.specs.Held.{greatest_of, IsGreatest}
 
--- What is seen of a reader: what the units so far leave, the bytes that it holds, the shapes of the units, the picture of the last one, the greatest share of the last picture unit whose parameters were read, the stop that it keeps, and whether the stream is over.
+-- What is seen of a reader: what the units so far leave, the bytes that it holds, the shapes of the units, the picture of
+-- the last one, the greatest share of the last picture unit whose parameters were read, the stop that it keeps, and
+-- whether the stream is over.
 pub record ReaderState : Type 0 where
   pub past : Past
   pub held : List ℕ
@@ -40,7 +42,8 @@ item_of End = items.End
 
 -- the picture of a unit, if it has one, is shown
 abbrev pub IsPictureOf : DataUnit → Option PictureSeen → Type 0
-IsPictureOf (Picture parts number params slices) shown = (seen : PictureSeen) × (shown ≡ Some seen) × (frame_of seen.shape ≡ frame_under parts) × (seen.samples ≡ picture_of (frame_under parts) params slices)
+IsPictureOf (Picture parts number params slices) shown = (seen : PictureSeen) × (shown ≡ Some seen)
+    × (frame_of seen.shape ≡ frame_under parts) × (seen.samples ≡ picture_of (frame_under parts) params slices)
 IsPictureOf other shown = shown ≡ None
 
 -- the decoder that made the picture of a unit, if it has one
@@ -58,7 +61,8 @@ pub record Steps (old new : Past) (unit : DataUnit) (bytes : List ℕ) (item : I
   pub is_item : item ≡ item_of unit
   pub decoder : IsDecoderOf unit made
 
--- The unit in front, of the bytes that were held and those that were read, was taken: the others are held, and the reader is behind it.
+-- The unit in front, of the bytes that were held and those that were read, was taken: the others are held, and the reader
+-- is behind it.
 pub record TakesItem (old new : ReaderState) (rest0 rest1 : Option (List ℕ)) (item : Item) : Type 0 where
   pub unit : DataUnit
   pub bytes : List ℕ
@@ -97,6 +101,7 @@ NextOver old new rest0 rest1 (Err stop) = LimitStops units old.past old.held res
 
 -- The greatest share behind a call: that of the picture that was taken; behind another unit as before.
 abbrev pub GreatestOver : ReaderState → ReaderState → Option (List ℕ) → Result Item ReadStop → Type 0
-GreatestOver old new rest0 (Ok (items.Picture number)) = (shape : UnitShape) × (new.shapes ≡ old.shapes ++ shape ∷ []) × (new.greatest ≡ Some (greatest_of shape.a shape.b shape.slices))
+GreatestOver old new rest0 (Ok (items.Picture number)) = (shape : UnitShape) × (new.shapes ≡ old.shapes ++ shape ∷ [])
+    × (new.greatest ≡ Some (greatest_of shape.a shape.b shape.slices))
 GreatestOver old new rest0 (Ok item) = new.greatest ≡ old.greatest
 GreatestOver old new rest0 (Err stop) = IsGreatest old.past old.held rest0 old.greatest new.greatest new.held stop

@@ -6,8 +6,8 @@ use Rattle.picture_codec.specs.Samples.{PictureSamples, PictureSeen}
 use Rattle.picture_codec.specs.Decoding.{Decoding}
 use Rattle.stream_units.specs.declared.stop.ReadStop.{ReadStop}
 use Rattle.stream_units.specs.Asking.{WindowSeen}
-use Rattle.stream_units.specs.Units.{Past}
-use Rattle.stream_units.specs.Streams.{limit}
+use Rattle.stream_rows.specs.Units.{Past}
+use Rattle.stream_rows.specs.Streams.{limit}
 use Rattle.stream_units.specs.Held.{held_most, greatest_in}
 
 -- the picture that a decoder finished
@@ -26,7 +26,8 @@ ShowsOne true (Some d) = d.picture ≡ None → ⊥
 ShowsOne true None = ⊥
 ShowsOne false decoder = Unit {0}
 
-pub record IsSound (past : Past) (window : WindowSeen) (shapes : UnitList) (shows : Bool) (decoder : Option Decoding) (stop : Option ReadStop) (ended : Bool) : Type 0 where
+pub record IsSound (past : Past) (window : WindowSeen) (shapes : UnitList) (shows : Bool) (decoder : Option Decoding)
+    (stop : Option ReadStop) (ended : Bool) : Type 0 where
   -- the shapes are those of all units so far
   pub total : shapes.total ≡ past.place
   pub shown : ShowsOne shows decoder

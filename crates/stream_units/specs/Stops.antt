@@ -8,15 +8,15 @@ use Rattle.unit_table.specs.Grammar.{Grammar}
 use Rattle.unit_table.specs.Fronts.{Refuses}
 use Rattle.unit_table.specs.Begun.{Begun, Lost, Due, Faults}
 use Rattle.unit_table.specs.Turn.{MeetsFront}
-use Rattle.stream_units.specs.declared.reason.Reason.{Reason}
-use Rattle.stream_units.specs.declared.reason.Reason.TheVariants as reasons
-use Rattle.stream_units.specs.declared.reason.Refusal.{Refusal}
+use Rattle.stream_rows.specs.declared.reason.Reason.{Reason}
+use Rattle.stream_rows.specs.declared.reason.Reason.TheVariants as reasons
+use Rattle.stream_rows.specs.declared.reason.Refusal.{Refusal}
 use Rattle.stream_units.specs.declared.stop.ReadStop.{ReadStop}
 use Rattle.stream_units.specs.declared.stop.ReadStop.TheVariants as stops
 use Rattle.stream_units.specs.declared.window.Halt.{Halt}
 use Rattle.stream_units.specs.declared.window.Halt.TheVariants as halts
 use Rattle.stream_units.specs.Asking.{WindowSeen}
-use Rattle.stream_units.specs.Streams.{limit, past_limit, refusal_of}
+use Rattle.stream_rows.specs.Streams.{limit, past_limit, refusal_of}
 
 abbrev pub stop_of : Halt → ReadStop
 stop_of halts.ReadFault = stops.ReadFault
@@ -31,7 +31,8 @@ StopCause before now (Err other) = now ≡ before
 -- ---- of an input that ends where the room does
 
 -- all rows of a unit were read, of which this is true; the bytes behind it are held
-pub record ReadsRows {Z U : Type 0} (g : Grammar Z Reason U) (z : Z) (held0 : List ℕ) (rest0 rest1 : Option (List ℕ)) (window : WindowSeen) (IsSuch : U → List ℕ → Type 0) : Type 0 where
+pub record ReadsRows {Z U : Type 0} (g : Grammar Z Reason U) (z : Z) (held0 : List ℕ) (rest0 rest1 : Option (List ℕ))
+    (window : WindowSeen) (IsSuch : U → List ℕ → Type 0) : Type 0 where
   pub unit : U
   pub at : ℕ
   pub begun : Begun g z held0 rest0 rest1 at window.held (done unit)
@@ -39,7 +40,8 @@ pub record ReadsRows {Z U : Type 0} (g : Grammar Z Reason U) (z : Z) (held0 : Li
   pub total : at + length window.held + window.room ≡ limit
 
 -- the unit is refused; where the input ends inside it, nothing more comes
-pub record Refused {Z U : Type 0} (g : Grammar Z Reason U) (z : Z) (held0 : List ℕ) (rest0 rest1 : Option (List ℕ)) (room : ℕ) (refusal : Refusal) : Type 0 where
+pub record Refused {Z U : Type 0} (g : Grammar Z Reason U) (z : Z) (held0 : List ℕ) (rest0 rest1 : Option (List ℕ))
+    (room : ℕ) (refusal : Refusal) : Type 0 where
   pub fault : Fault Reason
   pub there : refusal ≡ refusal_of fault
   pub top : ℕ
@@ -48,7 +50,8 @@ pub record Refused {Z U : Type 0} (g : Grammar Z Reason U) (z : Z) (held0 : List
   pub over : Faults g z held0 rest0 rest1 (within room rest1) top fault
 
 -- the unit of a table stops
-abbrev pub StopsOver : {Z U : Type 0} → Grammar Z Reason U → Z → List ℕ → Option (List ℕ) → Option (List ℕ) → ℕ → ReadStop → Type 0
+abbrev pub StopsOver : {Z U : Type 0} → Grammar Z Reason U → Z → List ℕ → Option (List ℕ) → Option (List ℕ) → ℕ → ReadStop
+    → Type 0
 StopsOver g z held0 rest0 rest1 room (stops.Refused refusal) = Refused g z held0 rest0 rest1 room refusal
 StopsOver g z held0 rest0 rest1 room stops.ReadFault = (top : ℕ) × (top ≤ limit) × Lost g z held0 rest0 rest1 top
 StopsOver g z held0 rest0 rest1 room stops.NoMemory = (top : ℕ) × (top ≤ limit) × Due g z held0 rest0 rest1 top
@@ -56,7 +59,8 @@ StopsOver g z held0 rest0 rest1 room stops.NoMemory = (top : ℕ) × (top ≤ li
 -- ---- of an input that counts up to the limit
 
 -- the unit is refused
-pub record LimitRefused {Z U : Type 0} (g : Grammar Z Reason U) (z : Z) (held0 : List ℕ) (rest0 rest1 : Option (List ℕ)) (refusal : Refusal) : Type 0 where
+pub record LimitRefused {Z U : Type 0} (g : Grammar Z Reason U) (z : Z) (held0 : List ℕ) (rest0 rest1 : Option (List ℕ))
+    (refusal : Refusal) : Type 0 where
   pub fault : Fault Reason
   pub there : refusal ≡ refusal_of fault
   pub meets : MeetsFront limit past_limit g z held0 rest0 rest1 (Refuses fault)

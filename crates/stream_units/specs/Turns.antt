@@ -15,14 +15,15 @@ use Rattle.stream_units.specs.declared.pictures.Shown.{Shown}
 use Rattle.stream_units.specs.declared.parts.Found.{Found}
 use Rattle.stream_units.specs.declared.parts.Found.TheVariants as founds
 use Rattle.stream_units.specs.Asking.{WindowSeen}
-use Rattle.stream_units.specs.Units.{Past, First, DataUnit, Sequence, Repeated, Picture, Skipped, End, units, next_checked}
-use Rattle.stream_units.specs.Streams.{frame_under}
+use Rattle.stream_rows.specs.Units.{Past, First, DataUnit, Sequence, Repeated, Picture, Skipped, End, units, next_checked}
+use Rattle.stream_rows.specs.Streams.{frame_under}
 use Rattle.stream_units.specs.Stops.{ReadsRows, StopsOver, LimitStops}
 use Rattle.stream_units.specs.Taking.{TakesSuch, EndsSuch}
 
 -- a unit of which this is true was read; the bytes behind it are held
 abbrev pub Takes : Past → List ℕ → Option (List ℕ) → Option (List ℕ) → ℕ → List ℕ → (DataUnit → List ℕ → Type 0) → Type 0
-Takes z held0 rest0 rest1 room held1 IsSuch = ReadsRows units z held0 rest0 rest1 (record { held = held1; room = room }) (λ unit bytes. IsSuch unit bytes × (length bytes < 2 ^ 32))
+Takes z held0 rest0 rest1 room held1 IsSuch = ReadsRows units z held0 rest0 rest1 (record { held = held1; room = room })
+    (λ unit bytes. IsSuch unit bytes × (length bytes < 2 ^ 32))
 
 -- ---- what units are
 
@@ -38,16 +39,25 @@ pub record Shows (parts : HeaderParts) (params : Params) (slices : List (List �
 
 -- the shape of a unit's bytes: a picture's slices stand behind its head
 abbrev pub shape_of : Past → DataUnit → List ℕ → UnitShape
-shape_of z (Picture parts number params slices) bytes = record { start = z.place; head = length bytes - total_bytes params.slicing; slices = slice_count params.slicing; a = params.slicing.a; b = params.slicing.b }
+shape_of z (Picture parts number params slices) bytes = record {
+  start = z.place;
+  head = length bytes - total_bytes params.slicing;
+  slices = slice_count params.slicing;
+  a = params.slicing.a;
+  b = params.slicing.b;
+}
 shape_of z other bytes = record { start = z.place; head = length bytes; slices = 0; a = 1; b = 1 }
 
 -- A sequence header was read, and stands in front of the bytes that are held; n bytes of its unit are gone.
-pub record ReadsHeader (z : Past) (next : ℕ) (held0 : List ℕ) (rest0 rest1 : Option (List ℕ)) (held1 : List ℕ) (parts : HeaderParts) (len : ℕ) : Type 0 where
+pub record ReadsHeader (z : Past) (next : ℕ) (held0 : List ℕ) (rest0 rest1 : Option (List ℕ)) (held1 : List ℕ)
+    (parts : HeaderParts) (len : ℕ) : Type 0 where
   pub inside : len ≤ length held1
-  pub begun : Begun units z held0 rest0 rest1 (z.place + 13 + len) (drop len held1) (next_checked z next >>= λ length. done (Sequence parts))
+  pub begun : Begun units z held0 rest0 rest1 (z.place + 13 + len) (drop len held1)
+      (next_checked z next >>= λ length. done (Sequence parts))
   pub payload : drop 13 begun.gone ≡ take len held1
 
-abbrev pub HeaderOver : Past → ℕ → List ℕ → Option (List ℕ) → Option (List ℕ) → WindowSeen → Result (HeaderParts × ℕ) ReadStop → Type 0
+abbrev pub HeaderOver : Past → ℕ → List ℕ → Option (List ℕ) → Option (List ℕ) → WindowSeen
+    → Result (HeaderParts × ℕ) ReadStop → Type 0
 HeaderOver z next held0 rest0 rest1 window (Ok x) = ReadsHeader z next held0 rest0 rest1 window.held x.0 x.1
 HeaderOver z next held0 rest0 rest1 window (Err stop) = StopsOver units z held0 rest0 rest1 window.room stop
 
@@ -61,14 +71,20 @@ pub record IsShown (parts : HeaderParts) (shown : Shown) (unit : DataUnit) (byte
   pub shows : Shows parts params slices shown.decoder
 
 -- how the payload of a picture comes out
-abbrev pub PictureOver : Past → List ℕ → Option (List ℕ) → Option (List ℕ) → WindowSeen → HeaderParts → Result Shown ReadStop → Type 0
-PictureOver z held0 rest0 rest1 window parts result = MatchResult result (λ shown. Takes z held0 rest0 rest1 window.room window.held (IsShown parts shown)) (λ stop. StopsOver units z held0 rest0 rest1 window.room stop)
+abbrev pub PictureOver : Past → List ℕ → Option (List ℕ) → Option (List ℕ) → WindowSeen → HeaderParts
+    → Result Shown ReadStop → Type 0
+PictureOver z held0 rest0 rest1 window parts result = MatchResult result
+    (λ shown. Takes z held0 rest0 rest1 window.room window.held (IsShown parts shown))
+    (λ stop. StopsOver units z held0 rest0 rest1 window.room stop)
 
 -- ---- a unit, whichever it is
 
 -- how a unit comes out
-abbrev pub TakesOver : {X : Type 0} → Past → List ℕ → Option (List ℕ) → Option (List ℕ) → WindowSeen → (X → DataUnit → List ℕ → Type 0) → Result X ReadStop → Type 0
-TakesOver z held0 rest0 rest1 window IsSuch result = MatchResult result (λ x. Takes z held0 rest0 rest1 window.room window.held (IsSuch x)) (λ stop. StopsOver units z held0 rest0 rest1 window.room stop)
+abbrev pub TakesOver : {X : Type 0} → Past → List ℕ → Option (List ℕ) → Option (List ℕ) → WindowSeen
+    → (X → DataUnit → List ℕ → Type 0) → Result X ReadStop → Type 0
+TakesOver z held0 rest0 rest1 window IsSuch result = MatchResult result
+    (λ x. Takes z held0 rest0 rest1 window.room window.held (IsSuch x))
+    (λ stop. StopsOver units z held0 rest0 rest1 window.room stop)
 
 -- what was found is this unit of these bytes
 abbrev pub IsFound : Past → Found → DataUnit → List ℕ → Type 0

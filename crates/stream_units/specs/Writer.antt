@@ -12,10 +12,11 @@ use Rattle.transform_params.specs.Params.{Params}
 use Rattle.transform_params.specs.Fields.{byte_length, unit_length}
 use Rattle.stream_units.specs.declared.write_stop.WriteStop.{WriteStop}
 use Rattle.stream_units.specs.declared.write_stop.WriteStop.TheVariants as stops
-use Rattle.stream_units.specs.Streams.{limit}
+use Rattle.stream_rows.specs.Streams.{limit}
 use Rattle.stream_units.specs.Encoded.{Settings, header_unit, picture_unit, end_unit}
 
--- What is seen of a writer: what it writes under, the units so far by their lengths, whether the stream was ended, and the stop that it keeps.
+-- What is seen of a writer: what it writes under, the units so far by their lengths, whether the stream was ended, and
+-- the stop that it keeps.
 pub record WriterState : Type 0 where
   pub settings : Settings
   pub shapes : List UnitShape
@@ -55,7 +56,8 @@ abbrev pub plain_shape : ℕ → ℕ → UnitShape
 plain_shape start size = record { start = start; head = size; slices = 0; a = 1; b = 1 }
 
 abbrev pub picture_shape : Params → ℕ → UnitShape
-picture_shape p start = record { start = start; head = 17 + byte_length p; slices = slice_count p.slicing; a = p.slicing.a; b = p.slicing.b }
+picture_shape p start =
+    record { start = start; head = 17 + byte_length p; slices = slice_count p.slicing; a = p.slicing.a; b = p.slicing.b }
 
 -- ---- what the calls leave
 
@@ -100,7 +102,8 @@ EndStops (Err stops.MatrixTooSteep) = ⊥
 EndStops other = Unit {0}
 
 -- How a picture whose slices are these came out, of a writer that keeps no stop.
-pub record WritesPicture (old new : WriterState) (slices : List (List ℕ)) (out0 out1 : Option (List ℕ)) (result : Result (Unit {0}) WriteStop) : Type 0 where
+pub record WritesPicture (old new : WriterState) (slices : List (List ℕ)) (out0 out1 : Option (List ℕ))
+    (result : Result (Unit {0}) WriteStop) : Type 0 where
   pub wrote : Wrote (picture_unit old.settings.params (next_previous old) (next_number old) slices) out0 out1 result
   pub after : new ≡ leaves old (after_picture old) result
   pub why : PictureStops old result
@@ -134,7 +137,8 @@ WriteCause before now (Err other) = now ≡ before
 -- what is written by a call for each of these pictures and then the end
 abbrev pub texts_from : WriterState → List (List (List ℕ)) → List ℕ
 texts_from w [] = end_unit (next_previous w)
-texts_from w (slices ∷ pictures) = picture_unit w.settings.params (next_previous w) (next_number w) slices ++ texts_from (after_picture w) pictures
+texts_from w (slices ∷ pictures) =
+    picture_unit w.settings.params (next_previous w) (next_number w) slices ++ texts_from (after_picture w) pictures
 
 -- each of them has room when its turn comes, as it has where its call answers Ok
 abbrev pub HaveRoom : WriterState → List (List (List ℕ)) → Type 0

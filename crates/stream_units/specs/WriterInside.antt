@@ -9,7 +9,8 @@ use Rattle.picture_codec.specs.Encoding.{Encoding}
 use Rattle.stream_units.specs.declared.write_stop.WriteStop.{WriteStop}
 use Rattle.stream_units.specs.Writer.{total_length, pictures_among, last_length}
 
-pub record IsSound (first : ℕ) (chain : Links) (number : ℕ) (shapes : UnitList) (stop : Option WriteStop) (ended : Bool) : Type 0 where
+pub record IsSound (first : ℕ) (chain : Links) (number : ℕ) (shapes : UnitList) (stop : Option WriteStop)
+    (ended : Bool) : Type 0 where
   pub total : shapes.total ≡ total_length shapes.units
   pub place : chain.place ≡ shapes.total
   pub previous : chain.previous ≡ last_length 0 shapes.units

@@ -13,7 +13,7 @@ pub(crate) struct First {
 
 impl Model for First {
     ghost use Rattle.std.specs.Prelude.{◌≤◌, length};
-    ghost use Rattle.stream_units.specs.Units as units;
+    ghost use Rattle.stream_rows.specs.Units as units;
 
     ghost Value = { units.First };
 
@@ -61,7 +61,7 @@ pub(crate) struct Earlier {
 
 impl Model for Earlier {
     ghost use Rattle.std.specs.Prelude.{◌≤◌};
-    ghost use Rattle.stream_units.specs.Units.{Past};
+    ghost use Rattle.stream_rows.specs.Units.{Past};
 
     ghost Value = { Past };
 
@@ -72,7 +72,7 @@ impl Model for Earlier {
 
 impl Earlier {
     ghost use Rattle.std.specs.Prelude.{◌≡◌, ◌≤◌, ◌<◌, ◌+◌, ◌^◌, Some, None, IfSome, IsNone, ◌↔◌};
-    ghost use Rattle.stream_units.specs.Units.{nothing_yet};
+    ghost use Rattle.stream_rows.specs.Units.{nothing_yet};
 
     /// Before the first unit.
     pub fn new() -> Earlier

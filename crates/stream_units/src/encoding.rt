@@ -4,7 +4,8 @@ ghost use Rattle.std.specs.Prelude.{◌≡◌, ◌≤◌, ◌<◌, ◌^◌, ◌%
 ghost use Rattle.std.specs.List.{AllByRecursion};
 ghost use Rattle.picture_codec.specs.Samples.{picture_of};
 ghost use Rattle.picture_codec.specs.Lossless.{LosslessIsGivenBack};
-ghost use Rattle.stream_units.specs.Streams.{limit, frame_under, pictures_of};
+ghost use Rattle.stream_rows.specs.Streams.{limit, frame_under};
+ghost use Rattle.stream_units.specs.StreamPictures.{pictures_of};
 ghost use Rattle.stream_units.specs.Encoded.{Settings, header_unit, encoded, units_of, AreLawful, IsSliced, IsStreamOf};
 ghost use Rattle.stream_units.specs.Writer.{started, texts_from, HaveRoom};
 ghost use Rattle.stream_units.specs.WrittenSlices.{WrittenAreSliced, ChosenAreSliced};

@@ -11,11 +11,11 @@ ghost use Rattle.stream_units.specs.Heads.{HeadAt, judged_alone};
 
 use crate::heads::refuse;
 use crate::limits::{limited, past_limit};
-use crate::reason::{Reason, Refusal};
 use crate::short::read_on;
 use crate::stop::{ReadStop, refused, stop_of};
 use crate::window::Window;
 use parse_info::{Code, InfoFault, ParseInfo};
+use stream_rows::{Reason, Refusal};
 use vc2_io::Source;
 use vc2_run::LIMIT;
 

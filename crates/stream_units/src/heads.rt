@@ -2,13 +2,13 @@
 
 ghost use Rattle.std.specs.Prelude.{◌≡◌, ◌+◌, ◌^◌, ◌≤◌, length, Err};
 ghost use Rattle.field_rows.specs.Rows.{first_broken};
-ghost use Rattle.stream_units.specs.Units.{is_header, is_end_code, is_skipped, header_reason, transform_reason, next_rules, unit_head};
+ghost use Rattle.stream_rows.specs.Units.{is_header, is_end_code, is_skipped, header_reason, transform_reason, next_rules, unit_head};
 ghost use Rattle.stream_units.specs.Heads.{looking_back, are_fields, passes, code_rules_behind, previous_rules_behind, judged_head, HeadAt, leads_behind, IsFirstUnit};
 
 use crate::earlier::Earlier;
-use crate::reason::{Reason, Refusal};
 use parse_info::{Code, InfoFault, ParseInfo};
 use sequence_header::{HeaderReason, SequenceHeader};
+use stream_rows::{Reason, Refusal};
 use transform_params::TransformReason;
 
 // What a head looks back at: where its unit begins, the length of the unit before, the picture coding mode of the first

@@ -5,10 +5,10 @@ ghost use Rattle.stream_units.specs.Reader.{new_reader};
 ghost use Rattle.stream_units.specs.Judging.{IsVerdict, IsStopped};
 
 use crate::reader::StreamReader;
-use crate::reason::Refusal;
 use crate::stop::ReadStop;
 use planes::NoMemory;
 use std::alloc::Global;
+use stream_rows::Refusal;
 use vc2_io::SteadySource;
 
 /// What bytes are.

@@ -7,12 +7,10 @@ mod head_reader;
 mod head_units;
 mod heads;
 mod judging;
-mod laws;
 mod limits;
 mod parts;
 mod pictures;
 mod reader;
-pub mod reason;
 mod short;
 mod steps;
 mod stop;
@@ -25,12 +23,11 @@ mod written_units;
 pub use head_reader::HeadReader;
 pub use heads::first_unit;
 pub use judging::{Verdict, judge};
-pub use laws::{
-    no_field_is_short_in_many_bytes, no_more_units_than_bytes, one_answer,
+pub use reader::StreamReader;
+pub use stop::{Item, ReadStop};
+pub use stream_rows::{
+    Reason, Refusal, no_field_is_short_in_many_bytes, no_more_units_than_bytes, one_answer,
     reading_is_the_relations, the_front_is_the_relation, units_stand_whatever_follows,
 };
-pub use reader::StreamReader;
-pub use reason::{Reason, Refusal};
-pub use stop::{Item, ReadStop};
 pub use write_stop::WriteStop;
 pub use writer::StreamWriter;

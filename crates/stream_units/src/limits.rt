@@ -3,7 +3,7 @@
 ghost use Rattle.std.specs.Prelude.{◌≡◌, ◌+◌, ◌^◌, ◌≤◌, ◌<◌, Err, List, ℕ, Option, length, true, MatchResult};
 ghost use Rattle.std.specs.Io.KnownBytes.{IsAtEnd};
 ghost use Rattle.vc2_run.specs.Ran.{within};
-ghost use Rattle.stream_units.specs.Units.{Past, units, is_truncated};
+ghost use Rattle.stream_rows.specs.Units.{Past, units, is_truncated};
 ghost use Rattle.stream_units.specs.HeadUnits.{heads};
 ghost use Rattle.stream_units.specs.Stops.{Refused, LimitStops, ReadsRows, StopCause};
 ghost use Rattle.stream_units.specs.Taking.{PastOver, LastOver};
@@ -12,12 +12,12 @@ ghost use Rattle.stream_units.specs.Held.{HeldOver};
 
 use crate::earlier::Earlier;
 use crate::parts::Found;
-use crate::reason::{Reason, Refusal};
 use crate::stop::{ReadStop, refused, stop_of};
 use crate::units::unit;
 use crate::window::Window;
 use picture_codec::PictureDecoder;
 use std::alloc::Global;
+use stream_rows::{Reason, Refusal};
 use vc2_io::{Source, fill};
 use vc2_run::LIMIT;
 

@@ -2,7 +2,7 @@
 
 ghost use Rattle.std.specs.Prelude.{◌≡◌, ◌+◌, ◌^◌, ◌≤◌, List, ℕ, Option, length, IfOk, IfErr, OnErr};
 ghost use Rattle.unit_table.specs.Begun.{Begun};
-ghost use Rattle.stream_units.specs.Units.{Skipped, Repeated, Past, units, first_payload, skipped_payload, repeated_payload};
+ghost use Rattle.stream_rows.specs.Units.{Skipped, Repeated, Past, units, first_payload, skipped_payload, repeated_payload};
 ghost use Rattle.stream_units.specs.Turns.{is_end_found, TakesOver, HeaderOver, IsFirst};
 ghost use Rattle.stream_units.specs.Stops.{StopCause};
 ghost use Rattle.stream_units.specs.declared.stop.ReadStop.TheVariants as stops;
@@ -10,12 +10,12 @@ ghost use Rattle.stream_units.specs.declared.stop.ReadStop.TheVariants as stops;
 use crate::earlier::{Earlier, First};
 use crate::heads::{header_reason, leads_behind};
 use crate::pictures::Shown;
-use crate::reason::{Reason, Refusal};
 use crate::short::read_on;
 use crate::stop::{ReadStop, refused, stop_of};
 use crate::window::Window;
 use sequence_header::SequenceHeader;
 use std::alloc::Global;
+use stream_rows::{Reason, Refusal};
 use vc2_io::Source;
 
 /// A unit that stands.

@@ -7,11 +7,12 @@ ghost use Rattle.sequence_header.specs.declared.parts.HeaderParts.{HeaderParts};
 ghost use Rattle.transform_params.specs.Params.{params_rows};
 ghost use Rattle.transform_params.specs.Views.{params_of};
 ghost use Rattle.slice_geometry.specs.Frames.{frame_of};
-ghost use Rattle.picture_codec.specs.Decoding.{wanted_of};
+ghost use Rattle.picture_codec.specs.Samples.{picture_of};
+ghost use Rattle.picture_codec.specs.Decoding.{HasTaken, synthesised_picture, wanted_of};
 ghost use Rattle.unit_table.specs.Begun.{Begun};
 ghost use Rattle.stream_units.specs.declared.stop.ReadStop.TheVariants as stops;
-ghost use Rattle.stream_units.specs.Streams.{frame_under};
-ghost use Rattle.stream_units.specs.Units.{Past, units, transform_reason, number_rules, picture_payload};
+ghost use Rattle.stream_rows.specs.Streams.{frame_under};
+ghost use Rattle.stream_rows.specs.Units.{Past, units, transform_reason, number_rules, picture_payload};
 ghost use Rattle.stream_units.specs.Turns.{PictureOver};
 ghost use Rattle.stream_units.specs.Stops.{StopCause};
 ghost use Rattle.stream_units.specs.Parts.{PartOver, SlicesOver, IsReady, slice_reason};
@@ -19,7 +20,6 @@ ghost use Rattle.stream_units.specs.Held.{greatest_share, StopsHeld};
 
 use crate::earlier::{Earlier, First};
 use crate::heads::{leads_behind, transform_reason};
-use crate::reason::{Reason, Refusal};
 use crate::short::read_on;
 use crate::stop::{ReadStop, refused, stop_of};
 use crate::window::Window;
@@ -27,6 +27,7 @@ use picture_codec::PictureDecoder;
 use slice_decoder::SliceFault;
 use slice_geometry::{Layout, PictureShape};
 use std::alloc::Global;
+use stream_rows::{Reason, Refusal};
 use transform_params::TransformParams;
 use vc2_io::Source;
 
@@ -196,6 +197,17 @@ fn slices<S: Source>(
     Ok(())
 }
 
+// Has a decoder that took all slices make its picture.
+fn finish(decoder: &mut PictureDecoder)
+    requires unrefused { decoder.old.refused ≡ false }
+    requires whole { wanted_of decoder.old ≡ None }
+    ensures state { decoder.new ≡ record decoder.old { picture = Some (synthesised_picture decoder.old) } }
+    ensures unit { (slices : List (List ℕ)) → HasTaken slices decoder.old
+        → synthesised_picture decoder.old ≡ picture_of (frame_of decoder.old.shape) decoder.old.params slices }
+{
+    let _ = decoder.finish();
+}
+
 /// Takes the payload of a picture unit, behind its head. The decoder of an earlier picture serves where it made one of
 /// the same shape and parameters; the one of a picture that is refused is kept.
 pub(crate) fn picture<S: Source>(
@@ -232,7 +244,7 @@ pub(crate) fn picture<S: Source>(
         drop(kept.replace(decoder));
         return Err(refused(place + 5, Reason::OffsetWrong));
     }
-    decoder.finish();
+    finish(&mut decoder);
     Ok(Shown {
         number,
         layout: params.layout,

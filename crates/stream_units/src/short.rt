@@ -2,16 +2,16 @@
 
 ghost use Rattle.std.specs.Prelude.{◌≡◌, ◌+◌, ◌<◌, ◌≤◌, [], length, OnOk, Err};
 ghost use Rattle.unit_table.specs.Begun.{Got};
-ghost use Rattle.stream_units.specs.declared.reason.Refusal.{Refusal};
+ghost use Rattle.stream_rows.specs.declared.reason.Refusal.{Refusal};
 ghost use Rattle.stream_units.specs.declared.stop.ReadStop.TheVariants as stops;
-ghost use Rattle.stream_units.specs.Units.{units};
+ghost use Rattle.stream_rows.specs.Units.{units};
 ghost use Rattle.stream_units.specs.HeadUnits.{heads};
 ghost use Rattle.stream_units.specs.Stops.{StopCause};
 ghost use Rattle.stream_units.specs.Parts.{MoreOver};
 
-use crate::reason::Refusal;
 use crate::stop::{ReadStop, stop_of};
 use crate::window::Window;
+use stream_rows::Refusal;
 use vc2_io::Source;
 
 /// Reads one byte more at least, where a field is short in the bytes that are held. Where the input has ended, the unit

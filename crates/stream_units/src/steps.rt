@@ -2,7 +2,7 @@
 
 ghost use Rattle.std.specs.Prelude.{◌≡◌, ◌+◌, ◌^◌, ◌≤◌, ◌<◌, List, ℕ, length};
 ghost use Rattle.slice_geometry.specs.Units.{IsUnitAllowed, unit_length};
-ghost use Rattle.stream_units.specs.Units.{Past, DataUnit};
+ghost use Rattle.stream_rows.specs.Units.{Past, DataUnit};
 ghost use Rattle.stream_units.specs.Turns.{IsFound, shape_of};
 ghost use Rattle.stream_units.specs.Reader.{Steps};
 ghost use Rattle.stream_units.specs.ReaderInside.{Keeps};

@@ -5,8 +5,8 @@ ghost use Rattle.stream_units.specs.declared.stop.ReadStop.TheVariants as stops;
 ghost use Rattle.stream_units.specs.Stops.{stop_of};
 ghost use Rattle.stream_units.specs.Reader.{is_end_item};
 
-use crate::reason::{Reason, Refusal};
 use crate::window::Halt;
+use stream_rows::{Reason, Refusal};
 
 /// A unit that stands.
 #[derive(Clone, Copy, Debug, PartialEq, Eq)]

@@ -2,7 +2,7 @@
 
 ghost use Rattle.std.specs.Prelude.{◌≡◌, ◌+◌, ◌^◌, ◌≤◌, List, ℕ, Option, length, OnOk};
 ghost use Rattle.unit_table.specs.Begun.{Begun};
-ghost use Rattle.stream_units.specs.Units.{units, unit_head, payload_rows};
+ghost use Rattle.stream_rows.specs.Units.{units, unit_head, payload_rows};
 ghost use Rattle.stream_units.specs.Turns.{UnitOver};
 ghost use Rattle.stream_units.specs.Stops.{StopCause};
 ghost use Rattle.stream_units.specs.Parts.{PartOver};

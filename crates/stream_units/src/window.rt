@@ -143,6 +143,10 @@ impl Window {
         ensures cause { HaltCause (S.faults src.old) (S.faults src.new) result }
     {
         let most = self.piece();
+        // At the limit nothing is asked for.
+        if most == 0 {
+            return Ok(false);
+        }
         if !make_room(&mut self.held, most) {
             return Err(Halt::NoMemory);
         }

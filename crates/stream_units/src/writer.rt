@@ -4,7 +4,7 @@ ghost use Rattle.std.specs.Prelude.{◌≡◌, ◌%◌, ◌≤◌, Err, Some, No
 ghost use Rattle.transform_params.specs.Views.{params_of};
 ghost use Rattle.sequence_header.specs.Coding.{IsShapeOf};
 ghost use Rattle.picture_codec.specs.Encoding.{slices_of};
-ghost use Rattle.stream_units.specs.Streams.{frame_under};
+ghost use Rattle.stream_rows.specs.Streams.{frame_under};
 ghost use Rattle.stream_units.specs.Writer.{total_length, Starts, WritesPicture, WritesEnd, WriteCause};
 
 use crate::write_stop::WriteStop;
@@ -46,7 +46,7 @@ impl Model for StreamWriter {
     ghost use Rattle.std.specs.Prelude.{◌≡◌, length};
     ghost use Rattle.transform_params.specs.Views.{params_of};
     ghost use Rattle.transform_params.specs.Fields.{unit_length};
-    ghost use Rattle.stream_units.specs.Streams.{frame_under};
+    ghost use Rattle.stream_rows.specs.Streams.{frame_under};
     ghost use Rattle.stream_units.specs.Writer.{WriterState};
     ghost use Rattle.stream_units.specs.WriterInside.{IsSound, Encodes};
 

@@ -1,5 +1,5 @@
--- The rows of the transform parameters, in order (SMPTE ST 2042-1:2017, 12.4: transform_parameters, slice_parameters, quant_matrix).
--- A number past its rule is refused at its own field.
+-- The rows of the transform parameters, in order (SMPTE ST 2042-1:2017, 12.4: transform_parameters, slice_parameters,
+-- quant_matrix). A number past its rule is refused at its own field.
 use Rattle.std.specs.Prelude.{ℕ, ◌+◌, ◌*◌, ◌/◌, ◌^◌, ◌==◌, ◌&&◌, ◌||◌, Bool, [], ◌∷◌, nat_le, if◌then◌else◌}
 use Rattle.std.specs.Int.{is_in_range}
 use Rattle.bit_codes.specs.declared.CodeFault.{CodeFault}
@@ -49,7 +49,8 @@ slices_y_rows slices_x = number_under (λ v. ((is_in_range 1 8192 v && nat_le (s
 
 -- the denominator of a slice's bytes: each slice has a byte, and all of them have at most 2 ^ 28
 unfoldable pub denominator_rows : ℕ → ℕ → Rows TransformReason ℕ
-denominator_rows count a = number_under (λ v. ((nat_le 1 v && (nat_le v a && nat_le (count * a / v) (2 ^ 28))) or_else ShareRefused) ∷ [])
+denominator_rows count a =
+    number_under (λ v. ((nat_le 1 v && (nat_le v a && nat_le (count * a / v) (2 ^ 28))) or_else ShareRefused) ∷ [])
 
 -- the depth, and slice_parameters (12.4.5.2)
 unfoldable pub slicing_rows : Rows TransformReason Slicing

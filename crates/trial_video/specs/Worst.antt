@@ -11,7 +11,8 @@ farthest (a ∷ raw) (b ∷ decoded) = max (abs_diff a b) (farthest raw decoded)
 
 -- the greatest over all components of two pictures
 abbrev pub worst : PictureSamples → PictureSamples → ℕ
-worst raw decoded = max (farthest raw.luma.cells decoded.luma.cells) (max (farthest raw.c1.cells decoded.c1.cells) (farthest raw.c2.cells decoded.c2.cells))
+worst raw decoded = max (farthest raw.luma.cells decoded.luma.cells)
+    (max (farthest raw.c1.cells decoded.c1.cells) (farthest raw.c2.cells decoded.c2.cells))
 
 -- the greatest over pictures, one by one
 abbrev pub worst_of : List PictureSamples → List PictureSamples → ℕ

@@ -8,6 +8,7 @@ use Rattle.bit_codes.proofs.BitLemmas.{length-bits}
 use Rattle.field_rows.specs.Rows.{Fault, is_nil}
 use Rattle.field_rows.specs.Pieces.{with_more}
 use Rattle.vc2_run.specs.Walk.{Step, Whole, IsMachine, NoneWhole}
+pub use Rattle.unit_table.specs.Laws.{AreFronts}
 use Rattle.unit_table.specs.Grammar.{Grammar, Behind, Inner, Final, ends_by, unit_at, is_settled_by, Waits}
 use Rattle.unit_table.specs.Fronts.{Front, Stands, Finishes, Rests, Refuses, size_to, front_behind, front_by, front_of, front_within, front_or_rest, Between, Command, step_by, machine_of}
 use Rattle.unit_table.proofs.GrammarLaws.{IsGrammar, unit-more, unit-shorter}
@@ -82,12 +83,6 @@ unit_grows g laws z bytes more cut cut' size unit f u = record {
   stands = stands_on (g.behind unit) u.behind.rest (bits_of more) cut cut' f u.stands;
   is_size = u.is_size ∙ sym (size-more bytes more u.behind (unit-shorter g laws z bytes unit u.behind u.read));
 }
-
--- What is asked of fronts: a unit has a byte, lies in the bytes, and is the same unit whatever follows.
-pub record AreFronts {Z R U : Type 0} (front : Z → List ℕ → Front R U) : Type 0 where
-  pub some : (z : Z) (bytes : List ℕ) (size : ℕ) (unit : U) → front z bytes ≡ Stands size unit → 0 < size
-  pub inside : (z : Z) (bytes : List ℕ) (size : ℕ) (unit : U) → front z bytes ≡ Stands size unit → size ≤ length bytes
-  pub stable : (z : Z) (bytes more : List ℕ) (size : ℕ) (unit : U) → front z bytes ≡ Stands size unit → front z (bytes ++ more) ≡ Stands size unit
 
 -- where nothing is cut off
 of_unit : {Z R U : Type 0} (g : Grammar Z R U) (z : Z) (bytes : List ℕ) (size : ℕ) (unit : U) → front_of g z bytes ≡ Stands size unit → IsUnit g z bytes false size unit

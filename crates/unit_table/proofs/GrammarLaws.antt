@@ -4,18 +4,13 @@ use Rattle.bit_codes.specs.declared.CodeFault.TheVariants as codes
 use Rattle.bit_codes.specs.Bits.{Cursor, bits_of}
 use Rattle.bit_codes.proofs.BitLemmas.{length-bits}
 use Rattle.field_rows.specs.Rows.{Fault, read, is_nil}
-use Rattle.field_rows.specs.Pieces.{with_more, IsWhole, IsSteady}
+use Rattle.field_rows.specs.Pieces.{with_more, IsWhole}
 use Rattle.field_rows.proofs.Pieces.{read-more, read-more_refused}
 use Rattle.field_rows.proofs.Answers.{found_fields}
-use Rattle.field_rows.proofs.Shorter.{BeginsWithBytes, Stand-shorter}
+use Rattle.field_rows.proofs.Shorter.{Stand-shorter}
+pub use Rattle.unit_table.specs.Laws.{IsGrammar}
 use Rattle.unit_table.specs.Grammar.{Grammar, Behind, Inner, Final, ends_by, bytes_at, unit_at, is_settled_by, Waits}
 use Rattle.bit_codes.proofs.Numbers.{bits_of-append}
-
--- what is asked of a grammar: its rows ask nothing of what follows, and begin with bytes; and a short field is told by its reason
-pub record IsGrammar {Z R U : Type 0} (g : Grammar Z R U) : Type 0 where
-  pub steady : (z : Z) → IsSteady (g.rows z)
-  pub some : (z : Z) → BeginsWithBytes (g.rows z)
-  pub short : g.is_short (g.reason_of codes.Short) ≡ true
 
 pub bytes_at-append : (place : ℕ) (a b : List ℕ) → bytes_at place (a ++ b) ≡ with_more (bytes_at place a) (bits_of b)
 bytes_at-append place a b = ap (λ (t : List Bool). let c : Cursor = record { place = 8 * place; rest = t } in c) (bits_of-append a b)

@@ -49,11 +49,13 @@ tail_rows (Final (Some reason)) unit = do
   is_last ← no_more reason
   done unit
 
--- What was read settles the unit: it was read, and where it may end the stream a bit follows it; or it is refused, and not because a field is short.
+-- What was read settles the unit: it was read, and where it may end the stream a bit follows it; or it is refused, and
+-- not because a field is short.
 abbrev pub is_settled_by : {Z R U : Type 0} → Grammar Z R U → Result (U × Cursor) (Fault R) → Bool
 is_settled_by g (Ok x) = not (ends_by (g.behind x.0) (is_nil x.1.rest))
 is_settled_by g (Err fault) = not (g.is_short fault.reason)
 
--- The unit in front waits for more than these bytes: it neither stands whole nor is refused in them, an end of the stream being whole only where a byte follows it.
+-- The unit in front waits for more than these bytes: it neither stands whole nor is refused in them, an end of the stream
+-- being whole only where a byte follows it.
 pub record Waits {Z R U : Type 0} (g : Grammar Z R U) (z : Z) (bytes : List ℕ) : Type 0 where
   pub waits : is_settled_by g (unit_at g z bytes) ≡ false

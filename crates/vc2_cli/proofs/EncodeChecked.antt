@@ -31,8 +31,9 @@ use Rattle.picture_codec.proofs.Tables.{positive}
 use Rattle.raw_video.specs.RawText.{raw_text}
 use Rattle.raw_video.specs.RawParse.{AreRows, IsOfFrame, raw_texts}
 use Rattle.vc2_run.specs.Walk.{Answer, answer_from, answer_to, before}
-use Rattle.stream_units.specs.Units.{Past, nothing_yet, DataUnit, Sequence, Picture, End, after}
-use Rattle.stream_units.specs.Streams.{Entry, total, pictures_of, limit, frame_under}
+use Rattle.stream_rows.specs.Units.{Past, nothing_yet, DataUnit, Sequence, Picture, End, after}
+use Rattle.stream_rows.specs.Streams.{Entry, total, limit, frame_under}
+use Rattle.stream_units.specs.StreamPictures.{pictures_of}
 use Rattle.stream_units.specs.Turns.{shape_of}
 use Rattle.stream_units.specs.Encoded.{Settings, header_unit, picture_unit, end_unit, number_after, units_behind, pictures_under, units_of, IsSliced}
 use Rattle.stream_units.specs.Writer.{plain_shape, picture_shape}
@@ -40,7 +41,7 @@ use Rattle.stream_units.proofs.WrittenShapes.{plain_length, picture_length}
 use Rattle.stream_units.proofs.EncodedUnits.{length-header_unit, length-picture_unit, length-end_unit, moves_header_unit, moves_picture_unit, moves_end_unit}
 use Rattle.stream_units.proofs.EncodedStreams.{Going, picture_code, end_code, going_on, going_first, encoded_fits, encoded_stream, encoded_pictures}
 use Rattle.stream_units.proofs.EncodedAnswers.{one_unit, last_unit}
-use Rattle.stream_units.proofs.Answering.{machine}
+use Rattle.stream_rows.proofs.Answering.{machine}
 use Rattle.stream_units.proofs.EncodedPictures.{all_sliced}
 use Rattle.stream_units.proofs.SameShapes.{frame_is, steep_for}
 use Rattle.vc2_words.specs.Settings.{Asked}

@@ -21,8 +21,8 @@ use Rattle.raw_video.proofs.Fronts.{front_over}
 use Rattle.raw_video.proofs.ReadBack.{length_raw, picture_back}
 use Rattle.vc2_run.specs.Walk.{Answer, Ends, Whole, answer_from, answer_to, after_step, before}
 use Rattle.vc2_run.proofs.Walks.{answer_step}
-use Rattle.stream_units.specs.declared.reason.Reason.TheVariants.{StreamTooLong}
-use Rattle.stream_units.specs.Streams.{limit, frame_under}
+use Rattle.stream_rows.specs.declared.reason.Reason.TheVariants.{StreamTooLong}
+use Rattle.stream_rows.specs.Streams.{limit, frame_under}
 use Rattle.stream_units.specs.Encoded.{header_unit, picture_unit, end_unit, number_after, units_behind}
 use Rattle.stream_units.proofs.SameShapes.{frame_is}
 use Rattle.channel_schedule.specs.declared.schedule.Schedule.{Schedule}

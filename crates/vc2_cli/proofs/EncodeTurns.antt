@@ -28,11 +28,11 @@ use Rattle.vc2_run.specs.Ran.{Ran, TakesAtMost, HaltHasCause}
 use Rattle.vc2_run.specs.declared.Halt.{Halt}
 use Rattle.vc2_run.specs.declared.Halt.TheVariants as halts
 use Rattle.vc2_run.proofs.Windows.{holds_opened, ran_unopened, ran_unbegun, holds_more, holds_lost, holds_no_memory, holds_out_fault, holds_ended, holds_last_fault}
-use Rattle.stream_units.specs.declared.reason.Reason.{Reason}
-use Rattle.stream_units.specs.declared.reason.Reason.TheVariants as reasons
+use Rattle.stream_rows.specs.declared.reason.Reason.{Reason}
+use Rattle.stream_rows.specs.declared.reason.Reason.TheVariants as reasons
 use Rattle.stream_units.specs.declared.write_stop.WriteStop.{WriteStop}
 use Rattle.stream_units.specs.declared.write_stop.WriteStop.TheVariants as stops
-use Rattle.stream_units.specs.Streams.{limit, frame_under}
+use Rattle.stream_rows.specs.Streams.{limit, frame_under}
 use Rattle.stream_units.specs.Encoded.{Settings, header_unit, picture_unit, end_unit}
 use Rattle.stream_units.specs.Writer.{WriterState, total_length, next_place, next_previous, next_number, plain_shape, picture_shape, started, after_picture, after_end, HasRoom, WritesPicture, WriteCause, Starts, IsSteepUnder}
 use Rattle.stream_units.proofs.WrittenShapes.{total_push, pictures_push, last_push, plain_length, picture_length, one_more}

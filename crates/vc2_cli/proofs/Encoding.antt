@@ -10,7 +10,7 @@ use Rattle.vc2_run.specs.Walk.{Ends, Whole, IsMachine, NoneWhole}
 use Rattle.vc2_run.specs.Window.{NoneDue}
 use Rattle.vc2_run.proofs.Walks.{none_if}
 use Rattle.vc2_cli.specs.declared.status.Ending.{Ending}
-use Rattle.stream_units.specs.Streams.{frame_under}
+use Rattle.stream_rows.specs.Streams.{frame_under}
 use Rattle.channel_schedule.specs.declared.schedule.Schedule.{Schedule}
 use Rattle.vc2_words.specs.Settings.{Asked}
 use Rattle.vc2_cli.specs.Encode.{raw_place, has_room, closing, step_by, encode_machine}

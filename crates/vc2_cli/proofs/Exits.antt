@@ -1,11 +1,11 @@
 -- The exits of the loop of a command.
-use Rattle.std.proofs.Common.{◌≡◌, ◌≤◌, ℕ, ◌+◌, ◌^◌, ◌<◌, false, List, [], ◌++◌, length, take, Option, Some, None, Result, Ok, Err, refl, sym, ap, subst, ◌∙◌, arith}
-use Rattle.std.proofs.lemmas.List.{length-append, take_all}
+use Rattle.std.proofs.Common.{◌≡◌, ◌≤◌, ℕ, ◌+◌, ◌-◌, ◌^◌, ◌<◌, false, List, [], ◌++◌, length, take, Option, Some, None, Result, Ok, Err, refl, sym, ap, subst, ◌∙◌, arith}
+use Rattle.std.proofs.lemmas.List.{length-append, length-take, take_all}
 use Rattle.std.specs.Io.KnownBytes.{Appends, Consumes}
 use Rattle.vc2_io.specs.Outside.{Rose}
 use Rattle.vc2_io.proofs.Known.{Consumes-none, Consumes-then}
 use Rattle.field_rows.specs.Rows.{Fault}
-use Rattle.vc2_run.specs.Walk.{Machine, Ends}
+use Rattle.vc2_run.specs.Walk.{Machine, Ends, IsMachine, answer_to}
 use Rattle.vc2_run.specs.Ran.{Ran, TakesAtMost, HaltHasCause}
 use Rattle.vc2_run.specs.Window.{Holds}
 use Rattle.vc2_run.specs.declared.Halt.{Halt}
@@ -14,17 +14,21 @@ use Rattle.vc2_run.proofs.Windows.{holds_opened, ran_unopened, ran_unbegun}
 use Rattle.unit_table.specs.Grammar.{Grammar}
 use Rattle.unit_table.specs.Fronts.{Front, Refuses, Between, Command, step_by, machine_of}
 use Rattle.unit_table.specs.Turn.{MeetsFront, RestsHere}
-use Rattle.unit_table.specs.Begun.{Lost, Due}
+use Rattle.unit_table.specs.Begun.{Prompt, Lost, Due}
 use Rattle.unit_table.proofs.FrontLaws.{machine_laws}
-use Rattle.unit_table.proofs.Turning.{left_by, turned_more, turned_out_fault, turned_unwritten, turned_ended, turned_last_fault, turned_last_unwritten, turned_rested, turned_rest_fault, turned_rest_unwritten, turned_lost, turned_no_memory}
-use Rattle.stream_units.specs.declared.reason.Reason.{Reason}
+use Rattle.unit_table.proofs.Turning.{left_by, whole_unit, turned_more, turned_out_fault, turned_unwritten, turned_ended, turned_last_fault, turned_last_unwritten, turned_rested, turned_rest_fault, turned_rest_unwritten, turned_lost, turned_no_memory}
+use Rattle.stream_rows.specs.declared.reason.Reason.{Reason}
 use Rattle.stream_units.specs.declared.stop.ReadStop.{ReadStop}
 use Rattle.stream_units.specs.declared.stop.ReadStop.TheVariants as stops
 use Rattle.vc2_cli.specs.declared.running.Turn.{Turn}
 use Rattle.vc2_cli.specs.declared.running.Turn.TheVariants as turns
 use Rattle.unit_table.proofs.GrammarLaws.{IsGrammar}
-use Rattle.stream_units.specs.Streams.{limit, past_limit}
-use Rattle.vc2_cli.specs.Running.{ReaderSeen, first_seen, TakesItem, TakesLast, NextOver, Runs, WritesText, Closes}
+use Rattle.stream_rows.specs.Streams.{limit, past_limit}
+use Rattle.stream_rows.specs.Units.{is_truncated}
+use Rattle.vc2_cli.specs.declared.status.Ending.{Ending}
+use Rattle.vc2_cli.specs.Running.{ReaderSeen, first_seen, TakesItem, TakesLast, NextOver, Runs, WritesText, Closes, begun}
+use Rattle.vc2_cli.specs.Soon.{all_but, MayGoOn, Soon, HasOpenEndings}
+use Rattle.vc2_cli.proofs.Soon.{IsOpenMachine, Unrefused, nothing_open, unrefused_first, unrefused_more, unrefused_took, open_behind, open_soon, opens_machine, waits_answer}
 
 -- The bytes so far are those of the units so far and those that are held; the reader goes on.
 pub record Goes {Z U : Type 0} (g : Grammar Z Reason U) (rest0 rest1 : Option (List ℕ)) (r : ReaderSeen Z) : Type 0 where
@@ -183,3 +187,88 @@ runs_unbegun machine Done rest out src_faults out_faults = record {
   cause = (refl, refl);
   end = λ ending e done. absurd cc;
 }
+
+-- ---- how soon the run is over
+
+-- a command that begins with this has the same endings
+pub begun_opens : {Z U W : Type 0} (command : Command Z Reason U W Ending) (own : W) → HasOpenEndings command → HasOpenEndings (begun command own)
+begun_opens command own opens = record { finished = opens.finished; rested = opens.rested; refused = opens.refused }
+
+pub unrefused_begun : {Z U W : Type 0} (g : Grammar Z Reason U) (laws : IsGrammar g) (short : (reason : Reason) → g.is_short reason ≡ is_truncated reason) (first : Z) (command : Command Z Reason U W Ending) (opens : HasOpenEndings command) (rest : Option (List ℕ)) (r : ReaderSeen Z) (w : W) → r ≡ first_seen first → w ≡ command.start
+    → Unrefused (machine_of limit past_limit g first command) rest rest r.held (record { past = r.past; own = w })
+unrefused_begun {Z} {W = W} g laws short first command opens rest r w new start =
+    let M = machine_of limit past_limit g first command in
+    subst (λ (x : ReaderSeen Z). Unrefused M rest rest x.held (record { past = x.past; own = w })) (sym new)
+    (subst (λ (v : W). Unrefused M rest rest [] (record { past = first; own = v })) (sym start) (unrefused_first M (machine_laws limit past_limit g first command laws) (opens_machine g laws short first command opens) rest))
+
+pub unrefused_turn : {Z U W I : Type 0} {g : Grammar Z Reason U} {Tells : Z → U → List ℕ → I → Type 0} {old new : ReaderSeen Z} {rest1 rest2 : Option (List ℕ)} {item : I} (laws : IsGrammar g) (short : (reason : Reason) → g.is_short reason ≡ is_truncated reason) (first : Z) (command : Command Z Reason U W Ending) (opens : HasOpenEndings command) (rest0 : Option (List ℕ)) (w w' : W)
+    → Unrefused (machine_of limit past_limit g first command) rest0 rest1 old.held (record { past = old.past; own = w }) → (n : TakesItem g Tells old new rest1 rest2 item) → w' ≡ command.next old.past w n.unit n.bytes
+    → Unrefused (machine_of limit past_limit g first command) rest0 rest2 new.held (record { past = new.past; own = w' })
+unrefused_turn {Z} {W = W} {g = g} {old = old} {new = new} {rest2 = rest2} laws short first command opens rest0 w w' u n is =
+    let M = machine_of limit past_limit g first command in
+    let t = n.takes in
+    let b : Between Z W = record { past = old.past; own = w } in
+    subst (λ (b : Between _ _). Unrefused M rest0 rest2 new.held b) (left_is g command old.past new.past w w' n.unit n.bytes n.past is)
+    (unrefused_more (machine_laws limit past_limit g first command laws) (opens_machine g laws short first command opens) rest2 t.read n.bytes new.held (command.text old.past w n.unit n.bytes) (left_by g command b n.unit n.bytes) u t.took t.parts t.some
+    (λ more fits. whole_unit limit past_limit g laws first command b n.bytes more n.unit (t.stands more fits)))
+
+turn_prompt : {Z U I : Type 0} (g : Grammar Z Reason U) (Tells : Z → U → List ℕ → I → Type 0) (Stays : Type 0) (old new : ReaderSeen Z) (rest1 rest2 : Option (List ℕ)) (result : Result (Turn I) ReadStop) → g.place old.past ≤ 2 ^ 40 → NextOver g Tells Stays old new rest1 rest2 result
+    → (read : List ℕ) × Consumes rest1 rest2 read × (g.place old.past + length (old.held ++ read) ≤ limit + 1) × Prompt g old.past (old.held ++ read)
+turn_prompt g Tells Stays old new rest1 rest2 (Ok (turns.Unit item)) most n = (n.takes.read, n.takes.took, omega (arith, n.takes.most), n.takes.prompt)
+turn_prompt g Tells Stays old new rest1 rest2 (Ok (turns.Last item)) most n = (n.meets.read, n.meets.took, n.meets.most, n.meets.prompt)
+turn_prompt g Tells Stays old new rest1 rest2 (Ok turns.Rest) most n =
+    let none : length (old.held ++ []) ≡ 0 = omega (arith, ap (λ (l : List ℕ). length l) n.0.none, length-append old.held []) in
+    ([], n.0.took, omega (arith, most, none), record { prompt = λ long. absurd (omega (arith, long, none)) })
+turn_prompt g Tells Stays old new rest1 rest2 (Err (stops.Refused refusal)) most n = (n.0.meets.read, n.0.meets.took, n.0.meets.most, n.0.meets.prompt)
+turn_prompt g Tells Stays old new rest1 rest2 (Err stops.ReadFault) most n = (n.0.2.read, n.0.2.took, omega (arith, n.0.2.top_is, n.0.1), n.0.2.prompt)
+turn_prompt g Tells Stays old new rest1 rest2 (Err stops.NoMemory) most n = (n.0.2.read, n.0.2.took, omega (arith, n.0.2.top_is, n.0.1), n.0.2.prompt)
+
+prompt_open : {Z U W : Type 0} {g : Grammar Z Reason U} {b : Between Z W} {rest0 rest1 : Option (List ℕ)} {held : List ℕ} (laws : IsGrammar g) (short : (reason : Reason) → g.is_short reason ≡ is_truncated reason) (first : Z) (command : Command Z Reason U W Ending) (opens : HasOpenEndings command)
+    (u : Unrefused (machine_of limit past_limit g first command) rest0 rest1 held b) (v : List ℕ) → g.place b.past + length v ≤ limit + 1 → Prompt g b.past v → MayGoOn (answer_to (machine_of limit past_limit g first command) (all_but 4096 (u.done ++ v))).ending
+prompt_open {g = g} {b = b} laws short first command opens u v most prompt =
+    open_soon (machine_laws limit past_limit g first command laws) (opens_machine g laws short first command opens) u v
+    (λ long. waits_answer g laws short first command opens b (take (length v - 4096) v) (omega (arith, most, long, length-take (length v - 4096) v)) (prompt.prompt long))
+
+-- the run is over with this turn, and no read of it failed
+pub turned_soon : {Z U W I : Type 0} {g : Grammar Z Reason U} (Tells : Z → U → List ℕ → I → Type 0) (Stays : Type 0) {w : W} (old new : ReaderSeen Z) (rest0 rest1 rest2 : Option (List ℕ)) (turn : Result (Turn I) ReadStop) (laws : IsGrammar g) (short : (reason : Reason) → g.is_short reason ≡ is_truncated reason) (first : Z) (command : Command Z Reason U W Ending) (opens : HasOpenEndings command) (result : Result Ending Halt)
+    → g.place old.past ≤ 2 ^ 40 → Unrefused (machine_of limit past_limit g first command) rest0 rest1 old.held (record { past = old.past; own = w }) → NextOver g Tells Stays old new rest1 rest2 turn → (result ≡ Err halts.ReadFault → ⊥)
+    → Soon (machine_of limit past_limit g first command) 4096 rest0 rest2 result
+turned_soon {g = g} Tells Stays old new rest0 rest1 rest2 turn laws short first command opens result most u n none =
+    let t = turn_prompt g Tells Stays old new rest1 rest2 turn most n in
+    record {
+      taken = u.done ++ (old.held ++ t.0);
+      took = unrefused_took rest2 t.0 u t.1;
+      goes = prompt_open laws short first command opens u (old.held ++ t.0) t.2 t.3;
+      lost = λ e. absurd (none e);
+    }
+
+-- a read failed
+pub lost_soon : {Z U W : Type 0} {g : Grammar Z Reason U} {b : Between Z W} {held : List ℕ} {top : ℕ} (rest0 rest1 rest2 : Option (List ℕ)) (laws : IsGrammar g) (short : (reason : Reason) → g.is_short reason ≡ is_truncated reason) (first : Z) (command : Command Z Reason U W Ending) (opens : HasOpenEndings command) (result : Result Ending Halt)
+    → Unrefused (machine_of limit past_limit g first command) rest0 rest1 held b → top ≤ limit → Lost g b.past held rest1 rest2 top → Soon (machine_of limit past_limit g first command) 4096 rest0 rest2 result
+lost_soon {g = g} {b = b} {held = held} rest0 rest1 rest2 laws short first command opens result u most n =
+    let v = held ++ n.read in
+    record {
+      taken = u.done ++ v;
+      took = unrefused_took rest2 n.read u n.took;
+      goes = prompt_open laws short first command opens u v (omega (arith, most, n.top_is)) n.prompt;
+      lost = λ e. open_behind u v (λ some. omega (arith, some, length-append held n.read)) (waits_answer g laws short first command opens b v (omega (arith, most, n.top_is)) n.waits);
+    }
+
+-- nothing was read
+pub none_soon : {Z X : Type 0} (machine : Machine Z Ending) → IsMachine machine → IsOpenMachine machine → (rest : Option (List ℕ)) (result : Result X Halt) → Soon machine 4096 rest rest result
+none_soon machine laws opens rest result = record {
+  taken = [];
+  took = Consumes-none rest;
+  goes = nothing_open machine laws opens machine.start;
+  lost = λ e. nothing_open machine laws opens machine.start;
+}
+
+-- what writes doesn't read
+pub closes_no_read : {E : Type 0} (ending : E) (last : List ℕ) (out0 out1 : Option (List ℕ)) (result : Result E Halt) → Closes ending last out0 out1 result → result ≡ Err halts.ReadFault → ⊥
+closes_no_read ending last out0 out1 result c e = subst (Closes ending last out0 out1) e c
+
+pub writes_no_read : (X : Type 0) (text : List ℕ) (out0 out1 : Option (List ℕ)) (halt : Halt) (result : Result Ending Halt) → result ≡ Err halt → WritesText {X = X} text out0 out1 (Err halt) → result ≡ Err halts.ReadFault → ⊥
+writes_no_read X text out0 out1 halt result is wrote e =
+    let same : (let r : Result Ending Halt = Err halt in r) ≡ Err halts.ReadFault = sym is ∙ e in
+    let at : halt ≡ halts.ReadFault = cc in
+    subst (λ h. WritesText {X = X} text out0 out1 (Err h)) at wrote

@@ -17,3 +17,5 @@ pub mod StreamSinks
 pub mod TrialWritten
 pub mod EncodedWords
 pub mod TrialCompared
+pub mod Soon
+pub mod SoonTold

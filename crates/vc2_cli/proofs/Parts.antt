@@ -26,7 +26,7 @@ use Rattle.vc2_cli.proofs.Flat.{flat_is_steep}
 use Rattle.vc2_cli.specs.Reply.{Reply, Breaks, Stops, StopsShort, IsStatusOf, command_reply, command_due, status_of, ReadsAll}
 use Rattle.vc2_cli.specs.Settled.{Settles}
 
-if_told : (known : Option (List ℕ)) (P : List ℕ → Type 0) → ((input : List ℕ) → known ≡ Some input → P input) → IfSome known P
+pub if_told : (known : Option (List ℕ)) (P : List ℕ → Type 0) → ((input : List ℕ) → known ≡ Some input → P input) → IfSome known P
 if_told None P h = tt
 if_told (Some input) P h = h input refl
 

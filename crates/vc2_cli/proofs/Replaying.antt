@@ -5,24 +5,28 @@ use Rattle.slice_geometry.specs.declared.unit_list.UnitShape.{UnitShape}
 use Rattle.slice_geometry.specs.Units.{UnitList}
 use Rattle.unit_table.specs.Grammar.{Final}
 use Rattle.unit_table.proofs.FrontLaws.{machine_laws}
-use Rattle.stream_units.specs.declared.reason.Reason.{Reason}
-use Rattle.stream_units.specs.Units.{Past, nothing_yet, DataUnit, Sequence, Repeated, Picture, Skipped, End, after, units}
-use Rattle.stream_units.specs.Streams.{limit, past_limit}
+use Rattle.stream_rows.specs.declared.reason.Reason.{Reason}
+use Rattle.stream_rows.specs.Units.{Past, nothing_yet, DataUnit, Sequence, Repeated, Picture, Skipped, End, after, units}
+use Rattle.stream_rows.specs.Streams.{limit, past_limit}
 use Rattle.stream_units.specs.Turns.{shape_of}
 use Rattle.stream_units.specs.Reader.{ReaderState}
-use Rattle.stream_units.proofs.Steady.{units_laws}
-use Rattle.stream_units.proofs.Answering.{after-place}
+use Rattle.stream_rows.proofs.Steady.{units_laws}
+use Rattle.stream_rows.proofs.Answering.{after-place}
 use Rattle.channel_schedule.specs.declared.schedule.Schedule.{Schedule}
 use Rattle.channel_schedule.specs.declared.schedule.Outcome.{Outcome}
 use Rattle.channel_schedule.specs.Courses.{course_of, count_in, IsOutcome}
 use Rattle.channel_schedule.proofs.Unique.{one_outcome}
 use Rattle.vc2_cli.specs.declared.status.Ending.TheVariants.{Scheduled}
 use Rattle.vc2_cli.specs.Decode.{slices_in}
+use Rattle.vc2_cli.proofs.Soon.{IsOpenMachine, opens_machine}
 use Rattle.vc2_cli.specs.Telling.{TellsUnit}
 use Rattle.vc2_cli.specs.Scheduled.{Replayed, outcome_of, replaying, replaying_any, replay_machine}
 
 pub replay_laws : (schedule : Schedule) → IsMachine (replay_machine schedule)
 replay_laws schedule = machine_laws limit past_limit units nothing_yet (replaying schedule) units_laws
+
+pub replay_opens : (schedule : Schedule) → IsOpenMachine (replay_machine schedule)
+replay_opens schedule = opens_machine units units_laws (λ reason. refl) nothing_yet (replaying schedule) (record { finished = λ z w unit bytes. tt; rested = λ z w. tt; refused = λ z w fault short. short })
 
 pub slices_are : (z : Past) (unit : DataUnit) (bytes : List ℕ) → (shape_of z unit bytes).slices ≡ slices_in unit
 slices_are z (Sequence parts) bytes = refl

@@ -20,14 +20,14 @@ use Rattle.vc2_run.specs.Ran.{Ran, HaltHasCause}
 use Rattle.vc2_run.specs.declared.Halt.{Halt}
 use Rattle.vc2_run.specs.declared.Halt.TheVariants as halts
 use Rattle.unit_table.specs.Fronts.{Between}
-use Rattle.stream_units.specs.Units.{Past, nothing_yet, DataUnit, Sequence, Picture, End, after}
-use Rattle.stream_units.specs.Streams.{limit, frame_under}
+use Rattle.stream_rows.specs.Units.{Past, nothing_yet, DataUnit, Sequence, Picture, End, after}
+use Rattle.stream_rows.specs.Streams.{limit, frame_under}
 use Rattle.stream_units.specs.Encoded.{Settings, header_unit, picture_unit, end_unit, number_after, units_behind, IsSliced}
 use Rattle.stream_units.specs.Writer.{IsSteepUnder}
 use Rattle.stream_units.proofs.EncodedUnits.{length-header_unit, length-picture_unit, length-end_unit, moves_header_unit, moves_picture_unit, moves_end_unit}
 use Rattle.stream_units.proofs.EncodedStreams.{Going, picture_code, end_code, going_on, going_first}
 use Rattle.stream_units.proofs.EncodedAnswers.{one_unit, last_unit}
-use Rattle.stream_units.proofs.Answering.{machine}
+use Rattle.stream_rows.proofs.Answering.{machine}
 use Rattle.vc2_words.specs.declared.words.TrialPart.{TrialPart}
 use Rattle.vc2_words.specs.Settings.{Asked}
 use Rattle.vc2_words.specs.Lawful.{IsTrial}

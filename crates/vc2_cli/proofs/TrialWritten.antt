@@ -24,7 +24,7 @@ use Rattle.trial_video.proofs.Fits.{pictures_fit}
 use Rattle.channel_schedule.specs.declared.schedule.Rate.{Rate}
 use Rattle.channel_schedule.specs.declared.schedule.Schedule.{Schedule}
 use Rattle.channel_schedule.specs.Plans.{plan_of}
-use Rattle.stream_units.specs.Streams.{limit, frame_under}
+use Rattle.stream_rows.specs.Streams.{limit, frame_under}
 use Rattle.stream_units.specs.Encoded.{Settings, header_unit, picture_unit, end_unit, number_after, units_behind}
 use Rattle.stream_units.specs.Writer.{WriterState, total_length, next_place, next_previous, next_number, plain_shape, started, after_picture, after_end, HasRoom, WritesPicture, WritesEnd, IsSteepUnder}
 use Rattle.stream_units.proofs.SameShapes.{frame_is}

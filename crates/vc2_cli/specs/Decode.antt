@@ -7,9 +7,9 @@ use Rattle.picture_codec.specs.Samples.{PictureSeen, picture_of}
 use Rattle.raw_video.specs.RawText.{raw_text}
 use Rattle.vc2_run.specs.Walk.{Machine}
 use Rattle.unit_table.specs.Fronts.{Between, Command, machine_of}
-use Rattle.stream_units.specs.declared.reason.Reason.{Reason}
-use Rattle.stream_units.specs.Units.{Past, nothing_yet, DataUnit, Sequence, Repeated, Picture, Skipped, End, units}
-use Rattle.stream_units.specs.Streams.{limit, past_limit, refusal_of, frame_under}
+use Rattle.stream_rows.specs.declared.reason.Reason.{Reason}
+use Rattle.stream_rows.specs.Units.{Past, nothing_yet, DataUnit, Sequence, Repeated, Picture, Skipped, End, units}
+use Rattle.stream_rows.specs.Streams.{limit, past_limit, refusal_of, frame_under}
 use Rattle.vc2_cli.specs.Texts.{accepted_line, replayed_lines}
 use Rattle.vc2_cli.specs.declared.status.Ending.{Ending}
 use Rattle.vc2_cli.specs.declared.status.Ending.TheVariants.{Done, Decoded, Accepted, Scheduled, Refused}

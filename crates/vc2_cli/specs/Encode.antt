@@ -9,9 +9,9 @@ use Rattle.raw_video.specs.declared.reader.RawFault.TheVariants as faults
 use Rattle.vc2_run.specs.Walk.{Step, Ends, Whole, Machine}
 use Rattle.vc2_run.specs.declared.Halt.{Halt}
 use Rattle.vc2_run.specs.declared.Halt.TheVariants as halts
-use Rattle.stream_units.specs.declared.reason.Reason.{Reason}
-use Rattle.stream_units.specs.declared.reason.Reason.TheVariants.{HalfFrame, StreamTooLong, SampleTooLarge, RawTruncated}
-use Rattle.stream_units.specs.Streams.{limit, frame_under}
+use Rattle.stream_rows.specs.declared.reason.Reason.{Reason}
+use Rattle.stream_rows.specs.declared.reason.Reason.TheVariants.{HalfFrame, StreamTooLong, SampleTooLarge, RawTruncated}
+use Rattle.stream_rows.specs.Streams.{limit, frame_under}
 use Rattle.stream_units.specs.Encoded.{Settings, header_unit, picture_unit, end_unit}
 use Rattle.stream_units.specs.Writer.{plain_shape, picture_shape}
 use Rattle.slice_geometry.specs.declared.unit_list.UnitShape.{UnitShape}
@@ -79,14 +79,17 @@ refused_at place reason = Refused (record { place = place; reason = reason })
 
 -- the end of the input at this place, behind a unit of so many bytes
 abbrev pub closing : (half : Bool) (place previous : ℕ) → Schedule → Step ℕ Ending
-closing half place previous schedule = if half then Ends (refused_at place HalfFrame) [] else Ends (Encoded schedule) (end_unit previous)
+closing half place previous schedule =
+    if half then Ends (refused_at place HalfFrame) [] else Ends (Encoded schedule) (end_unit previous)
 
 -- A picture is read whole before the stream's length is asked. Half a frame is asked at the input's end.
 abbrev pub step_by : Asked → ℕ → RawFront → Step ℕ Ending
 step_by s n (Shown p) =
-    if has_room s n then Whole (raw_size s) (picture_unit s.params (previous_at s n) (number_at s n) (slices_of (frame_under s.parts) s.params p)) (n + 1)
+    if has_room s n then Whole (raw_size s) (picture_unit s.params (previous_at s n) (number_at s n)
+    (slices_of (frame_under s.parts) s.params p)) (n + 1)
     else Ends (refused_at (raw_place s n) StreamTooLong) []
-step_by s n Over = closing (is_half s.parts.coding n) (raw_place s n) (previous_at s n) (ended_plan s (shapes_at s n) (stream_place s n))
+step_by s n Over =
+    closing (is_half s.parts.coding n) (raw_place s n) (previous_at s n) (ended_plan s (shapes_at s n) (stream_place s n))
 step_by s n (LargeAt place) = Ends (refused_at place SampleTooLarge) []
 step_by s n (CutAt place) = Ends (refused_at place RawTruncated) []
 step_by s n TooLong = Ends (refused_at limit StreamTooLong) []

@@ -5,7 +5,7 @@ use Rattle.slice_geometry.specs.Slicing.{slice_count}
 use Rattle.picture_codec.specs.Samples.{PictureSamples, picture_of}
 use Rattle.picture_codec.specs.Encoding.{slices_of}
 use Rattle.raw_video.specs.RawParse.{IsOfFrame, raw_texts}
-use Rattle.stream_units.specs.Streams.{limit, frame_under}
+use Rattle.stream_rows.specs.Streams.{limit, frame_under}
 use Rattle.channel_schedule.specs.declared.schedule.Schedule.{Schedule}
 use Rattle.channel_schedule.specs.declared.schedule.Outcome.TheVariants.{Runs}
 use Rattle.channel_schedule.specs.Rates.{IsRate}
@@ -31,7 +31,8 @@ pub record AreSettings (s : Asked) : Type 0 where
   pub idle : s.idle ≤ 2 ^ 20
   pub flat : IsSteepUnder (written_under s)
 
--- Whole pictures that may be written: whatever their samples are, where pictures are fields of an even number, and within 2 ^ 40 bytes.
+-- Whole pictures that may be written: whatever their samples are, where pictures are fields of an even number, and within
+-- 2 ^ 40 bytes.
 pub record MayBeWritten (s : Asked) (pictures : List PictureSamples) : Type 0 where
   pub each : AllByRecursion (IsOfFrame (frame_under s.parts)) pictures
   pub even : s.parts.coding ≡ 1 → length pictures % 2 ≡ 0
@@ -40,10 +41,12 @@ pub record MayBeWritten (s : Asked) (pictures : List PictureSamples) : Type 0 wh
 
 -- `encode` writes the whole stream, and tells that schedule
 abbrev pub encoded_reply : Asked → List PictureSamples → Reply
-encoded_reply s pictures = record { status = status.Done; rest = []; out = stream_of s pictures; note = schedule_line (plan_for s pictures) }
+encoded_reply s pictures =
+    record { status = status.Done; rest = []; out = stream_of s pictures; note = schedule_line (plan_for s pictures) }
 
 abbrev pub AreEncoded : Asked → List PictureSamples → Type 0
-AreEncoded s pictures = AreSettings s → MayBeWritten s pictures → command_reply (Ok (encode s)) (raw_input s pictures) ≡ encoded_reply s pictures
+AreEncoded s pictures =
+    AreSettings s → MayBeWritten s pictures → command_reply (Ok (encode s)) (raw_input s pictures) ≡ encoded_reply s pictures
 
 -- `check` of that stream, by the words of the line that `encode` tells, writes that it runs
 abbrev pub replayed_reply : Asked → List PictureSamples → Reply
@@ -55,14 +58,21 @@ replayed_reply s pictures = record {
 }
 
 abbrev pub TheScheduleRuns : Asked → List PictureSamples → Type 0
-TheScheduleRuns s pictures = AreSettings s → MayBeWritten s pictures → reply_to (words_of (plan_for s pictures)) (stream_of s pictures) ≡ replayed_reply s pictures
+TheScheduleRuns s pictures = AreSettings s → MayBeWritten s pictures
+    → reply_to (words_of (plan_for s pictures)) (stream_of s pictures) ≡ replayed_reply s pictures
 
 -- `decode` of that stream writes the pictures that its slices make
 abbrev pub decoded_reply : Asked → List PictureSamples → Reply
-decoded_reply s pictures = record { status = status.Done; rest = []; out = raw_input s (decoded_of s pictures); note = decoded_line (length pictures) (stream_length s pictures) }
+decoded_reply s pictures = record {
+  status = status.Done;
+  rest = [];
+  out = raw_input s (decoded_of s pictures);
+  note = decoded_line (length pictures) (stream_length s pictures);
+}
 
 abbrev pub AreDecoded : Asked → List PictureSamples → Type 0
-AreDecoded s pictures = AreSettings s → MayBeWritten s pictures → command_reply (Ok decode) (stream_of s pictures) ≡ decoded_reply s pictures
+AreDecoded s pictures =
+    AreSettings s → MayBeWritten s pictures → command_reply (Ok decode) (stream_of s pictures) ≡ decoded_reply s pictures
 
 -- ---- by the words
 
@@ -72,4 +82,5 @@ GiveSettings words = (s : Asked) → words_ask words ≡ Ok (encode s) → AreSe
 
 -- and their reply to whole pictures is that one.
 abbrev pub AreEncodedBy : List (List ℕ) → List PictureSamples → Type 0
-AreEncodedBy words pictures = (s : Asked) → words_ask words ≡ Ok (encode s) → MayBeWritten s pictures → reply_to words (raw_input s pictures) ≡ encoded_reply s pictures
+AreEncodedBy words pictures = (s : Asked) → words_ask words ≡ Ok (encode s) → MayBeWritten s pictures
+    → reply_to words (raw_input s pictures) ≡ encoded_reply s pictures

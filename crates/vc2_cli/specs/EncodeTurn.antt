@@ -4,7 +4,7 @@ use Rattle.std.specs.Io.KnownBytes.{Consumes}
 use Rattle.slice_geometry.specs.Frames.{frame_of}
 use Rattle.raw_video.specs.Reading.{RawReaderSeen}
 use Rattle.vc2_run.specs.Window.{Holds}
-use Rattle.stream_units.specs.Streams.{frame_under}
+use Rattle.stream_rows.specs.Streams.{frame_under}
 use Rattle.vc2_words.specs.Settings.{Asked}
 use Rattle.stream_units.specs.Writer.{WriterState, next_place, next_previous, pictures_among}
 use Rattle.vc2_cli.specs.Encode.{written_under, raw_place, stream_place, previous_at, shapes_at, encode_machine}

@@ -19,3 +19,5 @@ pub mod First
 pub mod FirstTurn
 pub mod Running
 pub mod Telling
+pub mod Soon
+pub mod Program

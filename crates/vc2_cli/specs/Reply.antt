@@ -148,7 +148,8 @@ AnswersUsage fault note0 note1 other = ⊥
 
 -- ---- commands of which more is said
 
--- A trial: its text was written whole, or a part of it, or there was no memory, and then nothing of it or all. It has no note, and no read of it fails.
+-- A trial: its text was written whole, or a part of it, or there was no memory, and then nothing of it or all. It has no
+-- note, and no read of it fails.
 abbrev pub AnswersTrial : List ℕ → Option (List ℕ) → Option (List ℕ) → Option (List ℕ) → Option (List ℕ) → Status → Type 0
 AnswersTrial text out0 out1 note0 note1 status.Done = Appends out0 out1 text × Appends note0 note1 []
 AnswersTrial text out0 out1 note0 note1 status.OutFault = GrewShort out0 out1 text × Keeps note0 note1

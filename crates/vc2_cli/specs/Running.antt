@@ -9,9 +9,9 @@ use Rattle.vc2_run.specs.declared.Halt.TheVariants as halts
 use Rattle.unit_table.specs.Grammar.{Grammar, Final}
 use Rattle.unit_table.specs.Fronts.{Finishes, Command}
 use Rattle.unit_table.specs.Turn.{TakesUnit, MeetsFront, RestsHere}
-use Rattle.stream_units.specs.declared.reason.Reason.{Reason}
+use Rattle.stream_rows.specs.declared.reason.Reason.{Reason}
 use Rattle.stream_units.specs.declared.stop.ReadStop.{ReadStop}
-use Rattle.stream_units.specs.Streams.{limit, past_limit}
+use Rattle.stream_rows.specs.Streams.{limit, past_limit}
 use Rattle.stream_units.specs.Stops.{LimitStops}
 use Rattle.vc2_cli.specs.declared.status.Ending.{Ending}
 use Rattle.vc2_cli.specs.declared.status.Ending.TheVariants.{Done, Decoded, Accepted, Scheduled, Encoded, Compared, Refused}
@@ -31,7 +31,8 @@ abbrev pub first_seen : {Z : Type 0} → Z → ReaderSeen Z
 first_seen z = record { past = z; held = []; stop = None; ended = false }
 
 -- The unit in front was taken: the bytes behind it are held, and the reader is behind it.
-pub record TakesItem {Z U I : Type 0} (g : Grammar Z Reason U) (Tells : Z → U → List ℕ → I → Type 0) (old new : ReaderSeen Z) (rest0 rest1 : Option (List ℕ)) (item : I) : Type 0 where
+pub record TakesItem {Z U I : Type 0} (g : Grammar Z Reason U) (Tells : Z → U → List ℕ → I → Type 0)
+    (old new : ReaderSeen Z) (rest0 rest1 : Option (List ℕ)) (item : I) : Type 0 where
   pub unit : U
   pub bytes : List ℕ
   pub tells : Tells old.past unit bytes item
@@ -40,7 +41,8 @@ pub record TakesItem {Z U I : Type 0} (g : Grammar Z Reason U) (Tells : Z → U 
   pub going : (new.stop ≡ None) × (new.ended ≡ false)
 
 -- The last unit was taken, and nothing is behind it.
-pub record TakesLast {Z U I : Type 0} (g : Grammar Z Reason U) (Tells : Z → U → List ℕ → I → Type 0) (old : ReaderSeen Z) (rest0 rest1 : Option (List ℕ)) (item : I) : Type 0 where
+pub record TakesLast {Z U I : Type 0} (g : Grammar Z Reason U) (Tells : Z → U → List ℕ → I → Type 0) (old : ReaderSeen Z)
+    (rest0 rest1 : Option (List ℕ)) (item : I) : Type 0 where
   pub unit : U
   pub bytes : List ℕ
   pub tells : Tells old.past unit bytes item
@@ -49,7 +51,8 @@ pub record TakesLast {Z U I : Type 0} (g : Grammar Z Reason U) (Tells : Z → U 
   pub last : IsAtEnd rest1
   pub final : (other : Option Reason) × (g.behind unit ≡ Final other)
 
-abbrev pub NextOver : {Z U I : Type 0} → Grammar Z Reason U → (Z → U → List ℕ → I → Type 0) → Type 0 → ReaderSeen Z → ReaderSeen Z → Option (List ℕ) → Option (List ℕ) → Result (Turn I) ReadStop → Type 0
+abbrev pub NextOver : {Z U I : Type 0} → Grammar Z Reason U → (Z → U → List ℕ → I → Type 0) → Type 0 → ReaderSeen Z
+    → ReaderSeen Z → Option (List ℕ) → Option (List ℕ) → Result (Turn I) ReadStop → Type 0
 NextOver g Tells Stays old new rest0 rest1 (Ok (turns.Unit item)) = TakesItem g Tells old new rest0 rest1 item
 NextOver g Tells Stays old new rest0 rest1 (Ok (turns.Last item)) = TakesLast g Tells old rest0 rest1 item
 NextOver g Tells Stays old new rest0 rest1 (Ok turns.Rest) = RestsHere g old.past old.held rest0 rest1 × Stays
@@ -77,8 +80,10 @@ pub record Change : Type 0 where
 abbrev pub change : {T : Type 0} → (T → Option (List ℕ)) → (T → ℕ) → T → T → Change
 change told faults old new = record { was = told old; is = told new; faults_were = faults old; faults_are = faults new }
 
--- What a run leaves: it ran, took at most the limit and one byte more, each halt has its cause, and where all is done the input is over.
-pub record Runs {Z E : Type 0} (machine : Machine Z E) (IsDone : E → Type 0) (src out : Change) (result : Result E Halt) : Type 0 where
+-- What a run leaves: it ran, took at most the limit and one byte more, each halt has its cause, and where all is done the
+-- input is over.
+pub record Runs {Z E : Type 0} (machine : Machine Z E) (IsDone : E → Type 0) (src out : Change)
+    (result : Result E Halt) : Type 0 where
   pub ran : Ran machine src.was src.is out.was out.is result
   pub limit : TakesAtMost (2 ^ 40 + 1) src.was src.is
   pub cause : HaltHasCause src.faults_were src.faults_are out.faults_were out.faults_are result
@@ -103,6 +108,9 @@ Closes ending last out0 out1 (Err halts.OutFault) = GrewShort out0 out1 last
 Closes ending last out0 out1 (Err halts.NoMemory) = out1 ≡ out0
 
 -- a unit's text, and what the unit leaves to the command
-abbrev pub Turns : {Z U W E X : Type 0} → Command Z Reason U W E → Z → U → List ℕ → W → W → Option (List ℕ) → Option (List ℕ) → Result X Halt → Type 0
-Turns command z unit bytes w w' out0 out1 (Ok x) = Appends out0 out1 (command.text z w unit bytes) × (w' ≡ command.next z w unit bytes)
-Turns {X = X} command z unit bytes w w' out0 out1 (Err halt) = WritesText {X = X} (command.text z w unit bytes) out0 out1 (Err halt)
+abbrev pub Turns : {Z U W E X : Type 0} → Command Z Reason U W E → Z → U → List ℕ → W → W → Option (List ℕ)
+    → Option (List ℕ) → Result X Halt → Type 0
+Turns command z unit bytes w w' out0 out1 (Ok x) =
+    Appends out0 out1 (command.text z w unit bytes) × (w' ≡ command.next z w unit bytes)
+Turns {X = X} command z unit bytes w w' out0 out1 (Err halt) =
+    WritesText {X = X} (command.text z w unit bytes) out0 out1 (Err halt)

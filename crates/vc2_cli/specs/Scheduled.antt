@@ -4,9 +4,9 @@ use Rattle.vc2_run.specs.Walk.{Machine}
 use Rattle.slice_geometry.specs.declared.unit_list.UnitShape.{UnitShape}
 use Rattle.slice_geometry.specs.Units.{UnitList}
 use Rattle.unit_table.specs.Fronts.{Between, Command, machine_of}
-use Rattle.stream_units.specs.declared.reason.Reason.{Reason}
-use Rattle.stream_units.specs.Units.{Past, nothing_yet, DataUnit, units}
-use Rattle.stream_units.specs.Streams.{limit, past_limit, refusal_of}
+use Rattle.stream_rows.specs.declared.reason.Reason.{Reason}
+use Rattle.stream_rows.specs.Units.{Past, nothing_yet, DataUnit, units}
+use Rattle.stream_rows.specs.Streams.{limit, past_limit, refusal_of}
 use Rattle.stream_units.specs.Turns.{shape_of}
 use Rattle.channel_schedule.specs.declared.schedule.Schedule.{Schedule}
 use Rattle.channel_schedule.specs.declared.schedule.Outcome.{Outcome}
@@ -29,15 +29,21 @@ shapes_in units total = record { units = units; total = total; spare = 0 }
 
 -- how the slices of these units and the tail of the stream come out, the stream having so many bytes
 abbrev pub outcome_of : Schedule → List UnitShape → ℕ → Outcome
-outcome_of schedule units total = outcome_from (course_of (shapes_in units total) schedule.rate schedule.idle schedule.delay) schedule.size 0 (count_in (shapes_in units total))
+outcome_of schedule units total = outcome_from (course_of
+    (shapes_in units total) schedule.rate schedule.idle schedule.delay) schedule.size 0 (count_in (shapes_in units total))
 
 abbrev pub replaying : Schedule → Command Past Reason DataUnit Replayed Ending
 replaying schedule = record {
   opening = [];
   start = nothing_replayed schedule;
-  next = λ z own unit bytes. record { schedule = own.schedule; slices = own.slices + slices_in unit; shapes = own.shapes ++ shape_of z unit bytes ∷ [] };
+  next = λ z own unit bytes. record {
+    schedule = own.schedule;
+    slices = own.slices + slices_in unit;
+    shapes = own.shapes ++ shape_of z unit bytes ∷ [];
+  };
   text = λ z own unit bytes. [];
-  finished = λ z own unit bytes. Scheduled z.pictures own.slices (z.place + length bytes) (outcome_of own.schedule (own.shapes ++ shape_of z unit bytes ∷ []) (z.place + length bytes));
+  finished = λ z own unit bytes. Scheduled z.pictures own.slices (z.place + length bytes)
+      (outcome_of own.schedule (own.shapes ++ shape_of z unit bytes ∷ []) (z.place + length bytes));
   rested = λ z own. Done;
   refused = λ z own fault. Refused (refusal_of fault);
   last = λ z own ending. last_line ending;

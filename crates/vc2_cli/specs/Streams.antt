@@ -4,9 +4,10 @@ use Rattle.std.specs.List.{AllByRecursion, flat_map}
 use Rattle.slice_geometry.specs.Frames.{Frame}
 use Rattle.picture_codec.specs.Samples.{PictureSamples}
 use Rattle.raw_video.specs.RawText.{raw_text}
-use Rattle.stream_units.specs.declared.reason.Refusal.{Refusal}
-use Rattle.stream_units.specs.Units.{DataUnit, Sequence, Repeated, Picture, Skipped, End}
-use Rattle.stream_units.specs.Streams.{Entry, total, pictures_of, IsStream, IsRefusal}
+use Rattle.stream_rows.specs.declared.reason.Refusal.{Refusal}
+use Rattle.stream_rows.specs.Units.{DataUnit, Sequence, Repeated, Picture, Skipped, End}
+use Rattle.stream_rows.specs.Streams.{Entry, total, IsStream, IsRefusal}
+use Rattle.stream_units.specs.StreamPictures.{pictures_of}
 use Rattle.vc2_words.specs.Commands.{decode, check}
 use Rattle.vc2_cli.specs.declared.status.Status.TheVariants as status
 use Rattle.vc2_cli.specs.Texts.{refusal_line, decoded_line, accepted_line}
@@ -34,11 +35,21 @@ pictures_in End = 0
 
 -- a stream of these units and the last one: all their pictures, and how many pictures and bytes there were
 abbrev pub decoded_reply : List ℕ → List Entry → Reply
-decoded_reply bytes units = record { status = status.Done; rest = []; out = pictures_text units; note = decoded_line (total pictures_in units) (length bytes) }
+decoded_reply bytes units = record {
+  status = status.Done;
+  rest = [];
+  out = pictures_text units;
+  note = decoded_line (total pictures_in units) (length bytes);
+}
 
 -- or how many pictures, slices and bytes
 abbrev pub accepted_reply : List ℕ → List Entry → Reply
-accepted_reply bytes units = record { status = status.Done; rest = []; out = accepted_line (total pictures_in units) (total slices_in units) (length bytes); note = [] }
+accepted_reply bytes units = record {
+  status = status.Done;
+  rest = [];
+  out = accepted_line (total pictures_in units) (total slices_in units) (length bytes);
+  note = [];
+}
 
 -- a refusal, behind this text
 abbrev pub refused_reply : List ℕ → Refusal → Reply
@@ -46,10 +57,13 @@ refused_reply text refusal = record { status = status.Refused refusal; rest = []
 
 -- A stream is decoded whole; an input that is refused, up to its fault.
 pub record IsDecoded (bytes : List ℕ) : Type 0 where
-  pub stream : (units : List Entry) (last : Entry) → IsStream bytes units last → command_reply (Ok decode) bytes ≡ decoded_reply bytes units
-  pub refusal : (refusal : Refusal) (is : IsRefusal bytes refusal) → command_reply (Ok decode) bytes ≡ refused_reply (pictures_text is.units) refusal
+  pub stream : (units : List Entry) (last : Entry) → IsStream bytes units last
+      → command_reply (Ok decode) bytes ≡ decoded_reply bytes units
+  pub refusal : (refusal : Refusal) (is : IsRefusal bytes refusal)
+      → command_reply (Ok decode) bytes ≡ refused_reply (pictures_text is.units) refusal
 
 -- A stream is accepted; an input that is refused has no text.
 pub record IsChecked (bytes : List ℕ) : Type 0 where
-  pub stream : (units : List Entry) (last : Entry) → IsStream bytes units last → command_reply (Ok (check None)) bytes ≡ accepted_reply bytes units
+  pub stream : (units : List Entry) (last : Entry) → IsStream bytes units last
+      → command_reply (Ok (check None)) bytes ≡ accepted_reply bytes units
   pub refusal : (refusal : Refusal) → IsRefusal bytes refusal → command_reply (Ok (check None)) bytes ≡ refused_reply [] refusal

@@ -1,6 +1,6 @@
 -- What a reader of streams tells of a unit.
 use Rattle.std.specs.Prelude.{◌≡◌, ◌≤◌, ℕ, List, [], ◌∷◌, ◌++◌, length}
-use Rattle.stream_units.specs.Units.{Past, DataUnit, after}
+use Rattle.stream_rows.specs.Units.{Past, DataUnit, after}
 use Rattle.stream_units.specs.Turns.{shape_of}
 use Rattle.stream_units.specs.Reader.{ReaderState, IsPictureOf}
 

@@ -5,9 +5,9 @@ use Rattle.slice_geometry.specs.Slicing.{slice_count}
 use Rattle.picture_codec.specs.Samples.{PictureSamples, picture_of}
 use Rattle.trial_video.specs.Video.{video, video_picture}
 use Rattle.trial_video.specs.Worst.{worst, worst_of}
-use Rattle.stream_units.specs.declared.reason.Reason.{Reason}
-use Rattle.stream_units.specs.Units.{Past, DataUnit, Sequence, Repeated, Picture, Skipped, End}
-use Rattle.stream_units.specs.Streams.{frame_under, refusal_of}
+use Rattle.stream_rows.specs.declared.reason.Reason.{Reason}
+use Rattle.stream_rows.specs.Units.{Past, DataUnit, Sequence, Repeated, Picture, Skipped, End}
+use Rattle.stream_rows.specs.Streams.{frame_under, refusal_of}
 use Rattle.unit_table.specs.Fronts.{Command}
 use Rattle.vc2_words.specs.declared.words.TrialPart.{TrialPart}
 use Rattle.vc2_words.specs.Settings.{Asked}
@@ -26,7 +26,8 @@ trial_worst s part = worst_of (trial_pictures s part) (decoded_of s (trial_pictu
 abbrev pub trial_text : Asked → TrialPart → List ℕ
 trial_text s part =
     let pictures = trial_pictures s part in
-    trial_lines part (length (stream_of s pictures)) (part.pictures * slice_count s.params.slicing) (plan_for s pictures) (trial_worst s part)
+    trial_lines part (length (stream_of s pictures)) (part.pictures * slice_count s.params.slicing) (plan_for s pictures)
+    (trial_worst s part)
 
 -- ---- the comparison, as a command over the units of the stream
 
@@ -43,7 +44,13 @@ pub record Comparison : Type 0 where
 abbrev pub with_picture : ℕ → Comparison → PictureSamples → Comparison
 with_picture zero own decoded = own
 with_picture (suc left) own decoded =
-    record { frame = own.frame; seed = own.seed; pictures = own.pictures + 1; left = left; worst = max own.worst (worst (video_picture own.frame own.seed own.pictures) decoded) }
+    record {
+      frame = own.frame;
+      seed = own.seed;
+      pictures = own.pictures + 1;
+      left = left;
+      worst = max own.worst (worst (video_picture own.frame own.seed own.pictures) decoded);
+    }
 
 abbrev pub with_unit : Comparison → DataUnit → Comparison
 with_unit own (Picture parts number params slices) = with_picture own.left own (picture_of (frame_under parts) params slices)

@@ -8,7 +8,7 @@ use Rattle.picture_codec.specs.Encoding.{slices_of}
 use Rattle.trial_video.specs.Video.{VideoSeen, video_picture}
 use Rattle.vc2_run.specs.declared.Halt.{Halt}
 use Rattle.vc2_run.specs.declared.Halt.TheVariants.{NoMemory}
-use Rattle.stream_units.specs.Streams.{frame_under}
+use Rattle.stream_rows.specs.Streams.{frame_under}
 use Rattle.stream_units.specs.Encoded.{picture_unit, end_unit}
 use Rattle.stream_units.specs.Writer.{WriterState}
 use Rattle.stream_units.specs.declared.write_stop.WriteStop.{WriteStop}
@@ -43,26 +43,30 @@ IsWant other = ⊥
 -- the units of these pictures, from picture n on, and the end
 abbrev pub units_from : Asked → ℕ → List PictureSamples → List ℕ
 units_from s n [] = end_unit (previous_at s n)
-units_from s n (p ∷ pictures) = picture_unit s.params (previous_at s n) (number_at s n) (slices_of (frame_under s.parts) s.params p) ++ units_from s (suc n) pictures
+units_from s n (p ∷ pictures) = picture_unit s.params (previous_at s n) (number_at s n)
+    (slices_of (frame_under s.parts) s.params p) ++ units_from s (suc n) pictures
 
 -- the pictures of the video from picture n on, so many of them
 abbrev pub pictures_from : Frame → ℕ → ℕ → ℕ → List PictureSamples
 pictures_from f seed n count = map (λ p. video_picture f seed p) (range_with_len n count)
 
 -- n pictures are given and written, and what is left of the stream stands behind them
-pub record HasWritten (s : Asked) (part : TrialPart) (n : ℕ) (video : VideoSeen) (writer : WriterState) (sink : SinkState) : Type 0 where
+pub record HasWritten (s : Asked) (part : TrialPart) (n : ℕ) (video : VideoSeen) (writer : WriterState)
+    (sink : SinkState) : Type 0 where
   pub frame : frame_of video.shape ≡ frame_under s.parts
   pub seed : video.seed ≡ part.seed
   pub given : video.pictures ≡ n
   pub stands : IsBehind s n writer
   pub room : sink.room ≡ length (stream_of s (trial_pictures s part))
-  pub bytes : sink.bytes ++ units_from s n (pictures_from (frame_under s.parts) part.seed n (part.pictures - n)) ≡ stream_of s (trial_pictures s part)
+  pub bytes : sink.bytes ++ units_from s n (pictures_from (frame_under s.parts) part.seed n (part.pictures - n))
+      ≡ stream_of s (trial_pictures s part)
 
 -- ---- comparing
 
 -- what a comparison shows
 abbrev pub comparison_of : VideoSeen → ℕ → ℕ → Comparison
-comparison_of video left worst = record { frame = frame_of video.shape; seed = video.seed; pictures = video.pictures; left = left; worst = worst }
+comparison_of video left worst =
+    record { frame = frame_of video.shape; seed = video.seed; pictures = video.pictures; left = left; worst = worst }
 
 -- the comparison ended with this difference, or memory was wanting
 abbrev pub IsCompared : ℕ → Result Ending Halt → Type 0

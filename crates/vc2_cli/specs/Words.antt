@@ -20,7 +20,8 @@ abbrev pub greater_depth : Asked → ℕ
 greater_depth s = max (luma_depth s.parts) (colour_depth s.parts)
 
 abbrev pub is_flat : Asked → Bool
-is_flat s = list_all (λ entry. nat_le (entry + 4 * (greater_depth s + 2 + 3 * s.params.slicing.depth)) 127) s.params.matrix.entries
+is_flat s =
+    list_all (λ entry. nat_le (entry + 4 * (greater_depth s + 2 + 3 * s.params.slicing.depth)) 127) s.params.matrix.entries
 
 abbrev pub unless_steep : Asked → AskedCommand → Result AskedCommand WordFault
 unless_steep s command = if is_flat s then Ok command else Err (SettingsRefused MatrixTooSteep)

@@ -3,6 +3,7 @@ ghost use Rattle.std.specs.Prelude.{ℕ, ◌≤◌};
 ghost use Rattle.vc2_run.specs.Ran.{HaltHasCause};
 ghost use Rattle.vc2_cli.specs.declared.status.Ending.TheVariants as ending;
 ghost use Rattle.vc2_cli.specs.Running.{IsDone, Runs, change, Closes};
+ghost use Rattle.vc2_cli.specs.Soon.{Soon};
 ghost use Rattle.vc2_cli.specs.Decode.{checking, check_machine, last_line, IsLastCount};
 
 use crate::running::{UnitCommand, run_units};
@@ -71,6 +72,8 @@ impl UnitCommand<StreamReader> for Checking {
 
     ghost refused_is_no_end = { λ z w fault done. done };
 
+    ghost opens = { record { finished = λ z w unit bytes. tt; rested = λ z w. tt; refused = λ z w fault short. short } };
+
     fn open<K: Sink>(&mut self, _out: &mut K) -> Result<(), Halt> {
         Ok(())
     }
@@ -120,7 +123,8 @@ pub(crate) fn check<S: Source, K: Sink>(
     src: &mut S,
     out: &mut K,
 ) -> Result<Ending, Halt>
-    ensures { Runs check_machine IsDone (change S.rest S.faults src.old src.new) (change K.written K.faults out.old out.new) result }
+    ensures runs { Runs check_machine IsDone (change S.rest S.faults src.old src.new) (change K.written K.faults out.old out.new) result }
+    ensures soon { Soon check_machine 4096 (S.rest src.old) (S.rest src.new) result }
 {
     match StreamReader::new(alloc) {
         Ok(mut reader) => {

@@ -1,7 +1,7 @@
 // The pictures of a stream beside those of a video.
 ghost use Rattle.std.specs.Prelude.{◌≡◌, ◌≤◌, ◌+◌, ◌^◌, ℕ, IfOk};
 ghost use Rattle.slice_geometry.specs.Frames.{frame_of};
-ghost use Rattle.stream_units.specs.Streams.{frame_under};
+ghost use Rattle.stream_rows.specs.Streams.{frame_under};
 ghost use Rattle.stream_units.specs.Writer.{IsSteepUnder};
 ghost use Rattle.vc2_words.specs.Shown.{shown};
 ghost use Rattle.vc2_words.specs.Lawful.{IsTrial};
@@ -63,6 +63,8 @@ impl UnitCommand<StreamReader> for Comparing {
     ghost is_done = { IsDone };
 
     ghost refused_is_no_end = { λ z w fault done. done };
+
+    ghost opens = { record { finished = λ z w unit bytes. tt; rested = λ z w. tt; refused = λ z w fault short. short } };
 
     fn open<K: Sink>(&mut self, _out: &mut K) -> Result<(), Halt> {
         Ok(())

@@ -3,6 +3,7 @@ ghost use Rattle.std.specs.Prelude.{OnOk, OnErr};
 ghost use Rattle.std.specs.Io.KnownBytes.{Appends};
 ghost use Rattle.vc2_io.specs.Outside.{HasCause, GrewShort};
 ghost use Rattle.vc2_cli.specs.Running.{IsDone, Runs, change};
+ghost use Rattle.vc2_cli.specs.Soon.{Soon};
 ghost use Rattle.vc2_cli.specs.Decode.{decoding, decode_machine, shown_text};
 
 use crate::running::{UnitCommand, run_units};
@@ -43,6 +44,8 @@ impl UnitCommand<StreamReader> for Decoding {
     ghost is_done = { IsDone };
 
     ghost refused_is_no_end = { λ z w fault done. done };
+
+    ghost opens = { record { finished = λ z w unit bytes. tt; rested = λ z w. tt; refused = λ z w fault short. short } };
 
     fn open<K: Sink>(&mut self, _out: &mut K) -> Result<(), Halt> {
         Ok(())
@@ -92,7 +95,8 @@ pub(crate) fn decode<S: Source, K: Sink>(
     src: &mut S,
     out: &mut K,
 ) -> Result<Ending, Halt>
-    ensures { Runs decode_machine IsDone (change S.rest S.faults src.old src.new) (change K.written K.faults out.old out.new) result }
+    ensures runs { Runs decode_machine IsDone (change S.rest S.faults src.old src.new) (change K.written K.faults out.old out.new) result }
+    ensures soon { Soon decode_machine 4096 (S.rest src.old) (S.rest src.new) result }
 {
     match StreamReader::new(alloc) {
         Ok(mut reader) => {

@@ -4,6 +4,7 @@ ghost use Rattle.vc2_run.specs.Ran.{Ran, TakesAtMost, HaltHasCause};
 ghost use Rattle.vc2_cli.specs.Reply.{ReadsAll, status_of};
 ghost use Rattle.vc2_cli.specs.First.{header_machine, behind_first};
 ghost use Rattle.vc2_cli.specs.FirstTurn.{TookFirst};
+ghost use Rattle.vc2_cli.specs.Soon.{Soon};
 
 use crate::header_texts::header_text;
 use crate::status::Ending;
@@ -27,6 +28,7 @@ pub(crate) enum First {
 fn take_first<S: Source>(alloc: Global, src: &mut S) -> Result<First, Halt>
     ensures took { TookFirst (S.rest src.old) (S.rest src.new) result }
     ensures cause { HaltHasCause (S.faults src.old) (S.faults src.new) 0 0 result }
+    ensures soon { Soon header_machine 1 (S.rest src.old) (S.rest src.new) result }
 {
     let mut bytes = Vec::new(alloc);
     loop {
@@ -65,6 +67,7 @@ pub(crate) fn header<S: Source, K: Sink>(
     ensures limit { TakesAtMost 250 (S.rest src.old) (S.rest src.new) }
     ensures ran { Ran header_machine (S.rest src.old) (S.rest src.new) (K.written out.old) (K.written out.new) result }
     ensures cause { HaltHasCause (S.faults src.old) (S.faults src.new) (K.faults out.old) (K.faults out.new) result }
+    ensures soon { Soon header_machine 1 (S.rest src.old) (S.rest src.new) result }
 {
     let first = match take_first(alloc, src) {
         Ok(first) => first,

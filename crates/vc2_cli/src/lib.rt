@@ -9,6 +9,7 @@ mod encode;
 mod header;
 mod header_texts;
 mod laws;
+mod program;
 mod readers;
 mod running;
 mod scheduled;
@@ -24,6 +25,7 @@ pub use laws::{
     one_header_answer, one_schedule_answer, pictures_go_there_and_back, streams_have_replies,
     words_are_encoded,
 };
+pub use program::run_to_exit;
 pub use status::{Ending, ScheduleFault, Status, exit_code};
 pub use stream_units::{Reason, Refusal};
 pub use top::run;

@@ -1,11 +1,11 @@
 //! The readers of streams and of heads, as a loop over units sees them.
 
 ghost use Rattle.std.specs.Prelude.{◌≡◌, refl};
-ghost use Rattle.stream_units.specs.Units.{nothing_yet, units};
+ghost use Rattle.stream_rows.specs.Units.{nothing_yet, units};
 ghost use Rattle.stream_units.specs.HeadUnits.{heads};
-ghost use Rattle.stream_units.proofs.Steady.{units_laws};
+ghost use Rattle.stream_rows.proofs.Steady.{units_laws};
 ghost use Rattle.stream_units.proofs.AloneRows.{heads_laws};
-ghost use Rattle.stream_units.proofs.Answering.{after-place};
+ghost use Rattle.stream_rows.proofs.Answering.{after-place};
 ghost use Rattle.vc2_cli.specs.Telling.{TellsUnit, StaysBehind};
 
 use crate::running::{Turn, UnitReader};
@@ -34,6 +34,8 @@ impl UnitReader for HeadReader {
 
     ghost along = { λ z unit bytes. refl };
 
+    ghost short = { λ reason. refl };
+
     ghost first = { 0 };
 
     ghost begins = { refl };
@@ -58,7 +60,7 @@ impl UnitReader for HeadReader {
 pub(crate) struct StreamPast {}
 
 impl Model for StreamPast {
-    ghost use Rattle.stream_units.specs.Units.{Past, nothing_yet};
+    ghost use Rattle.stream_rows.specs.Units.{Past, nothing_yet};
 
     ghost Value = { Past };
 
@@ -69,7 +71,7 @@ impl Model for StreamPast {
 pub(crate) struct StreamUnit {}
 
 impl Model for StreamUnit {
-    ghost use Rattle.stream_units.specs.Units.{DataUnit, End};
+    ghost use Rattle.stream_rows.specs.Units.{DataUnit, End};
 
     ghost Value = { DataUnit };
 
@@ -88,6 +90,8 @@ impl UnitReader for StreamReader {
     ghost laws = { units_laws };
 
     ghost along = { after-place };
+
+    ghost short = { λ reason. refl };
 
     ghost first = { nothing_yet };
 

@@ -6,10 +6,12 @@ ghost use Rattle.vc2_run.specs.Ran.{HaltHasCause};
 ghost use Rattle.unit_table.specs.Grammar.{Grammar, Final};
 ghost use Rattle.unit_table.specs.Fronts.{Command, machine_of};
 ghost use Rattle.unit_table.proofs.GrammarLaws.{IsGrammar};
-ghost use Rattle.stream_units.specs.declared.reason.Reason.{Reason};
-ghost use Rattle.stream_units.specs.Streams.{limit, past_limit, refusal_of};
+ghost use Rattle.stream_rows.specs.declared.reason.Reason.{Reason};
+ghost use Rattle.stream_rows.specs.Streams.{limit, past_limit, refusal_of};
 ghost use Rattle.stream_units.specs.Stops.{StopCause};
 ghost use Rattle.vc2_cli.specs.declared.status.Ending.{Ending};
+ghost use Rattle.stream_rows.specs.Units.{is_truncated};
+ghost use Rattle.vc2_cli.specs.Soon.{Soon, HasOpenEndings};
 ghost use Rattle.vc2_cli.specs.Running.{ReaderSeen, first_seen, NextOver, Runs, change, begun, WritesText, Closes, Turns};
 
 use crate::status::Ending;
@@ -43,6 +45,9 @@ pub(crate) trait UnitReader {
 
     /// A unit leaves the place behind its bytes.
     ghost along: { (z : Self.Past) (unit : Self.Made) (bytes : List ℕ) → (grammar).place ((grammar).after z unit bytes) ≡ (grammar).place z + length bytes };
+
+    /// Where a field is short, the input is over.
+    ghost short: { (reason : Reason) → (grammar).is_short reason ≡ is_truncated reason };
 
     /// What there is before the first unit.
     ghost first: { Self.Past };
@@ -82,6 +87,9 @@ pub(crate) trait UnitCommand<R: UnitReader>: Drop {
     ghost is_done: { Ending → Type 0 };
 
     ghost refused_is_no_end: { (z : R.Past) (w : Own) (fault : Fault Reason) → is_done ((command).refused z w fault) → ⊥ };
+
+    /// An ending that more bytes may still change is no refusal, or that of a short field.
+    ghost opens: { HasOpenEndings command };
 
     /// Writes the text before any read.
     fn open<K: Sink>(&mut self, out: &mut K) -> Result<(), Halt>
@@ -125,7 +133,8 @@ pub(crate) fn run_units<R: UnitReader, C: UnitCommand<R>, S: Source, K: Sink>(
     requires new { R.seen reader.old ≡ first_seen R.first }
     requires start { C.own command.old reader.old ≡ C.start command.old }
     requires keeps { C.keeps command.old reader.old }
-    ensures { Runs (machine_of limit past_limit R.grammar R.first (begun C.command (C.start command.old))) C.is_done (change S.rest S.faults src.old src.new) (change K.written K.faults out.old out.new) result }
+    ensures runs { Runs (machine_of limit past_limit R.grammar R.first (begun C.command (C.start command.old))) C.is_done (change S.rest S.faults src.old src.new) (change K.written K.faults out.old out.new) result }
+    ensures soon { Soon (machine_of limit past_limit R.grammar R.first (begun C.command (C.start command.old))) 4096 (S.rest src.old) (S.rest src.new) result }
 {
     match command.open(out) {
         Ok(()) => {}

@@ -4,6 +4,7 @@ ghost use Rattle.vc2_run.specs.Ran.{HaltHasCause};
 ghost use Rattle.channel_schedule.specs.Rates.{IsSchedule};
 ghost use Rattle.vc2_cli.specs.declared.status.Ending.TheVariants as ending;
 ghost use Rattle.vc2_cli.specs.Running.{IsDone, Runs, change, Closes};
+ghost use Rattle.vc2_cli.specs.Soon.{Soon};
 ghost use Rattle.vc2_cli.specs.Decode.{last_line};
 ghost use Rattle.vc2_cli.specs.Scheduled.{Replayed, nothing_replayed, replaying_any, replay_machine};
 
@@ -68,6 +69,8 @@ impl UnitCommand<StreamReader> for Replaying {
 
     ghost refused_is_no_end = { λ z w fault done. done };
 
+    ghost opens = { record { finished = λ z w unit bytes. tt; rested = λ z w. tt; refused = λ z w fault short. short } };
+
     fn open<K: Sink>(&mut self, _out: &mut K) -> Result<(), Halt> {
         Ok(())
     }
@@ -122,7 +125,8 @@ pub(crate) fn check_schedule<S: Source, K: Sink>(
     out: &mut K,
 ) -> Result<Ending, Halt>
     requires { IsSchedule schedule }
-    ensures { Runs (replay_machine schedule) IsDone (change S.rest S.faults src.old src.new) (change K.written K.faults out.old out.new) result }
+    ensures runs { Runs (replay_machine schedule) IsDone (change S.rest S.faults src.old src.new) (change K.written K.faults out.old out.new) result }
+    ensures soon { Soon (replay_machine schedule) 4096 (S.rest src.old) (S.rest src.new) result }
 {
     match StreamReader::new(alloc) {
         Ok(mut reader) => {

@@ -14,6 +14,7 @@ ghost use Rattle.vc2_cli.specs.Encode.{written_under};
 ghost use Rattle.vc2_cli.specs.Words.{seen_words, words_ask};
 ghost use Rattle.vc2_cli.specs.Trial.{trial_text};
 ghost use Rattle.vc2_cli.specs.Reply.{reply_to, due_to, command_reply, command_due, status_of, note_of, fault_of, schedule_status, schedule_note, ReadsAll, IsStatusOf, Breaks, Stops, StopsShort, HasCauses, AnswersUsage, AnswersTrial, IfTrial, IfHeader};
+ghost use Rattle.vc2_cli.specs.Soon.{StopsSoon, IfUnits};
 ghost use Rattle.vc2_cli.specs.Settled.{Settles, Concludes, HasNoteCause, status_of_halt};
 
 use crate::chain::chain;
@@ -157,6 +158,7 @@ fn answer<S: Source, K: Sink, N: Sink>(
     ensures trial { IfTrial (seen_words command) (λ s part. AnswersTrial (trial_text s part) (K.written out.old) (K.written out.new) (N.written note.old) (N.written note.new) result
         × (S.rest src.new ≡ S.rest src.old) × (S.faults src.new ≡ S.faults src.old)) }
     ensures header { IfHeader (seen_words command) (TakesAtMost 250 (S.rest src.old) (S.rest src.new)) }
+    ensures soon { (input : List ℕ) → S.rest src.old ≡ Some input → IfUnits (seen_words command) (λ most. StopsSoon (command_reply (seen_words command)) most input (S.rest src.new) result) }
 {
     match command {
         Ok(command) => match command {
@@ -217,6 +219,12 @@ pub fn run<S: Source, K: Sink, N: Sink>(
     // Where a write of the note failed, all of the output was written, and a proper front of the note.
     ensures note_fault { IfSome (S.rest src.old) (λ input. let reply = reply_to (map string_bytes words.now) input in
         result ≡ Status.NoteFault → Appends (K.written out.old) (K.written out.new) reply.out × GrewShort (N.written note.old) (N.written note.new) reply.note) }
+
+    // `chain`, `decode` and `check` take at most 4096 bytes behind a refusal, those that came with it in one read, and `header`
+    // none: without its last 4096 bytes, or its last byte, what was taken is not refused as an input of its own, unless for
+    // a field that is short. Where a read failed, all that was taken is not.
+    ensures soon { IfSome (S.rest src.old) (λ input. IfUnits (words_ask (map string_bytes words.now)) (λ most.
+        StopsSoon (reply_to (map string_bytes words.now)) most input (S.rest src.new) result)) }
 
     // At most 2^40 bytes and one more are taken, however the run comes out.
     ensures limit { TakesAtMost (2 ^ 40 + 1) (S.rest src.old) (S.rest src.new) }

@@ -26,11 +26,13 @@ pub data AskedCommand : Type 0 where
 
 -- a schedule, where all of it is given, with so many idle slots
 abbrev pub schedule_from : Option Rate → Option (List ℕ) → Option ℕ → ℕ → Option Schedule
-schedule_from (Some rate) (Some delay) (Some size) idle = Some (record { rate = rate; delay = slice_index delay 0; size = size; idle = idle })
+schedule_from (Some rate) (Some delay) (Some size) idle =
+    Some (record { rate = rate; delay = slice_index delay 0; size = size; idle = idle })
 schedule_from rate delay size idle = None
 
 abbrev pub schedule_of : Table → Option Schedule
-schedule_of given = schedule_from (rate_given (value_of given of_key.Rate)) (value_of given of_key.Delay) (buffer_given (value_of given of_key.Buffer)) (number_at given of_key.Idle 0)
+schedule_of given = schedule_from (rate_given (value_of given of_key.Rate)) (value_of given of_key.Delay)
+    (buffer_given (value_of given of_key.Buffer)) (number_at given of_key.Idle 0)
 
 abbrev pub part_of : Table → TrialPart
 part_of given = record { seed = number_at given of_key.Seed 0; pictures = number_at given of_key.Pictures 0 }
@@ -45,7 +47,8 @@ command_of names.Header given = Ok header
 command_of names.Decode given = Ok decode
 command_of names.Check given = Ok (check (schedule_of given))
 command_of names.Encode given = unless_broken (broken_rule given None) (encode (asked_of given))
-command_of names.Trial given = unless_broken (broken_rule given (Some (number_at given of_key.Pictures 0))) (trial (asked_of given) (part_of given))
+command_of names.Trial given =
+    unless_broken (broken_rule given (Some (number_at given of_key.Pictures 0))) (trial (asked_of given) (part_of given))
 
 abbrev pub named : Option Name → List (List ℕ) → Result AskedCommand WordFault
 named None words = Err faults.UnknownCommand

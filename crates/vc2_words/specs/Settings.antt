@@ -51,7 +51,12 @@ signal_of None = signals.Index 1
 signal_of (Some ns) =
     if length ns == 1
     then signals.Index (slice_index ns 0)
-    else signals.Custom (record { luma_offset = slice_index ns 0; luma_excursion = slice_index ns 1; colour_offset = slice_index ns 2; colour_excursion = slice_index ns 3 })
+    else signals.Custom (record {
+      luma_offset = slice_index ns 0;
+      luma_excursion = slice_index ns 1;
+      colour_offset = slice_index ns 2;
+      colour_excursion = slice_index ns 3;
+    })
 
 abbrev pub scan_of : Option (List ℕ) → Option ℕ
 scan_of None = None
@@ -184,7 +189,8 @@ rate_or usual (Some rate) = rate
 
 -- a picture unit's bytes in as many slots as it has slices and idle slots behind them, where no rate is given
 abbrev pub rate_of : Params → ℕ → Option (List ℕ) → Rate
-rate_of params idle given = rate_or (record { num = unit_length params; den = slice_count params.slicing + idle }) (rate_given given)
+rate_of params idle given =
+    rate_or (record { num = unit_length params; den = slice_count params.slicing + idle }) (rate_given given)
 
 abbrev pub asked_of : Table → Asked
 asked_of given = record {

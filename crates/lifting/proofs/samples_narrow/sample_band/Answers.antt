@@ -5,7 +5,7 @@ use mir.Syntax.{w32}
 use mir.Val.{to_z, of_z}
 use Rattle.lifting.specs.Places.{place}
 use Rattle.lifting.specs.Samples.{clipped_up, sample_of}
-use Rattle.lifting.proofs.SampleRows.{sample_is, wide_as_it_was, half_as_it_was}
+use Rattle.lifting.proofs.SampleRows.{sample_is, as_it_was, half_as_it_was}
 use Rattle.lifting.proofs.samples_narrow.sample_band.Goals as goal
 
 pub loop-i-preserved : goal.loop-i-preserved
@@ -15,7 +15,7 @@ loop-i-preserved c =
     let row = c.args.row.now in
     let dst = c.loop-i.dst in
     let i : ℕ = c.loop-i.i in
-    let new = c.sample_narrowed.result in
+    let new = c.offset.result in
     let room : i < length dst = omega (arith, c.loop-i-test.true, c.loop-i.auto) in
     let inside : i < length row = omega (arith, c.requires.room, c.loop-i-test.true, c.loop-i.auto) in
     record {
@@ -23,7 +23,7 @@ loop-i-preserved c =
         | inl here ↦
             rw here
             (get_or-set_same dst i new 0 room
-            ∙ sample_is c.args.depth half (place row i) new is_half (c.sample_narrowed.ensures ∙ ap (clipped_up half) (wide_as_it_was (place row i) (c.requires.small i inside))))
+            ∙ sample_is c.args.depth half (place row i) new is_half (c.offset.ensures ∙ ap (clipped_up half) (as_it_was (place row i) (c.requires.small i inside))))
         | inr ne ↦ get_or-set_other dst i k new 0 ne ∙ c.loop-i.invariant.done k (omega (arith, ne, lt))
       ];
     }

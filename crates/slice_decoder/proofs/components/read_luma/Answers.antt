@@ -1,4 +1,4 @@
-use Rattle.std.proofs.Common.{◌≡◌, ℕ, ◌+◌, ◌*◌, ◌<◌, length, take, get_or, pos, arith}
+use Rattle.std.proofs.Common.{◌≡◌, ℕ, ◌+◌, ◌*◌, ◌<◌, length, get_or, pos, arith}
 use Rattle.std.proofs.lemmas.List.{length-take-le}
 use Rattle.slice_decoder.specs.Dealing.{dealt}
 use Rattle.slice_decoder.specs.Components.{Part, part_of, quantisers_before}

@@ -1,4 +1,4 @@
-use Rattle.std.proofs.Common.{ℕ, length, get_or, pos}
+use Rattle.std.proofs.Common.{length, get_or, pos}
 use Rattle.quant_factors.specs.Factors.{inverse_of}
 use Rattle.slice_decoder.proofs.Restores.{low_restored, low-stay, map-stay}
 use Rattle.slice_decoder.proofs.restoring.restore_run.Goals as goal

@@ -15,5 +15,5 @@ loop-magnitude-preserved c =
       so_far = row_more c.args.index l.row l.magnitude c.counted.result (omega (arith, c.loop-magnitude-test.true, l.invariant.count)) here l.invariant.so_far;
     }
 
-pub returns : goal.returns
-returns c = λ magnitude below. c.loop-magnitude.invariant.so_far magnitude (omega (arith, below, c.loop-magnitude.invariant.count, c.loop-magnitude-test.false))
+pub returns-clause-row : goal.returns-clause-row
+returns-clause-row c = λ magnitude below. c.loop-magnitude.invariant.so_far magnitude (omega (arith, below, c.loop-magnitude.invariant.count, c.loop-magnitude-test.false))

@@ -1,13 +1,15 @@
-use Rattle.std.proofs.Common.{◌≡◌, ℕ, ◌+◌, ◌<◌, ◌^◌, length, take}
+use Rattle.std.proofs.Common.{◌≡◌, ℕ, ◌+◌, ◌-◌, ◌<◌, ◌^◌, length, take}
 use Rattle.std.specs.Prelude.{slice_index}
 use Rattle.std.specs.List.{All}
 use Rattle.planes.specs.Numbers.{Within}
+use Rattle.slice_geometry.specs.SliceOrder.{level_rect, level_of}
 use Rattle.slice_encoder.specs.Gathering.{raw_before}
 use Rattle.slice_encoder.proofs.gathered.gather_bands.Given as goal
 
 abbrev pub invariant-loop-k : goal.invariant-loop-k
 invariant-loop-k l = record {
   same_length : length l.out ≡ length l.fn.out;
+  rect : l.rect ≡ level_rect l.layout l.size l.sx l.sy (level_of (l.k - 1));
   small : All (Within (2 ^ 27)) l.out;
   place : l.place ≡ length (raw_before l.layout l.size l.bands l.sx l.sy l.k);
   so_far : take l.place l.out ≡ raw_before l.layout l.size l.bands l.sx l.sy l.k;

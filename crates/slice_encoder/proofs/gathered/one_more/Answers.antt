@@ -1,5 +1,4 @@
-use Rattle.std.proofs.Common.{◌≡◌, ◌∙◌, ℕ, ◌+◌, ◌≤◌, sym, ap, inl, inr, arith, ℤ}
-use Rattle.std.specs.Prelude.{unsigned_abs}
+use Rattle.std.proofs.Common.{◌∙◌, sym, ap, inl, inr}
 use Rattle.slice_encoder.specs.Gathering.{with_code}
 use Rattle.slice_encoder.proofs.CodeSizes.{nothing_more, more_behind, more_bits}
 use Rattle.slice_encoder.proofs.gathered.one_more.Goals as goal

@@ -14,18 +14,18 @@ loop-place-preserved c =
     let l = c.loop-place in
     let one : ℤ = get_or a.first.now l.place (pos 0) in
     let two : ℤ = get_or a.second.now l.place (pos 0) in
-    let v = to_z w64 (of_z w64 c.forward.result) in
-    let w = to_z w64 (of_z w64 c.forward-in-loop-place.result) in
+    let v = to_z w64 (of_z w64 c.quantised_value.result) in
+    let w = to_z w64 (of_z w64 c.quantised_value-in-loop-place.result) in
     let one_is : to_z w64 (of_z w64 one) ≡ one = fits (2 ^ 27) one (omega arith) (All-get_or (Within (2 ^ 27)) a.first.now l.place (pos 0) (omega arith) c.requires.first_small) in
     let two_is : to_z w64 (of_z w64 two) ≡ two = fits (2 ^ 27) two (omega arith) (All-get_or (Within (2 ^ 27)) a.second.now l.place (pos 0) (omega (arith, c.requires.same)) c.requires.second_small) in
-    let v_is : v ≡ c.forward.result = to_z-of_z w64 c.forward.result (record { sfits = c.forward.type_inv }) in
-    let w_is : w ≡ c.forward-in-loop-place.result = to_z-of_z w64 c.forward-in-loop-place.result (record { sfits = c.forward-in-loop-place.type_inv }) in
+    let v_is : v ≡ c.quantised_value.result = to_z-of_z w64 c.quantised_value.result (record { sfits = c.quantised_value.type_inv }) in
+    let w_is : w ≡ c.quantised_value-in-loop-place.result = to_z-of_z w64 c.quantised_value-in-loop-place.result (record { sfits = c.quantised_value-in-loop-place.type_inv }) in
     let room : 2 * l.place + 1 < length l.out = omega (arith, l.invariant.same_length, c.requires.room) in
     record {
       same_length = length-set _ (2 * l.place + 1) w ∙ length-set l.out (2 * l.place) v ∙ l.invariant.same_length;
       so_far =
           pair_more l.out a.first.now a.second.now a.index l.place v w (pos 0) room (omega arith) c.requires.same
-          (v_is ∙ c.forward.ensures ∙ ap (λ (t : ℤ). forward_of t a.index) one_is)
-          (w_is ∙ c.forward-in-loop-place.ensures ∙ ap (λ (t : ℤ). forward_of t a.index) two_is)
+          (v_is ∙ c.quantised_value.ensures ∙ ap (λ (t : ℤ). forward_of t a.index) one_is)
+          (w_is ∙ c.quantised_value-in-loop-place.ensures ∙ ap (λ (t : ℤ). forward_of t a.index) two_is)
           l.invariant.so_far;
     }

@@ -1,9 +1,7 @@
 use Rattle.std.proofs.Common.{◌≡◌, ◌∙◌, refl, ◌-◌, ◌^◌, length, get_or, ap, arith, pos, ℤ}
-use Rattle.std.specs.Prelude.{◌≤◌}
 use Rattle.std.proofs.lemmas.List.Elements.{All-get_or}
 use Rattle.planes.specs.Numbers.{Within}
 use Rattle.dc_prediction.proofs.PredictionLemmas.{fits}
-use Rattle.bit_codes.specs.Codes.{signed_code_of}
 use Rattle.quant_factors.specs.Factors.{forward_of}
 use Rattle.slice_encoder.specs.CodeLengths.{code_length}
 use Rattle.slice_encoder.proofs.Gathers.{reach_more}

@@ -1,8 +1,8 @@
 use Rattle.std.proofs.Common.{◌≡◌, ◌∙◌, ℕ, List, ap, sym, length, take, min, true, arith}
 use Rattle.std.proofs.lemmas.List.{length-drop, length-take}
 use Rattle.field_rows.specs.Rows.{◌>>=◌}
-use Rattle.stream_units.specs.declared.reason.Refusal.{Refusal}
-use Rattle.stream_units.specs.Units.{is_truncated}
+use Rattle.stream_rows.specs.declared.reason.Refusal.{Refusal}
+use Rattle.stream_rows.specs.Units.{is_truncated}
 use Rattle.stream_units.specs.HeadUnits.{head_alone}
 use Rattle.stream_units.proofs.AloneRows.{heads_table, alone_steady}
 use Rattle.stream_units.proofs.Gets.{got_most}

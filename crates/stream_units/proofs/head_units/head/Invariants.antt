@@ -2,7 +2,7 @@ use Rattle.std.proofs.Common.{◌≡◌, ◌≤◌, ◌+◌, ◌-◌, ◌^◌, L
 use Rattle.field_rows.specs.Rows.{Rows, ◌>>=◌}
 use Rattle.parse_info.specs.declared.ParseInfo.{ParseInfo}
 use Rattle.unit_table.specs.Begun.{Begun}
-use Rattle.stream_units.specs.declared.reason.Reason.{Reason}
+use Rattle.stream_rows.specs.declared.reason.Reason.{Reason}
 use Rattle.stream_units.specs.HeadUnits.{heads, head_alone}
 use Rattle.stream_units.proofs.head_units.head.Given as goal
 

@@ -2,7 +2,7 @@ use Rattle.std.proofs.Common.{◌≡◌, ◌∙◌, true, false, Ok, refl, sym, 
 use Rattle.stream_units.specs.Stops.{LimitStops}
 use Rattle.stream_units.specs.Taking.{PastOver}
 use Rattle.stream_units.proofs.Taking.{last_held, last_lost, last_refused, last_past, last_ends, last_past_lost, past_fault}
-use Rattle.stream_units.specs.Units.{units}
+use Rattle.stream_rows.specs.Units.{units}
 use Rattle.stream_units.proofs.Gets.{got_most}
 use Rattle.stream_units.proofs.Stopping.{units_table}
 use Rattle.stream_units.proofs.limits.last.Goals as goal

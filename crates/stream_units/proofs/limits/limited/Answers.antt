@@ -1,5 +1,5 @@
 use Rattle.std.proofs.Common.{◌≡◌, ◌∙◌, true, false, Ok, sym, subst}
-use Rattle.stream_units.specs.Units.{units}
+use Rattle.stream_rows.specs.Units.{units}
 use Rattle.stream_units.specs.HeadUnits.{heads}
 use Rattle.stream_units.specs.Stops.{LimitStops}
 use Rattle.stream_units.specs.Taking.{PastOver}

@@ -1,5 +1,5 @@
 use Rattle.std.proofs.Common.{subst}
-use Rattle.stream_units.specs.Units.{units}
+use Rattle.stream_rows.specs.Units.{units}
 use Rattle.stream_units.specs.Stops.{StopsOver}
 use Rattle.stream_units.specs.Held.{StopsHeld}
 use Rattle.stream_units.proofs.Stopping.{truncated}

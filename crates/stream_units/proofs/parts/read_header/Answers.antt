@@ -1,9 +1,9 @@
 use Rattle.std.proofs.Common.{◌≡◌, ◌∙◌, ℕ, true, List, length, sym, ap, arith, refl}
 use Rattle.std.proofs.lemmas.List.{take_all}
-use Rattle.stream_units.specs.Units.{is_truncated, header_reason, first_payload}
+use Rattle.stream_rows.specs.Units.{is_truncated, header_reason, first_payload}
 use Rattle.stream_units.proofs.Gets.{got_most}
 use Rattle.stream_units.proofs.Stopping.{told_at}
-use Rattle.stream_units.proofs.LongestHeader.{header_cut, header_most}
+use Rattle.stream_rows.proofs.LongestHeader.{header_cut, header_most}
 use Rattle.stream_units.proofs.HeaderTurns.{header_reads, header_refused, fault_there}
 use Rattle.stream_units.proofs.parts.read_header.Goals as goal
 

@@ -4,7 +4,7 @@ use Rattle.std.specs.List.{starts_with}
 use Rattle.std.proofs.lemmas.List.{length-drop}
 use Rattle.field_rows.specs.Rows.{done, ◌>>=◌}
 use Rattle.unit_table.specs.Begun.{Begun, Got}
-use Rattle.stream_units.specs.Units.{Repeated, units, next_checked}
+use Rattle.stream_rows.specs.Units.{Repeated, units, next_checked}
 use Rattle.stream_units.specs.Heads.{leads_behind}
 use Rattle.stream_units.proofs.Gets.{got_most}
 use Rattle.stream_units.proofs.HeldTurns.{drop_most}

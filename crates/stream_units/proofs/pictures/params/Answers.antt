@@ -3,9 +3,9 @@ use Rattle.std.proofs.lemmas.List.{take_all}
 use Rattle.transform_params.specs.Params as params
 use Rattle.stream_units.proofs.PictureTurns.{params_then, params_taken, params_short, params_refused}
 use Rattle.stream_units.proofs.Stopping.{told_at}
-use Rattle.stream_units.proofs.LongestParams.{params_cut, params_most}
+use Rattle.stream_rows.proofs.LongestParams.{params_cut, params_most}
 use Rattle.unit_table.specs.Begun.{Begun}
-use Rattle.stream_units.specs.Units.{units, is_truncated, transform_reason}
+use Rattle.stream_rows.specs.Units.{units, is_truncated, transform_reason}
 use Rattle.stream_units.proofs.Gets.{got_most}
 use Rattle.stream_units.proofs.HeldTurns.{drop_most}
 use Rattle.stream_units.proofs.pictures.params.Goals as goal

@@ -1,9 +1,9 @@
 use Rattle.std.proofs.Common.{◌≡◌, ◌∙◌, ℕ, List, ap, sym, length, take, min, true, arith}
 use Rattle.std.proofs.lemmas.List.{length-drop, length-take}
 use Rattle.field_rows.specs.Rows.{◌>>=◌}
-use Rattle.stream_units.specs.declared.reason.Refusal.{Refusal}
-use Rattle.stream_units.specs.Units.{is_truncated, unit_head}
-use Rattle.stream_units.proofs.Steady.{head_steady}
+use Rattle.stream_rows.specs.declared.reason.Refusal.{Refusal}
+use Rattle.stream_rows.specs.Units.{is_truncated, unit_head}
+use Rattle.stream_rows.proofs.Steady.{head_steady}
 use Rattle.stream_units.proofs.Gets.{got_most}
 use Rattle.stream_units.proofs.Stopping.{units_table, stops_told}
 use Rattle.stream_units.proofs.HeadTurns.{head_stands, head_fault, head_few}

@@ -1,5 +1,5 @@
 use Rattle.std.proofs.Common.{refl, arith}
-use Rattle.stream_units.specs.Units.{End}
+use Rattle.stream_rows.specs.Units.{End}
 use Rattle.stream_units.proofs.PartTurns.{takes}
 use Rattle.stream_units.specs.Turns.{IsFound, IsShown}
 use Rattle.stream_units.specs.declared.parts.Found.TheVariants as founds

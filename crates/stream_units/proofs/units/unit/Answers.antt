@@ -1,5 +1,5 @@
 use Rattle.std.proofs.Common.{refl}
-use Rattle.stream_units.specs.Units.{payload_rows}
+use Rattle.stream_rows.specs.Units.{payload_rows}
 use Rattle.stream_units.specs.Held.{BeforeSlices}
 use Rattle.stream_units.proofs.UnitTurns.{unit_begun}
 use Rattle.stream_units.proofs.units.unit.Goals as goal

@@ -1,7 +1,7 @@
 use Rattle.std.proofs.Common.{◌≡◌, ◌∙◌, ℕ, List, sym, ap, subst}
 use Rattle.slice_geometry.specs.Frames.{Frame, frame_of}
 use Rattle.trial_video.specs.Video.{VideoSeen}
-use Rattle.stream_units.specs.Streams.{frame_under}
+use Rattle.stream_rows.specs.Streams.{frame_under}
 use Rattle.stream_units.proofs.SameShapes.{frame_is}
 use Rattle.vc2_words.specs.Settings.{Asked}
 use Rattle.vc2_words.specs.Shown.{shown}
@@ -19,7 +19,7 @@ found_worst-requires c =
     let s : Asked = shown a.settings.now in
     let start_is : comparison_of c.new-2.result a.part.pictures 0 ≡ nothing_compared s a.part = begins_as s a.part c.new-2.result c.picture_shape-shape.result c.new-2.ensures (frame_is s.parts c.picture_shape-shape.result c.picture_shape-shape.ensures) in
     let e = compared_here s a.part c.requires.lawful c.requires.flat (comparison_of c.new-2.result a.part.pictures 0) c.new-src.result start_is (c.new-src.ensures ∙ c.requires.stream) in
-    (trial_worst s a.part, is_compared _ _ c.new-src.result (trial_worst s a.part) c.run_units-outcome.result c.run_units-outcome.ensures.ran c.run_units-outcome.ensures.cause e)
+    (trial_worst s a.part, is_compared _ _ c.new-src.result (trial_worst s a.part) c.run_units-outcome.result c.run_units-outcome.ensures.runs.ran c.run_units-outcome.ensures.runs.cause e)
 
 pub returns-in-Ok-new : goal.returns-in-Ok-new
 returns-in-Ok-new c =
@@ -27,4 +27,4 @@ returns-in-Ok-new c =
     let s : Asked = shown a.settings.now in
     let start_is : comparison_of c.new-2.result a.part.pictures 0 ≡ nothing_compared s a.part = begins_as s a.part c.new-2.result c.picture_shape-shape.result c.new-2.ensures (frame_is s.parts c.picture_shape-shape.result c.picture_shape-shape.ensures) in
     let e = compared_here s a.part c.requires.lawful c.requires.flat (comparison_of c.new-2.result a.part.pictures 0) c.new-src.result start_is (c.new-src.ensures ∙ c.requires.stream) in
-    c.found_worst.ensures (trial_worst s a.part) (is_compared _ _ c.new-src.result (trial_worst s a.part) c.run_units-outcome.result c.run_units-outcome.ensures.ran c.run_units-outcome.ensures.cause e)
+    c.found_worst.ensures (trial_worst s a.part) (is_compared _ _ c.new-src.result (trial_worst s a.part) c.run_units-outcome.result c.run_units-outcome.ensures.runs.ran c.run_units-outcome.ensures.runs.cause e)

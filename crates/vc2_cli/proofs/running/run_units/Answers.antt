@@ -2,12 +2,16 @@ use Rattle.std.proofs.Common.{◌≤◌, ◌∙◌, Ok, Err, refl, sym, ap, subs
 use Rattle.vc2_io.specs.Outside.{Rose}
 use Rattle.stream_units.specs.Stops.{LimitStops, StopCause}
 use Rattle.vc2_cli.specs.Running.{NextOver, begun}
-use Rattle.vc2_cli.proofs.Exits.{goes_first, holds_first, ran_unopened_by, goes_more, place_more, holds_turn, ran_unwritten, ran_finished, ran_refused, ran_rested, ran_lost, ran_no_memory, takes_at_most, takes_none, cause_then, cause_halt, closed_is}
+use Rattle.vc2_cli.proofs.Exits.{goes_first, holds_first, ran_unopened_by, goes_more, place_more, holds_turn, ran_unwritten, ran_finished, ran_refused, ran_rested, ran_lost, ran_no_memory, takes_at_most, takes_none, cause_then, cause_halt, closed_is, begun_opens, unrefused_begun, unrefused_turn, turned_soon, lost_soon, none_soon, closes_no_read, writes_no_read}
+use Rattle.vc2_cli.proofs.Soon.{opens_machine}
+use Rattle.unit_table.specs.Fronts.{machine_of}
+use Rattle.unit_table.proofs.FrontLaws.{machine_laws}
+use Rattle.stream_rows.specs.Streams.{limit, past_limit}
 use Rattle.vc2_cli.specs.declared.status.Ending.{Ending}
 use Rattle.vc2_cli.proofs.running.run_units.Goals as goal
 
-pub returns-in-Err : goal.returns-in-Err
-returns-in-Err g c =
+pub returns-in-Err-clause-runs : goal.returns-in-Err-clause-runs
+returns-in-Err-clause-runs g c =
     let G = g.R.UnitReader.grammar in
     let seen = g.R.UnitReader.seen in
     let Tells = g.R.UnitReader.tells in
@@ -38,13 +42,14 @@ loop-turn-init g c =
     record {
       goes = goes_first G first (rest c.args.src.now) (seen c.args.reader.now) c.requires.new g.R.UnitReader.begins;
       holds = holds_first G laws first cmd (rest c.args.src.now) (written c.args.out.now) (written c.open.new.out) (seen c.args.reader.now) (own c.open.new.self c.args.reader.now) c.requires.new (ap (λ s. own s c.args.reader.now) c.open.ensures.own ∙ c.requires.start) c.in-Ok.ensures.wrote;
+      unrefused = unrefused_begun G laws g.R.UnitReader.short first cmd (begun_opens g.C.UnitCommand.command (g.C.UnitCommand.start c.args.command.now) g.C.UnitCommand.opens) (rest c.args.src.now) (seen c.args.reader.now) (own c.open.new.self c.args.reader.now) c.requires.new (ap (λ s. own s c.args.reader.now) c.open.ensures.own ∙ c.requires.start);
       keeps = subst (λ s. g.C.UnitCommand.keeps s c.args.reader.now) (sym c.open.ensures.own) c.requires.keeps;
       steady = refl;
       steady_out = c.in-Ok.ensures.cause.1;
     }
 
-pub returns-in-ReadFault : goal.returns-in-ReadFault
-returns-in-ReadFault g c =
+pub returns-in-ReadFault-clause-runs : goal.returns-in-ReadFault-clause-runs
+returns-in-ReadFault-clause-runs g c =
     let G = g.R.UnitReader.grammar in
     let seen = g.R.UnitReader.seen in
     let Tells = g.R.UnitReader.tells in
@@ -77,8 +82,8 @@ returns-in-ReadFault g c =
       end = λ ending e done. absurd cc;
     }
 
-pub returns-in-NoMemory : goal.returns-in-NoMemory
-returns-in-NoMemory g c =
+pub returns-in-NoMemory-clause-runs : goal.returns-in-NoMemory-clause-runs
+returns-in-NoMemory-clause-runs g c =
     let G = g.R.UnitReader.grammar in
     let seen = g.R.UnitReader.seen in
     let Tells = g.R.UnitReader.tells in
@@ -111,8 +116,8 @@ returns-in-NoMemory g c =
       end = λ ending e done. absurd cc;
     }
 
-pub returns-in-Err-next_turn : goal.returns-in-Err-next_turn
-returns-in-Err-next_turn g c =
+pub returns-in-Err-next_turn-clause-runs : goal.returns-in-Err-next_turn-clause-runs
+returns-in-Err-next_turn-clause-runs g c =
     let G = g.R.UnitReader.grammar in
     let seen = g.R.UnitReader.seen in
     let Tells = g.R.UnitReader.tells in
@@ -147,8 +152,8 @@ returns-in-Err-next_turn g c =
       end = λ ending e done. absurd (g.C.UnitCommand.refused_is_no_end z w f.fault (subst g.C.UnitCommand.is_done (closed_is (cmd.refused z w f.fault) ending (cmd.last z w (cmd.refused z w f.fault)) o1 o2 c.refuse.result closes e) done));
     }
 
-pub returns-in-Last : goal.returns-in-Last
-returns-in-Last g c =
+pub returns-in-Last-clause-runs : goal.returns-in-Last-clause-runs
+returns-in-Last-clause-runs g c =
     let G = g.R.UnitReader.grammar in
     let seen = g.R.UnitReader.seen in
     let Tells = g.R.UnitReader.tells in
@@ -182,8 +187,8 @@ returns-in-Last g c =
       end = λ ending e done. n.last;
     }
 
-pub returns-in-Rest : goal.returns-in-Rest
-returns-in-Rest g c =
+pub returns-in-Rest-clause-runs : goal.returns-in-Rest-clause-runs
+returns-in-Rest-clause-runs g c =
     let G = g.R.UnitReader.grammar in
     let seen = g.R.UnitReader.seen in
     let Tells = g.R.UnitReader.tells in
@@ -276,13 +281,14 @@ loop-turn-preserved g c =
     record {
       goes = goes_more g.R.UnitReader.along i.goes n;
       holds = holds_turn laws first cmd r0 o0 o1 (written c.turn.new.out) w (own c.turn.new.self c.next_turn.new.self) i.holds n (c.in-Ok-turn.ensures.wrote l.reader z n.unit n.bytes tells);
+      unrefused = unrefused_turn laws g.R.UnitReader.short first cmd (begun_opens g.C.UnitCommand.command (g.C.UnitCommand.start c.args.command.now) g.C.UnitCommand.opens) r0 w (own c.turn.new.self c.next_turn.new.self) i.unrefused n (c.in-Ok-turn.ensures.wrote l.reader z n.unit n.bytes tells).1;
       keeps = c.in-Ok-turn.ensures.keeps l.reader z n.unit n.bytes tells refl i.keeps;
       steady = steady;
       steady_out = c.in-Ok-turn.ensures.cause.1 ∙ i.steady_out;
     }
 
-pub returns-in-Err-turn : goal.returns-in-Err-turn
-returns-in-Err-turn g c =
+pub returns-in-Err-turn-clause-runs : goal.returns-in-Err-turn-clause-runs
+returns-in-Err-turn-clause-runs g c =
     let G = g.R.UnitReader.grammar in
     let seen = g.R.UnitReader.seen in
     let Tells = g.R.UnitReader.tells in
@@ -329,3 +335,143 @@ turn-requires g c =
     let n = subst (λ t. NextOver G (Tells l.reader c.next_turn.new.self) (g.R.UnitReader.stays l.reader c.next_turn.new.self) old new (rest l.src) (rest c.next_turn.new.src) (Ok t)) c.in-Unit.is a in
     let p = place_more g.R.UnitReader.along n in
     (l.reader, old.past, n.unit, n.bytes, n.tells, i.keeps, refl, omega (arith, p.1, ap G.place n.past ∙ g.R.UnitReader.along old.past n.unit n.bytes))
+
+-- ---- how soon the run is over
+
+pub returns-in-Err-clause-soon : goal.returns-in-Err-clause-soon
+returns-in-Err-clause-soon g c =
+    let G = g.R.UnitReader.grammar in
+    let laws = g.R.UnitReader.laws in
+    let cmd = begun g.C.UnitCommand.command (g.C.UnitCommand.start c.args.command.now) in
+    let opens = begun_opens g.C.UnitCommand.command (g.C.UnitCommand.start c.args.command.now) g.C.UnitCommand.opens in
+    let first = g.R.UnitReader.first in
+    none_soon (machine_of limit past_limit G first cmd) (machine_laws limit past_limit G first cmd laws) (opens_machine G laws g.R.UnitReader.short first cmd opens) (g.S.Source.rest c.args.src.now) _
+
+pub returns-in-ReadFault-clause-soon : goal.returns-in-ReadFault-clause-soon
+returns-in-ReadFault-clause-soon g c =
+    let G = g.R.UnitReader.grammar in
+    let seen = g.R.UnitReader.seen in
+    let laws = g.R.UnitReader.laws in
+    let cmd = begun g.C.UnitCommand.command (g.C.UnitCommand.start c.args.command.now) in
+    let opens = begun_opens g.C.UnitCommand.command (g.C.UnitCommand.start c.args.command.now) g.C.UnitCommand.opens in
+    let rest = g.S.Source.rest in
+    let written = g.K.Sink.written in
+    let first = g.R.UnitReader.first in
+    let l = c.loop-turn in
+    let i = l.invariant in
+    let old = seen l.reader in
+    let new = seen c.next_turn.new.self in
+    let r0 = rest c.args.src.now in
+    let r1 = rest l.src in
+    let r2 = rest c.next_turn.new.src in
+    let n = c.in-Err-next_turn.ensures.next i.goes.no_stop i.goes.no_end in
+    let lost = subst (λ s. LimitStops G old.past old.held r1 r2 s) c.in-ReadFault.is n.0 in
+    lost_soon r0 r1 r2 laws g.R.UnitReader.short first cmd opens _ i.unrefused lost.1 lost.2
+
+pub returns-in-NoMemory-clause-soon : goal.returns-in-NoMemory-clause-soon
+returns-in-NoMemory-clause-soon g c =
+    let G = g.R.UnitReader.grammar in
+    let seen = g.R.UnitReader.seen in
+    let laws = g.R.UnitReader.laws in
+    let cmd = begun g.C.UnitCommand.command (g.C.UnitCommand.start c.args.command.now) in
+    let opens = begun_opens g.C.UnitCommand.command (g.C.UnitCommand.start c.args.command.now) g.C.UnitCommand.opens in
+    let rest = g.S.Source.rest in
+    let written = g.K.Sink.written in
+    let first = g.R.UnitReader.first in
+    let l = c.loop-turn in
+    let i = l.invariant in
+    let old = seen l.reader in
+    let new = seen c.next_turn.new.self in
+    let r0 = rest c.args.src.now in
+    let r1 = rest l.src in
+    let r2 = rest c.next_turn.new.src in
+    let n = c.in-Err-next_turn.ensures.next i.goes.no_stop i.goes.no_end in
+    turned_soon (g.R.UnitReader.tells l.reader c.next_turn.new.self) (g.R.UnitReader.stays l.reader c.next_turn.new.self) old new r0 r1 r2 (Err c.in-Err-next_turn.stop) laws g.R.UnitReader.short first cmd opens _ i.goes.most i.unrefused n (λ e. absurd cc)
+
+pub returns-in-Err-next_turn-clause-soon : goal.returns-in-Err-next_turn-clause-soon
+returns-in-Err-next_turn-clause-soon g c =
+    let G = g.R.UnitReader.grammar in
+    let seen = g.R.UnitReader.seen in
+    let laws = g.R.UnitReader.laws in
+    let cmd = begun g.C.UnitCommand.command (g.C.UnitCommand.start c.args.command.now) in
+    let opens = begun_opens g.C.UnitCommand.command (g.C.UnitCommand.start c.args.command.now) g.C.UnitCommand.opens in
+    let rest = g.S.Source.rest in
+    let written = g.K.Sink.written in
+    let first = g.R.UnitReader.first in
+    let l = c.loop-turn in
+    let i = l.invariant in
+    let old = seen l.reader in
+    let new = seen c.next_turn.new.self in
+    let r0 = rest c.args.src.now in
+    let r1 = rest l.src in
+    let r2 = rest c.next_turn.new.src in
+    let n = c.in-Err-next_turn.ensures.next i.goes.no_stop i.goes.no_end in
+    let f = subst (λ s. LimitStops G old.past old.held r1 r2 s) c.in-Refused.is n.0 in
+    turned_soon (g.R.UnitReader.tells l.reader c.next_turn.new.self) (g.R.UnitReader.stays l.reader c.next_turn.new.self) old new r0 r1 r2 (Err c.in-Err-next_turn.stop) laws g.R.UnitReader.short first cmd opens c.refuse.result i.goes.most i.unrefused n
+    (closes_no_read _ _ (written l.out) (written c.refuse.new.out) c.refuse.result (c.refuse.ensures.wrote l.reader f.fault f.there n.1 i.keeps))
+
+pub returns-in-Last-clause-soon : goal.returns-in-Last-clause-soon
+returns-in-Last-clause-soon g c =
+    let G = g.R.UnitReader.grammar in
+    let seen = g.R.UnitReader.seen in
+    let laws = g.R.UnitReader.laws in
+    let cmd = begun g.C.UnitCommand.command (g.C.UnitCommand.start c.args.command.now) in
+    let opens = begun_opens g.C.UnitCommand.command (g.C.UnitCommand.start c.args.command.now) g.C.UnitCommand.opens in
+    let rest = g.S.Source.rest in
+    let written = g.K.Sink.written in
+    let first = g.R.UnitReader.first in
+    let l = c.loop-turn in
+    let i = l.invariant in
+    let old = seen l.reader in
+    let new = seen c.next_turn.new.self in
+    let r0 = rest c.args.src.now in
+    let r1 = rest l.src in
+    let r2 = rest c.next_turn.new.src in
+    let a = c.in-Ok-next_turn.ensures.next i.goes.no_stop i.goes.no_end in
+    let n = subst (λ t. NextOver G (g.R.UnitReader.tells l.reader c.next_turn.new.self) (g.R.UnitReader.stays l.reader c.next_turn.new.self) old new r1 r2 (Ok t)) c.in-Last.is a in
+    turned_soon (g.R.UnitReader.tells l.reader c.next_turn.new.self) (g.R.UnitReader.stays l.reader c.next_turn.new.self) old new r0 r1 r2 (Ok c.in-Ok-next_turn.turn) laws g.R.UnitReader.short first cmd opens c.finish.result i.goes.most i.unrefused a
+    (closes_no_read _ _ (written l.out) (written c.finish.new.out) c.finish.result (c.finish.ensures.wrote l.reader old.past n.unit n.bytes n.final.0 n.tells i.keeps n.final.1))
+
+pub returns-in-Rest-clause-soon : goal.returns-in-Rest-clause-soon
+returns-in-Rest-clause-soon g c =
+    let G = g.R.UnitReader.grammar in
+    let seen = g.R.UnitReader.seen in
+    let laws = g.R.UnitReader.laws in
+    let cmd = begun g.C.UnitCommand.command (g.C.UnitCommand.start c.args.command.now) in
+    let opens = begun_opens g.C.UnitCommand.command (g.C.UnitCommand.start c.args.command.now) g.C.UnitCommand.opens in
+    let rest = g.S.Source.rest in
+    let written = g.K.Sink.written in
+    let first = g.R.UnitReader.first in
+    let l = c.loop-turn in
+    let i = l.invariant in
+    let old = seen l.reader in
+    let new = seen c.next_turn.new.self in
+    let r0 = rest c.args.src.now in
+    let r1 = rest l.src in
+    let r2 = rest c.next_turn.new.src in
+    let a = c.in-Ok-next_turn.ensures.next i.goes.no_stop i.goes.no_end in
+    let n = subst (λ t. NextOver G (g.R.UnitReader.tells l.reader c.next_turn.new.self) (g.R.UnitReader.stays l.reader c.next_turn.new.self) old new r1 r2 (Ok t)) c.in-Rest.is a in
+    turned_soon (g.R.UnitReader.tells l.reader c.next_turn.new.self) (g.R.UnitReader.stays l.reader c.next_turn.new.self) old new r0 r1 r2 (Ok c.in-Ok-next_turn.turn) laws g.R.UnitReader.short first cmd opens c.rest.result i.goes.most i.unrefused a
+    (closes_no_read _ _ (written l.out) (written c.rest.new.out) c.rest.result (c.rest.ensures.wrote l.reader n.1 i.keeps))
+
+pub returns-in-Err-turn-clause-soon : goal.returns-in-Err-turn-clause-soon
+returns-in-Err-turn-clause-soon g c =
+    let G = g.R.UnitReader.grammar in
+    let seen = g.R.UnitReader.seen in
+    let laws = g.R.UnitReader.laws in
+    let cmd = begun g.C.UnitCommand.command (g.C.UnitCommand.start c.args.command.now) in
+    let opens = begun_opens g.C.UnitCommand.command (g.C.UnitCommand.start c.args.command.now) g.C.UnitCommand.opens in
+    let rest = g.S.Source.rest in
+    let written = g.K.Sink.written in
+    let first = g.R.UnitReader.first in
+    let l = c.loop-turn in
+    let i = l.invariant in
+    let old = seen l.reader in
+    let new = seen c.next_turn.new.self in
+    let r0 = rest c.args.src.now in
+    let r1 = rest l.src in
+    let r2 = rest c.next_turn.new.src in
+    let a = c.in-Ok-next_turn.ensures.next i.goes.no_stop i.goes.no_end in
+    let n = subst (λ t. NextOver G (g.R.UnitReader.tells l.reader c.next_turn.new.self) (g.R.UnitReader.stays l.reader c.next_turn.new.self) old new r1 r2 (Ok t)) c.in-Unit.is a in
+    turned_soon (g.R.UnitReader.tells l.reader c.next_turn.new.self) (g.R.UnitReader.stays l.reader c.next_turn.new.self) old new r0 r1 r2 (Ok c.in-Ok-next_turn.turn) laws g.R.UnitReader.short first cmd opens _ i.goes.most i.unrefused a
+    (writes_no_read (Unit {0}) _ (written l.out) (written c.turn.new.out) c.in-Err-turn.halt _ refl (c.in-Err-turn.ensures.wrote l.reader old.past n.unit n.bytes n.tells))

@@ -5,6 +5,8 @@ use Rattle.vc2_words.specs.declared.keys.WordFault.{WordFault}
 use Rattle.vc2_cli.specs.Words.{seen_words}
 use Rattle.vc2_cli.specs.Reply.{command_reply, command_due}
 use Rattle.vc2_cli.specs.Settled.{Settles}
+use Rattle.vc2_cli.specs.Soon.{StopsSoon}
+use Rattle.vc2_cli.proofs.SoonTold.{told_soon, units_at}
 use Rattle.vc2_cli.specs.Trial.{trial_worst, trial_text}
 use Rattle.vc2_cli.specs.Chain.{chain_machine}
 use Rattle.vc2_cli.specs.First.{header_machine, behind_first}
@@ -29,7 +31,7 @@ returns-in-Chain-clause-settled g c = λ input e.
     subst (λ (r : Result Command WordFault). Settles (command_reply (seen_words r) input) (command_due (seen_words r)) input (rest c.chain.new.src) (out c.args.out.now) (out c.chain.new.out) (note c.args.note.now) (note c.conclude.new.note) c.conclude.result)
     (sym (c.in-Ok.is ∙ ap Ok c.in-Chain.is))
     (settled chain_machine chain_laws [] (rest c.args.src.now) (rest c.chain.new.src) (out c.args.out.now) (out c.chain.new.out) (note c.args.note.now) (note c.conclude.new.note) input c.chain.result c.conclude.result e
-    (at_end (rest c.chain.new.src) c.chain.result c.chain.ensures.end) c.chain.ensures.ran c.conclude.ensures.told)
+    (at_end (rest c.chain.new.src) c.chain.result c.chain.ensures.runs.end) c.chain.ensures.runs.ran c.conclude.ensures.told)
 
 pub returns-in-Header-clause-settled : goal.returns-in-Header-clause-settled
 returns-in-Header-clause-settled g c = λ input e.
@@ -49,7 +51,7 @@ returns-in-Decode-clause-settled g c = λ input e.
     subst (λ (r : Result Command WordFault). Settles (command_reply (seen_words r) input) (command_due (seen_words r)) input (rest c.decode.new.src) (out c.args.out.now) (out c.decode.new.out) (note c.args.note.now) (note c.conclude-in-Decode.new.note) c.conclude-in-Decode.result)
     (sym (c.in-Ok.is ∙ ap Ok c.in-Decode.is))
     (settled decode_machine decode_laws [] (rest c.args.src.now) (rest c.decode.new.src) (out c.args.out.now) (out c.decode.new.out) (note c.args.note.now) (note c.conclude-in-Decode.new.note) input c.decode.result c.conclude-in-Decode.result e
-    (at_end (rest c.decode.new.src) c.decode.result c.decode.ensures.end) c.decode.ensures.ran c.conclude-in-Decode.ensures.told)
+    (at_end (rest c.decode.new.src) c.decode.result c.decode.ensures.runs.end) c.decode.ensures.runs.ran c.conclude-in-Decode.ensures.told)
 
 pub returns-in-None-clause-settled : goal.returns-in-None-clause-settled
 returns-in-None-clause-settled g c = λ input e.
@@ -59,7 +61,7 @@ returns-in-None-clause-settled g c = λ input e.
     subst (λ (r : Result Command WordFault). Settles (command_reply (seen_words r) input) (command_due (seen_words r)) input (rest c.check.new.src) (out c.args.out.now) (out c.check.new.out) (note c.args.note.now) (note c.conclude-in-None.new.note) c.conclude-in-None.result)
     (sym (c.in-Ok.is ∙ ap Ok (c.in-Check.is ∙ ap Check c.in-None.is)))
     (settled check_machine check_laws [] (rest c.args.src.now) (rest c.check.new.src) (out c.args.out.now) (out c.check.new.out) (note c.args.note.now) (note c.conclude-in-None.new.note) input c.check.result c.conclude-in-None.result e
-    (at_end (rest c.check.new.src) c.check.result c.check.ensures.end) c.check.ensures.ran c.conclude-in-None.ensures.told)
+    (at_end (rest c.check.new.src) c.check.result c.check.ensures.runs.end) c.check.ensures.runs.ran c.conclude-in-None.ensures.told)
 
 pub returns-in-Some-clause-settled : goal.returns-in-Some-clause-settled
 returns-in-Some-clause-settled g c = λ input e.
@@ -69,7 +71,7 @@ returns-in-Some-clause-settled g c = λ input e.
     subst (λ (r : Result Command WordFault). Settles (command_reply (seen_words r) input) (command_due (seen_words r)) input (rest c.check_schedule.new.src) (out c.args.out.now) (out c.check_schedule.new.out) (note c.args.note.now) (note c.conclude-in-Some.new.note) c.conclude-in-Some.result)
     (sym (c.in-Ok.is ∙ ap Ok (c.in-Check.is ∙ ap Check c.in-Some.is)))
     (settled (replay_machine c.in-Some.schedule) (replay_laws c.in-Some.schedule) [] (rest c.args.src.now) (rest c.check_schedule.new.src) (out c.args.out.now) (out c.check_schedule.new.out) (note c.args.note.now) (note c.conclude-in-Some.new.note) input c.check_schedule.result c.conclude-in-Some.result e
-    (at_end (rest c.check_schedule.new.src) c.check_schedule.result c.check_schedule.ensures.end) c.check_schedule.ensures.ran c.conclude-in-Some.ensures.told)
+    (at_end (rest c.check_schedule.new.src) c.check_schedule.result c.check_schedule.ensures.runs.end) c.check_schedule.ensures.runs.ran c.conclude-in-Some.ensures.told)
 
 pub check_schedule-requires : goal.check_schedule-requires
 check_schedule-requires g c = c.requires.schedule c.in-Some.schedule (ap seen_words (c.in-Ok.is ∙ ap Ok (c.in-Check.is ∙ ap Check c.in-Some.is)))
@@ -170,3 +172,45 @@ returns-in-Err-clause-trial g c = if_trial _ _ _ (c.in-Err.is) tt
 
 pub returns-in-Err-clause-header : goal.returns-in-Err-clause-header
 returns-in-Err-clause-header g c = if_header _ _ _ (c.in-Err.is) tt
+
+-- ---- how soon
+
+pub returns-in-Chain-clause-soon : goal.returns-in-Chain-clause-soon
+returns-in-Chain-clause-soon g c = λ input e.
+    units_at (λ r most. StopsSoon (command_reply r) most input (g.S.Source.rest c.chain.new.src) c.conclude.result) _ _ (c.in-Ok.is ∙ ap Ok c.in-Chain.is)
+    (told_soon chain_machine (λ taken. []) 4096 (g.S.Source.rest c.args.src.now) (g.S.Source.rest c.chain.new.src) (g.N.Sink.written c.args.note.now) (g.N.Sink.written c.conclude.new.note) input c.chain.result c.conclude.result e c.chain.ensures.soon c.conclude.ensures.told)
+
+pub returns-in-Header-clause-soon : goal.returns-in-Header-clause-soon
+returns-in-Header-clause-soon g c = λ input e.
+    units_at (λ r most. StopsSoon (command_reply r) most input (g.S.Source.rest c.header.new.src) c.conclude-in-Header.result) _ _ (c.in-Ok.is ∙ ap Ok c.in-Header.is)
+    (told_soon header_machine behind_first 1 (g.S.Source.rest c.args.src.now) (g.S.Source.rest c.header.new.src) (g.N.Sink.written c.args.note.now) (g.N.Sink.written c.conclude-in-Header.new.note) input c.header.result c.conclude-in-Header.result e c.header.ensures.soon c.conclude-in-Header.ensures.told)
+
+pub returns-in-Decode-clause-soon : goal.returns-in-Decode-clause-soon
+returns-in-Decode-clause-soon g c = λ input e.
+    units_at (λ r most. StopsSoon (command_reply r) most input (g.S.Source.rest c.decode.new.src) c.conclude-in-Decode.result) _ _ (c.in-Ok.is ∙ ap Ok c.in-Decode.is)
+    (told_soon decode_machine (λ taken. []) 4096 (g.S.Source.rest c.args.src.now) (g.S.Source.rest c.decode.new.src) (g.N.Sink.written c.args.note.now) (g.N.Sink.written c.conclude-in-Decode.new.note) input c.decode.result c.conclude-in-Decode.result e c.decode.ensures.soon c.conclude-in-Decode.ensures.told)
+
+pub returns-in-None-clause-soon : goal.returns-in-None-clause-soon
+returns-in-None-clause-soon g c = λ input e.
+    units_at (λ r most. StopsSoon (command_reply r) most input (g.S.Source.rest c.check.new.src) c.conclude-in-None.result) _ _ (c.in-Ok.is ∙ ap Ok (c.in-Check.is ∙ ap Check c.in-None.is))
+    (told_soon check_machine (λ taken. []) 4096 (g.S.Source.rest c.args.src.now) (g.S.Source.rest c.check.new.src) (g.N.Sink.written c.args.note.now) (g.N.Sink.written c.conclude-in-None.new.note) input c.check.result c.conclude-in-None.result e c.check.ensures.soon c.conclude-in-None.ensures.told)
+
+pub returns-in-Some-clause-soon : goal.returns-in-Some-clause-soon
+returns-in-Some-clause-soon g c = λ input e.
+    units_at (λ r most. StopsSoon (command_reply r) most input (g.S.Source.rest c.check_schedule.new.src) c.conclude-in-Some.result) _ _ (c.in-Ok.is ∙ ap Ok (c.in-Check.is ∙ ap Check c.in-Some.is))
+    (told_soon (replay_machine c.in-Some.schedule) (λ taken. []) 4096 (g.S.Source.rest c.args.src.now) (g.S.Source.rest c.check_schedule.new.src) (g.N.Sink.written c.args.note.now) (g.N.Sink.written c.conclude-in-Some.new.note) input c.check_schedule.result c.conclude-in-Some.result e c.check_schedule.ensures.soon c.conclude-in-Some.ensures.told)
+
+pub returns-in-Encode-clause-soon : goal.returns-in-Encode-clause-soon
+returns-in-Encode-clause-soon g c = λ input e.
+    units_at (λ r most. StopsSoon (command_reply r) most input (g.S.Source.rest c.encode.new.src) c.conclude-in-Encode.result) _ _ (c.in-Ok.is ∙ ap Ok c.in-Encode.is)
+    (tt)
+
+pub returns-in-Trial-clause-soon : goal.returns-in-Trial-clause-soon
+returns-in-Trial-clause-soon g c = λ input e.
+    units_at (λ r most. StopsSoon (command_reply r) most input (g.S.Source.rest c.args.src.now) c.conclude-in-Trial.result) _ _ (c.in-Ok.is ∙ ap Ok c.in-Trial.is)
+    (tt)
+
+pub returns-in-Err-clause-soon : goal.returns-in-Err-clause-soon
+returns-in-Err-clause-soon g c = λ input e.
+    units_at (λ r most. StopsSoon (command_reply r) most input (g.S.Source.rest c.args.src.now) c.refuse.result) _ _ (c.in-Err.is)
+    (tt)

@@ -5,7 +5,7 @@ use Rattle.sequence_header.specs.Coding.{IsShapeOf}
 use Rattle.picture_codec.specs.Samples.{PictureSamples, PictureSeen}
 use Rattle.picture_codec.specs.Encoding.{slices_of}
 use Rattle.trial_video.specs.Video.{VideoSeen}
-use Rattle.stream_units.specs.Streams.{frame_under}
+use Rattle.stream_rows.specs.Streams.{frame_under}
 use Rattle.vc2_words.specs.Shown.{shown}
 use Rattle.vc2_cli.proofs.EncodeReplies.{some_slices}
 use Rattle.vc2_cli.proofs.StreamSinks.{picture_stop, end_stop}

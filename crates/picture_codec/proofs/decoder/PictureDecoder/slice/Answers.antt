@@ -12,32 +12,32 @@ use Rattle.picture_codec.proofs.Steps.{all_ready, all_same, all_more, takes_each
 use Rattle.picture_codec.proofs.Whole.{wanted_some}
 use Rattle.picture_codec.proofs.decoder.PictureDecoder.slice.Goals as goal
 
-pub decode_slice-requires-clause-most : goal.decode_slice-requires-clause-most
-decode_slice-requires-clause-most c =
+pub decode-requires-clause-most : goal.decode-requires-clause-most
+decode-requires-clause-most c =
     let s = c.self.inside.params.layout in
     let n = c.self.inside.next in
     let wanted = wanted_some n (slice_count s) (slice_bytes s.a s.b n) (length c.args.bytes.now) (c.requires.wanted ∙ ap wanted_of (sym c.self.view_is)) in
     let allowed = c.slices_x-across.ensures.allowed in
     omega (arith, wanted.1, share_most s.a s.b n (slice_count s) allowed.share.some wanted.0, allowed.share.total)
 
-pub decode_slice-requires-clause-some : goal.decode_slice-requires-clause-some
-decode_slice-requires-clause-some c =
+pub decode-requires-clause-some : goal.decode-requires-clause-some
+decode-requires-clause-some c =
     let s = c.self.inside.params.layout in
     let n = c.self.inside.next in
     let wanted = wanted_some n (slice_count s) (slice_bytes s.a s.b n) (length c.args.bytes.now) (c.requires.wanted ∙ ap wanted_of (sym c.self.view_is)) in
     let allowed = c.slices_x-across.ensures.allowed in
     omega (arith, wanted.1, some_share s.a s.b n allowed.share.some allowed.share.byte)
 
-pub decode_slice-requires-clause-down : goal.decode_slice-requires-clause-down
-decode_slice-requires-clause-down c =
+pub decode-requires-clause-down : goal.decode-requires-clause-down
+decode-requires-clause-down c =
     let s = c.self.inside.params.layout in
     let n = c.self.inside.next in
     let wanted = wanted_some n (slice_count s) (slice_bytes s.a s.b n) (length c.args.bytes.now) (c.requires.wanted ∙ ap wanted_of (sym c.self.view_is)) in
     let inside : n < s.slices_y * s.slices_x = omega (arith, wanted.0) in
     subst (λ (a : ℕ). n / a < s.slices_y) (sym c.slices_x-across.ensures.value) (row_below n s.slices_x s.slices_y inside)
 
-pub decode_slice-requires-clause-ready : goal.decode_slice-requires-clause-ready
-decode_slice-requires-clause-ready c =
+pub decode-requires-clause-ready : goal.decode-requires-clause-ready
+decode-requires-clause-ready c =
     let s = c.self.inside.params.layout in
     let n = c.self.inside.next in
     let shape = c.self.inside.picture.shape in
@@ -59,7 +59,7 @@ invariant_of-self c =
     let wanted = wanted_some n (slice_count s) (slice_bytes s.a s.b n) (length bytes) (c.requires.wanted ∙ ap wanted_of (sym c.self.view_is)) in
     let allowed = c.slices_x-across.ensures.allowed in
     let old = c.self.inside.bands in
-    let new = c.decode_slice.new.bands in
+    let new = c.decode.new.self in
     let across = c.slices_x-across.result in
     let keeps = subst (λ a. AllKeepOthers s shape (n % a) (n / a) old new) c.slices_x-across.ensures.value
     (subst (λ (sh : PictureShape). AllKeepOthers s sh (n % across) (n / across) old new) c.shape.ensures c.in-Ok.ensures.others) in
@@ -81,7 +81,7 @@ invariant_of-self-in-Err c =
     let wanted = wanted_some n (slice_count s) (slice_bytes s.a s.b n) (length c.args.bytes.now) (c.requires.wanted ∙ ap wanted_of (sym c.self.view_is)) in
     let allowed = c.slices_x-across.ensures.allowed in
     let old = c.self.inside.bands in
-    let new = c.decode_slice.new.bands in
+    let new = c.decode.new.self in
     let across = c.slices_x-across.result in
     let keeps = subst (λ a. AllKeepOthers s shape (n % a) (n / a) old new) c.slices_x-across.ensures.value
     (subst (λ (sh : PictureShape). AllKeepOthers s sh (n % across) (n / across) old new) c.shape.ensures c.in-Err.ensures.others) in
@@ -103,7 +103,7 @@ returns-in-Ok c =
     let head = c.in-Ok.field-0 in
     let bytes = c.args.bytes.now in
     let old = c.self.inside.bands in
-    let new = c.decode_slice.new.bands in
+    let new = c.decode.new.self in
     let across = c.slices_x-across.result in
     let keeps = subst (λ a. AllKeepOthers s shape (n % a) (n / a) old new) c.slices_x-across.ensures.value
     (subst (λ (sh : PictureShape). AllKeepOthers s sh (n % across) (n / across) old new) c.shape.ensures c.in-Ok.ensures.others) in

@@ -2,7 +2,7 @@ use Rattle.std.proofs.Common.{◌≡◌, ◌+◌, ◌-◌, ◌^◌, ◌++◌, �
 use Rattle.slice_geometry.specs.declared.unit_list.UnitShape.{UnitShape}
 use Rattle.stream_units.specs.declared.stop.ReadStop.TheVariants as stops
 use Rattle.stream_units.specs.ReaderInside.{picture_in}
-use Rattle.stream_units.proofs.Answering.{after-place}
+use Rattle.stream_rows.proofs.Answering.{after-place}
 use Rattle.stream_units.proofs.ReaderTurns.{few_slices, behind, held_few, shows_one, over_none, is_picture, next_over, nothing_due, along, stopped}
 use Rattle.stream_units.specs.Reader.{ReaderState}
 use Rattle.stream_units.specs.Held.{greatest_in, AsBefore}

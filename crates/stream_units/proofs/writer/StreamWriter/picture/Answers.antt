@@ -8,7 +8,7 @@ use Rattle.transform_params.specs.Views.{params_of}
 use Rattle.sequence_header.specs.Coding.{IsShapeOf}
 use Rattle.picture_codec.specs.Encoding.{slices_of}
 use Rattle.stream_units.specs.declared.write_stop.WriteStop.TheVariants.{OutFault}
-use Rattle.stream_units.specs.Streams.{frame_under}
+use Rattle.stream_rows.specs.Streams.{frame_under}
 use Rattle.stream_units.specs.Encoded.{picture_unit}
 use Rattle.stream_units.proofs.SameShapes.{one_shape, frame_is}
 use Rattle.stream_units.specs.WriterInside.{Encodes}

@@ -1,6 +1,6 @@
 use Rattle.std.proofs.Common.{Some, refl, sym, arith}
-use Rattle.stream_units.specs.declared.reason.Reason.TheVariants.{TrailingBytes}
-use Rattle.stream_units.specs.Units.{End}
+use Rattle.stream_rows.specs.declared.reason.Reason.TheVariants.{TrailingBytes}
+use Rattle.stream_rows.specs.Units.{End}
 use Rattle.stream_units.proofs.Judges.{ends_by, takes_by}
 use Rattle.vc2_cli.proofs.readers.StreamReaderUnitReader.next_turn.Goals as goal
 

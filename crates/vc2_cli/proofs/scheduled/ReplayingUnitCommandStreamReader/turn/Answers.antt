@@ -1,6 +1,6 @@
 use Rattle.std.proofs.Common.{◌∙◌, ap, arith}
-use Rattle.stream_units.specs.Units.{Past}
-use Rattle.stream_units.proofs.Answering.{after-place}
+use Rattle.stream_rows.specs.Units.{Past}
+use Rattle.stream_rows.proofs.Answering.{after-place}
 use Rattle.vc2_cli.proofs.scheduled.ReplayingUnitCommandStreamReader.turn.Goals as goal
 
 pub returns-clause-keeps : goal.returns-clause-keeps

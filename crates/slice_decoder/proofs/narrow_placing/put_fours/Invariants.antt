@@ -1,0 +1,13 @@
+use Rattle.std.proofs.Common.{◌≡◌, ℕ, ◌+◌, ◌-◌, ◌<◌, ◌≤◌, ◌⊎◌, get_or, pos}
+use Rattle.slice_decoder.proofs.narrow_placing.put_fours.Given as goal
+
+abbrev pub invariant-loop-x : goal.invariant-loop-x
+invariant-loop-x l = record {
+  begun : l.start ≤ l.x;
+  ended : l.x ≤ l.end;
+  inside : (j : ℕ) → l.start ≤ j → j < l.x → get_or l.row j (pos 0) ≡ get_or l.values (l.from + (j - l.start)) (pos 0);
+  outside : (j : ℕ) → (j < l.start) ⊎ (l.x ≤ j) → get_or l.row j (pos 0) ≡ get_or l.fn.row j (pos 0);
+}
+
+abbrev pub decreases-loop-x : goal.decreases-loop-x
+decreases-loop-x l = l.end - l.x

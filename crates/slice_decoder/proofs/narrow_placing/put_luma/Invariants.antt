@@ -1,0 +1,11 @@
+use Rattle.std.proofs.Common.{◌≡◌, ℕ, ◌*◌, ◌≤◌}
+use Rattle.slice_geometry.specs.SliceOrder.{numbered}
+use Rattle.slice_decoder.specs.Levels.{places_in, BandsTake}
+use Rattle.slice_decoder.proofs.narrow_placing.put_luma.Given as goal
+
+abbrev pub invariant-loop-k : goal.invariant-loop-k
+invariant-loop-k l = record {
+  from : l.from ≡ 1 * places_in l.layout l.fn.size l.fn.place.sx l.fn.place.sy l.k;
+  takes : BandsTake 1 0 l.layout l.fn.size l.fn.place.sx l.fn.place.sy l.k l.values l.fn.bands l.bands;
+  rest : (k : ℕ) → l.k ≤ k → numbered l.bands k ≡ numbered l.fn.bands k;
+}

@@ -1,0 +1,108 @@
+-- A slice in bands of 32 bits, whose magnitudes are at most 2 ^ 18.
+use Rattle.std.specs.Prelude.{◌≡◌, ℕ, ◌+◌, ◌*◌, ◌^◌, ◌<◌, ◌≤◌, ◌⊎◌, ◌&&◌, Bool, true, false, List, length, slice_index_or, ℤ, pos, ◌+ℤ◌}
+use Rattle.planes.specs.Raster.{at}
+use Rattle.planes.specs.declared.Rect.{Rect}
+use Rattle.planes.specs.Rect.{IsInRect}
+use Rattle.planes.specs.Bounded.{AreBandsWithin}
+use Rattle.planes.specs.Subbands.{BandStack, band_of}
+use Rattle.planes.specs.declared.Trio.{Trio}
+use Rattle.planes.specs.declared.NarrowTrio.{NarrowTrio}
+use Rattle.dc_prediction.specs.Prediction.{prediction}
+use Rattle.dc_prediction.specs.Restoring.{RestoresRect, IsNarrow, IsBefore, IsStopped}
+use Rattle.slice_geometry.specs.declared.Size.{Size}
+use Rattle.slice_geometry.specs.declared.PictureShape.{PictureShape}
+use Rattle.slice_geometry.specs.Slicing.{Slicing}
+use Rattle.slice_geometry.specs.SliceOrder.{level_rect, place_number, numbered}
+use Rattle.quant_factors.specs.Weights.{Weights}
+use Rattle.slice_decoder.specs.declared.narrow.Fit.{Fit}
+use Rattle.slice_decoder.specs.declared.narrow.Fit.TheVariants.{Narrow, Wide, TooLarge}
+use Rattle.slice_decoder.specs.Slice.{Slice, are_small, luma_values, colour_values}
+use Rattle.slice_decoder.specs.Dealing.{dealt, KeepsOutside}
+use Rattle.slice_decoder.specs.Components.{Part, quantisers_before, BandsHold, BandsKeep}
+
+-- the same bands, as all contracts see them
+abbrev pub trio_of : NarrowTrio → Trio
+trio_of b = record { luma = b.luma; c1 = b.c1; c2 = b.c2 }
+
+pub record AreNarrowBands (b : NarrowTrio) : Type 0 where
+  pub luma : AreBandsWithin (pos (2 ^ 18)) b.luma
+  pub c1 : AreBandsWithin (pos (2 ^ 18)) b.c1
+  pub c2 : AreBandsWithin (pos (2 ^ 18)) b.c2
+
+-- more values than there is room for, or one that is not narrow
+abbrev pub NeedMore : ℕ → List ℤ → Type 0
+NeedMore room values = (room < length values) ⊎ (((k : ℕ) → IsNarrow (slice_index_or values k (pos 0))) → ⊥)
+
+-- the values of a block, of which each place has so many
+abbrev pub block_values : ℕ → Part → List Bool → List ℤ
+block_values each p block = dealt block (quantisers_before each p (3 * p.slicing.depth + 1))
+
+-- what an answer says of the values of a block, where what they leave is Stands
+abbrev pub Answers : ℕ → List ℤ → Type 0 → Fit → Type 0
+Answers room values Stands Narrow = (are_small values ≡ true) × Stands
+Answers room values Stands Wide = NeedMore room values
+Answers room values Stands TooLarge = are_small values ≡ false
+
+-- Restoring stops at a place whose value would not be narrow: those before it hold what they restore.
+pub record StopsAtPlace (each from : ℕ) (s : Slicing) (size : Size) (sx sy : ℕ) (values : List ℤ) (b : BandStack)
+    (y x : ℕ) : Type 0 where
+  pub here : IsInRect (level_rect s size sx sy 0) y x
+  pub before : (j i : ℕ) → IsInRect (level_rect s size sx sy 0) j i → IsBefore j i y x
+      → at (band_of b 0 0) j i ≡ slice_index_or values (each * place_number s size sx sy 0 0 j i + from) (pos 0)
+      +ℤ prediction (at (band_of b 0 0)) j i
+  pub passes : IsNarrow (slice_index_or values (each * place_number s size sx sy 0 0 y x + from) (pos 0)
+      +ℤ prediction (at (band_of b 0 0)) y x) → ⊥
+
+abbrev pub StopsSlice : (each from : ℕ) → Slicing → Size → ℕ → ℕ → List ℤ → BandStack → Type 0
+StopsSlice each from s size sx sy values b = (y : ℕ) × (x : ℕ) × StopsAtPlace each from s size sx sy values b y x
+
+-- Bands of 32 bits don't serve for a slice, where there is room for so many values of a block.
+abbrev pub NeedsWide : ℕ → Slicing → PictureShape → ℕ → ℕ → Weights → Slice → Trio → Type 0
+NeedsWide room s shape sx sy matrix slice new =
+    let lumas = luma_values s shape.luma sx sy matrix slice in
+    let colours = colour_values s shape.colour sx sy matrix slice in
+    NeedMore room lumas ⊎ NeedMore room colours ⊎ StopsSlice 1 0 s shape.luma sx sy lumas new.luma
+    ⊎ StopsSlice 2 0 s shape.colour sx sy colours new.c1 ⊎ StopsSlice 2 1 s shape.colour sx sy colours new.c2
+
+-- what an answer says of both blocks of a slice
+abbrev pub BothAnswer : ℕ → Part → Part → List Bool → List Bool → Trio → Trio → Fit → Type 0
+BothAnswer room luma colour luma_block colour_block old new Narrow =
+    (are_small (block_values 1 luma luma_block) ≡ true) × (are_small (block_values 2 colour colour_block) ≡ true)
+    × BandsHold 1 0 luma (3 * luma.slicing.depth + 1) luma_block old.luma new.luma
+    × BandsHold 2 0 colour (3 * colour.slicing.depth + 1) colour_block old.c1 new.c1
+    × BandsHold 2 1 colour (3 * colour.slicing.depth + 1) colour_block old.c2 new.c2
+BothAnswer room luma colour luma_block colour_block old new Wide =
+    NeedMore room (block_values 1 luma luma_block) ⊎ NeedMore room (block_values 2 colour colour_block)
+BothAnswer room luma colour luma_block colour_block old new TooLarge =
+    (are_small (block_values 1 luma luma_block) && are_small (block_values 2 colour colour_block)) ≡ false
+
+-- what reading both blocks leaves, before the lowest subbands are restored
+pub record IsReadNarrow (room : ℕ) (luma colour : Part) (luma_block colour_block : List Bool) (old new : NarrowTrio)
+    (fit : Fit) : Type 0 where
+  pub answer : BothAnswer room luma colour luma_block colour_block (trio_of old) (trio_of new) fit
+  pub luma_keeps : BandsKeep luma old.luma new.luma
+  pub c1_keeps : BandsKeep colour old.c1 new.c1
+  pub c2_keeps : BandsKeep colour old.c2 new.c2
+  pub narrow : AreNarrowBands new
+
+-- all that stays where the lowest of a component's subbands is restored in a rectangle
+pub record LowestKeeps (rect : Rect) (old new : BandStack) : Type 0 where
+  pub depth : new.depth ≡ old.depth
+  pub keeps : KeepsOutside rect (numbered old 0) (numbered new 0)
+  pub others : (k : ℕ) → 1 ≤ k → numbered new k ≡ numbered old k
+
+-- restoring the rectangles of all three components, or where it stops
+pub record AreRestored (luma_rect colour_rect : Rect) (old new : NarrowTrio) : Type 0 where
+  pub luma : RestoresRect luma_rect (numbered old.luma 0) (numbered new.luma 0)
+  pub c1 : RestoresRect colour_rect (numbered old.c1 0) (numbered new.c1 0)
+  pub c2 : RestoresRect colour_rect (numbered old.c2 0) (numbered new.c2 0)
+
+abbrev pub OneStops : Rect → Rect → NarrowTrio → NarrowTrio → Type 0
+OneStops luma colour old new =
+    IsStopped luma (numbered old.luma 0) (numbered new.luma 0) ⊎ IsStopped colour (numbered old.c1 0) (numbered new.c1 0)
+    ⊎ IsStopped colour (numbered old.c2 0) (numbered new.c2 0)
+
+pub record AllKeepLowest (luma_rect colour_rect : Rect) (old new : NarrowTrio) : Type 0 where
+  pub luma : LowestKeeps luma_rect old.luma new.luma
+  pub c1 : LowestKeeps colour_rect old.c1 new.c1
+  pub c2 : LowestKeeps colour_rect old.c2 new.c2

@@ -1,0 +1,179 @@
+//! One slice into bands of 32 bits.
+
+ghost use Rattle.std.specs.Prelude.{◌≡◌, ◌+◌, ◌*◌, ◌^◌, ◌<◌, ◌≤◌, ℕ, true, false, length, pos, MatchResult, MatchOption};
+ghost use Rattle.planes.specs.Raster.{height};
+ghost use Rattle.planes.specs.Bounded.{AreBandsWithin};
+ghost use Rattle.bounded_blocks.specs.Parts.{block_of};
+ghost use Rattle.dc_prediction.specs.Restoring.{RestoresRect, IsStopped};
+ghost use Rattle.slice_geometry.specs.Slicing as slicing;
+ghost use Rattle.slice_geometry.specs.SliceOrder.{numbered};
+ghost use Rattle.slice_decoder.specs.Slice.{slice_at};
+ghost use Rattle.slice_decoder.specs.Components.{part_of};
+ghost use Rattle.slice_decoder.specs.Decoded.{AreReady, AllKeepOthers, IsDecoded, IsRefused};
+ghost use Rattle.slice_decoder.specs.Narrow.{trio_of, AreNarrowBands, NeedsWide, IsReadNarrow, LowestKeeps, AreRestored, OneStops, AllKeepLowest};
+
+use crate::components::Place;
+use crate::narrow::{Fit, read_colour, read_luma};
+use crate::{SliceFault, head_of};
+use bounded_blocks::Block;
+use dc_prediction::restore_narrow;
+use planes::{NarrowBands, NarrowTrio, Rect};
+use quant_factors::Matrix;
+use slice_geometry::{Layout, PictureShape, SliceHead, length_bits};
+
+// Reads the values of both blocks into the subbands, unless they don't fit.
+fn read_blocks(
+    layout: &Layout,
+    shape: &PictureShape,
+    matrix: &Matrix,
+    place: Place,
+    bytes: &[u8],
+    luma_bits: u32,
+    bands: &mut NarrowTrio,
+    buffer: &mut [i64],
+) -> Fit
+    requires some { 1 ≤ length bytes.now }
+    requires most { length bytes.now ≤ 2 ^ 28 }
+    requires fits { luma_bits + 7 + slicing.length_bits (length bytes.now) ≤ 8 * length bytes.now }
+    requires across { place.sx < layout.now.slices_x }
+    requires down { place.sy < layout.now.slices_y }
+    requires qindex { place.qindex ≤ 127 }
+    requires entries { matrix.now.depth ≡ layout.now.depth }
+    requires ready { AreReady layout.now shape.now place.sx place.sy (trio_of bands.old) }
+    requires narrow { AreNarrowBands bands.old }
+    ensures { let start = 7 + slicing.length_bits (length bytes.now) in
+        let luma_part = part_of layout.now shape.now.luma place.sx place.sy matrix.now place.qindex in
+        let colour_part = part_of layout.now shape.now.colour place.sx place.sy matrix.now place.qindex in
+        IsReadNarrow (length buffer.old) luma_part colour_part
+        (block_of bytes.now start (start + luma_bits))
+        (block_of bytes.now (start + luma_bits) (8 * length bytes.now))
+        bands.old bands.new result }
+{
+    let start = 7 + u64::from(length_bits(bytes.len() as u32));
+    let middle = start + u64::from(luma_bits);
+    let mut luma = Block::new(bytes, start, u64::from(luma_bits));
+    let mut colour = Block::new(bytes, middle, 8 * bytes.len() as u64 - middle);
+    match read_luma(
+        &mut luma,
+        &mut bands.luma,
+        layout,
+        shape.luma,
+        matrix,
+        place,
+        buffer,
+    ) {
+        Fit::Narrow => read_colour(
+            &mut colour,
+            &mut bands.c1,
+            &mut bands.c2,
+            layout,
+            shape.colour,
+            matrix,
+            place,
+            buffer,
+        ),
+        Fit::Wide => Fit::Wide,
+        Fit::TooLarge => Fit::TooLarge,
+    }
+}
+
+// Restores the residuals of a rectangle in the lowest of a component's subbands, up to a value that would pass 2^18.
+fn restore(bands: &mut NarrowBands, rect: Rect) -> bool
+    requires x_inside { rect.x1 ≤ (numbered bands.old 0).w }
+    requires y_inside { rect.y1 ≤ height (numbered bands.old 0) }
+    requires narrow { AreBandsWithin (pos (2 ^ 18)) bands.old }
+    ensures restored { result ≡ true → RestoresRect rect (numbered bands.old 0) (numbered bands.new 0) }
+    ensures stopped { result ≡ false → IsStopped rect (numbered bands.old 0) (numbered bands.new 0) }
+    ensures keeps { LowestKeeps rect bands.old bands.new }
+    ensures narrow { AreBandsWithin (pos (2 ^ 18)) bands.new }
+{
+    restore_narrow(bands.band_mut(0, 0), rect)
+}
+
+// The same of all three components.
+fn restore_all(bands: &mut NarrowTrio, luma: Rect, colour: Rect) -> bool
+    requires luma_x { luma.x1 ≤ (numbered bands.old.luma 0).w }
+    requires luma_y { luma.y1 ≤ height (numbered bands.old.luma 0) }
+    requires c1_x { colour.x1 ≤ (numbered bands.old.c1 0).w }
+    requires c1_y { colour.y1 ≤ height (numbered bands.old.c1 0) }
+    requires c2_x { colour.x1 ≤ (numbered bands.old.c2 0).w }
+    requires c2_y { colour.y1 ≤ height (numbered bands.old.c2 0) }
+    requires narrow { AreNarrowBands bands.old }
+    ensures restored { result ≡ true → AreRestored luma colour bands.old bands.new }
+    ensures stopped { result ≡ false → OneStops luma colour bands.old bands.new }
+    ensures keeps { AllKeepLowest luma colour bands.old bands.new }
+    ensures narrow { AreNarrowBands bands.new }
+{
+    if !restore(&mut bands.luma, luma) {
+        return false;
+    }
+    if !restore(&mut bands.c1, colour) {
+        return false;
+    }
+    restore(&mut bands.c2, colour)
+}
+
+/// Decodes a slice as `decode_slice` does, into bands of 32 bits whose magnitudes are at most 2^18 before and after.
+///
+/// It gives no head where such bands don't serve: a dequantised or a restored magnitude passes 2^18, or a block has more
+/// values than the buffer has room for. The slice's own places hold any values then, as after a refusal. All other
+/// places stay.
+pub fn decode_narrow(
+    layout: &Layout,
+    shape: &PictureShape,
+    matrix: &Matrix,
+    sx: u32,
+    sy: u32,
+    bytes: &[u8],
+    bands: &mut NarrowTrio,
+    buffer: &mut [i64],
+) -> Result<Option<SliceHead>, SliceFault>
+    requires across { sx < layout.now.slices_x }
+    requires down { sy < layout.now.slices_y }
+    requires some { 1 ≤ length bytes.now }
+    requires most { length bytes.now ≤ 2 ^ 28 }
+    requires entries { matrix.now.depth ≡ layout.now.depth }
+    requires ready { AreReady layout.now shape.now sx sy (trio_of bands.old) }
+    requires narrow { AreNarrowBands bands.old }
+    ensures decoded { let slice = slice_at layout.now shape.now.luma shape.now.colour sx sy bytes.now in
+        MatchResult result
+        (λ answer. MatchOption answer
+        (NeedsWide (length buffer.old) layout.now shape.now sx sy matrix.now slice (trio_of bands.new))
+        (λ head. IsDecoded layout.now shape.now sx sy matrix.now slice head (trio_of bands.new)))
+        (IsRefused layout.now shape.now sx sy matrix.now slice) }
+    ensures others { AllKeepOthers layout.now shape.now sx sy (trio_of bands.old) (trio_of bands.new) }
+    ensures narrow { AreNarrowBands bands.new }
+{
+    let depth = layout.depth();
+    prove_eq!(matrix.depth(), depth);
+    let head = head_of(bytes);
+    let left = 8 * bytes.len() - 7 - length_bits(bytes.len() as u32) as usize;
+    if head.luma_bits as usize > left {
+        return Err(SliceFault::LumaLengthTooLong);
+    }
+    let place = Place {
+        sx,
+        sy,
+        qindex: head.qindex,
+    };
+    match read_blocks(
+        layout,
+        shape,
+        matrix,
+        place,
+        bytes,
+        head.luma_bits,
+        bands,
+        buffer,
+    ) {
+        Fit::TooLarge => return Err(SliceFault::CoefficientTooLarge),
+        Fit::Wide => return Ok(None),
+        Fit::Narrow => {}
+    }
+    let luma = layout.band_rect(shape.luma, 0, sx, sy);
+    let colour = layout.band_rect(shape.colour, 0, sx, sy);
+    if !restore_all(bands, luma, colour) {
+        return Ok(None);
+    }
+    Ok(Some(head))
+}

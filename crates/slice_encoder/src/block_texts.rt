@@ -1,0 +1,107 @@
+// Codes put into a block, as far as it reaches.
+
+ghost use Rattle.std.specs.Prelude.{◌≡◌, ◌+◌, ◌*◌, ◌^◌, ◌<◌, ◌≤◌, ◌++◌, length, replicate, true, unsigned_abs};
+ghost use Rattle.std.specs.List.{All};
+ghost use Rattle.bit_codes.specs.Bits.{digits_below};
+ghost use Rattle.bit_codes.specs.Codes.{code_of, signed_code_of};
+ghost use Rattle.bounded_blocks.specs.Parts.{IsSmall};
+ghost use Rattle.bounded_blocks.specs.Writing.{codes_of};
+ghost use Rattle.slice_encoder.specs.Fronts.{front_bits, IsBlock, IsPut};
+
+use crate::fronts::{Front, put_bits};
+use crate::short_texts::short_text;
+
+/// A block that is filled from the front of bytes on, and how many of its bits are left.
+#[derive(Clone, Copy, Debug, PartialEq, Eq)]
+pub struct Block {
+    pub front: Front,
+    pub left: u64,
+}
+
+// Puts the last `n` binary digits of a number.
+#[inline(always)]
+fn put_digits(bytes: &mut [u8], block: Block, number: u64, n: u32) -> Block
+    requires few { n ≤ 32 }
+    requires small { number < 2 ^ n }
+    requires block { IsBlock (length bytes.old) block }
+    ensures { IsPut bytes.old block bytes.new result (digits_below n number) }
+{
+    let fit = u64::from(n).min(block.left) as u32;
+    let front = put_bits(bytes, block.front, number / (1 << (n - fit)), fit);
+    Block {
+        front,
+        left: block.left - u64::from(fit),
+    }
+}
+
+// Puts the code of a number below 2^37.
+#[inline(never)]
+fn put_code(bytes: &mut [u8], block: Block, v: u64) -> Block
+    requires small { v < 2 ^ 37 }
+    requires block { IsBlock (length bytes.old) block }
+    ensures { IsPut bytes.old block bytes.new result (code_of v) }
+{
+    let mut block = block;
+    let number = v + 1;
+    let mut left = number.ilog2();
+    while left > 0 {
+        left -= 1;
+        block = put_digits(bytes, block, number >> left & 1, 2);
+    }
+    put_digits(bytes, block, 1, 1)
+}
+
+// Puts the code of a value, of a magnitude of at most 2^36.
+fn put_long(bytes: &mut [u8], block: Block, v: i64) -> Block
+    requires small { unsigned_abs v ≤ 2 ^ 36 }
+    requires block { IsBlock (length bytes.old) block }
+    ensures { IsPut bytes.old block bytes.new result (signed_code_of v) }
+{
+    let block = put_code(bytes, block, v.unsigned_abs());
+    if v == 0 {
+        return block;
+    }
+    put_digits(bytes, block, u64::from(v < 0), 1)
+}
+
+// The same, by a look-up for small ones.
+#[inline(always)]
+fn put_value(bytes: &mut [u8], block: Block, v: i64) -> Block
+    requires small { unsigned_abs v ≤ 2 ^ 36 }
+    requires block { IsBlock (length bytes.old) block }
+    ensures { IsPut bytes.old block bytes.new result (signed_code_of v) }
+{
+    if v.unsigned_abs() < 32 {
+        let text = short_text(v);
+        return put_digits(bytes, block, u64::from(text.number), u32::from(text.length));
+    }
+    put_long(bytes, block, v)
+}
+
+/// Puts the codes of values.
+pub fn put_values(bytes: &mut [u8], block: Block, values: &[i64]) -> Block
+    requires small { All IsSmall values.now }
+    requires block { IsBlock (length bytes.old) block }
+    ensures { IsPut bytes.old block bytes.new result (codes_of values.now) }
+{
+    let mut block = block;
+    for value in values {
+        block = put_value(bytes, block, *value);
+    }
+    block
+}
+
+/// Fills the rest of a block with ones.
+pub fn put_ones(bytes: &mut [u8], block: Block) -> Front
+    requires { IsBlock (length bytes.old) block }
+    ensures block { IsBlock (length bytes.old) (record { front = result; left = 0 }) }
+    ensures place { 8 * result.whole + result.count ≡ 8 * block.front.whole + block.front.count + block.left }
+    ensures text { front_bits bytes.new result ≡ front_bits bytes.old block.front ++ replicate block.left true }
+{
+    let mut block = block;
+    while block.left > 0 {
+        let n = block.left.min(32) as u32;
+        block = put_digits(bytes, block, (1 << n) - 1, n);
+    }
+    block.front
+}

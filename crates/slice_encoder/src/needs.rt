@@ -1,0 +1,52 @@
+// What values need, by the length of their codes up to the last one that isn't 0.
+
+ghost use Rattle.std.specs.Prelude.{◌≡◌, ◌≢◌, ◌-◌, ◌*◌, ◌^◌, ◌<◌, ◌≤◌, length, pos, slice_index_or, take};
+ghost use Rattle.bounded_blocks.specs.Writing.{codes_of, need};
+ghost use Rattle.slice_encoder.specs.Laws.{AreSmall};
+
+use bit_codes::sint_len;
+use bounded_blocks::Need;
+
+// How many values there are up to the last one that isn't 0.
+fn count_to_last(values: &[i64]) -> usize
+    requires { AreSmall values.now }
+    ensures most { result ≤ length values.now }
+    ensures need { need (take result values.now) ≡ need values.now }
+    ensures last { 0 < result → slice_index_or values.now (result - 1) (pos 0) ≢ pos 0 }
+{
+    for passed in 0..values.len() {
+        let count = values.len() - passed;
+        if values[count - 1] != 0 {
+            return count;
+        }
+    }
+    0
+}
+
+// How long the codes of values are.
+fn total_length(values: &[i64]) -> u64
+    requires few { length values.now ≤ 2 ^ 32 }
+    requires small { AreSmall values.now }
+    ensures length { result ≡ length (codes_of values.now) }
+    ensures few { result ≤ 75 * 2 ^ 32 }
+{
+    let mut bits = 0;
+    for value in values {
+        bits += u64::from(sint_len(*value));
+    }
+    bits
+}
+
+// The need of values.
+pub fn need_of_values(values: &[i64]) -> u64
+    requires few { length values.now ≤ 2 ^ 32 }
+    requires small { AreSmall values.now }
+    ensures { result ≡ need values.now }
+{
+    let count = count_to_last(values);
+    if count == 0 {
+        return 0;
+    }
+    let front = total_length(&values[..count - 1]);
+    front + Need::of(&values[count - 1..count]).bits()
+}

@@ -1,0 +1,50 @@
+// The codes of small values, by a look-up.
+
+ghost use Rattle.std.specs.Prelude.{◌<◌, ◌-ℤ◌, pos, unsigned_abs};
+ghost use Rattle.slice_encoder.specs.Fronts.{IsTextOf};
+
+/// The last `length` binary digits of a number are a text.
+#[derive(Clone, Copy, Debug, PartialEq, Eq)]
+pub struct ShortText {
+    pub number: u16,
+    pub length: u8,
+}
+
+// The codes of the values from -32 to 31.
+#[rattlefmt::skip]
+static SHORT_TEXTS: [ShortText; 64] = [
+    ShortText { number: 7, length: 12 }, ShortText { number: 3, length: 12 }, ShortText { number: 343, length: 10 }, ShortText { number: 339, length: 10 },
+    ShortText { number: 327, length: 10 }, ShortText { number: 323, length: 10 }, ShortText { number: 279, length: 10 }, ShortText { number: 275, length: 10 },
+    ShortText { number: 263, length: 10 }, ShortText { number: 259, length: 10 }, ShortText { number: 87, length: 10 }, ShortText { number: 83, length: 10 },
+    ShortText { number: 71, length: 10 }, ShortText { number: 67, length: 10 }, ShortText { number: 23, length: 10 }, ShortText { number: 19, length: 10 },
+    ShortText { number: 7, length: 10 }, ShortText { number: 3, length: 10 }, ShortText { number: 87, length: 8 }, ShortText { number: 83, length: 8 },
+    ShortText { number: 71, length: 8 }, ShortText { number: 67, length: 8 }, ShortText { number: 23, length: 8 }, ShortText { number: 19, length: 8 },
+    ShortText { number: 7, length: 8 }, ShortText { number: 3, length: 8 }, ShortText { number: 23, length: 6 }, ShortText { number: 19, length: 6 },
+    ShortText { number: 7, length: 6 }, ShortText { number: 3, length: 6 }, ShortText { number: 7, length: 4 }, ShortText { number: 3, length: 4 },
+    ShortText { number: 1, length: 1 }, ShortText { number: 2, length: 4 }, ShortText { number: 6, length: 4 }, ShortText { number: 2, length: 6 },
+    ShortText { number: 6, length: 6 }, ShortText { number: 18, length: 6 }, ShortText { number: 22, length: 6 }, ShortText { number: 2, length: 8 },
+    ShortText { number: 6, length: 8 }, ShortText { number: 18, length: 8 }, ShortText { number: 22, length: 8 }, ShortText { number: 66, length: 8 },
+    ShortText { number: 70, length: 8 }, ShortText { number: 82, length: 8 }, ShortText { number: 86, length: 8 }, ShortText { number: 2, length: 10 },
+    ShortText { number: 6, length: 10 }, ShortText { number: 18, length: 10 }, ShortText { number: 22, length: 10 }, ShortText { number: 66, length: 10 },
+    ShortText { number: 70, length: 10 }, ShortText { number: 82, length: 10 }, ShortText { number: 86, length: 10 }, ShortText { number: 258, length: 10 },
+    ShortText { number: 262, length: 10 }, ShortText { number: 274, length: 10 }, ShortText { number: 278, length: 10 }, ShortText { number: 322, length: 10 },
+    ShortText { number: 326, length: 10 }, ShortText { number: 338, length: 10 }, ShortText { number: 342, length: 10 }, ShortText { number: 2, length: 12 },
+];
+
+// The code of the value that stands in a place of the table.
+#[inline(always)]
+fn text_at(place: usize) -> ShortText
+    requires { place < 64 }
+    ensures { IsTextOf result (pos place -ℤ pos 32) }
+{
+    SHORT_TEXTS[place]
+}
+
+/// The code of a value from -31 to 31.
+#[inline(always)]
+pub fn short_text(v: i64) -> ShortText
+    requires { unsigned_abs v < 32 }
+    ensures { IsTextOf result v }
+{
+    text_at((v + 32) as usize)
+}

@@ -1,0 +1,108 @@
+//! The lowest subband restored in 32 bits.
+
+ghost use Rattle.std.specs.Prelude.{◌≡◌, ℕ, ◌^◌, true, pos, slice_index_or, IfOk};
+ghost use Rattle.planes.specs.Raster.{height};
+ghost use Rattle.planes.specs.Bounded.{IsPlaneWithin};
+ghost use Rattle.dc_prediction.specs.Restoring.{IsNarrow};
+
+use dc_prediction::restore_narrow;
+use planes::{NarrowPlane, NoMemory, Rect};
+use std::alloc::Global;
+use std::process::Abort;
+use std::test::Fail;
+
+/// The residuals of a band of four columns and three rows, and its values, worked out by hand.
+const RESIDUALS: [[i32; 4]; 3] = [[-3, 1, -4, 2], [5, -2, 0, -7], [-1, -1, 8, -6]];
+
+const VALUES: [[i32; 4]; 3] = [[-3, -2, -6, -4], [2, -3, -4, -12], [1, -1, 5, -10]];
+
+/// Residuals whose first row reaches 2^18 in its third place and would pass it in the fourth, and what is left of them.
+const RISING: [[i32; 4]; 3] = [[262142, 1, 1, 1], [5, 5, 5, 5], [7, 7, 7, 7]];
+
+const RISEN: [[i32; 4]; 3] = [[262142, 262143, 262144, 1], [5, 5, 5, 5], [7, 7, 7, 7]];
+
+const fn rect(x0: u32, x1: u32, y0: u32, y1: u32) -> Rect {
+    Rect { x0, x1, y0, y1 }
+}
+
+fn plane_of(alloc: Global, rows: &[[i32; 4]; 3]) -> Result<NarrowPlane, NoMemory>
+    ensures width { IfOk result (λ p. p.w ≡ 4) }
+    ensures height { IfOk result (λ p. height p ≡ 3) }
+{
+    let mut plane = NarrowPlane::new(alloc, 4, 3)?;
+    for y in 0..3u32 {
+        plane.row_mut(y).copy_from_slice(&rows[y as usize]);
+    }
+    Ok(plane)
+}
+
+// Whether no magnitude passes 2^18.
+fn are_narrow(row: &[i32]) -> bool
+    ensures { result ≡ true → (x : ℕ) → IsNarrow (slice_index_or row.now x (pos 0)) }
+{
+    for value in row {
+        if *value > 262144 || *value < -262144 {
+            return false;
+        }
+    }
+    true
+}
+
+fn is_narrow(plane: &NarrowPlane) -> bool
+    ensures { result ≡ true → IsPlaneWithin (pos (2 ^ 18)) plane.now }
+{
+    for y in 0..plane.h() {
+        if !are_narrow(plane.row(y)) {
+            return false;
+        }
+    }
+    true
+}
+
+// Restores the rectangles in turn, as long as none stops.
+fn restore_all(rt: &impl Abort, plane: &mut NarrowPlane, rects: &[Rect]) -> bool {
+    let mut all = true;
+    for rect in rects {
+        assert!(rt; rect.x1 <= plane.w() && rect.y1 <= plane.h() && is_narrow(plane));
+        all = all && restore_narrow(plane, *rect);
+    }
+    all
+}
+
+fn assert_rows(rt: &impl Abort, plane: &NarrowPlane, rows: &[[i32; 4]; 3]) {
+    assert_eq!(rt; plane.h(), 3);
+    for y in 0..3u32 {
+        assert_eq!(rt; plane.row(y), rows[y as usize].as_slice());
+    }
+}
+
+/// The band whole, by rows of slices, and slice by slice.
+#[test]
+fn narrow_bands_restored(rt: HostRuntime) -> Result<(), Fail> {
+    let partitions: [&[Rect]; 3] = [
+        &[rect(0, 4, 0, 3)],
+        &[rect(0, 4, 0, 1), rect(0, 4, 1, 3)],
+        &[
+            rect(0, 1, 0, 2),
+            rect(1, 1, 0, 2),
+            rect(1, 4, 0, 2),
+            rect(0, 2, 2, 3),
+            rect(2, 4, 2, 3),
+        ],
+    ];
+    for rects in partitions {
+        let mut plane = plane_of(rt.alloc(), &RESIDUALS)?;
+        assert!(&rt; restore_all(&rt, &mut plane, rects));
+        assert_rows(&rt, &plane, &VALUES);
+    }
+    Ok(())
+}
+
+/// A value that would pass 2^18 stops it, and nothing behind it is restored.
+#[test]
+fn narrow_band_stops(rt: HostRuntime) -> Result<(), Fail> {
+    let mut plane = plane_of(rt.alloc(), &RISING)?;
+    assert!(&rt; !restore_all(&rt, &mut plane, &[rect(0, 4, 0, 3)]));
+    assert_rows(&rt, &plane, &RISEN);
+    Ok(())
+}

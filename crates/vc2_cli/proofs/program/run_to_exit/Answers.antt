@@ -1,0 +1,39 @@
+use Rattle.std.proofs.Common.{◌≡◌, ◌∙◌, ℕ, List, Result, Ok, IfOk, map, string_bytes, drop, ap, sym, subst, inl}
+use Rattle.std.specs.Vec.Iter.{into_iter_items}
+use Rattle.vc2_cli.specs.declared.status.Status.{Status}
+use Rattle.vc2_cli.specs.Exit.{exit_code_of}
+use Rattle.vc2_cli.specs.Running.{Change, change}
+use Rattle.vc2_cli.specs.Program.{Ran, Exits}
+use Rattle.vc2_cli.proofs.program.run_to_exit.Goals as goal
+
+-- the same words
+exits_by : (words other : List (List ℕ)) (src out note : Change) (told : Status) (code : ℕ) → other ≡ words → Ran other src out note told → code ≡ exit_code_of told → Exits words src out note code
+exits_by words other src out note told code same ran is = inl (told, subst (λ l. Ran l src out note told) same ran, is)
+
+if_ok : {T E : Type 0} (P : T → Type 0) (r : Result T E) (x : T) → r ≡ Ok x → P x → IfOk r P
+if_ok {T} {E} P r x is p = subst (λ (y : Result T E). IfOk y P) (sym is) p
+
+pub returns-in-Ok-words_behind-clause-runs : goal.returns-in-Ok-words_behind-clause-runs
+returns-in-Ok-words_behind-clause-runs g c =
+    let e = c.run.ensures in
+    let src = change g.S.Source.rest g.S.Source.faults c.args.src.now c.run.new.src in
+    let out = change g.K.Sink.written g.K.Sink.faults c.args.out.now c.run.new.out in
+    let note = change g.N.Sink.written g.N.Sink.faults c.args.note.now c.run.new.note in
+    if_ok _ c.args.args c.in-Ok.args c.in-Ok.is
+    (exits_by (map string_bytes (drop 1 (into_iter_items c.in-Ok.args))) (map string_bytes c.deref.result.now) src out note c.run.result c.exit_code.result
+    (ap (map string_bytes) (c.deref.ensures.value ∙ c.in-Ok-words_behind.ensures))
+    (record {
+      status = e.status;
+      texts = e.texts;
+      done = e.done;
+      read_fault = e.read_fault;
+      out_fault = e.out_fault;
+      no_memory = e.no_memory;
+      note_fault = e.note_fault;
+      soon = e.soon;
+      limit = e.limit;
+      causes = e.causes;
+      usage = e.usage;
+      trial = e.trial;
+      header = e.header;
+    }) c.exit_code.ensures)
