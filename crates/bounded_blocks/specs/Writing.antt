@@ -22,11 +22,11 @@ abbrev pub filled : ℕ → List Bool → List Bool
 filled n text = take n text ++ replicate (n - length text) true
 
 -- what is known of the codes of a list: how many bits they have, and how many they need
-pub record NeedCount : Type 0 where
+pub record NeedSeen : Type 0 where
   pub total : ℕ
   pub bits : ℕ
 
-abbrev pub count_of : List ℤ → NeedCount
+abbrev pub count_of : List ℤ → NeedSeen
 count_of vs = record { total = length (codes_of vs); bits = need vs }
 
 -- a block from a place to an end lies in the bytes

@@ -1,5 +1,6 @@
 //! How many bits a block has to have for a list of values.
 
+ghost use Rattle.bit_codes.specs.declared.TheConstants.{MAX_MAGNITUDE};
 ghost use Rattle.std.specs.Prelude.{◌≡◌, ◌≢◌, ◌+◌, ◌-◌, ◌*◌, ◌^◌, ◌<◌, ◌≤◌, ℤ, List, [], ◌∷◌, ◌++◌, length, pos, unsigned_abs};
 ghost use Rattle.bit_codes.specs.Codes.{signed_code_of};
 ghost use Rattle.std.specs.List.{All};
@@ -19,10 +20,10 @@ pub struct Need {
 }
 
 impl Model for Need {
-    ghost use Rattle.bounded_blocks.specs.Writing.{NeedCount};
+    ghost use Rattle.bounded_blocks.specs.Writing.{NeedSeen};
     ghost use Rattle.bounded_blocks.specs.declared.need.Need.TheInside.{Inside};
 
-    ghost Value = { NeedCount };
+    ghost Value = { NeedSeen };
 
     ghost view = { λ n. record { total = n.total; bits = n.bits } };
 
@@ -33,7 +34,7 @@ impl Model for Need {
 /// the last digit where that is 1.
 fn ones_at_end(v: i64) -> u32
     requires some { v ≢ pos 0 }
-    requires small { unsigned_abs v ≤ 2 ^ 36 }
+    requires small { unsigned_abs v ≤ MAX_MAGNITUDE }
     ensures { result + need_of (signed_code_of v) ≡ length (signed_code_of v) }
 {
     if v < 0 {
@@ -53,7 +54,7 @@ impl Need {
 
     /// Adds a value, of a magnitude of at most 2^36. At most 2^32 values are added.
     pub fn add(&mut self, v: i64)
-        requires small { unsigned_abs v ≤ 2 ^ 36 }
+        requires small { unsigned_abs v ≤ MAX_MAGNITUDE }
         requires room { self.old.total ≤ 75 * 2 ^ 32 }
         ensures { (vs : List ℤ) → self.old ≡ count_of vs → self.new ≡ count_of (vs ++ v ∷ []) }
     {

@@ -4,6 +4,7 @@
 //! are public, and its contracts name them. That its block lies in the bytes (`IsInside`) is what `new` gives, and
 //! `put` keeps.
 
+ghost use Rattle.bit_codes.specs.declared.TheConstants.{MAX_MAGNITUDE};
 ghost use Rattle.std.specs.Prelude.{◌≡◌, ◌≢◌, ◌+◌, ◌-◌, ◌*◌, ◌^◌, ◌<◌, ◌≤◌, ◌++◌, [], ◌∷◌, true, length, replicate, unsigned_abs};
 ghost use Rattle.bit_codes.specs.Bits.{bits_of, bits_before, bits_behind};
 ghost use Rattle.bit_codes.specs.Codes.{code_of, signed_code_of};
@@ -99,7 +100,7 @@ impl<'a> Fill<'a> {
 
     /// The code of a value, of a magnitude of at most 2^36, as far as the block reaches.
     pub fn put(&mut self, v: i64)
-        requires small { unsigned_abs v ≤ 2 ^ 36 }
+        requires small { unsigned_abs v ≤ MAX_MAGNITUDE }
         requires inside { IsInside self.old.bytes.now self.old.place self.old.end }
         ensures same_reference { self.new.bytes.ghost_name ≡ self.old.bytes.ghost_name }
         ensures same_end { self.new.end ≡ self.old.end }

@@ -4,7 +4,7 @@ use Rattle.std.proofs.Math.Nat.{mul-le-mul_left, mul-le-mul_right, add-mul}
 use Rattle.std.proofs.lemmas.Nat.{div-mul-add}
 use Rattle.std.proofs.lemmas.Bool.{cases_lt}
 use Rattle.slice_geometry.specs.Slicing.{bytes_before}
-use Rattle.slice_geometry.specs.Units.{IsUnitAllowed}
+use Rattle.slice_geometry.specs.UnitLengths.{IsUnitAllowed}
 use Rattle.slice_geometry.specs.declared.unit_list.UnitShape.{UnitShape}
 use Rattle.slice_geometry.proofs.Shares.{bytes_before-rises}
 use Rattle.slice_geometry.proofs.Quotients.{le-div_of_le}

@@ -1,6 +1,6 @@
 -- The least schedule at a rate.
 use Rattle.std.specs.Prelude.{◌≡◌, ℕ, zero, suc, ◌+◌, ◌-◌, ◌*◌, ◌/◌, ◌%◌, ◌<◌, ◌≤◌, min, max}
-use Rattle.slice_geometry.specs.Units.{UnitList, StandInTurn}
+use Rattle.slice_geometry.specs.UnitLengths.{UnitShapesSeen, StandInTurn}
 use Rattle.slice_geometry.specs.declared.unit_list.UnitShape.{UnitShape}
 use Rattle.slice_geometry.specs.Slicing.{bytes_before}
 use Rattle.channel_schedule.specs.declared.schedule.Rate.{Rate}
@@ -17,7 +17,7 @@ pub record IsGreatest (f : ℕ → ℕ) (n m : ℕ) : Type 0 where
   pub least : (d : ℕ) → ((k : ℕ) → k < n → f k ≤ d) → m ≤ d
 
 -- How far slice k is ahead of a channel that gives bytes from the first slice on, in bytes times the slots of the rate.
-abbrev pub lead_of : UnitList → Rate → ℕ → ℕ → ℕ
+abbrev pub lead_of : UnitShapesSeen → Rate → ℕ → ℕ → ℕ
 lead_of shapes rate idle k = end_of shapes.units shapes.total k * rate.den - slots_to idle shapes.units k * rate.num
 
 -- the same of slice j of a unit
@@ -29,24 +29,24 @@ abbrev pub asked_in : UnitShape → Rate → ℕ → ℕ
 asked_in unit rate j = bytes_before unit.a unit.b (j + 1) * rate.den + (unit.slices - j) * rate.num
 
 -- the least delay with which all slices are in time, and the most bytes that are then held
-pub record IsPlan (shapes : UnitList) (rate : Rate) (idle delay size : ℕ) : Type 0 where
+pub record IsPlan (shapes : UnitShapesSeen) (rate : Rate) (idle delay size : ℕ) : Type 0 where
   pub in_time : AreInTime (course_of shapes rate idle delay) (count_in shapes)
   pub least : (less : ℕ) → AreInTime (course_of shapes rate idle less) (count_in shapes) → delay ≤ less
   pub most : IsGreatest (held (course_of shapes rate idle delay)) (count_in shapes) size
 
 -- A plan runs, with no smaller delay are all slices in time, and with its delay no smaller size runs.
-pub record IsLeast (shapes : UnitList) (rate : Rate) (idle delay size : ℕ) : Type 0 where
+pub record IsLeast (shapes : UnitShapesSeen) (rate : Rate) (idle delay size : ℕ) : Type 0 where
   pub runs : Run (course_of shapes rate idle delay) size (count_in shapes)
   pub no_delay : (less : ℕ) → less < delay → AreInTime (course_of shapes rate idle less) (count_in shapes) → ⊥
   pub no_size : (less : ℕ) → less < size → Run (course_of shapes rate idle delay) less (count_in shapes) → ⊥
 
 abbrev pub PlansAreLeast : Type 0
-PlansAreLeast = (shapes : UnitList) (rate : Rate) (idle delay size : ℕ) → IsPlan shapes rate idle delay size
+PlansAreLeast = (shapes : UnitShapesSeen) (rate : Rate) (idle delay size : ℕ) → IsPlan shapes rate idle delay size
     → IsLeast shapes rate idle delay size
 
 -- replayed, it comes out as one that runs, and in no other way
 abbrev pub PlansReplay : Type 0
-PlansReplay = (shapes : UnitList) (rate : Rate) (idle delay size : ℕ) (outcome : Outcome)
+PlansReplay = (shapes : UnitShapesSeen) (rate : Rate) (idle delay size : ℕ) (outcome : Outcome)
     → IsPlan shapes rate idle delay size → IsOutcome (course_of shapes rate idle delay) size (count_in shapes) outcome
     → outcome ≡ Runs
 
@@ -57,23 +57,23 @@ greatest f zero = 0
 greatest f (suc n) = max (greatest f n) (f n)
 
 -- the slots that make up for the greatest lead
-abbrev pub plan_delay : UnitList → Rate → ℕ → ℕ
+abbrev pub plan_delay : UnitShapesSeen → Rate → ℕ → ℕ
 plan_delay shapes rate idle = greatest (lead_of shapes rate idle) (count_in shapes) / rate.num + min 1
     (greatest (lead_of shapes rate idle) (count_in shapes) % rate.num)
 
-abbrev pub plan_size : UnitList → Rate → ℕ → ℕ
+abbrev pub plan_size : UnitShapesSeen → Rate → ℕ → ℕ
 plan_size shapes rate idle = greatest (held (course_of shapes rate idle (plan_delay shapes rate idle))) (count_in shapes)
 
-abbrev pub plan_of : UnitList → Rate → ℕ → Schedule
+abbrev pub plan_of : UnitShapesSeen → Rate → ℕ → Schedule
 plan_of shapes rate idle =
     record { rate = rate; delay = plan_delay shapes rate idle; size = plan_size shapes rate idle; idle = idle }
 
 -- these numbers are the plan, and no others are
-pub record OnePlan (shapes : UnitList) (rate : Rate) (idle : ℕ) : Type 0 where
+pub record OnePlan (shapes : UnitShapesSeen) (rate : Rate) (idle : ℕ) : Type 0 where
   pub found : IsPlan shapes rate idle (plan_delay shapes rate idle) (plan_size shapes rate idle)
   pub only : (delay size : ℕ) → IsPlan shapes rate idle delay size → (delay ≡ plan_delay shapes rate idle)
       × (size ≡ plan_size shapes rate idle)
 
 abbrev pub EachHasOnePlan : Type 0
-EachHasOnePlan = (shapes : UnitList) (rate : Rate) (idle : ℕ) → IsRate rate → StandInTurn 0 shapes.units shapes.total
+EachHasOnePlan = (shapes : UnitShapesSeen) (rate : Rate) (idle : ℕ) → IsRate rate → StandInTurn 0 shapes.units shapes.total
     → OnePlan shapes rate idle

@@ -1,6 +1,6 @@
 // The first pass of a plan: how far the slices are ahead of the channel.
 ghost use Rattle.std.specs.Prelude.{◌+◌, ◌^◌, ◌≤◌};
-ghost use Rattle.slice_geometry.specs.Units.{IsUnitAllowed, StandInTurn, unit_length};
+ghost use Rattle.slice_geometry.specs.UnitLengths.{IsUnitAllowed, StandInTurn, unit_length};
 ghost use Rattle.channel_schedule.specs.Courses.{count_in};
 ghost use Rattle.channel_schedule.specs.Plans.{IsGreatest, lead_of, lead_in, asked_in};
 ghost use Rattle.channel_schedule.specs.Stepping.{IsAt};

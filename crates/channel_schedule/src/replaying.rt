@@ -1,6 +1,6 @@
 // How a schedule comes out.
 ghost use Rattle.std.specs.Prelude.{◌+◌, ◌^◌, ◌≤◌};
-ghost use Rattle.slice_geometry.specs.Units.{IsUnitAllowed, unit_length};
+ghost use Rattle.slice_geometry.specs.UnitLengths.{IsUnitAllowed, unit_length};
 ghost use Rattle.channel_schedule.specs.Rates.{IsSchedule};
 ghost use Rattle.channel_schedule.specs.Courses.{course_of, unit_course, tail_course, count_in, IsOutcome};
 

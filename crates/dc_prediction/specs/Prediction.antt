@@ -1,6 +1,7 @@
 -- DC prediction: what a place of the lowest subband is predicted to hold, and the band that its residuals make
 -- (SMPTE ST 2042-1:2017, 13.4, dc_prediction).
-use Rattle.std.specs.Prelude.{◌≡◌, ℕ, zero, suc, ◌+◌, ◌-◌, ◌*◌, ◌^◌, ◌<◌, ℤ, pos, ◌+ℤ◌}
+use Rattle.std.specs.Prelude.{◌≡◌, ℕ, zero, suc, ◌+◌, ◌-◌, ◌*◌, ◌<◌, ℤ, pos, ◌+ℤ◌}
+use Rattle.planes.specs.declared.TheConstants.{MAX_MAGNITUDE}
 use Rattle.std.specs.Int.{int_div_euclid}
 use Rattle.planes.specs.Raster.{Grid}
 
@@ -45,4 +46,4 @@ pub record AllLookedAt (P : ℕ → ℕ → Type 0) (y x : ℕ) : Type 0 where
 
 -- The greatest magnitude in row y and column x: each residual has at most 2 ^ 36, and a mean is no greater than what it is of.
 abbrev pub reach : ℕ → ℕ → ℕ
-reach y x = (y + x + 1) * 2 ^ 36
+reach y x = (y + x + 1) * MAX_MAGNITUDE

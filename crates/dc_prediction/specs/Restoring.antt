@@ -1,5 +1,6 @@
 -- What restoring a rectangle of a band asks for, and what it leaves.
 use Rattle.std.specs.Prelude.{◌≡◌, ℕ, ◌+◌, ◌^◌, ◌<◌, ◌≤◌, ◌⊎◌, ℤ, pos, ◌+ℤ◌}
+use Rattle.planes.specs.declared.TheConstants.{MAX_MAGNITUDE}
 use Rattle.planes.specs.declared.Rect.{Rect}
 use Rattle.planes.specs.Numbers.{Within}
 use Rattle.planes.specs.Raster.{Raster, height, at}
@@ -22,7 +23,7 @@ pub record CanRestore (rect : Rect) (p : Raster ℤ) : Type 0 where
   pub y_inside : rect.y1 ≤ height p
   pub narrow : p.w ≤ 8192
   pub low : height p ≤ 8192
-  pub residuals : (y x : ℕ) → IsInRect rect y x → Within (2 ^ 36) (at p y x)
+  pub residuals : (y x : ℕ) → IsInRect rect y x → Within MAX_MAGNITUDE (at p y x)
   pub outside : AllLookedAtOutside (λ y x. Within (reach y x) (at p y x)) rect
 
 -- Each place of the rectangle holds its residual plus the prediction over the new values, and all else stays.

@@ -5,6 +5,7 @@
 pub mod laws;
 mod narrow;
 
+ghost use Rattle.planes.specs.declared.TheConstants.{MAX_MAGNITUDE};
 ghost use Rattle.std.specs.Prelude.{◌≡◌, ◌+◌, ◌-◌, ◌^◌, ◌<◌, ◌+ℤ◌};
 ghost use Rattle.planes.specs.Numbers.{Within};
 ghost use Rattle.planes.specs.Raster.{height, at};
@@ -28,7 +29,7 @@ fn mean_of(a: i64, b: i64, c: i64) -> i64
 // A residual on its prediction.
 #[inline(always)]
 fn on_prediction(residual: i64, prediction: i64) -> i64
-    requires residual_small { Within (2 ^ 36) residual }
+    requires residual_small { Within MAX_MAGNITUDE residual }
     requires prediction_small { Within (2 ^ 50) prediction }
     ensures { result ≡ residual +ℤ prediction }
 {
@@ -38,7 +39,7 @@ fn on_prediction(residual: i64, prediction: i64) -> i64
 // A residual on its prediction from three values.
 #[inline(always)]
 fn restored_from(residual: i64, left: i64, corner: i64, above: i64) -> i64
-    requires residual_small { Within (2 ^ 36) residual }
+    requires residual_small { Within MAX_MAGNITUDE residual }
     requires left_small { Within (2 ^ 50) left }
     requires corner_small { Within (2 ^ 50) corner }
     requires above_small { Within (2 ^ 50) above }

@@ -5,7 +5,7 @@ use Rattle.bit_codes.specs.Bits.{Cursor}
 use Rattle.field_rows.specs.Rows.{Value, Rows, Fault, read}
 use Rattle.field_rows.specs.Pieces.{IsWhole, IsSteady}
 use Rattle.field_rows.specs.Moved.{IsMovable}
-use Rattle.field_rows.specs.Laws.{ReadsWhatStands, HasOneAnswer, IgnoresMore, ReadsTheSameMoved, ReadsTheSameRenamed, IsReadAgain, HasFaultWithin}
+use Rattle.field_rows.specs.RowLaws.{ReadsWhatStands, HasOneAnswer, IgnoresMore, ReadsTheSameMoved, ReadsTheSameRenamed, IsReadAgain, HasFaultWithin}
 use Rattle.field_rows.proofs.Answers.{Stand-read, IsRefused-read, found_fields, found_refusal, Stand-one}
 use Rattle.field_rows.proofs.Pieces.{read-more, read-more_refused}
 use Rattle.field_rows.proofs.Moves.{read-moved, read-renamed}

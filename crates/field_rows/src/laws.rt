@@ -7,7 +7,7 @@ ghost use Rattle.bit_codes.specs.Bits.{Cursor};
 ghost use Rattle.field_rows.specs.Rows.{Rows, Value};
 ghost use Rattle.field_rows.specs.Pieces.{IsSteady, IsWhole};
 ghost use Rattle.field_rows.specs.Moved.{IsMovable};
-ghost use Rattle.field_rows.specs.Laws.{ReadsWhatStands, HasOneAnswer, IgnoresMore, ReadsTheSameMoved, ReadsTheSameRenamed, IsReadAgain, HasFaultWithin};
+ghost use Rattle.field_rows.specs.RowLaws.{ReadsWhatStands, HasOneAnswer, IgnoresMore, ReadsTheSameMoved, ReadsTheSameRenamed, IsReadAgain, HasFaultWithin};
 
 /// Reading is the two relations: a value exactly where fields stand, a fault exactly where they are refused.
 pub fn reading_is_what_stands<R, A>()

@@ -94,10 +94,10 @@ pub half_small : (m : ℕ) (z : ℤ) → 1 ≤ m → SumOne m z → Within m (in
 half_small m (pos a) some s = record { low = omega (arith, ints); high = omega (arith, ints) }
 half_small m (negsuc a) some s = record { low = omega (arith, ints); high = omega (arith, ints) }
 
-quarter_of : (m : ℕ) (x y : ℤ) → 1 ≤ m → Within m x → Within m y → Within m (int_shr (x +ℤ y +ℤ pos 2) 2)
+pub quarter_of : (m : ℕ) (x y : ℤ) → 1 ≤ m → Within m x → Within m y → Within m (int_shr (x +ℤ y +ℤ pos 2) 2)
 quarter_of m x y some px py = quarter_small m (x +ℤ y +ℤ pos 2) some (record { low = omega (arith, ints); high = omega (arith, ints) })
 
-half_of : (m : ℕ) (x y : ℤ) → 1 ≤ m → Within m x → Within m y → Within m (int_shr (x +ℤ y +ℤ pos 1) 1)
+pub half_of : (m : ℕ) (x y : ℤ) → 1 ≤ m → Within m x → Within m y → Within m (int_shr (x +ℤ y +ℤ pos 1) 1)
 half_of m x y some px py = half_small m (x +ℤ y +ℤ pos 1) some (record { low = omega (arith, ints); high = omega (arith, ints) })
 
 pub even_down_lane : (w : Width) (m : ℕ) → Room w m → (v x y : ℤ) → Within m v → Within m x → Within m y → to_z w (minus w (of_z w v) (shifted w (plus w (plus w (of_z w x) (of_z w y)) 2) 2)) ≡ pair_step EvenDown v x y

@@ -12,7 +12,7 @@ use Rattle.std.proofs.lemmas.List.{get_or-set_other, get_or-set_same, length-set
 use borrow.Rule.Slice.PartMut.{put_mid, post_of}
 use Rattle.lifting.specs.Lines.{Line}
 use Rattle.lifting.specs.Places.{woven}
-use Rattle.lifting.specs.Samples.{clipped_up, sample_of}
+use Rattle.lifting.specs.Clipping.{clipped_up, sample_of}
 use Rattle.lifting.proofs.WovenLines.{at_even, at_odd}
 
 pub half_some : (depth : ℕ) → 1 ≤ 2 ^ (depth - 1)

@@ -7,7 +7,7 @@ ghost use Rattle.lifting.specs.Steps.{halved};
 ghost use Rattle.lifting.specs.Lines.{synthesis_line};
 ghost use Rattle.lifting.specs.Transform.{interleaved, synthesis_level};
 ghost use Rattle.lifting.specs.Ranges.{LineWithin, GridWithin, line_reach};
-ghost use Rattle.lifting.specs.Samples.{sample_of};
+ghost use Rattle.lifting.specs.Clipping.{sample_of};
 
 use crate::roll_narrow::{make_even, make_odd};
 use crate::samples_narrow::sample_sides;

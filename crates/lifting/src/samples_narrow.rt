@@ -7,7 +7,7 @@ ghost use Rattle.lifting.specs.Places.{place, EachWithin, woven};
 ghost use Rattle.lifting.specs.Steps.{halved};
 ghost use Rattle.lifting.specs.Lines.{synthesis_line};
 ghost use Rattle.lifting.specs.Ranges.{LineWithin, line_reach};
-ghost use Rattle.lifting.specs.Samples.{sample_of, clipped_up};
+ghost use Rattle.lifting.specs.Clipping.{sample_of, clipped_up};
 
 use crate::halves_narrow::{lift_even_half, lift_odd_half};
 use crate::kernels::shifts;

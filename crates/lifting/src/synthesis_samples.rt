@@ -7,7 +7,7 @@ ghost use Rattle.lifting.specs.Places.{place, EachWithin};
 ghost use Rattle.lifting.specs.Transform.{interleaved, synthesis_level, synthesis};
 ghost use Rattle.lifting.specs.Ranges.{GridWithin, SameInside};
 ghost use Rattle.lifting.specs.Bands.{coefficients_of, lowest};
-ghost use Rattle.lifting.specs.Samples.{sample_of, AreSamplesOf};
+ghost use Rattle.lifting.specs.Clipping.{sample_of, AreSamplesOf};
 ghost use Rattle.lifting.specs.SampleRoom.{HaveRoom, IsShownArea, AreNarrowIn, synthesis_of};
 
 use crate::roll_samples::roll_samples;

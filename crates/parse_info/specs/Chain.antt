@@ -2,6 +2,6 @@
 use Rattle.std.specs.Prelude.{ℕ}
 
 -- where the next unit begins, and the length of the unit before it
-pub record Links : Type 0 where
+pub record ChainSeen : Type 0 where
   pub place : ℕ
   pub previous : ℕ

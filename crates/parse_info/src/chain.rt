@@ -11,9 +11,9 @@ pub struct Chain {
 
 impl Model for Chain {
     ghost use Rattle.std.specs.Prelude.{◌^◌, ◌≤◌};
-    ghost use Rattle.parse_info.specs.Chain.{Links};
+    ghost use Rattle.parse_info.specs.Chain.{ChainSeen};
 
-    ghost Value = { Links };
+    ghost Value = { ChainSeen };
 
     ghost view = { λ c. record { place = c.place; previous = c.previous } };
 

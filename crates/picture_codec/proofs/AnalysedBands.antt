@@ -21,7 +21,7 @@ use Rattle.lifting.proofs.Levels as levels
 use Rattle.lifting.proofs.Inside.{analysis_same}
 use Rattle.lifting.proofs.GivenBack.{held_bounded}
 use Rattle.transform_params.specs.Params.{Params}
-use Rattle.picture_codec.specs.Samples.{SampleRows}
+use Rattle.picture_codec.specs.Samples.{SamplesSeen}
 use Rattle.picture_codec.specs.Encoding.{centred, raster_from, level_bands, bands_from, analysed_bands}
 use Rattle.picture_codec.specs.EncoderInside.{IsWhole, AreWhole, HaveBandSizes, HoldComponent}
 use Rattle.slice_encoder.proofs.Made.{zero_within}
@@ -109,7 +109,7 @@ outside_within m p whole inside y x = elim (cases_lt y (height p)) as (λ _. Wit
   ]
 ]
 
-pub centred_within : (d : ℕ) (size : Size) (s : SampleRows) → 1 ≤ d → ((k : ℕ) → get_or s.cells k 0 < 2 ^ d) → (y x : ℕ) → Within (2 ^ (d - 1)) (centred d size s y x)
+pub centred_within : (d : ℕ) (size : Size) (s : SamplesSeen) → 1 ≤ d → ((k : ℕ) → get_or s.cells k 0 < 2 ^ d) → (y x : ℕ) → Within (2 ^ (d - 1)) (centred d size s y x)
 centred_within (suc e) size s some small y x =
     let v = get_or s.cells (min y (size.h - 1) * s.w + min x (size.w - 1)) 0 in
     let low : v < 2 ^ suc e = small (min y (size.h - 1) * s.w + min x (size.w - 1)) in
@@ -128,7 +128,7 @@ bands_joined h w depth a b c first second = record {
   hh = λ n lt y x ly lx. first.hh n lt y x ly lx ∙ second.hh n lt y x ly lx;
 }
 
-module _ (wavelet : Wavelet) (size : Size) (d : ℕ) (s : SampleRows) (b : BandStack) (plane : Raster ℤ) (low : b.depth ≤ 4) (some : 1 ≤ d)
+module _ (wavelet : Wavelet) (size : Size) (d : ℕ) (s : SamplesSeen) (b : BandStack) (plane : Raster ℤ) (low : b.depth ≤ 4) (some : 1 ≤ d)
     (columns : plane.w ≡ padded_length b.depth size.w) (rows : height plane ≡ padded_length b.depth size.h) (held : HoldAnalysis wavelet b plane)
     (values : SameInside (height plane) plane.w (at plane) (centred d size s)) (small : GridWithin (height plane) plane.w (2 ^ (d - 1)) (at plane))
     (sizes : HaveSizes b (padded_length b.depth size.w) (padded_length b.depth size.h)) (whole : AreWhole b) where
@@ -219,7 +219,7 @@ sizes_stay s size old new have same = record {
   };
 }
 
-pub holds_component : (p : Params) (size : Size) (d : ℕ) (s : SampleRows) (b : BandStack) (plane : Raster ℤ) → p.slicing.depth ≤ 4 → 1 ≤ d → HaveBandSizes p.slicing size b
+pub holds_component : (p : Params) (size : Size) (d : ℕ) (s : SamplesSeen) (b : BandStack) (plane : Raster ℤ) → p.slicing.depth ≤ 4 → 1 ≤ d → HaveBandSizes p.slicing size b
     → plane.w ≡ padded_length p.slicing.depth size.w → height plane ≡ padded_length p.slicing.depth size.h → HoldAnalysis p.wavelet b plane
     → SameInside (height plane) plane.w (at plane) (centred d size s) → GridWithin (height plane) plane.w (2 ^ (d - 1)) (at plane) → AreWhole b → HoldComponent p size d s b
 holds_component p size d s b plane low some have columns rows held values small whole =
@@ -237,7 +237,7 @@ holds_component p size d s b plane low some have columns rows held values small 
     }
 
 -- the samples of a component, as cells
-pub centred_cells : (d d' : ℕ) (size size' : Size) (cells : List ℕ) (s : SampleRows) → d' ≡ d → size' ≡ size → s.w ≡ size.w → cells ≡ s.cells
+pub centred_cells : (d d' : ℕ) (size size' : Size) (cells : List ℕ) (s : SamplesSeen) → d' ≡ d → size' ≡ size → s.w ≡ size.w → cells ≡ s.cells
     → (y x : ℕ) → centred d' size' (record { w = size'.w; h = size'.h; cells = cells }) y x ≡ centred d size s y x
 centred_cells d d' size size' cells s same_d same_size width same y x =
     ap (λ (k : ℕ). centred k size' (record { w = size'.w; h = size'.h; cells = cells }) y x) same_d

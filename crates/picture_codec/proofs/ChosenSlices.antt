@@ -18,7 +18,7 @@ use Rattle.quant_factors.specs.Weights.{Weights}
 use Rattle.slice_encoder.specs.Choice.{fits, IsLeast, slice_bits}
 use Rattle.slice_encoder.specs.Chosen.{first_fit, least_index, lists_of_slice, share_of_slice, chosen, written_slice, written_slices}
 use Rattle.slice_encoder.specs.Encoded.{IsEncodedAfter}
-use Rattle.slice_encoder.specs.Laws.{IsIndex}
+use Rattle.slice_encoder.specs.TrialLaws.{IsIndex}
 use Rattle.slice_encoder.specs.Ready.{coded_picture, AreGiven, AreReady}
 use Rattle.slice_encoder.specs.Trials.{CodedPicture, Lists, AreKept}
 use Rattle.slice_encoder.specs.Tries.{AreTried, KeptHaveSizes, IsNext}

@@ -16,10 +16,10 @@ use Rattle.lifting.specs.Bands.{coefficients_of, HoldAnalysis}
 use Rattle.lifting.proofs.Levels as levels
 use Rattle.lifting.proofs.Inside.{analysis_same}
 use Rattle.transform_params.specs.Params.{Params}
-use Rattle.transform_params.specs.Fields.{IsLawful}
+use Rattle.transform_params.specs.ParameterFields.{IsLawful}
 use Rattle.slice_encoder.specs.Ready.{AreGiven}
-use Rattle.slice_encoder.specs.Laws.{most_coefficient}
-use Rattle.picture_codec.specs.Samples.{SampleRows, PictureSamples, HaveShape}
+use Rattle.slice_encoder.specs.TrialLaws.{most_coefficient}
+use Rattle.picture_codec.specs.Samples.{SamplesSeen, PictureSamples, HaveShape}
 use Rattle.picture_codec.specs.Encoding.{centred, raster_from, bands_from, analysed_bands, coded_from}
 use Rattle.picture_codec.specs.EncoderInside.{IsWhole, AreWhole}
 use Rattle.picture_codec.proofs.Sizes.{padded_whole}
@@ -54,7 +54,7 @@ is_table depth size c (suc n) orient (inr e) = upper_table depth size c n orient
 
 -- ---- the bands of a component
 
-module _ (wavelet : Wavelet) (depth : ℕ) (size : Size) (d : ℕ) (s : SampleRows) (low : depth ≤ 4) (some : 1 ≤ d) (small : (k : ℕ) → get_or s.cells k 0 < 2 ^ d) where
+module _ (wavelet : Wavelet) (depth : ℕ) (size : Size) (d : ℕ) (s : SamplesSeen) (low : depth ≤ 4) (some : 1 ≤ d) (small : (k : ℕ) → get_or s.cells k 0 < 2 ^ d) where
   abbrev pub h : ℕ
   h = (band_size depth 0 size).h
 

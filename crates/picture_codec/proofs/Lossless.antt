@@ -17,12 +17,12 @@ use Rattle.lifting.specs.Ranges.{SameBands}
 use Rattle.lifting.proofs.Inside.{synthesis_same}
 use Rattle.lifting.proofs.Undone.{synthesis_undoes}
 use Rattle.transform_params.specs.Params.{Params}
-use Rattle.transform_params.specs.Fields.{IsLawful}
+use Rattle.transform_params.specs.ParameterFields.{IsLawful}
 use Rattle.slice_encoder.specs.Chosen.{chosen, written_slices}
 use Rattle.slice_encoder.specs.Trials.{CodedPicture}
 use Rattle.picture_codec.specs.Pictures.{size_of, coefficients, sample_of, sample}
 use Rattle.slice_geometry.specs.Frames.{frame_of}
-use Rattle.picture_codec.specs.Samples.{SampleRows, PictureSamples, HaveShape, AreSamples, component_of, sample_at}
+use Rattle.picture_codec.specs.Samples.{SamplesSeen, PictureSamples, HaveShape, AreSamples, component_of, sample_at}
 use Rattle.picture_codec.specs.Encoding.{centred, bands_from, coded_from, slices_of, IsSteepFor}
 use Rattle.picture_codec.specs.Written.{RestoresWhatWasWritten}
 use Rattle.picture_codec.specs.Lossless.{IsLossless, LosslessIsGivenBack}
@@ -48,7 +48,7 @@ sample_back zero v some few = absurd (omega arith)
 
 -- ---- a component, where what is decoded of each band is what was analysed
 
-module _ (p : Params) (size : Size) (d : ℕ) (s : SampleRows) (low : p.slicing.depth ≤ 4) (some : 1 ≤ d) (are : AreSamples size d s) (c : Coefficients) where
+module _ (p : Params) (size : Size) (d : ℕ) (s : SamplesSeen) (low : p.slicing.depth ≤ 4) (some : 1 ≤ d) (are : AreSamples size d s) (c : Coefficients) where
   abbrev depth : ℕ
   depth = p.slicing.depth
 

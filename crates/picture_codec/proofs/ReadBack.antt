@@ -14,7 +14,7 @@ use Rattle.bounded_blocks.proofs.OneText.{filled-spells}
 use Rattle.bounded_blocks.proofs.Needs.{need-most}
 use Rattle.slice_geometry.specs.Slicing.{length_bits}
 use Rattle.slice_decoder.specs.Slice.{Slice}
-use Rattle.slice_encoder.specs.Laws.{AreSmall}
+use Rattle.slice_encoder.specs.TrialLaws.{AreSmall}
 use Rattle.picture_codec.specs.Written.{WrittenIsRead}
 use Rattle.slice_encoder.proofs.SliceBits.{filled_beyond, fit_from, two_least}
 

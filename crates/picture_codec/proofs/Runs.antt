@@ -2,7 +2,7 @@
 use Rattle.std.proofs.Common.{ℕ, zero, suc, ◌+◌, ◌<◌, ◌^◌, List, [], ◌∷◌, ◌++◌, length, take, drop, arith}
 use Rattle.std.specs.List.{All}
 use Rattle.slice_geometry.specs.declared.Size.{Size}
-use Rattle.picture_codec.specs.Samples.{SampleRows, AreBelow, AreSamples, with_run}
+use Rattle.picture_codec.specs.Samples.{SamplesSeen, AreBelow, AreSamples, with_run}
 
 below-append : (m : ℕ) (a b : List ℕ) → AreBelow m a → AreBelow m b → AreBelow m (a ++ b)
 below-append m [] b pa pb k = pb k
@@ -32,7 +32,7 @@ all-below m (x ∷ l) p (suc k) d lt = all-below m l (λ j. p (suc j)) k d (omeg
 
 pub ruleset all_are_below = (all-below)
 
-pub run_fits : (size : Size) (depth from : ℕ) (s : SampleRows) (samples : List ℕ) → AreSamples size depth s → All (λ v. v < 2 ^ depth) samples → AreSamples size depth (with_run s from samples)
+pub run_fits : (size : Size) (depth from : ℕ) (s : SamplesSeen) (samples : List ℕ) → AreSamples size depth s → All (λ v. v < 2 ^ depth) samples → AreSamples size depth (with_run s from samples)
 run_fits size depth from s samples was small =
     let some : 0 < 2 ^ depth = omega (arith, was.small 0) in
     record {

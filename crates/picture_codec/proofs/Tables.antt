@@ -5,7 +5,7 @@ use Rattle.std.specs.List.{range_with_len}
 use Rattle.std.proofs.lemmas.List.FromFn.{length-map-range_with_len, get_or-map-range_with_len}
 use Rattle.std.proofs.lemmas.Grind.{same_number_lists}
 use Rattle.slice_geometry.specs.declared.Size.{Size}
-use Rattle.picture_codec.specs.Samples.{SampleRows, sample_at, tabulated, blank, AreSamples}
+use Rattle.picture_codec.specs.Samples.{SamplesSeen, sample_at, tabulated, blank, AreSamples}
 
 pub row_below : (k w h : ℕ) → k < h * w → k / w < h
 row_below k zero h lt = absurd (grind arith)
@@ -19,7 +19,7 @@ pub place_again : (k w h : ℕ) → k < h * w → k / w * w + k % w ≡ k
 place_again k zero h lt = absurd (grind arith)
 place_again k (suc w) h lt = grind arith
 
-pub tabulated_is : (s : SampleRows) (g : ℕ → ℕ → ℕ) → length s.cells ≡ s.h * s.w → ((y x : ℕ) → y < s.h → x < s.w → sample_at s y x ≡ g y x)
+pub tabulated_is : (s : SamplesSeen) (g : ℕ → ℕ → ℕ) → length s.cells ≡ s.h * s.w → ((y x : ℕ) → y < s.h → x < s.w → sample_at s y x ≡ g y x)
     → s ≡ tabulated (record { w = s.w; h = s.h }) g
 tabulated_is s g count each =
     let f : ℕ → ℕ = λ k. g (k / s.w) (k % s.w) in
@@ -39,7 +39,7 @@ tabulated_same size f g each =
     let same : map first (range_with_len 0 n) ≡ map second (range_with_len 0 n) = same_number_lists (map first (range_with_len 0 n)) (map second (range_with_len 0 n)) (count ∙ sym (length-map-range_with_len second 0 n))
     (λ k lt. let inside : k < size.h * size.w = omega (arith, lt, count) in
     get_or-map-range_with_len first 0 n k k 0 inside (omega arith) ∙ each (k / size.w) (k % size.w) (row_below k size.w size.h inside) (column_below k size.w size.h inside) ∙ sym (get_or-map-range_with_len second 0 n k k 0 inside (omega arith))) in
-    let with_cells : List ℕ → SampleRows = λ cells. record { w = size.w; h = size.h; cells = cells } in
+    let with_cells : List ℕ → SamplesSeen = λ cells. record { w = size.w; h = size.h; cells = cells } in
     ap with_cells same
 
 zeros : ℕ → List ℕ

@@ -23,9 +23,9 @@ use Rattle.lifting.proofs.Levels as levels
 use Rattle.transform_params.specs.Params.{Params}
 use Rattle.slice_geometry.specs.Frames.{Frame, frame_of}
 use Rattle.picture_codec.specs.Pictures.{size_of, depth_of, coefficient, coefficients, sample_of, sample}
-use Rattle.picture_codec.specs.Samples.{SampleRows, PictureSamples, tabulated, AreSamples, picture_of}
+use Rattle.picture_codec.specs.Samples.{SamplesSeen, PictureSamples, tabulated, AreSamples, picture_of}
 use Rattle.picture_codec.specs.Taking.{holder, Took}
-use Rattle.picture_codec.specs.Decoding.{Decoding, AllTaken, HasTaken, synthesised, synthesised_picture}
+use Rattle.picture_codec.specs.Decoding.{PictureDecoderSeen, AllTaken, HasTaken, synthesised, synthesised_picture}
 use Rattle.picture_codec.proofs.Halves.{half_some, doubled}
 use Rattle.picture_codec.proofs.Tables.{tabulated_same, positive}
 use Rattle.picture_codec.proofs.Sizes.{padded_whole, padded_covers, holder_below}
@@ -111,7 +111,7 @@ module _ (f : Frame) (p : Params) (slices : List (List ℕ)) (c : Component) (b 
       (omega (arith, x_in, padded_covers depth size.w low, levels.whole_size (padded_length depth size.w) depth (padded_whole depth size.w low)))))
 
 -- all three components
-pub unit_is : (d : Decoding) (slices : List (List ℕ)) (n : ℕ) → IsAllowed d.params.slicing → AllTaken d.params.slicing d.shape n d.bands → HasTaken slices d → length slices ≡ slice_count d.params.slicing
+pub unit_is : (d : PictureDecoderSeen) (slices : List (List ℕ)) (n : ℕ) → IsAllowed d.params.slicing → AllTaken d.params.slicing d.shape n d.bands → HasTaken slices d → length slices ≡ slice_count d.params.slicing
     → synthesised_picture d ≡ picture_of (frame_of d.shape) d.params slices
 unit_is d slices n allowed taken has all =
     let f = frame_of d.shape in
@@ -119,9 +119,9 @@ unit_is d slices n allowed taken has all =
     let luma = picture_is f d.params slices Luma d.bands.luma taken.luma.depth allowed.slices allowed.depth (has.each Luma) all in
     let c1 = picture_is f d.params slices C1 d.bands.c1 taken.c1.depth allowed.slices allowed.depth (has.each C1) all in
     let c2 = picture_is f d.params slices C2 d.bands.c2 taken.c2.depth allowed.slices allowed.depth (has.each C2) all in
-    let first : SampleRows → PictureSamples = λ r. record { luma = r; c1 = s.c1; c2 = s.c2 } in
-    let second : SampleRows → PictureSamples = λ r. record { luma = tabulated f.luma (sample f d.params slices Luma); c1 = r; c2 = s.c2 } in
-    let third : SampleRows → PictureSamples = λ r. record { luma = tabulated f.luma (sample f d.params slices Luma); c1 = tabulated f.colour (sample f d.params slices C1); c2 = r } in
+    let first : SamplesSeen → PictureSamples = λ r. record { luma = r; c1 = s.c1; c2 = s.c2 } in
+    let second : SamplesSeen → PictureSamples = λ r. record { luma = tabulated f.luma (sample f d.params slices Luma); c1 = r; c2 = s.c2 } in
+    let third : SamplesSeen → PictureSamples = λ r. record { luma = tabulated f.luma (sample f d.params slices Luma); c1 = tabulated f.colour (sample f d.params slices C1); c2 = r } in
     ap first luma ∙ ap second c1 ∙ ap third c2
 
 -- ---- what is wanted

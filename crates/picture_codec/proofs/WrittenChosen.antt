@@ -17,7 +17,7 @@ use Rattle.slice_geometry.proofs.LengthBits.{length_bits-fit}
 use Rattle.slice_geometry.proofs.Shares.{some_share}
 use Rattle.slice_encoder.specs.Choice.{fits, slice_bits}
 use Rattle.slice_encoder.specs.Chosen.{first_fit, least_index, lists_of_slice, share_of_slice, chosen, written_slice, written_slices}
-use Rattle.slice_encoder.specs.Laws.{IsSteepOk}
+use Rattle.slice_encoder.specs.TrialLaws.{IsSteepOk}
 use Rattle.slice_encoder.specs.Ready.{AreGiven}
 use Rattle.slice_encoder.specs.Trials.{CodedPicture, Lists, last_lists}
 use Rattle.slice_encoder.proofs.Coarsest.{coarsest}

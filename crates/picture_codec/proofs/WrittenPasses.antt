@@ -18,7 +18,7 @@ use Rattle.slice_decoder.specs.Slice.{Slice, slice_at, quantisers, dequantised, 
 use Rattle.slice_encoder.specs.Order.{Place, rect_places, places_of}
 use Rattle.slice_encoder.specs.Trials as trials
 use Rattle.slice_encoder.specs.Trials.{CodedComponent, CodedPicture, luma_of, c1_of, c2_of, restored_after, value_of}
-use Rattle.slice_encoder.specs.Laws.{IsIndex, AreCoefficients, most_coefficient}
+use Rattle.slice_encoder.specs.TrialLaws.{IsIndex, AreCoefficients, most_coefficient}
 use Rattle.slice_encoder.specs.Ready.{AreGiven}
 use Rattle.slice_encoder.proofs.Near.{stays_near, within_abs, inverse_small}
 use Rattle.slice_encoder.proofs.Coarsest.{all_rect, places_exist}

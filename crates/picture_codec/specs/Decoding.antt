@@ -1,5 +1,6 @@
 -- The decoder of pictures.
-use Rattle.std.specs.Prelude.{◌≡◌, ℕ, ◌+◌, ◌/◌, ◌%◌, ◌^◌, ◌<◌, ◌≤◌, nat_lt, Bool, true, false, if◌then◌else◌, Option, None, Some, List, length, ℤ}
+use Rattle.std.specs.Prelude.{◌≡◌, ℕ, ◌+◌, ◌/◌, ◌%◌, ◌<◌, ◌≤◌, nat_lt, Bool, true, false, if◌then◌else◌, Option, None, Some, List, length, ℤ}
+use Rattle.planes.specs.declared.TheConstants.{MAX_MAGNITUDE}
 use Rattle.planes.specs.Numbers.{Within}
 use Rattle.planes.specs.Raster.{Raster, height, at}
 use Rattle.planes.specs.Subbands.{BandStack, BandExists, band_of, HaveSizes, AreZeroBands}
@@ -17,7 +18,7 @@ use Rattle.lifting.specs.Bands.{coefficients_of}
 use Rattle.transform_params.specs.Params.{Params}
 use Rattle.picture_codec.specs.Pictures.{size_of, sample_of}
 use Rattle.slice_geometry.specs.Frames.{frame_of}
-use Rattle.picture_codec.specs.Samples.{SampleRows, PictureSamples, PictureSeen, tabulated, with_component, bits_of}
+use Rattle.picture_codec.specs.Samples.{SamplesSeen, PictureSamples, PictureSeen, tabulated, with_component, bits_of}
 use Rattle.slice_decoder.specs.declared.SliceFault.{SliceFault}
 use Rattle.slice_decoder.specs.Slice.{Slice, slice_at, is_small}
 use Rattle.slice_decoder.specs.Decoded.{AllKeepOthers, IsRefused}
@@ -26,7 +27,7 @@ use Rattle.picture_codec.specs.Taking.{holder, Took, TakesSlice}
 -- ---- what is seen of a decoder
 
 -- its bands, the number of its next slice, whether it refused a slice, and the picture that it finished
-pub record Decoding : Type 0 where
+pub record PictureDecoderSeen : Type 0 where
   pub shape : PictureShape
   pub params : Params
   pub bands : Trio
@@ -43,7 +44,7 @@ stack_of b C2 = b.c2
 -- ---- the samples of bands
 
 -- the samples of a component: the synthesis of its bands, trimmed, clipped and offset (SMPTE ST 2042-1:2017, 15)
-unfoldable pub synthesised : Wavelet → Size → ℕ → BandStack → SampleRows
+unfoldable pub synthesised : Wavelet → Size → ℕ → BandStack → SamplesSeen
 synthesised wavelet size depth b =
     let lowest = band_size b.depth 0 size in
     tabulated size (λ y x. sample_of depth (synthesis wavelet lowest.h lowest.w (coefficients_of b) b.depth y x))
@@ -52,7 +53,7 @@ abbrev pub with_synthesised : Wavelet → PictureSeen → Component → BandStac
 with_synthesised wavelet p c b =
     record p { samples = with_component p.samples c (synthesised wavelet (size_of (frame_of p.shape) c) (bits_of p c) b) }
 
-abbrev pub synthesised_picture : Decoding → PictureSamples
+abbrev pub synthesised_picture : PictureDecoderSeen → PictureSamples
 synthesised_picture d = record {
   luma = synthesised d.params.wavelet d.shape.luma d.shape.luma_depth d.bands.luma;
   c1 = synthesised d.params.wavelet d.shape.colour d.shape.colour_depth d.bands.c1;
@@ -70,7 +71,7 @@ pub record AreTaken (s : Slicing) (size : Size) (n : ℕ) (b : BandStack) : Type
       → holder s (band_size s.depth 0 size) y x < n → Within (reach y x) (at (band_of b 0 0) y x)
   pub upper : (level orient y x : ℕ) → BandExists s.depth level orient → 1 ≤ level → y < (band_size s.depth level size).h
       → x < (band_size s.depth level size).w → holder s (band_size s.depth level size) y x < n
-      → Within (2 ^ 36) (at (band_of b level orient) y x)
+      → Within MAX_MAGNITUDE (at (band_of b level orient) y x)
 
 pub record AllTaken (s : Slicing) (shape : PictureShape) (n : ℕ) (bands : Trio) : Type 0 where
   pub luma : AreTaken s shape.luma n bands.luma
@@ -95,10 +96,10 @@ pub record HasNarrowRoom (s : Slicing) (size : Size) (plane scratch : Raster ℤ
 -- ---- its calls
 
 -- the place of the next slice
-abbrev pub column_of : Decoding → ℕ
+abbrev pub column_of : PictureDecoderSeen → ℕ
 column_of d = d.next % d.params.slicing.slices_x
 
-abbrev pub row_of_slices : Decoding → ℕ
+abbrev pub row_of_slices : PictureDecoderSeen → ℕ
 row_of_slices d = d.next / d.params.slicing.slices_x
 
 -- the bands of a component of this size, of its padded size and all zero
@@ -106,7 +107,7 @@ abbrev pub AreNewBands : Slicing → Size → BandStack → Type 0
 AreNewBands s size b = AreZeroBands b s.depth (padded_length s.depth size.w) (padded_length s.depth size.h)
 
 -- a new decoder: all bands are zero
-pub record IsNewDecoder (shape : PictureShape) (params : Params) (d : Decoding) : Type 0 where
+pub record IsNewDecoder (shape : PictureShape) (params : Params) (d : PictureDecoderSeen) : Type 0 where
   pub shape_is : d.shape ≡ shape
   pub params_are : d.params ≡ params
   pub luma : AreNewBands params.slicing shape.luma d.bands.luma
@@ -117,16 +118,16 @@ pub record IsNewDecoder (shape : PictureShape) (params : Params) (d : Decoding) 
   pub unfinished : d.picture ≡ None
 
 -- the bytes of the next slice, until all were taken
-abbrev pub wanted_of : Decoding → Option ℕ
+abbrev pub wanted_of : PictureDecoderSeen → Option ℕ
 wanted_of d =
     if nat_lt d.next (slice_count d.params.slicing) then Some (slice_bytes d.params.slicing.a d.params.slicing.b d.next) else None
 
 -- what these bytes say as the next slice
-abbrev pub next_slice : Decoding → List ℕ → Slice
+abbrev pub next_slice : PictureDecoderSeen → List ℕ → Slice
 next_slice d bytes = slice_at d.params.slicing d.shape.luma d.shape.colour (column_of d) (row_of_slices d) bytes
 
 -- the next slice was taken: its own places have its values, and all others stay
-pub record IsTaken (bytes : List ℕ) (old new : Decoding) : Type 0 where
+pub record IsTaken (bytes : List ℕ) (old new : PictureDecoderSeen) : Type 0 where
   pub state : new ≡ record old { bands = new.bands; next = old.next + 1 }
   pub fits : (next_slice old bytes).too_long ≡ false
   pub small : is_small old.params.slicing old.shape.luma old.shape.colour (column_of old)
@@ -135,7 +136,7 @@ pub record IsTaken (bytes : List ℕ) (old new : Decoding) : Type 0 where
       (stack_of old.bands c) (stack_of new.bands c)
 
 -- it was refused: its own places have any values, and all others stay
-pub record IsSliceRefused (bytes : List ℕ) (fault : SliceFault) (old new : Decoding) : Type 0 where
+pub record IsSliceRefused (bytes : List ℕ) (fault : SliceFault) (old new : PictureDecoderSeen) : Type 0 where
   pub state : new ≡ record old { bands = new.bands; refused = true }
   pub why : IsRefused old.params.slicing old.shape (column_of old) (row_of_slices old) old.params.matrix
       (next_slice old bytes) fault
@@ -151,6 +152,6 @@ pub record IsSound (s : Slicing) (shape : PictureShape) (next : ℕ) (bands : Tr
   pub colour_in_32_bits : HasNarrowRoom s shape.colour colour_narrow colour_narrow_scratch
 
 -- A decoder that took these slices, in order, since it was made or last restarted.
-pub record HasTaken (slices : List (List ℕ)) (d : Decoding) : Type 0 where
+pub record HasTaken (slices : List (List ℕ)) (d : PictureDecoderSeen) : Type 0 where
   pub number : d.next ≡ length slices
   pub each : (c : Component) → Took (frame_of d.shape) d.params slices c (stack_of d.bands c)

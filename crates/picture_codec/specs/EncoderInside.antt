@@ -9,9 +9,9 @@ use Rattle.slice_geometry.specs.declared.Size.{Size}
 use Rattle.slice_geometry.specs.declared.PictureShape.{PictureShape}
 use Rattle.slice_geometry.specs.Slicing.{Slicing}
 use Rattle.slice_geometry.specs.Geometry.{padded_length, band_size}
-use Rattle.slice_encoder.specs.Laws.{most_coefficient}
+use Rattle.slice_encoder.specs.TrialLaws.{most_coefficient}
 use Rattle.transform_params.specs.Params.{Params}
-use Rattle.picture_codec.specs.Samples.{SampleRows, PictureSamples}
+use Rattle.picture_codec.specs.Samples.{SamplesSeen, PictureSamples}
 use Rattle.picture_codec.specs.Decoding.{ArePadded}
 use Rattle.picture_codec.specs.Encoding.{analysed_bands}
 
@@ -44,7 +44,7 @@ pub record IsReadyToEncode (s : Slicing) (shape : PictureShape) (bands : Trio) (
   pub colour_room : ArePadded s shape.colour colour_plane colour_scratch
 
 -- The bands hold the analysis of a component's samples of d bits, at each place of each band.
-pub record HoldComponent (p : Params) (size : Size) (d : ℕ) (s : SampleRows) (b : BandStack) : Type 0 where
+pub record HoldComponent (p : Params) (size : Size) (d : ℕ) (s : SamplesSeen) (b : BandStack) : Type 0 where
   pub sizes : HaveBandSizes p.slicing size b
   pub values : (level orient y x : ℕ) → BandExists p.slicing.depth level orient
       → y < (band_size p.slicing.depth level size).h → x < (band_size p.slicing.depth level size).w

@@ -10,18 +10,18 @@ use Rattle.slice_geometry.specs.declared.Size.{Size}
 use Rattle.slice_geometry.specs.declared.PictureShape.{PictureShape}
 use Rattle.slice_geometry.specs.Frames.{Frame}
 use Rattle.slice_geometry.specs.Geometry.{band_size}
-use Rattle.slice_encoder.specs.Laws.{IsSteepOk}
+use Rattle.slice_encoder.specs.TrialLaws.{IsSteepOk}
 use Rattle.slice_encoder.specs.Trials.{CodedPicture}
 use Rattle.slice_encoder.specs.Chosen.{written_slices}
 use Rattle.transform_params.specs.Params.{Params}
-use Rattle.transform_params.specs.Fields.{params_bytes}
-use Rattle.picture_codec.specs.Samples.{SampleRows, sample_at, PictureSamples}
+use Rattle.transform_params.specs.ParameterFields.{params_bytes}
+use Rattle.picture_codec.specs.Samples.{SamplesSeen, sample_at, PictureSamples}
 
 -- ---- the coefficients
 
 -- A component's samples of d bits, counted from the middle of their range. Beyond its edges each place has the sample of
 -- the nearest place inside.
-abbrev pub centred : ℕ → Size → SampleRows → Grid
+abbrev pub centred : ℕ → Size → SamplesSeen → Grid
 centred d size s y x = pos (sample_at s (min y (size.h - 1)) (min x (size.w - 1))) -ℤ pos (2 ^ (d - 1))
 
 -- h rows of w numbers
@@ -45,7 +45,7 @@ bands_from depth size c =
     }
 
 -- the bands of a component: its padded samples, analysed
-abbrev pub analysed_bands : Wavelet → ℕ → Size → ℕ → SampleRows → BandStack
+abbrev pub analysed_bands : Wavelet → ℕ → Size → ℕ → SamplesSeen → BandStack
 analysed_bands wavelet depth size d s =
     let lowest = band_size depth 0 size in
     bands_from depth size (analysis wavelet lowest.h lowest.w depth (centred d size s))
@@ -76,7 +76,7 @@ picture_bytes p number slices = to_be_bytes w32 number ++ (params_bytes p ++ con
 -- ---- an encoder
 
 -- what contracts see of it
-pub record Encoding : Type 0 where
+pub record PictureEncoderSeen : Type 0 where
   pub shape : PictureShape
   pub params : Params
 

@@ -7,7 +7,7 @@ use Rattle.slice_geometry.specs.declared.PictureShape.{PictureShape}
 use Rattle.slice_geometry.specs.Slicing.{slice_count}
 use Rattle.slice_encoder.specs.Chosen.{chosen}
 use Rattle.transform_params.specs.Params.{Params}
-use Rattle.transform_params.specs.Fields.{IsLawful}
+use Rattle.transform_params.specs.ParameterFields.{IsLawful}
 use Rattle.picture_codec.specs.Pictures.{size_of, sample}
 use Rattle.slice_geometry.specs.Frames.{frame_of}
 use Rattle.picture_codec.specs.Samples.{PictureSamples, HaveShape, component_of, sample_at}

@@ -11,30 +11,30 @@ use Rattle.slice_geometry.specs.Frames.{Frame, frame_of}
 use Rattle.picture_codec.specs.Pictures.{size_of, depth_of, sample_of, sample}
 
 -- h rows of w samples, row by row from the top
-pub record SampleRows : Type 0 where
+pub record SamplesSeen : Type 0 where
   pub w : ℕ
   pub h : ℕ
   pub cells : List ℕ
 
 -- the sample in row y and column x
-abbrev pub sample_at : SampleRows → ℕ → ℕ → ℕ
+abbrev pub sample_at : SamplesSeen → ℕ → ℕ → ℕ
 sample_at s y x = slice_index_or s.cells (y * s.w + x) 0
 
 -- the samples that a function of row and column gives
-abbrev pub tabulated : Size → (ℕ → ℕ → ℕ) → SampleRows
+abbrev pub tabulated : Size → (ℕ → ℕ → ℕ) → SamplesSeen
 tabulated size g =
     record { w = size.w; h = size.h; cells = map (λ k. g (k / size.w) (k % size.w)) (range_with_len 0 (size.h * size.w)) }
 
 -- all samples 0
-abbrev pub blank : Size → SampleRows
+abbrev pub blank : Size → SamplesSeen
 blank size = record { w = size.w; h = size.h; cells = replicate (size.h * size.w) 0 }
 
 -- v in row y and column x, and all else as it was
-abbrev pub with_sample : SampleRows → ℕ → ℕ → ℕ → SampleRows
+abbrev pub with_sample : SamplesSeen → ℕ → ℕ → ℕ → SamplesSeen
 with_sample s y x v = record s { cells = slice_set s.cells (y * s.w + x) v }
 
 -- samples from one place on, row by row, and all else as it was
-abbrev pub with_run : SampleRows → ℕ → List ℕ → SampleRows
+abbrev pub with_run : SamplesSeen → ℕ → List ℕ → SamplesSeen
 with_run s from samples = record s { cells = take from s.cells ++ (samples ++ drop (from + length samples) s.cells) }
 
 -- each number is below m
@@ -42,18 +42,18 @@ abbrev pub AreBelow : ℕ → List ℕ → Type 0
 AreBelow m cells = (k : ℕ) → slice_index_or cells k 0 < m
 
 -- samples of a component of this size, each of so many bits
-pub record AreSamples (size : Size) (depth : ℕ) (s : SampleRows) : Type 0 where
+pub record AreSamples (size : Size) (depth : ℕ) (s : SamplesSeen) : Type 0 where
   pub width : s.w ≡ size.w
   pub height : s.h ≡ size.h
   pub small : AreBelow (2 ^ depth) s.cells
 
 -- A picture: the samples of its components.
 pub record PictureSamples : Type 0 where
-  pub luma : SampleRows
-  pub c1 : SampleRows
-  pub c2 : SampleRows
+  pub luma : SamplesSeen
+  pub c1 : SamplesSeen
+  pub c2 : SamplesSeen
 
-abbrev pub component_of : PictureSamples → Component → SampleRows
+abbrev pub component_of : PictureSamples → Component → SamplesSeen
 component_of s Luma = s.luma
 component_of s C1 = s.c1
 component_of s C2 = s.c2
@@ -70,7 +70,7 @@ picture_of f p slices = record {
 abbrev pub blank_picture : PictureShape → PictureSamples
 blank_picture shape = record { luma = blank shape.luma; c1 = blank shape.colour; c2 = blank shape.colour }
 
-abbrev pub with_component : PictureSamples → Component → SampleRows → PictureSamples
+abbrev pub with_component : PictureSamples → Component → SamplesSeen → PictureSamples
 with_component s Luma rows = record s { luma = rows }
 with_component s C1 rows = record s { c1 = rows }
 with_component s C2 rows = record s { c2 = rows }
@@ -87,7 +87,7 @@ pub record PictureSeen : Type 0 where
   pub samples : PictureSamples
 
 -- the samples of the component, of this picture
-abbrev pub shown : PictureSeen → Component → SampleRows
+abbrev pub shown : PictureSeen → Component → SamplesSeen
 shown p c = component_of p.samples c
 
 abbrev pub width_of : PictureSeen → Component → ℕ

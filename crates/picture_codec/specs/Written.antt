@@ -16,7 +16,7 @@ use Rattle.slice_decoder.specs.Slice.{slice_of}
 use Rattle.slice_encoder.specs.Trials as trials
 use Rattle.slice_encoder.specs.Trials.{CodedComponent, CodedPicture, luma_of, c1_of, c2_of, Lists, last_lists, restored_after}
 use Rattle.slice_encoder.specs.Choice.{fits, slice_bits}
-use Rattle.slice_encoder.specs.Laws.{IsIndex, AreSmall}
+use Rattle.slice_encoder.specs.TrialLaws.{IsIndex, AreSmall}
 use Rattle.slice_encoder.specs.Ready.{AreGiven}
 use Rattle.transform_params.specs.Params.{Params}
 use Rattle.picture_codec.specs.Pictures.{size_of, coefficient}

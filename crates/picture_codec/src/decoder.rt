@@ -38,9 +38,9 @@ pub struct PictureDecoder {
 impl Model for PictureDecoder {
     ghost use Rattle.std.specs.Prelude.{if◌then◌else◌, None, Some};
     ghost use Rattle.transform_params.specs.Views.{params_of};
-    ghost use Rattle.picture_codec.specs.Decoding.{Decoding, IsSound};
+    ghost use Rattle.picture_codec.specs.Decoding.{PictureDecoderSeen, IsSound};
 
-    ghost Value = { Decoding };
+    ghost Value = { PictureDecoderSeen };
 
     ghost view = { λ d. record {
       shape = d.picture.shape;

@@ -1,6 +1,6 @@
 //! The encoder of pictures.
 
-ghost use Rattle.std.specs.Prelude.{◌≡◌, ℕ, ◌+◌, ◌*◌, ◌<◌, ◌≤◌, ◌≤ℤ◌, ◌↔◌, length, IfOk, MatchResult, slice_index_or, pos, ◌-ℤ◌, ◌^◌, ◌++◌, Err, true};
+ghost use Rattle.std.specs.Prelude.{◌≡◌, ℕ, ◌+◌, ◌*◌, ◌<◌, ◌≤◌, ◌≤ℤ◌, ◌↔◌, length, IfOk, MatchResult, slice_index_or, pos, ◌-ℤ◌, ◌++◌, Err, true};
 ghost use Rattle.std.specs.List.{concat};
 ghost use Rattle.std.specs.Int.{w32, to_be_bytes};
 ghost use Rattle.planes.specs.Raster.{height, at};
@@ -10,7 +10,7 @@ ghost use Rattle.slice_encoder.specs.Ready.{coded_picture, AreGiven};
 ghost use Rattle.slice_encoder.specs.Tries.{KeptHaveSizes};
 ghost use Rattle.slice_encoder.specs.Chosen.{written_slices};
 ghost use Rattle.transform_params.specs.Views.{params_of};
-ghost use Rattle.transform_params.specs.Fields.{byte_length, unit_length, params_bytes};
+ghost use Rattle.transform_params.specs.ParameterFields.{byte_length, unit_length, params_bytes};
 ghost use Rattle.slice_geometry.specs.Frames.{frame_of};
 ghost use Rattle.picture_codec.specs.Samples.{shown};
 ghost use Rattle.picture_codec.specs.Decoding.{ArePadded};
@@ -180,10 +180,10 @@ pub struct PictureEncoder {
 impl Model for PictureEncoder {
     ghost use Rattle.std.specs.Prelude.{◌≡◌};
     ghost use Rattle.transform_params.specs.Views.{params_of};
-    ghost use Rattle.picture_codec.specs.Encoding.{Encoding, IsSteepFor};
+    ghost use Rattle.picture_codec.specs.Encoding.{PictureEncoderSeen, IsSteepFor};
     ghost use Rattle.picture_codec.specs.EncoderInside.{IsReadyToEncode};
 
-    ghost Value = { Encoding };
+    ghost Value = { PictureEncoderSeen };
 
     ghost view = { λ e. record { shape = e.shape; params = params_of e.params } };
 

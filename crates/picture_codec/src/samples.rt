@@ -26,9 +26,9 @@ pub struct Samples {
 impl Model for Samples {
     ghost use Rattle.std.specs.Prelude.{◌≡◌, ◌*◌, ◌^◌, ◌≤◌, length};
     ghost use Rattle.slice_geometry.specs.Shape.{IsSize};
-    ghost use Rattle.picture_codec.specs.Samples.{SampleRows};
+    ghost use Rattle.picture_codec.specs.Samples.{SamplesSeen};
 
-    ghost Value = { SampleRows };
+    ghost Value = { SamplesSeen };
 
     ghost view = { λ s. record { w = s.w; h = s.h; cells = s.cells.items } };
 

@@ -1,5 +1,6 @@
 -- What a quantiser does to a number (SMPTE ST 2042-1:2017, 13.3.1 inverse_quant and 13.3.2 quant_factor, quant_offset).
 use Rattle.std.specs.Prelude.{◌≡◌, ℕ, ◌+◌, ◌*◌, ◌/◌, ◌%◌, ◌^◌, ◌<◌, ◌≤◌, ◌==◌, if◌then◌else◌, ℤ, pos, negsuc, neg_ℤ, unsigned_abs}
+use Rattle.planes.specs.declared.TheConstants.{MAX_MAGNITUDE}
 use Rattle.quant_factors.specs.declared.Dequantised.{Dequantised}
 use Rattle.quant_factors.specs.declared.Dequantised.TheVariants.{Is, TooLarge}
 
@@ -32,5 +33,5 @@ forward_of c i = signed c (4 * unsigned_abs c / factor_of i)
 
 -- A dequantised number is refused exactly where its magnitude passes 2 ^ 36.
 abbrev pub IsDequantised : ℤ → ℕ → Dequantised → Type 0
-IsDequantised q i (Is v) = (v ≡ inverse_of q i) × (unsigned_abs v ≤ 2 ^ 36)
-IsDequantised q i TooLarge = 2 ^ 36 < unsigned_abs (inverse_of q i)
+IsDequantised q i (Is v) = (v ≡ inverse_of q i) × (unsigned_abs v ≤ MAX_MAGNITUDE)
+IsDequantised q i TooLarge = MAX_MAGNITUDE < unsigned_abs (inverse_of q i)

@@ -8,6 +8,7 @@ pub mod laws;
 mod matrix;
 
 pub use matrix::Matrix;
+use planes::MAX_MAGNITUDE;
 
 // The factors of the indices 0 to 127, four a row: those of one power of two.
 #[rattlefmt::skip]
@@ -129,8 +130,8 @@ fn with_sign(z: i64, m: u64) -> i64
 #[inline]
 fn restored(magnitude: u64, i: u32) -> Option<u64>
     requires index { i ≤ 127 }
-    requires small { magnitude ≤ 2 ^ 36 }
-    ensures { MatchOption result (2 ^ 36 < restored_of magnitude i) (λ m. (m ≡ restored_of magnitude i) × (m ≤ 2 ^ 36)) }
+    requires small { magnitude ≤ MAX_MAGNITUDE }
+    ensures { MatchOption result (MAX_MAGNITUDE < restored_of magnitude i) (λ m. (m ≡ restored_of magnitude i) × (m ≤ MAX_MAGNITUDE)) }
 {
     let step = factor(i);
     if magnitude == 0 {
@@ -141,7 +142,11 @@ fn restored(magnitude: u64, i: u32) -> Option<u64>
         return None;
     }
     let whole = (magnitude * step + offset(i) + 2) / 4;
-    if whole > 1 << 36 { None } else { Some(whole) }
+    if whole > MAX_MAGNITUDE {
+        None
+    } else {
+        Some(whole)
+    }
 }
 
 /// The number that q stands for at index i: 0 for 0, else the sign of q times (|q| * factor + offset + 2) / 4,
@@ -149,7 +154,7 @@ fn restored(magnitude: u64, i: u32) -> Option<u64>
 #[inline]
 pub fn inverse(q: i64, i: u32) -> Dequantised
     requires index { i ≤ 127 }
-    requires small { unsigned_abs q ≤ 2 ^ 36 }
+    requires small { unsigned_abs q ≤ MAX_MAGNITUDE }
     ensures { IsDequantised q i result }
 {
     match restored(q.unsigned_abs(), i) {

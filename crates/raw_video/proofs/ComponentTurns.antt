@@ -7,7 +7,7 @@ use Rattle.slice_geometry.specs.declared.Component.{Component}
 use Rattle.slice_geometry.specs.declared.Component.TheVariants.{Luma, C1, C2}
 use Rattle.slice_geometry.specs.declared.PictureShape.{PictureShape}
 use Rattle.slice_geometry.specs.Frames.{Frame, frame_of}
-use Rattle.picture_codec.specs.Samples.{SampleRows, PictureSamples, PictureSeen, component_of, with_component, with_run, shown, width_of, height_of}
+use Rattle.picture_codec.specs.Samples.{SamplesSeen, PictureSamples, PictureSeen, component_of, with_component, with_run, shown, width_of, height_of}
 use Rattle.raw_video.specs.RawText.{is_wide}
 use Rattle.raw_video.specs.RawParse.{sample_size, luma_count, colour_count, sample_bounds, samples_in, first_large, picture_from}
 use Rattle.raw_video.specs.Reading.{ReadsSamples}
@@ -52,25 +52,25 @@ piece_below wide start room n bound rest0 rest1 samples r =
 
 -- ---- samples that are put behind others
 
-pub run_front : (s : SampleRows) (from n : ℕ) (samples : List ℕ) → from ≤ length s.cells → length samples ≡ n → take (from + n) (with_run s from samples).cells ≡ take from s.cells ++ samples
+pub run_front : (s : SamplesSeen) (from n : ℕ) (samples : List ℕ) → from ≤ length s.cells → length samples ≡ n → take (from + n) (with_run s from samples).cells ≡ take from s.cells ++ samples
 run_front s from n samples inside many =
     let a = take from s.cells in
     let d = drop (from + length samples) s.cells in
     let long : length a ≡ from = omega (arith, length-take from s.cells, inside) in
     ap (λ (m : ℕ). take (m + n) (a ++ (samples ++ d))) (sym long) ∙ take-append-add a (samples ++ d) n ∙ ap (λ (m : ℕ). a ++ take m (samples ++ d)) (sym many) ∙ ap (λ (l : List ℕ). a ++ l) (take-append_seam samples d)
 
-pub run_long : (s : SampleRows) (from : ℕ) (samples : List ℕ) → from + length samples ≤ length s.cells → length (with_run s from samples).cells ≡ length s.cells
+pub run_long : (s : SamplesSeen) (from : ℕ) (samples : List ℕ) → from + length samples ≤ length s.cells → length (with_run s from samples).cells ≡ length s.cells
 run_long s from samples inside =
     let a = take from s.cells in
     let d = drop (from + length samples) s.cells in
     omega (arith, length-append a (samples ++ d), length-append samples d, length-take from s.cells, length-drop (from + length samples) s.cells, inside)
 
-pub put_here : (s : PictureSamples) (c : Component) (rows : SampleRows) → component_of (with_component s c rows) c ≡ rows
+pub put_here : (s : PictureSamples) (c : Component) (rows : SamplesSeen) → component_of (with_component s c rows) c ≡ rows
 put_here s Luma rows = refl
 put_here s C1 rows = refl
 put_here s C2 rows = refl
 
-pub put_others : (s : PictureSamples) (c other : Component) (rows : SampleRows) → other ≢ c → component_of (with_component s c rows) other ≡ component_of s other
+pub put_others : (s : PictureSamples) (c other : Component) (rows : SamplesSeen) → other ≢ c → component_of (with_component s c rows) other ≡ component_of s other
 put_others s Luma Luma rows ne = absurd (ne refl)
 put_others s Luma C1 rows ne = refl
 put_others s Luma C2 rows ne = refl

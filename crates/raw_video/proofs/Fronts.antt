@@ -6,7 +6,7 @@ use Rattle.std.proofs.lemmas.Bool.{lt-ltb, le-ltb, ne_eqb}
 use Rattle.std.proofs.lemmas.List.{length-append, length-replicate, take_all}
 use Rattle.vc2_io.proofs.Known.{Consumes-then, Consumes-along}
 use Rattle.slice_geometry.specs.Frames.{Frame}
-use Rattle.picture_codec.specs.Samples.{SampleRows, PictureSamples}
+use Rattle.picture_codec.specs.Samples.{SamplesSeen, PictureSamples}
 use Rattle.raw_video.specs.RawText.{is_wide}
 use Rattle.raw_video.specs.RawParse.{sample_size, luma_count, colour_count, raw_length, samples_in, sample_bounds, first_large, picture_from, Shown, Over, LargeAt, CutAt, TooLong, front_of, raw_front}
 use Rattle.raw_video.specs.Reading.{ReadsSamples, ReadsFront}
@@ -132,8 +132,8 @@ picture_is f p lw lh aw ah bw bh many few =
     let b = p.c1.cells in
     let c = p.c2.cells in
     let rows = λ (w h w' h' : ℕ) (cells cells' : List ℕ) (ew : w' ≡ w) (eh : h' ≡ h) (e : cells ≡ cells').
-    (let from : SampleRows = record { w = w; h = h; cells = cells } in
-    let to : SampleRows = record { w = w'; h = h'; cells = cells' } in
+    (let from : SamplesSeen = record { w = w; h = h; cells = cells } in
+    let to : SamplesSeen = record { w = w'; h = h'; cells = cells' } in
     let is : from ≡ to = ap (λ (n : ℕ). record from { w = n }) (sym ew) ∙ ap (λ (n : ℕ). record from { w = w'; h = n }) (sym eh) ∙ ap (λ (l : List ℕ). record to { cells = l }) e in
     is) in
     let first : take (luma_count f) (a ++ (b ++ c)) ≡ a = ap (λ (n : ℕ). take n (a ++ (b ++ c))) (sym many) ∙ take-append_seam a (b ++ c) in
@@ -141,9 +141,9 @@ picture_is f p lw lh aw ah bw bh many few =
     let second : take (colour_count f) (drop (luma_count f) (a ++ (b ++ c))) ≡ b = ap (take (colour_count f)) behind ∙ ap (λ (n : ℕ). take n (b ++ c)) (sym few) ∙ take-append_seam b c in
     let third : drop (colour_count f) (drop (luma_count f) (a ++ (b ++ c))) ≡ c = ap (drop (colour_count f)) behind ∙ ap (λ (n : ℕ). drop n (b ++ c)) (sym few) ∙ drop-append_seam b c in
     let from = picture_from f (a ++ (b ++ c)) in
-    ap (λ (r : SampleRows). record from { luma = r }) (rows f.luma.w f.luma.h p.luma.w p.luma.h from.luma.cells a lw lh first)
-    ∙ ap (λ (r : SampleRows). record from { luma = p.luma; c1 = r }) (rows f.colour.w f.colour.h p.c1.w p.c1.h from.c1.cells b aw ah second)
-    ∙ ap (λ (r : SampleRows). record p { c2 = r }) (rows f.colour.w f.colour.h p.c2.w p.c2.h from.c2.cells c bw bh third)
+    ap (λ (r : SamplesSeen). record from { luma = r }) (rows f.luma.w f.luma.h p.luma.w p.luma.h from.luma.cells a lw lh first)
+    ∙ ap (λ (r : SamplesSeen). record from { luma = p.luma; c1 = r }) (rows f.colour.w f.colour.h p.c1.w p.c1.h from.c1.cells b aw ah second)
+    ∙ ap (λ (r : SamplesSeen). record p { c2 = r }) (rows f.colour.w f.colour.h p.c2.w p.c2.h from.c2.cells c bw bh third)
 
 module _ (f : Frame) (place : ℕ) (inside : place ≤ 2 ^ 40) (rest0 rest1 : Option (List ℕ)) (cells : List ℕ) where
   pub read_picture : (p : PictureSamples) → cells ≡ p.luma.cells ++ (p.c1.cells ++ p.c2.cells) → picture_from f cells ≡ p

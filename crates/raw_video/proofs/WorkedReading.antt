@@ -2,7 +2,7 @@
 use Rattle.std.proofs.Common.{◌≡◌, ℕ, [], ◌∷◌, refl}
 use Rattle.slice_geometry.specs.declared.Size.{Size}
 use Rattle.slice_geometry.specs.Frames.{Frame}
-use Rattle.picture_codec.specs.Samples.{SampleRows, PictureSamples}
+use Rattle.picture_codec.specs.Samples.{SamplesSeen, PictureSamples}
 use Rattle.raw_video.specs.RawParse.{Over, LargeAt, CutAt, raw_parse}
 
 abbrev dot : Size
@@ -11,7 +11,7 @@ dot = record { w = 1; h = 1 }
 abbrev of_bits : ℕ → Frame
 of_bits depth = record { luma = dot; colour = dot; luma_depth = depth; colour_depth = depth }
 
-abbrev one : ℕ → SampleRows
+abbrev one : ℕ → SamplesSeen
 one v = record { w = 1; h = 1; cells = v ∷ [] }
 
 abbrev picture : ℕ → ℕ → ℕ → PictureSamples

@@ -1,9 +1,10 @@
 -- Raw video as it is read (own): picture after picture of one shape, with no header. The bytes decide one after another:
 -- what stands in front is a picture, or the input's end, or the first fault with its place.
 use Rattle.std.specs.Prelude.{◌≡◌, ◌<◌, All, ℕ, zero, suc, ◌+◌, ◌-◌, ◌*◌, ◌^◌, ◌==◌, Bool, true, false, nat_lt, if◌then◌else◌, List, [], ◌∷◌, ◌++◌, length, take, drop, replicate, Option, Some, None}
+use Rattle.vc2_io.specs.declared.TheConstants.{INPUT_LIMIT}
 use Rattle.slice_geometry.specs.Frames.{Frame}
 use Rattle.slice_geometry.specs.declared.Size.{Size}
-use Rattle.picture_codec.specs.Samples.{SampleRows, PictureSamples}
+use Rattle.picture_codec.specs.Samples.{SamplesSeen, PictureSamples}
 use Rattle.raw_video.specs.RawText.{is_wide, raw_text}
 
 -- how many bytes a sample takes
@@ -51,7 +52,7 @@ picture_from f samples = record {
 }
 
 -- the samples of a component of this size, each of so many bits
-pub record AreRows (size : Size) (depth : ℕ) (s : SampleRows) : Type 0 where
+pub record AreRows (size : Size) (depth : ℕ) (s : SamplesSeen) : Type 0 where
   pub width : s.w ≡ size.w
   pub height : s.h ≡ size.h
   pub count : length s.cells ≡ size.h * size.w
@@ -80,14 +81,14 @@ abbrev pub front_of : Frame → ℕ → List ℕ → List ℕ → Option ℕ →
 front_of f place bytes there (Some k) = LargeAt (place + sample_size (is_wide f) * k)
 front_of f place bytes there None =
     if length there == raw_length f then Shown (picture_from f (samples_in (is_wide f) there))
-    else if nat_lt (2 ^ 40 - place) (length bytes) then TooLong
+    else if nat_lt (INPUT_LIMIT - place) (length bytes) then TooLong
     else if length bytes == 0 then Over
     else CutAt (place + length bytes)
 
 -- An input counts up to 2 ^ 40 bytes.
 abbrev pub raw_front : Frame → ℕ → List ℕ → RawFront
 raw_front f place bytes =
-    let there = take (raw_length f) (take (2 ^ 40 - place) bytes) in
+    let there = take (raw_length f) (take (INPUT_LIMIT - place) bytes) in
     front_of f place bytes there (first_large (sample_bounds f) (samples_in (is_wide f) there))
 
 -- ---- all of an input

@@ -1,5 +1,6 @@
 -- What reading raw video leaves: some samples of a picture, and the next picture.
-use Rattle.std.specs.Prelude.{◌≡◌, ◌≤◌, ◌<◌, ◌⊎◌, ℕ, ◌+◌, ◌*◌, ◌^◌, Bool, false, true, if◌then◌else◌, ◌/◌, List, [], ◌∷◌, ◌++◌, length, Option, Some, None, Result, Ok, Err}
+use Rattle.std.specs.Prelude.{◌≡◌, ◌≤◌, ◌<◌, ◌⊎◌, ℕ, ◌+◌, ◌*◌, Bool, false, true, if◌then◌else◌, ◌/◌, List, [], ◌∷◌, ◌++◌, length, Option, Some, None, Result, Ok, Err}
+use Rattle.vc2_io.specs.declared.TheConstants.{INPUT_LIMIT}
 use Rattle.std.specs.Io.KnownBytes.{Consumes, IsAtEnd}
 use Rattle.vc2_io.specs.Outside.{Rose}
 use Rattle.slice_geometry.specs.declared.PictureShape.{PictureShape}
@@ -51,7 +52,7 @@ HaltCause before now (Err other) = now ≡ before
 
 -- The bytes that were taken, by how it came out. What follows on them changes nothing, where the answer says so.
 abbrev pub FrontIs : Frame → ℕ → List ℕ → Option (List ℕ) → PictureSamples → Result RawStep RawFault → Type 0
-FrontIs f place taken rest samples (Ok steps.Picture) = (length taken ≡ raw_length f) × (place + raw_length f ≤ 2 ^ 40)
+FrontIs f place taken rest samples (Ok steps.Picture) = (length taken ≡ raw_length f) × (place + raw_length f ≤ INPUT_LIMIT)
     × ((more : List ℕ) → raw_front f place (taken ++ more) ≡ Shown samples)
 FrontIs f place taken rest samples (Ok steps.End) = (taken ≡ []) × IsAtEnd rest × (raw_front f place taken ≡ Over)
 FrontIs f place taken rest samples (Err (faults.SampleTooLarge at)) =
@@ -67,7 +68,7 @@ pub record ReadsFront (f : Frame) (place : ℕ) (rest0 rest1 : Option (List ℕ)
   pub taken : List ℕ
   pub took : Consumes rest0 rest1 taken
   pub most : length taken ≤ raw_length f
-  pub limit : place + length taken ≤ 2 ^ 40 + 1
+  pub limit : place + length taken ≤ INPUT_LIMIT + 1
   pub front : FrontIs f place taken rest1 samples result
 
 -- whether a byte more was found, and taken

@@ -1,6 +1,7 @@
 //! Laws of raw video. Each function does nothing; its contract is the law.
 
-ghost use Rattle.std.specs.Prelude.{◌≡◌, ℕ, ◌+◌, ◌^◌, ◌<◌, ◌≤◌, List, ◌++◌, length};
+ghost use Rattle.vc2_io.specs.declared.TheConstants.{INPUT_LIMIT};
+ghost use Rattle.std.specs.Prelude.{◌≡◌, ℕ, ◌+◌, ◌<◌, ◌≤◌, List, ◌++◌, length};
 ghost use Rattle.std.specs.List.{AllByRecursion};
 ghost use Rattle.slice_geometry.specs.Frames.{Frame};
 ghost use Rattle.picture_codec.specs.Samples.{PictureSamples};
@@ -12,9 +13,9 @@ ghost use Rattle.raw_video.specs.RawParse.{raw_length, IsOfFrame, Shown, Over, r
 pub fn written_is_read_back()
     ensures length { (f : Frame) (s : PictureSamples) → IsOfFrame f s → length (raw_text f s) ≡ raw_length f }
     ensures picture { (f : Frame) (place : ℕ) (s : PictureSamples) (more : List ℕ) → f.luma_depth ≤ 16 → f.colour_depth ≤ 16
-        → IsOfFrame f s → place + raw_length f ≤ 2 ^ 40 → raw_front f place (raw_text f s ++ more) ≡ Shown s }
+        → IsOfFrame f s → place + raw_length f ≤ INPUT_LIMIT → raw_front f place (raw_text f s ++ more) ≡ Shown s }
     ensures pictures { (f : Frame) (pictures : List PictureSamples) → f.luma_depth ≤ 16 → f.colour_depth ≤ 16 → 0 < raw_length f
-        → AllByRecursion (IsOfFrame f) pictures → length (raw_texts f pictures) ≤ 2 ^ 40
+        → AllByRecursion (IsOfFrame f) pictures → length (raw_texts f pictures) ≤ INPUT_LIMIT
         → raw_parse f (raw_texts f pictures) ≡ record { pictures = pictures; ending = Over } }
 {}
 

@@ -14,10 +14,7 @@ use crate::spelling::are_wide;
 use picture_codec::Picture;
 use slice_geometry::{Component, PictureShape};
 use std::marker::Model;
-use vc2_io::{Failed, Source, fill};
-
-// An input counts up to so many bytes.
-const LIMIT: u64 = 0x100_0000_0000;
+use vc2_io::{Failed, INPUT_LIMIT, Source, fill};
 
 /// What a call of `RawReader::next` found.
 #[derive(Clone, Copy, Debug, PartialEq, Eq)]
@@ -50,14 +47,15 @@ pub struct RawReader {
 }
 
 impl Model for RawReader {
-    ghost use Rattle.std.specs.Prelude.{◌≤◌, ◌^◌};
+    ghost use Rattle.std.specs.Prelude.{◌≤◌};
+    ghost use Rattle.vc2_io.specs.declared.TheConstants.{INPUT_LIMIT};
     ghost use Rattle.raw_video.specs.Reading.{RawReaderSeen};
 
     ghost Value = { RawReaderSeen };
 
     ghost view = { λ r. record { shape = r.shape; place = r.place; refused = r.refused } };
 
-    ghost invariant = { λ r. r.place ≤ 2 ^ 40 };
+    ghost invariant = { λ r. r.place ≤ INPUT_LIMIT };
 }
 
 // Whether the source has a byte more, which is taken.
@@ -73,13 +71,13 @@ fn has_byte<S: Source>(src: &mut S) -> Result<bool, Failed>
 
 // No whole picture behind so many bytes: the source gave some bytes of it, and has ended there or reached the limit.
 fn without_picture<S: Source>(src: &mut S, place: u64, came: u64) -> Result<RawStep, RawFault>
-    requires inside { place + came ≤ 2 ^ 40 }
+    requires inside { place + came ≤ INPUT_LIMIT }
     ensures front { (f : Frame) (rest : Option (List ℕ)) (cells : List ℕ) (samples : PictureSamples)
-        → ReadsSamples (is_wide f) 0 (2 ^ 40 - place) (sample_bounds f) rest (S.rest src.old) cells (Err (Ended came))
+        → ReadsSamples (is_wide f) 0 (INPUT_LIMIT - place) (sample_bounds f) rest (S.rest src.old) cells (Err (Ended came))
         → ReadsFront f place rest (S.rest src.new) samples result }
     ensures cause { RawCause (S.faults src.old) (S.faults src.new) result }
 {
-    if place + came == LIMIT {
+    if place + came == INPUT_LIMIT {
         match has_byte(src) {
             Ok(true) => return Err(RawFault::TooLong),
             Ok(false) => {}
@@ -99,12 +97,12 @@ fn read_front<S: Source>(
     place: u64,
     picture: &mut Picture,
 ) -> Result<RawStep, RawFault>
-    requires { place ≤ 2 ^ 40 }
+    requires { place ≤ INPUT_LIMIT }
     ensures same_shape { picture.new.shape ≡ picture.old.shape }
     ensures front { ReadsFront (frame_of picture.old.shape) place (S.rest src.old) (S.rest src.new) picture.new.samples result }
     ensures cause { RawCause (S.faults src.old) (S.faults src.new) result }
 {
-    match read_samples(src, picture, LIMIT - place) {
+    match read_samples(src, picture, INPUT_LIMIT - place) {
         Ok(()) => {
             // The components have the sizes of the picture's shape.
             let _ = picture.samples(Component::Luma);
@@ -146,7 +144,7 @@ impl RawReader {
     /// How many bytes the pictures take that were read so far, at most 2^40.
     pub fn place(&self) -> u64
         ensures value { result ≡ self.now.place }
-        ensures most { result ≤ 2 ^ 40 }
+        ensures most { result ≤ INPUT_LIMIT }
     {
         self.place
     }

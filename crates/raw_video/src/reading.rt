@@ -1,4 +1,5 @@
 // The samples of a picture from a source, piece by piece.
+ghost use Rattle.vc2_io.specs.declared.TheConstants.{READ_SIZE};
 ghost use Rattle.std.specs.Prelude.{◌≡◌, ◌≢◌, ◌≤◌, ◌+◌, ◌*◌, ◌^◌, ◌++◌, length, take, replicate};
 ghost use Rattle.slice_geometry.specs.declared.Component.{Component};
 ghost use Rattle.slice_geometry.specs.Shape.{IsDepth};
@@ -73,10 +74,10 @@ fn read_piece<S: Source>(
     requires few { n ≤ 2048 }
     requires start_few { start ≤ 2 ^ 26 }
     requires inside { sample_size wide * start ≤ room }
-    requires bytes_long { length bytes.old ≡ 4096 }
+    requires bytes_long { length bytes.old ≡ READ_SIZE }
     requires long { length samples.old ≡ 2048 }
     ensures piece { ReadsSamples wide start room (replicate n bound) (S.rest src.old) (S.rest src.new) (take n samples.new) result }
-    ensures bytes_len { length bytes.new ≡ 4096 }
+    ensures bytes_len { length bytes.new ≡ READ_SIZE }
     ensures len { length samples.new ≡ 2048 }
     ensures cause { HaltCause (S.faults src.old) (S.faults src.new) result }
 {

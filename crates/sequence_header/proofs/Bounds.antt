@@ -14,7 +14,7 @@ use Rattle.sequence_header.specs.declared.parts.SignalField.TheVariants as signa
 use Rattle.sequence_header.specs.declared.parts.ColourField.{ColourField}
 use Rattle.sequence_header.specs.declared.parts.ColourField.TheVariants as colours
 use Rattle.sequence_header.specs.Header.{header_fields}
-use Rattle.sequence_header.specs.Fields.{version_fields, size_fields, sampling_fields, scan_fields, rate_fields, aspect_fields, clean_fields, signal_fields, index_fields, colour_fields, coding_fields, version_of, frame_size, fields_of}
+use Rattle.sequence_header.specs.HeaderFields.{version_fields, size_fields, sampling_fields, scan_fields, rate_fields, aspect_fields, clean_fields, signal_fields, index_fields, colour_fields, coding_fields, version_of, frame_size, fields_of}
 use Rattle.sequence_header.specs.Bytes.{header_bits, header_len}
 use Rattle.sequence_header.specs.Checking.{IsLawful}
 

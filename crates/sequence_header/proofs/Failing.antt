@@ -15,7 +15,7 @@ use Rattle.sequence_header.specs.declared.parts.SignalRange.{SignalRange}
 use Rattle.sequence_header.specs.declared.parts.RateField.TheVariants as rates
 use Rattle.sequence_header.specs.declared.parts.SignalField.TheVariants as signals
 use Rattle.sequence_header.specs.Header.{version_rows, height_rules, size_rows, sampling_rules, sampling_rows, scan_rows, rate_rows, excursion, signal_rows, coding_rules, coding_rows}
-use Rattle.sequence_header.specs.Fields.{version_fields, size_fields, sampling_fields, scan_fields, rate_fields, signal_fields, coding_fields}
+use Rattle.sequence_header.specs.HeaderFields.{version_fields, size_fields, sampling_fields, scan_fields, rate_fields, signal_fields, coding_fields}
 
 -- a number from 1 on that is out of a range is above it
 past : (high n : ℕ) → is_in_range 1 high (suc n) ≡ false → high < suc n

@@ -17,7 +17,7 @@ use Rattle.sequence_header.specs.declared.parts.SignalField.TheVariants as signa
 use Rattle.sequence_header.specs.declared.parts.ColourField.{ColourField}
 use Rattle.sequence_header.specs.declared.parts.ColourField.TheVariants as colours
 use Rattle.sequence_header.specs.Header.{version_rows, size_rows, sampling_rows, scan_rows, rate_rows, aspect_rows, clean_rows, excursion, signal_rows, flagged_index, colour_rows, coding_rows}
-use Rattle.sequence_header.specs.Fields.{version_fields, size_fields, sampling_fields, scan_fields, rate_fields, aspect_fields, clean_fields, signal_fields, index_fields, colour_fields, coding_fields}
+use Rattle.sequence_header.specs.HeaderFields.{version_fields, size_fields, sampling_fields, scan_fields, rate_fields, aspect_fields, clean_fields, signal_fields, index_fields, colour_fields, coding_fields}
 
 pub version_kinds : (v : Version) → v.major < 2 ^ 32 → v.minor < 2 ^ 32 → v.level < 2 ^ 32 → AreOfKind version_rows (version_fields v)
 unfolding version_rows within number_under number ◌>>=◌

@@ -17,7 +17,7 @@ use Rattle.sequence_header.specs.declared.parts.ColourField.{ColourField}
 use Rattle.sequence_header.specs.declared.parts.ColourField.TheVariants as colours
 use Rattle.sequence_header.specs.Header.{version_rows, height_rules, size_rows, sampling_rules, sampling_rows, scan_rows, rate_rows, aspect_rows, clean_rows, excursion, signal_rows, flagged_index, colour_rows, coding_rules, coding_rows}
 use Rattle.sequence_header.specs.Checking.{HasAspectIndex, HasColourIndex}
-use Rattle.sequence_header.specs.Fields.{version_fields, size_fields, sampling_fields, scan_fields, rate_fields, aspect_fields, clean_fields, signal_fields, index_fields, colour_fields, coding_fields}
+use Rattle.sequence_header.specs.HeaderFields.{version_fields, size_fields, sampling_fields, scan_fields, rate_fields, aspect_fields, clean_fields, signal_fields, index_fields, colour_fields, coding_fields}
 
 pub version_pass : (v : Version) → 1 ≤ v.major → v.major ≤ 2 → Pass version_rows (version_fields v) v
 unfolding version_rows

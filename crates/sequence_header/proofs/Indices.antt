@@ -12,7 +12,7 @@ use Rattle.sequence_header.specs.declared.parts.SignalField.TheVariants as signa
 use Rattle.sequence_header.specs.declared.parts.ColourField.{ColourField}
 use Rattle.sequence_header.specs.declared.parts.ColourField.TheVariants as colours
 use Rattle.sequence_header.specs.Header.{rate_rows, aspect_rows, signal_rows, colour_rows, flagged_index}
-use Rattle.sequence_header.specs.Fields.{rate_fields, aspect_fields, signal_fields, colour_fields}
+use Rattle.sequence_header.specs.HeaderFields.{rate_fields, aspect_fields, signal_fields, colour_fields}
 use Rattle.sequence_header.specs.Checking.{HasRateIndex, HasAspectIndex, HasSignalIndex, HasColourIndex}
 use Rattle.sequence_header.proofs.Failing.{rate_fail, signal_fail}
 

@@ -13,7 +13,7 @@ use Rattle.sequence_header.specs.declared.parts.HeaderParts.{HeaderParts}
 use Rattle.sequence_header.specs.declared.parts.SignalField.{SignalField}
 use Rattle.sequence_header.specs.declared.parts.SignalField.TheVariants as signals
 use Rattle.sequence_header.specs.Header.{height_rules, size_rows, sampling_rules, sampling_rows, signal_rows, coding_rules, coding_rows}
-use Rattle.sequence_header.specs.Fields.{size_fields, sampling_fields, signal_fields, coding_fields, frame_size}
+use Rattle.sequence_header.specs.HeaderFields.{size_fields, sampling_fields, signal_fields, coding_fields, frame_size}
 use Rattle.sequence_header.specs.Checking.{Passes}
 use Rattle.sequence_header.specs.Coding.{signal_range, picture_height, luma_size, colour_size}
 use Rattle.sequence_header.proofs.Failing.{width_fail, height_fail, sampling_fail, signal_fail, luma_fail, colour_fail, coding_fail}

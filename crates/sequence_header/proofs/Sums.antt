@@ -6,7 +6,7 @@ use Rattle.field_rows.specs.Rows.{Value}
 use Rattle.field_rows.specs.Given.{written}
 use Rattle.field_rows.proofs.Written.{written-append}
 use Rattle.sequence_header.specs.declared.parts.HeaderParts.{HeaderParts}
-use Rattle.sequence_header.specs.Fields.{version_fields, size_fields, sampling_fields, scan_fields, rate_fields, aspect_fields, clean_fields, signal_fields, colour_fields, coding_fields, version_of, frame_size, fields_of}
+use Rattle.sequence_header.specs.HeaderFields.{version_fields, size_fields, sampling_fields, scan_fields, rate_fields, aspect_fields, clean_fields, signal_fields, colour_fields, coding_fields, version_of, frame_size, fields_of}
 use Rattle.sequence_header.specs.Bytes.{header_bits}
 
 -- the code of 0 has one bit

@@ -2,7 +2,7 @@
 use Rattle.std.specs.Prelude.{◌==◌, ◌&&◌}
 use Rattle.bit_codes.specs.Codes.{code_of}
 use Rattle.field_rows.specs.Given.{checked}
-use Rattle.sequence_header.specs.Fields.{fields_of}
+use Rattle.sequence_header.specs.HeaderFields.{fields_of}
 use Rattle.sequence_header.specs.Bytes.{header_bits, header_len}
 use Rattle.std.proofs.Common.{◌≡◌, ℕ, zero, suc, List, [], ◌∷◌, Some, None, Result, Ok, Err, refl, Bool, false, true, take}
 use Rattle.bit_codes.specs.Bits.{Cursor, cursor_at}

@@ -8,7 +8,7 @@ use Rattle.field_rows.proofs.Passing.{kinds-bind, Pass-read_bytes}
 use Rattle.field_rows.proofs.Filled.{bits_of-filled}
 use Rattle.sequence_header.specs.declared.parts.HeaderParts.{HeaderParts}
 use Rattle.sequence_header.specs.Header.{reason_of, version_rows, size_rows, sampling_rows, scan_rows, rate_rows, aspect_rows, clean_rows, signal_rows, colour_rows, coding_rows, header_fields, header_rows}
-use Rattle.sequence_header.specs.Fields.{version_fields, size_fields, sampling_fields, scan_fields, rate_fields, aspect_fields, clean_fields, signal_fields, colour_fields, coding_fields, version_of, frame_size, fields_of}
+use Rattle.sequence_header.specs.HeaderFields.{version_fields, size_fields, sampling_fields, scan_fields, rate_fields, aspect_fields, clean_fields, signal_fields, colour_fields, coding_fields, version_of, frame_size, fields_of}
 use Rattle.sequence_header.specs.Checking.{Passes, IsLawful}
 use Rattle.sequence_header.specs.Bytes.{header_bits, header_bytes, IsReadBack}
 use Rattle.sequence_header.proofs.Whole.{header_pass}

@@ -5,7 +5,7 @@ use Rattle.field_rows.specs.Rows.{read}
 use Rattle.field_rows.specs.Given.{written}
 use Rattle.sequence_header.specs.declared.parts.HeaderParts.{HeaderParts}
 use Rattle.sequence_header.specs.Header.{reason_of, header_rows}
-use Rattle.sequence_header.specs.Fields.{fields_of}
+use Rattle.sequence_header.specs.HeaderFields.{fields_of}
 
 -- the bits of a header's fields
 unfoldable pub header_bits : HeaderParts → List Bool

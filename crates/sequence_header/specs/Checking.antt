@@ -13,7 +13,7 @@ use Rattle.sequence_header.specs.declared.parts.AspectField.TheVariants as aspec
 use Rattle.sequence_header.specs.declared.parts.ColourField.{ColourField}
 use Rattle.sequence_header.specs.declared.parts.ColourField.TheVariants as colours
 use Rattle.sequence_header.specs.Header.{version_rows, size_rows, sampling_rows, scan_rows, rate_rows, aspect_rows, clean_rows, signal_rows, colour_rows, coding_rows, header_fields}
-use Rattle.sequence_header.specs.Fields.{version_fields, size_fields, sampling_fields, scan_fields, rate_fields, aspect_fields, clean_fields, signal_fields, colour_fields, coding_fields, version_of, frame_size, fields_of}
+use Rattle.sequence_header.specs.HeaderFields.{version_fields, size_fields, sampling_fields, scan_fields, rate_fields, aspect_fields, clean_fields, signal_fields, colour_fields, coding_fields, version_of, frame_size, fields_of}
 
 -- Each group of the parts passes its rows. These are all rules of the header.
 pub record Passes (p : HeaderParts) : Type 0 where

@@ -1,5 +1,5 @@
 pub mod Header
-pub mod Fields
+pub mod HeaderFields
 pub mod Checking
 pub mod Coding
 pub mod Bytes

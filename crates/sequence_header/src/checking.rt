@@ -3,7 +3,7 @@
 ghost use Rattle.std.specs.Prelude.{◌≡◌, ◌≤◌, OnOk, IfErr, false};
 ghost use Rattle.std.specs.Int.{is_in_range};
 ghost use Rattle.sequence_header.specs.Header.{version_rows, size_rows, sampling_rows, scan_rows, rate_rows, signal_rows, coding_rows};
-ghost use Rattle.sequence_header.specs.Fields.{version_fields, size_fields, sampling_fields, scan_fields, rate_fields, signal_fields, coding_fields};
+ghost use Rattle.sequence_header.specs.HeaderFields.{version_fields, size_fields, sampling_fields, scan_fields, rate_fields, signal_fields, coding_fields};
 ghost use Rattle.sequence_header.specs.Checking.{Checks};
 
 use crate::parts::*;

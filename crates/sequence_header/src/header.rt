@@ -43,7 +43,7 @@ impl SequenceHeader {
     ghost use Rattle.bit_codes.specs.Bits.{bits_of, cursor_at};
     ghost use Rattle.field_rows.specs.Rows.{GivesOf, read};
     ghost use Rattle.field_rows.specs.Given.{checked};
-    ghost use Rattle.sequence_header.specs.Fields.{fields_of};
+    ghost use Rattle.sequence_header.specs.HeaderFields.{fields_of};
     ghost use Rattle.sequence_header.specs.Header.{reason_of, fault_of, header_fields, header_rows};
     ghost use Rattle.sequence_header.specs.Coding.{IsShapeOf};
     ghost use Rattle.sequence_header.specs.Bytes.{header_len, header_text, header_bytes, IsReadBack};

@@ -4,7 +4,7 @@ ghost use Rattle.std.specs.Prelude.{◌≡◌, ◌*◌, IfErr, IfOk, None, ◌<�
 ghost use Rattle.bit_codes.specs.Bits.{cursor_at};
 ghost use Rattle.field_rows.specs.Rows.{Gives, GivesOf, read, number_under, first_broken};
 ghost use Rattle.field_rows.specs.Given.{Pass};
-ghost use Rattle.sequence_header.specs.Fields.{version_fields, size_fields, sampling_fields, scan_fields, rate_fields, aspect_fields, clean_fields, signal_fields, index_fields, colour_fields, coding_fields};
+ghost use Rattle.sequence_header.specs.HeaderFields.{version_fields, size_fields, sampling_fields, scan_fields, rate_fields, aspect_fields, clean_fields, signal_fields, index_fields, colour_fields, coding_fields};
 ghost use Rattle.sequence_header.specs.Checking.{Passes};
 ghost use Rattle.sequence_header.specs.Header.{reason_of, fault_of, version_rows, height_rules, size_rows, sampling_rules, sampling_rows, scan_rows, rate_rows, aspect_rows, clean_rows, excursion, signal_rows, flagged_index, colour_rows, coding_rows, header_fields, header_rows};
 

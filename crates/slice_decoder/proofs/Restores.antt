@@ -1,13 +1,13 @@
 -- Values of a block, restored place by place.
 use Rattle.std.proofs.Common.{◌≡◌, ℕ, zero, suc, ◌+◌, ◌-◌, ◌*◌, ◌^◌, ◌<◌, ◌≤◌, Bool, true, false, List, [], ◌∷◌, ◌++◌, length, map, replicate, get_or, take, drop, ℤ, pos, unsigned_abs, append_assoc, refl, sym, ap, subst, ◌∙◌, inl, inr, arith}
-use Rattle.std.specs.Prelude.{nat_le}
+use Rattle.std.specs.Prelude.{nat_le, nat_lt}
 use Rattle.std.specs.List.{AllByRecursion}
 use Rattle.std.proofs.Math.Nat.{mul-le-mul_left, mul-le-mul_right}
 use Rattle.std.proofs.lemmas.List.{get_or-map, length-map, length-replicate, get_or_append_left, get_or-append-add, get_or-append_right, get_or-replicate, get_or-take, get_or-drop, length-take-le, length-drop}
 use Rattle.bounded_blocks.specs.Reading.{value_at, values}
 use Rattle.bounded_blocks.specs.Parts.{IsSmall, HasHuge}
-use Rattle.quant_factors.specs.Factors.{factor_of, restored_of, inverse_of}
-use Rattle.quant_factors.proofs.Tables.{factors_rise, factor_most, offset_most}
+use Rattle.quant_factors.specs.Factors.{factor_of, offset_of, restored_of, inverse_of}
+use Rattle.quant_factors.proofs.Tables.{factors_rise, factor_least, factor_most, offset_most}
 use Rattle.quant_factors.proofs.QuantLemmas.{restored-zero, restored-some, abs-inverse, magnitude_kept}
 use Rattle.slice_geometry.specs.SliceOrder.{area}
 use Rattle.slice_decoder.specs.Slice.{are_small}
@@ -16,6 +16,7 @@ use Rattle.slice_decoder.specs.Components.{Part, rect_of, index_of, quantisers_o
 use Rattle.slice_decoder.specs.Restored.{restored_at, AllSmall, StaySmall}
 use Rattle.slice_decoder.proofs.Dealt.{and-left, and-right, le_tested, length-dealt, are_small-at, are_small-all}
 use Rattle.std.proofs.lemmas.Bool.{cases_lt}
+use Rattle.std.proofs.lemmas.Bool.Decides.{nat_tests}
 use Rattle.slice_decoder.specs.Levels.{places_in}
 use Rattle.slice_decoder.proofs.LevelLemmas.{length-places}
 use Rattle.slice_decoder.proofs.Stacks.{quantisers-more, quantisers-split, quantisers_rest}
@@ -29,21 +30,42 @@ rise_by i (suc m) le =
     let next : i + suc m ≡ i + m + 1 = omega arith in
     omega (arith, rise_by i m (omega arith), factors_rise (i + m) (omega arith), ap factor_of next)
 
+pub lt_tested : (m n : ℕ) → nat_lt m n ≡ true → m < n
+lt_tested m n h = grind (arith, nat_tests)
+
 -- what is safe at an index is safe at those below it
-pub safe_below : (m all limit i q : ℕ) → m ≤ all → all ≤ limit → i ≤ q → q ≤ 127 → limit * factor_of q ≤ 2 ^ 37 → m * factor_of i ≤ 2 ^ 37
+pub safe_below : (m all limit i q : ℕ) → m ≤ all → all < limit → i ≤ q → q ≤ 127 → limit * factor_of q ≤ 2 ^ 30 → (m + 1) * factor_of i ≤ 2 ^ 30
 safe_below m all limit i q le safe below most low =
     let whole : i + (q - i) ≡ q = omega arith in
     let rises : factor_of i ≤ factor_of q = omega (arith, rise_by i (q - i) (omega arith), ap factor_of whole) in
-    let one : m * factor_of i ≤ limit * factor_of i = mul-le-mul_right (factor_of i) (omega arith) in
+    let one : (m + 1) * factor_of i ≤ limit * factor_of i = mul-le-mul_right (factor_of i) (omega arith) in
     let two : limit * factor_of i ≤ limit * factor_of q = mul-le-mul_left limit rises in
     omega (arith, one, two, low)
+
+pub low_product : (m i : ℕ) → (m + 1) * factor_of i ≤ 2 ^ 30 → m * factor_of i ≤ 2 ^ 30
+low_product m i low =
+    let fewer : m * factor_of i ≤ (m + 1) * factor_of i = mul-le-mul_right (factor_of i) (omega arith) in
+    omega (arith, fewer, low)
+
+pub low_factor : (m i : ℕ) → (m + 1) * factor_of i ≤ 2 ^ 30 → factor_of i ≤ 2 ^ 30
+low_factor m i low =
+    let once : 1 * factor_of i ≤ (m + 1) * factor_of i = mul-le-mul_right (factor_of i) (omega arith) in
+    omega (arith, once, low)
+
+pub low_offset : (m i : ℕ) → i ≤ 127 → (m + 1) * factor_of i ≤ 2 ^ 30 → offset_of i ≤ 2 ^ 29
+low_offset m i le low = omega (arith, low_factor m i low, offset_most i (omega arith))
+
+pub low_magnitude : (m i : ℕ) → i ≤ 127 → (m + 1) * factor_of i ≤ 2 ^ 30 → m < 2 ^ 28
+low_magnitude m i le low =
+    let four : (m + 1) * 4 ≤ (m + 1) * factor_of i = mul-le-mul_left (m + 1) (factor_least i (omega arith)) in
+    omega (arith, four, low)
 
 small_restored : (m i : ℕ) → i ≤ 127 → m * factor_of i ≤ 2 ^ 37 → restored_of m i ≤ 2 ^ 36
 small_restored zero i le low = omega (arith, restored-zero i)
 small_restored (suc m) i le low = omega (arith, restored-some (suc m) i (omega arith), low, offset_most i (omega arith), factor_most i (omega arith))
 
-pub low_restored : (q : ℤ) (i : ℕ) → i ≤ 127 → unsigned_abs q * factor_of i ≤ 2 ^ 37 → unsigned_abs (inverse_of q i) ≤ 2 ^ 36
-low_restored q i le low = omega (arith, abs-inverse q i, small_restored (unsigned_abs q) i le low)
+pub low_restored : (q : ℤ) (i : ℕ) → i ≤ 127 → (unsigned_abs q + 1) * factor_of i ≤ 2 ^ 30 → unsigned_abs (inverse_of q i) ≤ 2 ^ 36
+low_restored q i le low = omega (arith, abs-inverse q i, small_restored (unsigned_abs q) i le (omega (arith, low_product (unsigned_abs q) i low)))
 
 -- ---- a band
 

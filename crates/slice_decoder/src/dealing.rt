@@ -1,6 +1,7 @@
 // The values of a block, dealt out to rows.
 
-ghost use Rattle.std.specs.Prelude.{◌≡◌, ℕ, ◌+◌, ◌-◌, ◌*◌, ◌^◌, ◌<◌, ◌≤◌, true, length, map, slice_index_or, pos, unsigned_abs};
+ghost use Rattle.planes.specs.declared.TheConstants.{MAX_MAGNITUDE};
+ghost use Rattle.std.specs.Prelude.{◌≡◌, ℕ, ◌+◌, ◌-◌, ◌*◌, ◌<◌, ◌≤◌, true, length, map, slice_index_or, pos, unsigned_abs};
 ghost use Rattle.quant_factors.specs.Factors.{inverse_of};
 ghost use Rattle.slice_decoder.specs.Slice.{are_small};
 ghost use Rattle.slice_decoder.specs.Dealing.{next_values, behind_next};
@@ -11,7 +12,7 @@ use quant_factors::{Dequantised, inverse};
 // Dequantises each value. It answers false where a magnitude passes 2^36.
 pub fn dequantise(values: &mut [i64], index: u32) -> bool
     requires index { index ≤ 127 }
-    requires small { (k : ℕ) → unsigned_abs (slice_index_or values.old k (pos 0)) ≤ 2 ^ 36 }
+    requires small { (k : ℕ) → unsigned_abs (slice_index_or values.old k (pos 0)) ≤ MAX_MAGNITUDE }
     ensures small { result ≡ are_small (map (λ v. inverse_of v index) values.old) }
     ensures values { result ≡ true → (k : ℕ) → k < length values.old →
         slice_index_or values.new k (pos 0) ≡ inverse_of (slice_index_or values.old k (pos 0)) index }

@@ -13,6 +13,7 @@ ghost use Rattle.slice_geometry.specs.SliceOrder.{numbered};
 ghost use Rattle.slice_decoder.specs.Read.{IsRead};
 ghost use Rattle.slice_decoder.specs.Decoded.{AreReady, AllKeepOthers, IsDecoded, IsRefused};
 
+mod ahead;
 mod bands;
 mod components;
 mod dealing;

@@ -12,6 +12,7 @@ ghost use Rattle.slice_decoder.specs.Components.{part_of};
 ghost use Rattle.slice_decoder.specs.Decoded.{AreReady, AllKeepOthers, IsDecoded, IsRefused};
 ghost use Rattle.slice_decoder.specs.Narrow.{trio_of, AreNarrowBands, NeedsWide, IsReadNarrow, LowestKeeps, AreRestored, OneStops, AllKeepLowest};
 
+use crate::ahead::read_ahead;
 use crate::components::Place;
 use crate::narrow::{Fit, read_colour, read_luma};
 use crate::{SliceFault, head_of};
@@ -156,6 +157,7 @@ pub fn decode_narrow(
         sy,
         qindex: head.qindex,
     };
+    read_ahead(bands, layout, shape, sx, sy, buffer);
     match read_blocks(
         layout,
         shape,

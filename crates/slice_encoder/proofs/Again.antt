@@ -20,7 +20,7 @@ use Rattle.slice_encoder.specs.Trials.{CodedComponent, coefficient, CodedPicture
 use Rattle.slice_encoder.specs.Tries.{in_rect, tried, IsTried, AreTried, tried_lists}
 use Rattle.slice_encoder.specs.Order.{Place, places_of}
 use Rattle.slice_encoder.specs.Choice.{fits}
-use Rattle.slice_encoder.specs.Laws.{most_coefficient, IsIndex, IsSteepOk}
+use Rattle.slice_encoder.specs.TrialLaws.{most_coefficient, IsIndex, IsSteepOk}
 use Rattle.slice_encoder.specs.Ready.{IsReady, AreReady, KeepsOthers, AllKeepOthers}
 use Rattle.slice_encoder.proofs.Near.{restored_value-within, within_abs, difference_within}
 use Rattle.slice_encoder.proofs.Coarsest.{gone, needs_none, need-zeros, two_zeros, all_joined, places_exist}

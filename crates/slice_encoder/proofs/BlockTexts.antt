@@ -5,7 +5,7 @@ use Rattle.std.proofs.lemmas.Int.{ints}
 use Rattle.bounded_blocks.specs.Parts.{IsSmall}
 use Rattle.bounded_blocks.proofs.Put.{take-both}
 use Rattle.slice_encoder.specs.declared.block_texts.Block.{Block}
-use Rattle.slice_encoder.specs.Fronts.{front_bits, IsBlock, IsPut}
+use Rattle.slice_encoder.specs.BitQueues.{bits_so_far, IsBlock, IsPut}
 
 take_nothing : (n : ℕ) → take n (let none : List Bool = [] in none) ≡ []
 take_nothing zero = refl
@@ -17,7 +17,7 @@ put_nothing bytes b block = record {
   block = block;
   left = omega arith;
   place = refl;
-  written = sym (ap (λ (t : List Bool). front_bits bytes b.front ++ t) (take_nothing b.left) ∙ append-nil (front_bits bytes b.front));
+  written = sym (ap (λ (t : List Bool). bits_so_far bytes b.queue ++ t) (take_nothing b.left) ∙ append-nil (bits_so_far bytes b.queue));
 }
 
 pub put_join : (bytes : List ℕ) (b : Block) (bytes1 : List ℕ) (b1 : Block) (bytes2 : List ℕ) (b2 : Block) (x y : List Bool) → IsPut bytes b bytes1 b1 x → IsPut bytes1 b1 bytes2 b2 y → IsPut bytes b bytes2 b2 (x ++ y)
@@ -29,8 +29,8 @@ put_join bytes b bytes1 b1 bytes2 b2 x y f g = record {
   written =
       g.written
       ∙ ap (λ (t : List Bool). t ++ take b1.left y) f.written
-      ∙ append_assoc (front_bits bytes b.front) (take b.left x) (take b1.left y)
-      ∙ ap (λ (t : List Bool). front_bits bytes b.front ++ t) (take-both b.left b1.left x y f.left);
+      ∙ append_assoc (bits_so_far bytes b.queue) (take b.left x) (take b1.left y)
+      ∙ ap (λ (t : List Bool). bits_so_far bytes b.queue ++ t) (take-both b.left b1.left x y f.left);
 }
 
 -- a small value is a number of the code

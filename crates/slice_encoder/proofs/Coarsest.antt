@@ -20,7 +20,7 @@ use Rattle.quant_factors.specs.Weights.{band_quantiser}
 use Rattle.slice_geometry.specs.SliceOrder.{level_rect}
 use Rattle.slice_encoder.specs.Order.{Place, row_places, rect_places, places_of}
 use Rattle.slice_encoder.specs.Trials.{CodedComponent, restored_after, value_of, luma_list, colour_list, luma_of, c1_of, c2_of}
-use Rattle.slice_encoder.specs.Laws.{IsIndex, IsSteepOk, most_coefficient, AreCoefficients, CoarsestFits}
+use Rattle.slice_encoder.specs.TrialLaws.{IsIndex, IsSteepOk, most_coefficient, AreCoefficients, CoarsestFits}
 use Rattle.slice_encoder.proofs.Near.{within_abs, stays_near}
 use Rattle.slice_encoder.proofs.SliceBits.{two_least}
 

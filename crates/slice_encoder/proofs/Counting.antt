@@ -12,7 +12,7 @@ use Rattle.slice_geometry.specs.Geometry.{padded_length, band_size}
 use Rattle.slice_geometry.specs.SliceOrder.{level_rect}
 use Rattle.slice_geometry.proofs.RectsInBands.{start_before_end, end_inside}
 use Rattle.slice_encoder.specs.Trials.{CodedComponent, coefficient}
-use Rattle.slice_encoder.specs.Laws.{most_coefficient}
+use Rattle.slice_encoder.specs.TrialLaws.{most_coefficient}
 use Rattle.slice_encoder.specs.Ready.{IsGiven}
 use Rattle.slice_encoder.specs.LowNeeds.{rect_bits, band_bits, CanCount}
 use Rattle.slice_encoder.proofs.Rooms.{band_most}

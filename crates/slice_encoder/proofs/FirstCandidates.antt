@@ -5,7 +5,7 @@ use Rattle.std.proofs.lemmas.List.{length-replicate}
 use Rattle.std.proofs.lemmas.List.Elements.{All-nil, All-cons}
 use Rattle.slice_geometry.specs.Slicing.{slice_number}
 use Rattle.slice_encoder.specs.Trials.{CodedPicture, luma_of, c1_of, c2_of, restored_after}
-use Rattle.slice_encoder.specs.Laws.{IsIndex, IsSteepOk, IsPicture}
+use Rattle.slice_encoder.specs.TrialLaws.{IsIndex, IsSteepOk, IsPicture}
 use Rattle.slice_encoder.specs.Ready.{AreGiven}
 use Rattle.slice_encoder.specs.LowNeeds.{lower_of, may_fit}
 use Rattle.slice_encoder.proofs.Coarsest.{coarsest, last_index}

@@ -12,7 +12,7 @@ use Rattle.slice_encoder.specs.Trials.{CodedComponent, luma_list, colour_list, C
 use Rattle.slice_encoder.specs.Choice.{needs_fit, fits}
 use Rattle.slice_encoder.specs.LowNeeds.{may_fit}
 use Rattle.slice_encoder.specs.Listing.{band_part, pair_part}
-use Rattle.slice_encoder.specs.Gathering.{raw_part, raw_before, GatheredBands, AreGathered, piece_of, quantised, quantised_piece, in_turn, high_part, high_reach, gathered_reach, behind_lowest, reach, reach_of}
+use Rattle.slice_encoder.specs.Gathering.{raw_part, raw_before, GatheredSeen, AreGathered, piece_of, quantised, quantised_piece, in_turn, high_part, high_reach, gathered_reach, behind_lowest, reach, reach_of}
 use Rattle.slice_encoder.specs.GatheredSlices.{AreAllGathered, gathered_low}
 use Rattle.std.proofs.lemmas.List.{length-append}
 use Rattle.planes.specs.Subbands.{BandStack}
@@ -23,7 +23,7 @@ use Rattle.slice_encoder.proofs.LowBounds.{less_fits, more_does_not_fit}
 use Rattle.slice_encoder.proofs.Gathers.{first_count, raw_count, raw_within}
 use Rattle.slice_encoder.proofs.Reaches.{flat_same, bands_fall, lowest_rises, luma_parts, colour_parts, high_pair, reach_no_greater}
 
-module _ (c : CodedComponent) (index sx sy : ℕ) (g : GatheredBands) (gathered : AreGathered c.slicing c.size c.bands sx sy g) where
+module _ (c : CodedComponent) (index sx sy : ℕ) (g : GatheredSeen) (gathered : AreGathered c.slicing c.size c.bands sx sy g) where
   pub first_end : slice_index g.ends 0 ≡ area (level_rect c.slicing c.size sx sy 0)
   first_end = gathered.ends 0 (omega arith) ∙ first_count c.slicing c.size c.bands sx sy
 
@@ -51,7 +51,7 @@ module _ (c : CodedComponent) (index sx sy : ℕ) (g : GatheredBands) (gathered 
   reach_is = ap (λ (t : List ℤ). reach t 0) pieces_are
 
 -- the lowest subband's values, and what is listed behind them
-pub luma_listed : (c : CodedComponent) (index sx sy : ℕ) (g : GatheredBands) (kept : Raster ℤ) (all lowest out : List ℤ) (count : ℕ) → AreGathered c.slicing c.size c.bands sx sy g → all ≡ take (slice_index g.ends 0) out ++ flat_map (quantised_piece g c.matrix index) (range_with_len 1 (3 * g.depth))
+pub luma_listed : (c : CodedComponent) (index sx sy : ℕ) (g : GatheredSeen) (kept : Raster ℤ) (all lowest out : List ℤ) (count : ℕ) → AreGathered c.slicing c.size c.bands sx sy g → all ≡ take (slice_index g.ends 0) out ++ flat_map (quantised_piece g c.matrix index) (range_with_len 1 (3 * g.depth))
     → count ≡ slice_index g.ends 0 → take count out ≡ lowest → lowest ≡ band_part c kept index sx sy 0 → all ≡ luma_list c (at kept) index sx sy
 luma_listed c index sx sy g kept all lowest out count gathered all_is count_is front lowest_is =
     all_is
@@ -73,7 +73,7 @@ same_lengths s size a b sx sy (k ∷ ks) =
       same_lengths s size a b sx sy ks,
     )
 
-module _ (j : CodedPicture) (index sx sy : ℕ) (one two : GatheredBands) (gathered1 : AreGathered j.slicing j.frame.colour j.coefficients.c1 sx sy one) (gathered2 : AreGathered j.slicing j.frame.colour j.coefficients.c2 sx sy two) where
+module _ (j : CodedPicture) (index sx sy : ℕ) (one two : GatheredSeen) (gathered1 : AreGathered j.slicing j.frame.colour j.coefficients.c1 sx sy one) (gathered2 : AreGathered j.slicing j.frame.colour j.coefficients.c2 sx sy two) where
   pub ends_same : (k : ℕ) → k ≤ 3 * one.depth → slice_index two.ends k ≡ slice_index one.ends k
   ends_same k le =
       let lt : k < 3 * j.slicing.depth + 1 = omega (arith, le, gathered1.depth) in
@@ -123,7 +123,7 @@ module _ (j : CodedPicture) (sx sy : ℕ) (g : GatheredSlice) (gathered : AreAll
 
 -- ---- whatever is gathered, the bounds don't rise with the index
 
-reach_below : (g : GatheredBands) (matrix : Weights) (i k : ℕ) → i ≤ k → k ≤ 127 → gathered_reach g matrix k ≤ gathered_reach g matrix i
+reach_below : (g : GatheredSeen) (matrix : Weights) (i k : ℕ) → i ≤ k → k ≤ 127 → gathered_reach g matrix k ≤ gathered_reach g matrix i
 reach_below g matrix i k le most = bands_fall matrix (piece_of g) i k le most (range_with_len 1 (3 * g.depth)) 0 0 (omega arith)
 
 pub low_refuted_below : (g : GatheredSlice) (matrix : Weights) (bytes i k : ℕ) → i ≤ k → k ≤ 127 → may_fit bytes (gathered_low g matrix k) ≡ false → may_fit bytes (gathered_low g matrix i) ≡ false

@@ -17,10 +17,10 @@ use Rattle.slice_geometry.specs.SliceOrder.{orient_of}
 use Rattle.slice_geometry.proofs.NumberedBands.{index-numbered, band-exists}
 use Rattle.slice_geometry.proofs.RectsInBands.{FitsIn, fits}
 use Rattle.slice_encoder.specs.Trials.{CodedComponent}
-use Rattle.slice_encoder.specs.Laws.{most_coefficient}
+use Rattle.slice_encoder.specs.TrialLaws.{most_coefficient}
 use Rattle.slice_encoder.specs.Ready.{IsGiven}
 use Rattle.slice_encoder.specs.Listing.{rect_values}
-use Rattle.slice_encoder.specs.Gathering.{raw_part, raw_before, quantised, in_turn, with_code, reach, CanGather, CanGatherAll, GatheredBands, IsSound, AreGathered}
+use Rattle.slice_encoder.specs.Gathering.{raw_part, raw_before, quantised, in_turn, with_code, reach, CanGather, CanGatherAll, GatheredSeen, IsSound, AreGathered}
 use Rattle.slice_encoder.proofs.Tried.{coefficient_most}
 use Rattle.slice_encoder.proofs.Near.{within_abs}
 use Rattle.slice_encoder.proofs.PlaceByPlace.{forward_small}
@@ -210,7 +210,7 @@ given_gathers c d shallow few given = record {
 
 -- ---- a buffer that was filled
 
-module _ (s : Slicing) (size : Size) (bands : BandStack) (sx sy : ℕ) (g : GatheredBands) (depth_is : g.depth ≡ s.depth) (ends_are : (k : ℕ) → k < 3 * s.depth + 1 → slice_index g.ends k ≡ length (raw_before s size bands sx sy (k + 1)))
+module _ (s : Slicing) (size : Size) (bands : BandStack) (sx sy : ℕ) (g : GatheredSeen) (depth_is : g.depth ≡ s.depth) (ends_are : (k : ℕ) → k < 3 * s.depth + 1 → slice_index g.ends k ≡ length (raw_before s size bands sx sy (k + 1)))
     (room : length (raw_before s size bands sx sy (3 * s.depth + 1)) ≤ length g.values) where
   end_before : (k : ℕ) → 1 ≤ k → k ≤ 3 * s.depth → slice_index g.ends (k - 1) ≡ length (raw_before s size bands sx sy k)
   end_before k some le =

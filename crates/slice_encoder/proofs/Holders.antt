@@ -9,7 +9,7 @@ use Rattle.slice_geometry.proofs.Quotients.{div-rises}
 use Rattle.quant_factors.specs.Weights.{band_quantiser}
 use Rattle.slice_encoder.specs.Loop.{restored_value}
 use Rattle.slice_encoder.specs.Trials.{CodedComponent, coefficient, slice_holding, restored_after}
-use Rattle.slice_encoder.specs.Laws.{EarlierIndicesAlone}
+use Rattle.slice_encoder.specs.TrialLaws.{EarlierIndicesAlone}
 use Rattle.slice_encoder.proofs.Made.{made_same}
 
 pub holding_rises : (count length i x : ℕ) → 1 ≤ length → i ≤ x → holding count length i ≤ holding count length x

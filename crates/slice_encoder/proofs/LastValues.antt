@@ -4,7 +4,7 @@ use Rattle.std.proofs.lemmas.List.{take_more}
 use Rattle.bounded_blocks.specs.Blocks.{need_of}
 use Rattle.bit_codes.specs.Codes.{signed_code_of}
 use Rattle.bounded_blocks.specs.Parts.{IsSmall}
-use Rattle.bounded_blocks.specs.Writing.{codes_of, need, NeedCount}
+use Rattle.bounded_blocks.specs.Writing.{codes_of, need, NeedSeen}
 use Rattle.bounded_blocks.proofs.Needs.{need-append, need-some, codes-more, count-zero}
 
 -- a zero at the end adds nothing
@@ -12,7 +12,7 @@ pub need_without : (vs : List ℤ) (n : ℕ) → n < length vs → get_or vs n (
 need_without vs n lt none =
     let front = take n vs in
     ap need (take_more vs n (pos 0) lt ∙ ap (λ (v : ℤ). front ++ v ∷ []) none)
-    ∙ sym (ap (λ (c : NeedCount). c.bits) (count-zero front (length (signed_code_of (pos 0))) (omega arith)))
+    ∙ sym (ap (λ (c : NeedSeen). c.bits) (count-zero front (length (signed_code_of (pos 0))) (omega arith)))
 
 -- with another value all in front of its own end is needed
 pub need_with : (vs : List ℤ) (n : ℕ) → n < length vs → get_or vs n (pos 0) ≢ pos 0 → IsSmall (get_or vs n (pos 0)) → need (take (n + 1) vs) ≡ length (codes_of (take n vs)) + need (get_or vs n (pos 0) ∷ [])

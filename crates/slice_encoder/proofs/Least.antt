@@ -4,7 +4,7 @@ use Rattle.std.specs.Prelude.{◌⊎◌}
 use Rattle.std.proofs.lemmas.Bool.{cases_lt, cases_eq}
 use Rattle.slice_encoder.specs.Trials.{Lists}
 use Rattle.slice_encoder.specs.Choice.{fits, IsLeast}
-use Rattle.slice_encoder.specs.Laws.{HasOneLeast}
+use Rattle.slice_encoder.specs.TrialLaws.{HasOneLeast}
 
 true_or_false : (b : Bool) → (b ≡ true) ⊎ (b ≡ false)
 true_or_false true = inl (let e : true ≡ true = cc in e)

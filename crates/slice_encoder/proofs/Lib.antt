@@ -1,5 +1,5 @@
 pub mod Made
-pub mod FrontBits
+pub mod QueueBits
 pub mod BlockTexts
 pub mod LastValues
 pub mod Signs

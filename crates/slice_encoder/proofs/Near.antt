@@ -13,7 +13,7 @@ use Rattle.quant_factors.proofs.QuantLemmas.{error_small}
 use Rattle.quant_factors.specs.Weights.{band_quantiser}
 use Rattle.slice_encoder.specs.Loop.{restored_value}
 use Rattle.slice_encoder.specs.Trials.{coefficient, slice_holding, restored_after}
-use Rattle.slice_encoder.specs.Laws.{IsIndex, RestoredStaysNear}
+use Rattle.slice_encoder.specs.TrialLaws.{IsIndex, RestoredStaysNear}
 use Rattle.slice_encoder.proofs.Made.{made_within, prediction_within}
 
 pub within_abs : (m : ℕ) (z : ℤ) → Within m z → unsigned_abs z ≤ m

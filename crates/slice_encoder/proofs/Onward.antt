@@ -13,7 +13,7 @@ use Rattle.slice_geometry.specs.SliceOrder.{level_rect}
 use Rattle.slice_geometry.proofs.RectsInBands.{end_inside}
 use Rattle.slice_encoder.specs.Trials.{CodedComponent, slice_holding, luma_of, c1_of, c2_of, IsKept}
 use Rattle.slice_encoder.specs.Tries.{KeptHasSize}
-use Rattle.slice_encoder.specs.Laws.{IsIndex, most_coefficient}
+use Rattle.slice_encoder.specs.TrialLaws.{IsIndex, most_coefficient}
 use Rattle.slice_encoder.specs.Ready.{IsGiven, IsReady}
 use Rattle.slice_encoder.specs.Ready.{NextIsReady}
 use Rattle.slice_encoder.proofs.Near.{stays_near}

@@ -8,7 +8,7 @@ use Rattle.slice_encoder.specs.declared.search.Trying.{Trying}
 use Rattle.slice_encoder.specs.Trials.{CodedComponent, CodedPicture, luma_of, c1_of, c2_of, Lists}
 use Rattle.slice_encoder.specs.Tries.{tried_lists}
 use Rattle.slice_encoder.specs.Choice.{fits}
-use Rattle.slice_encoder.specs.Laws.{most_coefficient}
+use Rattle.slice_encoder.specs.TrialLaws.{most_coefficient}
 use Rattle.slice_encoder.specs.Buffers.{Holds}
 use Rattle.slice_encoder.specs.Ready.{IsReady, AreReady, KeepsOthers, AllKeepOthers}
 use Rattle.slice_encoder.proofs.Again.{lists_again}

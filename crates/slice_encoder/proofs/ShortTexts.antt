@@ -7,7 +7,7 @@ use Rattle.bit_codes.specs.Bits.{digits_below}
 use Rattle.bit_codes.specs.Codes.{code_of, signed_code_of}
 use Rattle.slice_encoder.specs.declared.short_texts.ShortText.{ShortText}
 use Rattle.slice_encoder.specs.declared.short_texts.TheConstants.{SHORT_TEXTS}
-use Rattle.slice_encoder.specs.Fronts.{IsTextOf}
+use Rattle.slice_encoder.specs.BitQueues.{IsTextOf}
 
 abbrev same_bits : List Bool → List Bool → Bool
 same_bits [] [] = true

@@ -16,7 +16,7 @@ use Rattle.slice_encoder.specs.Loop.{Rule, restored_value}
 use Rattle.slice_encoder.specs.Trials.{CodedComponent, coefficient}
 use Rattle.slice_encoder.specs.Tries.{in_rect, tried, IsTried}
 use Rattle.slice_encoder.specs.RectTrials.{CanTryRect, TriesRect}
-use Rattle.slice_encoder.specs.Laws.{most_coefficient}
+use Rattle.slice_encoder.specs.TrialLaws.{most_coefficient}
 use Rattle.slice_encoder.specs.Ready.{IsReady}
 use Rattle.slice_encoder.proofs.Made.{made_again}
 use Rattle.slice_encoder.proofs.Continues.{in_rect-yes, in_rect-no}

@@ -24,7 +24,7 @@ use Rattle.slice_geometry.proofs.RectsInBands.{fits, FitsIn, end_inside}
 use Rattle.slice_encoder.specs.Order.{Place, row_places, rect_places, places_of}
 use Rattle.slice_encoder.specs.Trials.{CodedComponent, coefficient, value_of, luma_list, colour_list}
 use Rattle.slice_encoder.specs.Tries.{tried, IsTried}
-use Rattle.slice_encoder.specs.Laws.{most_coefficient, AreSmall}
+use Rattle.slice_encoder.specs.TrialLaws.{most_coefficient, AreSmall}
 use Rattle.slice_encoder.specs.Buffers.{CanListAll}
 use Rattle.slice_encoder.specs.Ready.{IsReady}
 use Rattle.slice_encoder.proofs.Near.{within_abs, difference_within}

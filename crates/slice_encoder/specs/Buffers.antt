@@ -11,7 +11,7 @@ use Rattle.slice_encoder.specs.declared.search.Trying.{Trying}
 use Rattle.slice_encoder.specs.Choice.{fits}
 use Rattle.slice_encoder.specs.Trials.{CodedComponent, CodedPicture, Lists}
 use Rattle.slice_encoder.specs.Listing.{CanList}
-use Rattle.slice_encoder.specs.Laws.{AreSmall}
+use Rattle.slice_encoder.specs.TrialLaws.{AreSmall}
 
 -- the buffers for a slice's values have room for them
 pub record HasRoom (j : CodedPicture) (sx sy lumas colours : ℕ) : Type 0 where

@@ -24,7 +24,7 @@ pub record IsEncodedAfter (j : CodedPicture) (indices : List ℕ) (sx sy : ℕ) 
   pub values : AreKept j (indices ++ head.qindex ∷ []) kept
 
 -- what contracts see of an encoder
-pub record EncoderSeen : Type 0 where
+pub record SliceEncoderSeen : Type 0 where
   pub slicing : Slicing
   pub shape : PictureShape
 

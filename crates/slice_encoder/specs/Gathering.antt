@@ -26,16 +26,16 @@ abbrev pub raw_before : Slicing → Size → BandStack → ℕ → ℕ → ℕ �
 raw_before s size bands sx sy k = flat_map (raw_part s size bands sx sy) (range_with_len 0 k)
 
 -- what is gathered: the depth of the transform, where each band's values end, and the values
-pub record GatheredBands : Type 0 where
+pub record GatheredSeen : Type 0 where
   pub depth : ℕ
   pub ends : List ℕ
   pub values : List ℤ
 
 -- the values of band number k, from 1 on
-abbrev pub piece_of : GatheredBands → ℕ → List ℤ
+abbrev pub piece_of : GatheredSeen → ℕ → List ℤ
 piece_of g k = take (slice_index g.ends k - slice_index g.ends (k - 1)) (drop (slice_index g.ends (k - 1)) g.values)
 
-pub record IsSound (g : GatheredBands) : Type 0 where
+pub record IsSound (g : GatheredSeen) : Type 0 where
   pub shallow : g.depth ≤ 4
   pub rise : (k : ℕ) → 1 ≤ k → k ≤ 3 * g.depth → slice_index g.ends (k - 1) ≤ slice_index g.ends k
   pub whole : (k : ℕ) → k ≤ 3 * g.depth → slice_index g.ends k ≤ slice_index g.ends (3 * g.depth)
@@ -44,7 +44,7 @@ pub record IsSound (g : GatheredBands) : Type 0 where
   pub few : length g.values ≤ 2 ^ 31
 
 -- It holds the slice's coefficients in these bands.
-pub record AreGathered (s : Slicing) (size : Size) (bands : BandStack) (sx sy : ℕ) (g : GatheredBands) : Type 0 where
+pub record AreGathered (s : Slicing) (size : Size) (bands : BandStack) (sx sy : ℕ) (g : GatheredSeen) : Type 0 where
   pub depth : g.depth ≡ s.depth
   pub ends : (k : ℕ) → k < 3 * s.depth + 1 → slice_index g.ends k ≡ length (raw_before s size bands sx sy (k + 1))
   pub pieces : (k : ℕ) → 1 ≤ k → k < 3 * s.depth + 1 → piece_of g k ≡ raw_part s size bands sx sy k
@@ -69,7 +69,7 @@ pub record CanGatherAll (s : Slicing) (size : Size) (bands : BandStack) : Type 0
 abbrev pub quantised : ℕ → List ℤ → List ℤ
 quantised q vs = map (λ v. forward_of v q) vs
 
-abbrev pub quantised_piece : GatheredBands → Weights → ℕ → ℕ → List ℤ
+abbrev pub quantised_piece : GatheredSeen → Weights → ℕ → ℕ → List ℤ
 quantised_piece g matrix index k = quantised (band_quantiser matrix index (level_of k) (orient_of k)) (piece_of g k)
 
 -- one list's values and another's in turn
@@ -89,7 +89,7 @@ abbrev pub reach : List ℤ → ℕ → ℕ
 reach [] behind = behind
 reach (v ∷ vs) behind = with_code v (reach vs behind)
 
-abbrev pub gathered_reach : GatheredBands → Weights → ℕ → ℕ
+abbrev pub gathered_reach : GatheredSeen → Weights → ℕ → ℕ
 gathered_reach g matrix index = reach (flat_map (quantised_piece g matrix index) (range_with_len 1 (3 * g.depth))) 0
 
 -- of the slice's values outside the lowest subband

@@ -1,4 +1,4 @@
-pub mod Fronts
+pub mod BitQueues
 pub mod Loop
 pub mod Order
 pub mod Trials
@@ -6,14 +6,15 @@ pub mod Choice
 pub mod Tries
 pub mod RectTrials
 pub mod Listing
-pub mod Laws
+pub mod TrialLaws
 pub mod LowNeeds
 pub mod CodeLengths
 pub mod Gathering
 pub mod GatheredSlices
 pub mod Ready
 pub mod Buffers
-pub mod Restored
+pub mod RestoredSlice
 pub mod Encoded
 pub mod Room
 pub mod Chosen
+pub mod Jobs

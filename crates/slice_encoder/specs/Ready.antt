@@ -17,7 +17,7 @@ use Rattle.slice_geometry.specs.SliceOrder.{level_rect}
 use Rattle.dc_prediction.specs.Restoring.{AllLookedAtOutside}
 use Rattle.slice_encoder.specs.Trials.{CodedComponent, CodedPicture, luma_of, c1_of, c2_of, AreKept}
 use Rattle.slice_encoder.specs.Tries.{KeptHasSize, KeptHaveSizes, IsNext}
-use Rattle.slice_encoder.specs.Laws.{IsIndex, AreCoefficients, most_coefficient}
+use Rattle.slice_encoder.specs.TrialLaws.{IsIndex, AreCoefficients, most_coefficient}
 
 -- A component is ready for slice (sx, sy): bands and kept plane have their sizes, the coefficients are those of d bits,
 -- and what is looked at outside the slice is no greater than a restored value there can be.

@@ -1,20 +1,21 @@
 // Codes put into a block, as far as it reaches.
 
+ghost use Rattle.planes.specs.declared.TheConstants.{MAX_MAGNITUDE};
 ghost use Rattle.std.specs.Prelude.{◌≡◌, ◌+◌, ◌*◌, ◌^◌, ◌<◌, ◌≤◌, ◌++◌, length, replicate, true, unsigned_abs};
 ghost use Rattle.std.specs.List.{All};
 ghost use Rattle.bit_codes.specs.Bits.{digits_below};
 ghost use Rattle.bit_codes.specs.Codes.{code_of, signed_code_of};
 ghost use Rattle.bounded_blocks.specs.Parts.{IsSmall};
 ghost use Rattle.bounded_blocks.specs.Writing.{codes_of};
-ghost use Rattle.slice_encoder.specs.Fronts.{front_bits, IsBlock, IsPut};
+ghost use Rattle.slice_encoder.specs.BitQueues.{bits_so_far, IsBlock, IsPut};
 
-use crate::fronts::{Front, put_bits};
+use crate::bit_queues::{BitQueue, put_bits};
 use crate::short_texts::short_text;
 
-/// A block that is filled from the front of bytes on, and how many of its bits are left.
+/// A block that is filled through a queue, and how many of its bits are left.
 #[derive(Clone, Copy, Debug, PartialEq, Eq)]
 pub struct Block {
-    pub front: Front,
+    pub queue: BitQueue,
     pub left: u64,
 }
 
@@ -27,9 +28,9 @@ fn put_digits(bytes: &mut [u8], block: Block, number: u64, n: u32) -> Block
     ensures { IsPut bytes.old block bytes.new result (digits_below n number) }
 {
     let fit = u64::from(n).min(block.left) as u32;
-    let front = put_bits(bytes, block.front, number / (1 << (n - fit)), fit);
+    let queue = put_bits(bytes, block.queue, number / (1 << (n - fit)), fit);
     Block {
-        front,
+        queue,
         left: block.left - u64::from(fit),
     }
 }
@@ -53,7 +54,7 @@ fn put_code(bytes: &mut [u8], block: Block, v: u64) -> Block
 
 // Puts the code of a value, of a magnitude of at most 2^36.
 fn put_long(bytes: &mut [u8], block: Block, v: i64) -> Block
-    requires small { unsigned_abs v ≤ 2 ^ 36 }
+    requires small { unsigned_abs v ≤ MAX_MAGNITUDE }
     requires block { IsBlock (length bytes.old) block }
     ensures { IsPut bytes.old block bytes.new result (signed_code_of v) }
 {
@@ -67,7 +68,7 @@ fn put_long(bytes: &mut [u8], block: Block, v: i64) -> Block
 // The same, by a look-up for small ones.
 #[inline(always)]
 fn put_value(bytes: &mut [u8], block: Block, v: i64) -> Block
-    requires small { unsigned_abs v ≤ 2 ^ 36 }
+    requires small { unsigned_abs v ≤ MAX_MAGNITUDE }
     requires block { IsBlock (length bytes.old) block }
     ensures { IsPut bytes.old block bytes.new result (signed_code_of v) }
 {
@@ -92,16 +93,16 @@ pub fn put_values(bytes: &mut [u8], block: Block, values: &[i64]) -> Block
 }
 
 /// Fills the rest of a block with ones.
-pub fn put_ones(bytes: &mut [u8], block: Block) -> Front
+pub fn put_ones(bytes: &mut [u8], block: Block) -> BitQueue
     requires { IsBlock (length bytes.old) block }
-    ensures block { IsBlock (length bytes.old) (record { front = result; left = 0 }) }
-    ensures place { 8 * result.whole + result.count ≡ 8 * block.front.whole + block.front.count + block.left }
-    ensures text { front_bits bytes.new result ≡ front_bits bytes.old block.front ++ replicate block.left true }
+    ensures block { IsBlock (length bytes.old) (record { queue = result; left = 0 }) }
+    ensures place { 8 * result.whole + result.count ≡ 8 * block.queue.whole + block.queue.count + block.left }
+    ensures text { bits_so_far bytes.new result ≡ bits_so_far bytes.old block.queue ++ replicate block.left true }
 {
     let mut block = block;
     while block.left > 0 {
         let n = block.left.min(32) as u32;
         block = put_digits(bytes, block, (1 << n) - 1, n);
     }
-    block.front
+    block.queue
 }

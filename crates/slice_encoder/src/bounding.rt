@@ -1,5 +1,6 @@
 // What a slice needs at least, whatever is restored.
 
+ghost use Rattle.planes.specs.declared.TheConstants.{MAX_MAGNITUDE};
 ghost use Rattle.std.specs.Prelude.{◌≡◌, ◌+◌, ◌*◌, ◌^◌, ◌<◌, ◌≤◌, unsigned_abs};
 ghost use Rattle.planes.specs.Numbers.{Within};
 ghost use Rattle.planes.specs.Raster.{at, height};
@@ -28,7 +29,7 @@ pub struct Lower {
 // The length of a value's code, and nothing for 0.
 #[inline(always)]
 fn counted(v: i64) -> u64
-    requires { unsigned_abs v ≤ 2 ^ 36 }
+    requires { unsigned_abs v ≤ MAX_MAGNITUDE }
     ensures value { result ≡ counted_bits v }
     ensures few { result ≤ 74 }
 {

@@ -1,7 +1,7 @@
 // The first index that may fit.
 
 ghost use Rattle.std.specs.Prelude.{◌≡◌, ◌^◌, ◌<◌, ◌≤◌, max, true};
-ghost use Rattle.slice_encoder.specs.Laws.{IsSteepOk};
+ghost use Rattle.slice_encoder.specs.TrialLaws.{IsSteepOk};
 ghost use Rattle.slice_encoder.specs.LowNeeds.{lower_of, may_fit, IsFirstCandidate};
 ghost use Rattle.slice_encoder.specs.GatheredSlices.{gathered_low};
 ghost use Rattle.slice_encoder.specs.Ready.{coded_picture, AreGiven};
@@ -95,7 +95,7 @@ fn longer(step: u32) -> u32
 }
 
 // The first index that may fit by how far the codes of what was gathered reach. It is looked for from an index near it,
-// in steps that double, and then by halves: none below the start may fit, and the end may.
+// in steps of 1, 1, 2, 4 and 8, and then by halves: none below the start may fit, and the end may.
 pub fn find_first(gathered: &GatheredSlice, matrix: &Matrix, bytes: u32, near: u32) -> u32
     requires some { 1 ≤ bytes }
     requires most { bytes ≤ 2 ^ 28 }
@@ -114,7 +114,7 @@ pub fn find_first(gathered: &GatheredSlice, matrix: &Matrix, bytes: u32, near: u
         let index = probe(start, end, wanted, step);
         let low = gathered.low(matrix, index);
         let may = do_fit(bytes, low.luma, low.colour);
-        let taken = step;
+        let taken = (step + 1) / 2;
         step = longer(step);
         if may {
             end = index;

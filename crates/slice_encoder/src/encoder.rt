@@ -1,7 +1,7 @@
 //! A slice written at the least index at which it fits.
 
 ghost use Rattle.std.specs.Prelude.{◌≡◌, ℕ, ◌^◌, ◌<◌, ◌≤◌, max, List, length, IfOk};
-ghost use Rattle.slice_encoder.specs.Laws.{IsSteepOk};
+ghost use Rattle.slice_encoder.specs.TrialLaws.{IsSteepOk};
 ghost use Rattle.slice_encoder.specs.Trials.{AreKept};
 ghost use Rattle.slice_encoder.specs.Tries.{AreTried, IsNext, tried_lists};
 ghost use Rattle.slice_encoder.specs.LowNeeds.{lower_of, IsFirstCandidate};
@@ -12,6 +12,7 @@ ghost use Rattle.slice_encoder.specs.Encoded.{IsEncoded, IsEncodedAfter, trial_o
 use crate::bounding::{Lower, lower_at};
 use crate::candidates::find_candidate;
 use crate::gathered::GatheredSlice;
+use crate::jobs::SliceJob;
 use crate::packing::put_slice;
 use crate::room::most_places;
 use crate::search::{find_least, share_of, try_at};
@@ -38,17 +39,17 @@ pub struct SliceEncoder {
     layout: Layout,
     shape: PictureShape,
     gathered: GatheredSlice,
-    // The index of the slice before, from which that of the next one is looked for.
+    // The first index that might have fitted the slice before, from which that of the next one is looked for.
     near: u32,
     luma: Vec<i64>,
     colour: Vec<i64>,
 }
 
 impl Model for SliceEncoder {
-    ghost use Rattle.slice_encoder.specs.Encoded.{EncoderSeen};
+    ghost use Rattle.slice_encoder.specs.Encoded.{SliceEncoderSeen};
     ghost use Rattle.slice_encoder.specs.Room.{IsUsable};
 
-    ghost Value = { EncoderSeen };
+    ghost Value = { SliceEncoderSeen };
 
     ghost view = { λ e. record { slicing = e.layout; shape = e.shape } };
 
@@ -98,18 +99,20 @@ impl SliceEncoder {
             → AreKept (coded_picture self.old.slicing self.old.shape matrix.now coefficients.now) indices kept.old
             → IsTriedAfter (coded_picture self.old.slicing self.old.shape matrix.now coefficients.now) indices sx sy qindex result kept.new }
     {
-        let bytes = share_of(&self.layout, sx, sy);
-        self.gathered
-            .gather(&self.layout, &self.shape, matrix, sx, sy, coefficients);
-        let trying = try_at(
-            &self.layout,
-            &self.shape,
+        let job = SliceJob {
+            layout: &self.layout,
+            shape: &self.shape,
             matrix,
+            coefficients,
             sx,
             sy,
+        };
+        let bytes = share_of(&self.layout, sx, sy);
+        self.gathered.gather(job);
+        let trying = try_at(
+            job,
             qindex,
             bytes,
-            coefficients,
             &self.gathered,
             kept,
             &mut self.luma,
@@ -193,33 +196,35 @@ impl SliceEncoder {
             → AreKept (coded_picture self.old.slicing self.old.shape matrix.now coefficients.now) indices kept.old
             → IsEncodedAfter (coded_picture self.old.slicing self.old.shape matrix.now coefficients.now) indices sx sy bytes.new result kept.new }
     {
-        self.gathered
-            .gather(&self.layout, &self.shape, matrix, sx, sy, coefficients);
-        let (index, trying) = find_least(
-            &self.layout,
-            &self.shape,
+        let job = SliceJob {
+            layout: &self.layout,
+            shape: &self.shape,
             matrix,
+            coefficients,
             sx,
             sy,
+        };
+        self.gathered.gather(job);
+        let found = find_least(
+            job,
             bytes.len() as u32,
-            coefficients,
             &self.gathered,
             self.near,
             kept,
             &mut self.luma,
             &mut self.colour,
         );
-        self.near = index;
+        self.near = found.first;
         put_slice(
             bytes,
-            index,
-            trying.luma_need,
-            &self.luma[..trying.luma],
-            &self.colour[..trying.colour],
+            found.index,
+            found.trying.luma_need,
+            &self.luma[..found.trying.luma],
+            &self.colour[..found.trying.colour],
         );
         SliceHead {
-            qindex: index,
-            luma_bits: trying.luma_need as u32,
+            qindex: found.index,
+            luma_bits: found.trying.luma_need as u32,
         }
     }
 }

@@ -12,13 +12,15 @@ ghost use Rattle.slice_geometry.specs.SliceOrder.{level_rect, level_of, area, pl
 ghost use Rattle.slice_encoder.specs.Listing.{rect_values};
 ghost use Rattle.slice_encoder.specs.Gathering.{raw_before, piece_of, quantised, quantised_piece, in_turn, with_code, reach, CanGather, CanGatherAll, AreGathered, gathered_reach, behind_lowest};
 ghost use Rattle.slice_encoder.specs.GatheredSlices.{AreAllGathered, gathered_low, CanHoldAll};
-ghost use Rattle.slice_encoder.specs.Ready.{coded_picture, AreGiven};
+ghost use Rattle.slice_encoder.specs.Jobs.{picture_of};
+ghost use Rattle.slice_encoder.specs.Ready.{AreGiven};
 
 use crate::bounding::Lower;
 use crate::code_lengths::{CodeLengths, length_by};
+use crate::jobs::SliceJob;
 use crate::room::most_places;
 use crate::trying::{band_numbered, orient_numbered};
-use planes::{Bands, NoMemory, Plane, Rect, Trio};
+use planes::{Bands, NoMemory, Plane, Rect};
 use quant_factors::{Matrix, forward};
 use slice_geometry::{Layout, PictureShape, Size};
 use std::alloc::Global;
@@ -34,9 +36,9 @@ pub struct Gathered {
 }
 
 impl Model for Gathered {
-    ghost use Rattle.slice_encoder.specs.Gathering.{GatheredBands, IsSound};
+    ghost use Rattle.slice_encoder.specs.Gathering.{GatheredSeen, IsSound};
 
-    ghost Value = { GatheredBands };
+    ghost Value = { GatheredSeen };
 
     ghost view = { λ g. record { depth = g.depth; ends = g.ends; values = g.values.items } };
 
@@ -383,23 +385,19 @@ impl GatheredSlice {
     }
 
     /// Gathers the coefficients of a slice.
-    pub fn gather(
-        &mut self,
-        layout: &Layout,
-        shape: &PictureShape,
-        matrix: &Matrix,
-        sx: u32,
-        sy: u32,
-        coefficients: &Trio,
-    )
-        requires across { sx < layout.now.slices_x }
-        requires down { sy < layout.now.slices_y }
-        requires given { AreGiven (coded_picture layout.now shape.now matrix.now coefficients.now) }
-        requires room { CanHoldAll layout.now shape.now self.old }
-        ensures room { CanHoldAll layout.now shape.now self.new }
-        ensures gathered { AreAllGathered (coded_picture layout.now shape.now matrix.now coefficients.now) sx sy self.new }
+    pub fn gather(&mut self, job: SliceJob<'_>)
+        requires across { job.sx < job.layout.now.slices_x }
+        requires down { job.sy < job.layout.now.slices_y }
+        requires given { AreGiven (picture_of job) }
+        requires room { CanHoldAll job.layout.now job.shape.now self.old }
+        ensures room { CanHoldAll job.entry.layout.now job.entry.shape.now self.new }
+        ensures gathered { AreAllGathered (picture_of job.entry) job.entry.sx job.entry.sy self.new }
     {
-        let _ = matrix;
+        let layout = job.layout;
+        let shape = job.shape;
+        let coefficients = job.coefficients;
+        let sx = job.sx;
+        let sy = job.sy;
         let _depth = layout.depth();
         self.luma
             .gather(layout, shape.luma, sx, sy, &coefficients.luma);

@@ -6,7 +6,7 @@ ghost use Rattle.slice_encoder.specs.Loop.{Rule, IsMade, made};
 ghost use Rattle.slice_encoder.specs.Tries.{TrialsGoOn};
 ghost use Rattle.slice_encoder.specs.Ready.{NextIsReady};
 ghost use Rattle.slice_encoder.specs.Trials.{Lists};
-ghost use Rattle.slice_encoder.specs.Laws.{EarlierIndicesAlone, RestoredStaysNear, CoarsestFits, HasOneLeast};
+ghost use Rattle.slice_encoder.specs.TrialLaws.{EarlierIndicesAlone, RestoredStaysNear, CoarsestFits, HasOneLeast};
 ghost use Rattle.slice_encoder.specs.LowNeeds.{LowerIsNoGreater, LowerFalls, MayNotFit};
 
 /// Each rule makes exactly one band.

@@ -5,14 +5,15 @@
 //! what later slices are predicted from.
 #![tactic(auto)]
 
+mod bit_queues;
 mod block_texts;
 mod bounding;
 mod candidates;
 mod code_lengths;
 mod encoder;
 mod fitting;
-mod fronts;
 mod gathered;
+mod jobs;
 pub mod laws;
 mod listing;
 mod needs;

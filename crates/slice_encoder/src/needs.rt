@@ -2,7 +2,7 @@
 
 ghost use Rattle.std.specs.Prelude.{◌≡◌, ◌≢◌, ◌-◌, ◌*◌, ◌^◌, ◌<◌, ◌≤◌, length, pos, slice_index_or, take};
 ghost use Rattle.bounded_blocks.specs.Writing.{codes_of, need};
-ghost use Rattle.slice_encoder.specs.Laws.{AreSmall};
+ghost use Rattle.slice_encoder.specs.TrialLaws.{AreSmall};
 
 use bit_codes::sint_len;
 use bounded_blocks::Need;

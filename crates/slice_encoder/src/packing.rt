@@ -1,45 +1,46 @@
 // The bytes of a slice.
 
+ghost use Rattle.planes.specs.declared.TheConstants.{MAX_MAGNITUDE};
 ghost use Rattle.std.specs.Prelude.{◌≡◌, ◌+◌, ◌-◌, ◌*◌, ◌^◌, ◌<◌, ◌≤◌, ◌++◌, true, length, unsigned_abs};
 ghost use Rattle.std.specs.List.{All};
 ghost use Rattle.bit_codes.specs.Bits.{bits_of, digits_below};
 ghost use Rattle.bounded_blocks.specs.Writing.{codes_of, need, filled};
 ghost use Rattle.slice_encoder.specs.Choice.{fits, slice_bits};
-ghost use Rattle.slice_encoder.specs.Fronts.{front_bits, IsBlock};
+ghost use Rattle.slice_encoder.specs.BitQueues.{bits_so_far, IsBlock};
 
+use crate::bit_queues::{BitQueue, put_bits, store_rest};
 use crate::block_texts::{Block, put_ones, put_values};
-use crate::fronts::{Front, put_bits, store_rest};
 use slice_geometry::length_bits;
 
 // The index, and the length of the luma block in so many bits.
-fn put_head(bytes: &mut [u8], index: u32, m: u32, luma_need: u64) -> Front
+fn put_head(bytes: &mut [u8], index: u32, m: u32, luma_need: u64) -> BitQueue
     requires most { length bytes.old ≤ 2 ^ 28 }
     requires index { index ≤ 127 }
     requires few { m ≤ 31 }
     requires inside { 7 + m ≤ 8 * length bytes.old }
     requires fits { luma_need < 2 ^ m }
-    ensures block { IsBlock (length bytes.old) (record { front = result; left = 0 }) }
+    ensures block { IsBlock (length bytes.old) (record { queue = result; left = 0 }) }
     ensures place { 8 * result.whole + result.count ≡ 7 + m }
-    ensures text { front_bits bytes.new result ≡ digits_below 7 index ++ digits_below m luma_need }
+    ensures text { bits_so_far bytes.new result ≡ digits_below 7 index ++ digits_below m luma_need }
 {
-    let start = Front {
+    let start = BitQueue {
         whole: 0,
         count: 0,
         number: 0,
     };
-    let front = put_bits(bytes, start, u64::from(index), 7);
-    put_bits(bytes, front, luma_need, m)
+    let queue = put_bits(bytes, start, u64::from(index), 7);
+    put_bits(bytes, queue, luma_need, m)
 }
 
 // Values into a block of so many bits, which is filled with ones.
-fn put_block(bytes: &mut [u8], front: Front, bits: u64, values: &[i64]) -> Front
-    requires inside { IsBlock (length bytes.old) (record { front = front; left = bits }) }
-    requires small { All (λ v. unsigned_abs v ≤ 2 ^ 36) values.now }
-    ensures block { IsBlock (length bytes.old) (record { front = result; left = 0 }) }
-    ensures place { 8 * result.whole + result.count ≡ 8 * front.whole + front.count + bits }
-    ensures text { front_bits bytes.new result ≡ front_bits bytes.old front ++ filled bits (codes_of values.now) }
+fn put_block(bytes: &mut [u8], queue: BitQueue, bits: u64, values: &[i64]) -> BitQueue
+    requires inside { IsBlock (length bytes.old) (record { queue = queue; left = bits }) }
+    requires small { All (λ v. unsigned_abs v ≤ MAX_MAGNITUDE) values.now }
+    ensures block { IsBlock (length bytes.old) (record { queue = result; left = 0 }) }
+    ensures place { 8 * result.whole + result.count ≡ 8 * queue.whole + queue.count + bits }
+    ensures text { bits_so_far bytes.new result ≡ bits_so_far bytes.old queue ++ filled bits (codes_of values.now) }
 {
-    let block = put_values(bytes, Block { front, left: bits }, values);
+    let block = put_values(bytes, Block { queue, left: bits }, values);
     put_ones(bytes, block)
 }
 
@@ -48,8 +49,8 @@ pub fn put_slice(bytes: &mut [u8], index: u32, luma_need: u64, luma: &[i64], col
     requires some { 1 ≤ length bytes.old }
     requires most { length bytes.old ≤ 2 ^ 28 }
     requires index { index ≤ 127 }
-    requires luma_small { All (λ v. unsigned_abs v ≤ 2 ^ 36) luma.now }
-    requires colour_small { All (λ v. unsigned_abs v ≤ 2 ^ 36) colour.now }
+    requires luma_small { All (λ v. unsigned_abs v ≤ MAX_MAGNITUDE) luma.now }
+    requires colour_small { All (λ v. unsigned_abs v ≤ MAX_MAGNITUDE) colour.now }
     requires need { luma_need ≡ need luma.now }
     requires fits { fits (length bytes.old) (record { luma = luma.now; colour = colour.now }) ≡ true }
     ensures { bits_of bytes.new ≡ slice_bits (length bytes.old) index (record { luma = luma.now; colour = colour.now }) }
@@ -58,7 +59,7 @@ pub fn put_slice(bytes: &mut [u8], index: u32, luma_need: u64, luma: &[i64], col
     let middle = 7 + u64::from(m) + luma_need;
     let end = 8 * bytes.len() as u64;
     let head = put_head(bytes, index, m, luma_need);
-    let front = put_block(bytes, head, luma_need, luma);
-    let front = put_block(bytes, front, end - middle, colour);
-    store_rest(bytes, front);
+    let queue = put_block(bytes, head, luma_need, luma);
+    let queue = put_block(bytes, queue, end - middle, colour);
+    store_rest(bytes, queue);
 }

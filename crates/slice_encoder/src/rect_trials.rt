@@ -1,5 +1,6 @@
 // The lowest subband of a slice, restored as a reader will restore it.
 
+ghost use Rattle.planes.specs.declared.TheConstants.{MAX_MAGNITUDE};
 ghost use Rattle.std.specs.Prelude.{◌≡◌, ◌+◌, ◌*◌, ◌^◌, ◌≤◌, unsigned_abs};
 ghost use Rattle.planes.specs.Numbers.{Within};
 ghost use Rattle.planes.specs.Raster.{at};
@@ -17,7 +18,7 @@ pub fn residual(coefficient: i64, prediction: i64, index: u32) -> i64
     requires coefficient_small { Within (2 ^ 27) coefficient }
     requires prediction_small { Within (3 * 2 ^ 27 + 2) prediction }
     ensures value { result ≡ residual_of coefficient index prediction }
-    ensures small { unsigned_abs result ≤ 2 ^ 36 }
+    ensures small { unsigned_abs result ≤ MAX_MAGNITUDE }
 {
     forward(coefficient - prediction, index)
 }

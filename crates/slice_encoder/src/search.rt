@@ -3,21 +3,22 @@
 ghost use Rattle.std.specs.Prelude.{◌≡◌, ◌+◌, ◌*◌, ◌^◌, ◌<◌, ◌≤◌, max, length};
 ghost use Rattle.slice_encoder.specs.Choice.{IsLeast};
 ghost use Rattle.slice_geometry.specs.Slicing.{slice_bytes, slice_number};
-ghost use Rattle.slice_encoder.specs.Laws.{IsSteepOk};
+ghost use Rattle.slice_encoder.specs.TrialLaws.{IsSteepOk};
 ghost use Rattle.slice_encoder.specs.Tries.{AreTried, tried_lists};
 ghost use Rattle.slice_encoder.specs.Buffers.{HasRoom, Holds};
 ghost use Rattle.slice_encoder.specs.GatheredSlices.{AreAllGathered};
-ghost use Rattle.slice_encoder.specs.Restored.{WasTried, HoldsWhatWasTried};
-ghost use Rattle.slice_encoder.specs.Ready.{coded_picture, AreReady};
+ghost use Rattle.slice_encoder.specs.RestoredSlice.{WasTried, HoldsWhatWasTried};
+ghost use Rattle.slice_encoder.specs.Jobs.{picture_of};
+ghost use Rattle.slice_encoder.specs.Ready.{AreReady};
 
 use crate::candidates::find_first;
 use crate::fitting::do_fit;
 use crate::gathered::GatheredSlice;
+use crate::jobs::SliceJob;
 use crate::needs::need_of_values;
 use crate::trying::{list_colour, list_luma, try_lowest};
-use planes::{ThreePlanes, Trio};
-use quant_factors::Matrix;
-use slice_geometry::{Layout, PictureShape};
+use planes::ThreePlanes;
+use slice_geometry::Layout;
 
 /// How many values of luma and of colour a trial listed, what they need, and whether they fit.
 #[derive(Clone, Copy)]
@@ -27,6 +28,14 @@ pub struct Trying {
     pub luma_need: u64,
     pub colour_need: u64,
     pub fits: bool,
+}
+
+/// The least index that fits and its trial, and the first index that may have fitted.
+#[derive(Clone, Copy)]
+pub struct Found {
+    pub first: u32,
+    pub index: u32,
+    pub trying: Trying,
 }
 
 // The bytes of a slice.
@@ -41,49 +50,33 @@ pub fn share_of(layout: &Layout, sx: u32, sy: u32) -> u32
 }
 
 // Restores the slice's places of the lowest subbands at an index.
-fn restore_lowest(
-    layout: &Layout,
-    shape: &PictureShape,
-    matrix: &Matrix,
-    sx: u32,
-    sy: u32,
-    index: u32,
-    coefficients: &Trio,
-    kept: &mut ThreePlanes,
-)
+fn restore_lowest(job: SliceJob<'_>, index: u32, kept: &mut ThreePlanes)
     requires index { index ≤ 127 }
-    requires ready { AreReady (coded_picture layout.now shape.now matrix.now coefficients.now) sx sy kept.old }
-    ensures { AreTried (coded_picture layout.now shape.now matrix.now coefficients.now) sx sy index kept.old kept.new }
+    requires ready { AreReady (picture_of job) job.sx job.sy kept.old }
+    ensures { AreTried (picture_of job.entry) job.entry.sx job.entry.sy index kept.old kept.new }
 {
+    let shape = job.shape;
+    let coefficients = job.coefficients;
     try_lowest(
-        layout,
+        job,
         shape.luma,
         shape.luma_depth,
-        matrix,
-        sx,
-        sy,
         index,
         &coefficients.luma,
         &mut kept.luma,
     );
     try_lowest(
-        layout,
+        job,
         shape.colour,
         shape.colour_depth,
-        matrix,
-        sx,
-        sy,
         index,
         &coefficients.c1,
         &mut kept.c1,
     );
     try_lowest(
-        layout,
+        job,
         shape.colour,
         shape.colour_depth,
-        matrix,
-        sx,
-        sy,
         index,
         &coefficients.c2,
         &mut kept.c2,
@@ -92,14 +85,9 @@ fn restore_lowest(
 
 // Lists the values of a slice that is restored at an index, and counts what they need.
 fn list_and_count(
-    layout: &Layout,
-    shape: &PictureShape,
-    matrix: &Matrix,
-    sx: u32,
-    sy: u32,
+    job: SliceJob<'_>,
     index: u32,
     bytes: u32,
-    coefficients: &Trio,
     gathered: &GatheredSlice,
     kept: &ThreePlanes,
     luma: &mut [i64],
@@ -108,36 +96,14 @@ fn list_and_count(
     requires index { index ≤ 127 }
     requires some { 1 ≤ bytes }
     requires most { bytes ≤ 2 ^ 28 }
-    requires restored { WasTried (coded_picture layout.now shape.now matrix.now coefficients.now) sx sy index kept.now }
-    requires gathered { AreAllGathered (coded_picture layout.now shape.now matrix.now coefficients.now) sx sy gathered.now }
-    requires room { HasRoom (coded_picture layout.now shape.now matrix.now coefficients.now) sx sy (length luma.old) (length colour.old) }
-    ensures { HoldsWhatWasTried (coded_picture layout.now shape.now matrix.now coefficients.now) sx sy index kept.now bytes result luma.new colour.new }
+    requires restored { WasTried (picture_of job) job.sx job.sy index kept.now }
+    requires gathered { AreAllGathered (picture_of job) job.sx job.sy gathered.now }
+    requires room { HasRoom (picture_of job) job.sx job.sy (length luma.old) (length colour.old) }
+    ensures { HoldsWhatWasTried (picture_of job.entry) job.entry.sx job.entry.sy index kept.now bytes result luma.new colour.new }
 {
-    let _depth = layout.depth();
-    let lumas = list_luma(
-        layout,
-        shape.luma,
-        matrix,
-        sx,
-        sy,
-        index,
-        &coefficients.luma,
-        &gathered.luma,
-        &kept.luma,
-        luma,
-    );
-    let colours = list_colour(
-        layout,
-        shape.colour,
-        matrix,
-        sx,
-        sy,
-        index,
-        coefficients,
-        gathered,
-        kept,
-        colour,
-    );
+    let _depth = job.layout.depth();
+    let lumas = list_luma(job, index, &gathered.luma, &kept.luma, luma);
+    let colours = list_colour(job, index, gathered, kept, colour);
     let luma_need = need_of_values(&luma[..lumas]);
     let colour_need = need_of_values(&colour[..colours]);
     Trying {
@@ -151,14 +117,9 @@ fn list_and_count(
 
 // Tries one index: its restored values are kept, and its values listed and counted.
 pub fn try_at(
-    layout: &Layout,
-    shape: &PictureShape,
-    matrix: &Matrix,
-    sx: u32,
-    sy: u32,
+    job: SliceJob<'_>,
     index: u32,
     bytes: u32,
-    coefficients: &Trio,
     gathered: &GatheredSlice,
     kept: &mut ThreePlanes,
     luma: &mut [i64],
@@ -167,88 +128,53 @@ pub fn try_at(
     requires index { index ≤ 127 }
     requires some { 1 ≤ bytes }
     requires most { bytes ≤ 2 ^ 28 }
-    requires ready { AreReady (coded_picture layout.now shape.now matrix.now coefficients.now) sx sy kept.old }
-    requires gathered { AreAllGathered (coded_picture layout.now shape.now matrix.now coefficients.now) sx sy gathered.now }
-    requires room { HasRoom (coded_picture layout.now shape.now matrix.now coefficients.now) sx sy (length luma.old) (length colour.old) }
-    ensures holds { Holds (tried_lists (coded_picture layout.now shape.now matrix.now coefficients.now) kept.old sx sy index) bytes result luma.new colour.new }
-    ensures kept { AreTried (coded_picture layout.now shape.now matrix.now coefficients.now) sx sy index kept.old kept.new }
+    requires ready { AreReady (picture_of job) job.sx job.sy kept.old }
+    requires gathered { AreAllGathered (picture_of job) job.sx job.sy gathered.now }
+    requires room { HasRoom (picture_of job) job.sx job.sy (length luma.old) (length colour.old) }
+    ensures holds { Holds (tried_lists (picture_of job.entry) kept.old job.entry.sx job.entry.sy index) bytes result luma.new colour.new }
+    ensures kept { AreTried (picture_of job.entry) job.entry.sx job.entry.sy index kept.old kept.new }
 {
-    restore_lowest(layout, shape, matrix, sx, sy, index, coefficients, kept);
-    list_and_count(
-        layout,
-        shape,
-        matrix,
-        sx,
-        sy,
-        index,
-        bytes,
-        coefficients,
-        gathered,
-        kept,
-        luma,
-        colour,
-    )
+    restore_lowest(job, index, kept);
+    list_and_count(job, index, bytes, gathered, kept, luma, colour)
 }
 
 // Tries the indices from the first candidate on, and keeps the trial of the first that fits.
 pub fn find_least(
-    layout: &Layout,
-    shape: &PictureShape,
-    matrix: &Matrix,
-    sx: u32,
-    sy: u32,
+    job: SliceJob<'_>,
     bytes: u32,
-    coefficients: &Trio,
     gathered: &GatheredSlice,
     near: u32,
     kept: &mut ThreePlanes,
     luma: &mut [i64],
     colour: &mut [i64],
-) -> (u32, Trying)
+) -> Found
     requires some { 1 ≤ bytes }
     requires most { bytes ≤ 2 ^ 28 }
-    requires ready { AreReady (coded_picture layout.now shape.now matrix.now coefficients.now) sx sy kept.old }
-    requires gathered { AreAllGathered (coded_picture layout.now shape.now matrix.now coefficients.now) sx sy gathered.now }
+    requires ready { AreReady (picture_of job) job.sx job.sy kept.old }
+    requires gathered { AreAllGathered (picture_of job) job.sx job.sy gathered.now }
     requires near { near ≤ 127 }
-    requires steep { IsSteepOk layout.now.depth (max shape.now.luma_depth shape.now.colour_depth) matrix.now }
-    requires room { HasRoom (coded_picture layout.now shape.now matrix.now coefficients.now) sx sy (length luma.old) (length colour.old) }
-    ensures least { IsLeast bytes (tried_lists (coded_picture layout.now shape.now matrix.now coefficients.now) kept.old sx sy) result.0 }
-    ensures holds { Holds (tried_lists (coded_picture layout.now shape.now matrix.now coefficients.now) kept.old sx sy result.0) bytes result.1 luma.new colour.new }
-    ensures kept { AreTried (coded_picture layout.now shape.now matrix.now coefficients.now) sx sy result.0 kept.old kept.new }
+    requires steep { IsSteepOk job.layout.now.depth (max job.shape.now.luma_depth job.shape.now.colour_depth) job.matrix.now }
+    requires room { HasRoom (picture_of job) job.sx job.sy (length luma.old) (length colour.old) }
+    ensures near { result.first ≤ 127 }
+    ensures least { IsLeast bytes (tried_lists (picture_of job.entry) kept.old job.entry.sx job.entry.sy) result.index }
+    ensures holds { Holds (tried_lists (picture_of job.entry) kept.old job.entry.sx job.entry.sy result.index) bytes result.trying luma.new colour.new }
+    ensures kept { AreTried (picture_of job.entry) job.entry.sx job.entry.sy result.index kept.old kept.new }
 {
-    let first = find_first(gathered, matrix, bytes, near);
+    let first = find_first(gathered, job.matrix, bytes, near);
     for index in first..127 {
-        let trying = try_at(
-            layout,
-            shape,
-            matrix,
-            sx,
-            sy,
-            index,
-            bytes,
-            coefficients,
-            gathered,
-            kept,
-            luma,
-            colour,
-        );
+        let trying = try_at(job, index, bytes, gathered, kept, luma, colour);
         if trying.fits {
-            return (index, trying);
+            return Found {
+                first,
+                index,
+                trying,
+            };
         }
     }
-    let trying = try_at(
-        layout,
-        shape,
-        matrix,
-        sx,
-        sy,
-        127,
-        bytes,
-        coefficients,
-        gathered,
-        kept,
-        luma,
-        colour,
-    );
-    (127, trying)
+    let trying = try_at(job, 127, bytes, gathered, kept, luma, colour);
+    Found {
+        first,
+        index: 127,
+        trying,
+    }
 }

@@ -1,7 +1,7 @@
 // The codes of small values, by a look-up.
 
 ghost use Rattle.std.specs.Prelude.{◌<◌, ◌-ℤ◌, pos, unsigned_abs};
-ghost use Rattle.slice_encoder.specs.Fronts.{IsTextOf};
+ghost use Rattle.slice_encoder.specs.BitQueues.{IsTextOf};
 
 /// The last `length` binary digits of a number are a text.
 #[derive(Clone, Copy, Debug, PartialEq, Eq)]

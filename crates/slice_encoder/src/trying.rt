@@ -1,10 +1,12 @@
 // One index tried.
 
-ghost use Rattle.std.specs.Prelude.{◌≡◌, ℕ, ◌+◌, ◌*◌, ◌^◌, ◌<◌, ◌≤◌, length, take};
+ghost use Rattle.std.specs.Prelude.{◌≡◌, ℕ, ◌+◌, ◌*◌, ◌<◌, ◌≤◌, length, take};
 ghost use Rattle.planes.specs.Subbands.{orient_number};
 ghost use Rattle.planes.specs.Raster.{at};
 ghost use Rattle.slice_geometry.specs.SliceOrder.{level_of, orient_of};
-ghost use Rattle.slice_encoder.specs.Trials.{luma_list, colour_list};
+ghost use Rattle.slice_encoder.specs.Jobs.{picture_of};
+ghost use Rattle.slice_encoder.specs.GatheredSlices.{AreAllGathered};
+ghost use Rattle.slice_encoder.specs.Trials.{luma_of, c1_of, c2_of, luma_list, colour_list};
 ghost use Rattle.slice_encoder.specs.Buffers.{CanListAll};
 ghost use Rattle.slice_geometry.specs.Shape.{IsSize, IsDepth};
 ghost use Rattle.slice_encoder.specs.Tries.{IsTried};
@@ -13,21 +15,18 @@ ghost use Rattle.slice_encoder.specs.Ready.{IsReady};
 ghost use Rattle.slice_encoder.specs.Gathering.{AreGathered};
 
 use crate::gathered::{Gathered, GatheredSlice};
+use crate::jobs::SliceJob;
 use crate::listing::{list_pair, list_rect};
 use crate::rect_trials::try_rect;
-use planes::{Bands, Orient, Plane, ThreePlanes, Trio};
-use quant_factors::Matrix;
-use slice_geometry::{Layout, Size};
+use planes::{Bands, Orient, Plane, ThreePlanes};
+use slice_geometry::Size;
 
 // Restores the slice's places of one component at an index. The depth of its samples bounds the coefficients, in the
 // contract alone.
 pub fn try_lowest(
-    layout: &Layout,
+    job: SliceJob<'_>,
     size: Size,
     sample_depth: u32,
-    matrix: &Matrix,
-    sx: u32,
-    sy: u32,
     index: u32,
     coefficients: &Bands,
     kept: &mut Plane,
@@ -35,16 +34,16 @@ pub fn try_lowest(
     requires index { index ≤ 127 }
     requires size { IsSize size.w size.h }
     requires bits { IsDepth sample_depth }
-    requires across { sx < layout.now.slices_x }
-    requires down { sy < layout.now.slices_y }
-    requires entries { matrix.now.depth ≡ layout.now.depth }
-    requires ready { IsReady (coded_component layout.now size matrix.now coefficients.now) sample_depth sx sy kept.old }
-    ensures { IsTried (coded_component layout.now size matrix.now coefficients.now) sx sy index kept.old kept.new }
+    requires across { job.sx < job.layout.now.slices_x }
+    requires down { job.sy < job.layout.now.slices_y }
+    requires entries { job.matrix.now.depth ≡ job.layout.now.depth }
+    requires ready { IsReady (coded_component job.layout.now size job.matrix.now coefficients.now) sample_depth job.sx job.sy kept.old }
+    ensures { IsTried (coded_component job.entry.layout.now size job.entry.matrix.now coefficients.now) job.entry.sx job.entry.sy index kept.old kept.new }
 {
     let _ = sample_depth;
-    let _depth = layout.depth();
-    let rect = layout.band_rect(size, 0, sx, sy);
-    let quantiser = matrix.quantiser(index, 0, Orient::Ll);
+    let _depth = job.layout.depth();
+    let rect = job.layout.band_rect(size, 0, job.sx, job.sy);
+    let quantiser = job.matrix.quantiser(index, 0, Orient::Ll);
     try_rect(coefficients.band(0, 0), kept, rect, quantiser);
 }
 
@@ -71,79 +70,59 @@ pub fn orient_numbered(number: u32) -> Orient
     }
 }
 
-// Lists the slice's values of one component, and tells how many they are.
+// Lists the slice's luma values, and tells how many they are.
 pub fn list_luma(
-    layout: &Layout,
-    size: Size,
-    matrix: &Matrix,
-    sx: u32,
-    sy: u32,
+    job: SliceJob<'_>,
     index: u32,
-    coefficients: &Bands,
     gathered: &Gathered,
     kept: &Plane,
     out: &mut [i64],
 ) -> usize
     requires index { index ≤ 127 }
-    requires size { IsSize size.w size.h }
-    requires across { sx < layout.now.slices_x }
-    requires down { sy < layout.now.slices_y }
-    requires entries { matrix.now.depth ≡ layout.now.depth }
-    requires depth { coefficients.now.depth ≡ layout.now.depth }
-    requires can { CanListAll (coded_component layout.now size matrix.now coefficients.now) sx sy kept.now }
-    requires gathered { AreGathered layout.now size coefficients.now sx sy gathered.now }
-    requires room { length (luma_list (coded_component layout.now size matrix.now coefficients.now) (at kept.now) index sx sy) ≤ length out.old }
+    requires across { job.sx < job.layout.now.slices_x }
+    requires down { job.sy < job.layout.now.slices_y }
+    requires entries { job.matrix.now.depth ≡ job.layout.now.depth }
+    requires depth { job.coefficients.now.luma.depth ≡ job.layout.now.depth }
+    requires can { CanListAll (luma_of (picture_of job)) job.sx job.sy kept.now }
+    requires gathered { AreGathered job.layout.now job.shape.now.luma job.coefficients.now.luma job.sx job.sy gathered.now }
+    requires room { length (luma_list (luma_of (picture_of job)) (at kept.now) index job.sx job.sy) ≤ length out.old }
     ensures most { result ≤ length out.old }
-    ensures listed { take result out.new ≡ luma_list (coded_component layout.now size matrix.now coefficients.now) (at kept.now) index sx sy }
+    ensures listed { take result out.new ≡ luma_list (luma_of (picture_of job.entry)) (at kept.now) index job.entry.sx job.entry.sy }
 {
-    let rect = layout.band_rect(size, 0, sx, sy);
-    let quantiser = matrix.quantiser(index, 0, Orient::Ll);
-    list_rect(coefficients.band(0, 0), kept, 0, rect, quantiser, out, 0);
-    gathered.list(matrix, index, out)
+    let rect = job.layout.band_rect(job.shape.luma, 0, job.sx, job.sy);
+    let quantiser = job.matrix.quantiser(index, 0, Orient::Ll);
+    let lowest = job.coefficients.luma.band(0, 0);
+    list_rect(lowest, kept, 0, rect, quantiser, out, 0);
+    gathered.list(job.matrix, index, out)
 }
 
-// Lists the slice's values of two components in turn, and tells how many they are.
+// Lists the slice's values of the two colour components in turn, and tells how many they are.
 pub fn list_colour(
-    layout: &Layout,
-    size: Size,
-    matrix: &Matrix,
-    sx: u32,
-    sy: u32,
+    job: SliceJob<'_>,
     index: u32,
-    coefficients: &Trio,
     gathered: &GatheredSlice,
     kept: &ThreePlanes,
     out: &mut [i64],
 ) -> usize
     requires index { index ≤ 127 }
-    requires size { IsSize size.w size.h }
-    requires across { sx < layout.now.slices_x }
-    requires down { sy < layout.now.slices_y }
-    requires entries { matrix.now.depth ≡ layout.now.depth }
-    requires first_depth { coefficients.now.c1.depth ≡ layout.now.depth }
-    requires second_depth { coefficients.now.c2.depth ≡ layout.now.depth }
-    requires first_can { CanListAll (coded_component layout.now size matrix.now coefficients.now.c1) sx sy kept.now.c1 }
-    requires second_can { CanListAll (coded_component layout.now size matrix.now coefficients.now.c2) sx sy kept.now.c2 }
-    requires first_gathered { AreGathered layout.now size coefficients.now.c1 sx sy gathered.now.c1 }
-    requires second_gathered { AreGathered layout.now size coefficients.now.c2 sx sy gathered.now.c2 }
-    requires room { length (colour_list (coded_component layout.now size matrix.now coefficients.now.c1) (coded_component layout.now size matrix.now coefficients.now.c2)
-        (at kept.now.c1) (at kept.now.c2) index sx sy) ≤ length out.old }
+    requires across { job.sx < job.layout.now.slices_x }
+    requires down { job.sy < job.layout.now.slices_y }
+    requires entries { job.matrix.now.depth ≡ job.layout.now.depth }
+    requires first_depth { job.coefficients.now.c1.depth ≡ job.layout.now.depth }
+    requires second_depth { job.coefficients.now.c2.depth ≡ job.layout.now.depth }
+    requires first_can { CanListAll (c1_of (picture_of job)) job.sx job.sy kept.now.c1 }
+    requires second_can { CanListAll (c2_of (picture_of job)) job.sx job.sy kept.now.c2 }
+    requires gathered { AreAllGathered (picture_of job) job.sx job.sy gathered.now }
+    requires room { length (colour_list (c1_of (picture_of job)) (c2_of (picture_of job)) (at kept.now.c1) (at kept.now.c2) index job.sx job.sy) ≤ length out.old }
     ensures most { result ≤ length out.old }
-    ensures listed { take result out.new ≡ colour_list (coded_component layout.now size matrix.now coefficients.now.c1) (coded_component layout.now size matrix.now coefficients.now.c2)
-        (at kept.now.c1) (at kept.now.c2) index sx sy }
+    ensures listed { take result out.new ≡ colour_list (c1_of (picture_of job.entry)) (c2_of (picture_of job.entry)) (at kept.now.c1) (at kept.now.c2) index job.entry.sx job.entry.sy }
 {
-    let rect = layout.band_rect(size, 0, sx, sy);
-    let quantiser = matrix.quantiser(index, 0, Orient::Ll);
+    let rect = job.layout.band_rect(job.shape.colour, 0, job.sx, job.sy);
+    let quantiser = job.matrix.quantiser(index, 0, Orient::Ll);
+    let first = job.coefficients.c1.band(0, 0);
+    let second = job.coefficients.c2.band(0, 0);
     list_pair(
-        coefficients.c1.band(0, 0),
-        coefficients.c2.band(0, 0),
-        &kept.c1,
-        &kept.c2,
-        0,
-        rect,
-        quantiser,
-        out,
-        0,
+        first, second, &kept.c1, &kept.c2, 0, rect, quantiser, out, 0,
     );
-    gathered.c1.list_pair(&gathered.c2, matrix, index, out)
+    gathered.c1.list_pair(&gathered.c2, job.matrix, index, out)
 }

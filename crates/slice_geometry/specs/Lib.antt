@@ -4,5 +4,5 @@ pub mod Slicing
 pub mod Geometry
 pub mod SliceOrder
 pub mod SliceLaws
-pub mod Units
+pub mod UnitLengths
 pub mod UnitsInside

@@ -1,7 +1,7 @@
 -- What is true of the fields of `UnitShapes`.
 use Rattle.std.specs.Prelude.{◌+◌, ◌^◌, ◌≤◌}
 use Rattle.std.specs.Vec.{vec_len, vec_capacity}
-use Rattle.slice_geometry.specs.Units.{StandInTurn}
+use Rattle.slice_geometry.specs.UnitLengths.{StandInTurn}
 use Rattle.slice_geometry.specs.declared.unit_list.UnitShapes.TheInside.{Inside}
 
 pub record IsSound (u : Inside) : Type 0 where

@@ -1,5 +1,5 @@
 ghost use Rattle.std.specs.Prelude.{◌≡◌, ◌+◌, ◌^◌, ◌<◌, ◌≤◌, [], ◌∷◌, ◌++◌, length, OnOk, slice_get, Some};
-ghost use Rattle.slice_geometry.specs.Units.{IsUnitAllowed, StandInTurn, unit_length};
+ghost use Rattle.slice_geometry.specs.UnitLengths.{IsUnitAllowed, StandInTurn, unit_length};
 
 use planes::NoMemory;
 use std::alloc::Global;
@@ -26,9 +26,9 @@ pub struct UnitShapes {
 }
 
 impl Model for UnitShapes {
-    ghost use Rattle.slice_geometry.specs.Units.{UnitList};
+    ghost use Rattle.slice_geometry.specs.UnitLengths.{UnitShapesSeen};
 
-    ghost Value = { UnitList };
+    ghost Value = { UnitShapesSeen };
 
     ghost use Rattle.slice_geometry.specs.UnitsInside.{IsSound};
 

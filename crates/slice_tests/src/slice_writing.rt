@@ -8,7 +8,7 @@ ghost use Rattle.planes.specs.Raster.{height, at};
 ghost use Rattle.quant_factors.specs.Weights.{Weights};
 ghost use Rattle.slice_geometry.specs.Shape.{IsSize};
 ghost use Rattle.slice_geometry.specs.SliceOrder.{level_of, orient_of};
-ghost use Rattle.slice_encoder.specs.Laws.{IsSteepOk};
+ghost use Rattle.slice_encoder.specs.TrialLaws.{IsSteepOk};
 ghost use Rattle.slice_encoder.specs.Ready.{coded_picture, IsReady, AreReady, AreGiven};
 ghost use Rattle.slice_encoder.specs.Buffers.{coded_component};
 

@@ -1,5 +1,6 @@
 -- Streams and refusals, as relations: a stream is units one after another, of which the last, and only it, is an end of sequence.
-use Rattle.std.specs.Prelude.{◌≡◌, ℕ, zero, suc, ◌+◌, ◌-◌, ◌*◌, ◌/◌, ◌^◌, ◌<◌, ◌≤◌, Bool, true, false, List, [], ◌∷◌, length, take, Result, Ok, Err, ◌⊎◌, if◌then◌else◌}
+use Rattle.std.specs.Prelude.{◌≡◌, ℕ, zero, suc, ◌+◌, ◌-◌, ◌*◌, ◌/◌, ◌<◌, ◌≤◌, Bool, true, false, List, [], ◌∷◌, length, take, Result, Ok, Err, ◌⊎◌, if◌then◌else◌}
+use Rattle.vc2_io.specs.declared.TheConstants.{INPUT_LIMIT}
 use Rattle.bit_codes.specs.Bits.{Cursor, bytes_of, cursor_at}
 use Rattle.field_rows.specs.Rows.{Value, Fault, read, and_then, is_nil}
 use Rattle.field_rows.specs.Standing.{Stand, IsRefused}
@@ -57,7 +58,7 @@ pub record IsRefusalFrom (z : Past) (c : Cursor) (es : List Entry) (fields : Lis
 
 -- An input counts up to this many bytes.
 abbrev pub limit : ℕ
-limit = 2 ^ 40
+limit = INPUT_LIMIT
 
 -- The bytes are a stream of these units and the last one.
 pub record IsStream (bytes : List ℕ) (es : List Entry) (last : Entry) : Type 0 where

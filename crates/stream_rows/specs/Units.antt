@@ -1,5 +1,6 @@
 -- The rows of a unit, after what earlier units leave.
 use Rattle.std.specs.Prelude.{ℕ, zero, suc, ◌+◌, ◌-◌, ◌*◌, ◌/◌, ◌%◌, ◌^◌, ◌&&◌, ◌||◌, not, Bool, true, false, List, [], ◌∷◌, ◌++◌, length, drop, Option, Some, None, is_some, nat_lt, nat_eq, ◌==◌}
+use Rattle.parse_info.specs.declared.TheConstants.{HEAD_SIZE}
 use Rattle.std.specs.List.{starts_with}
 use Rattle.bit_codes.specs.declared.CodeFault.{CodeFault}
 use Rattle.bit_codes.specs.declared.CodeFault.TheVariants as codes
@@ -119,8 +120,8 @@ code_rules z code =
 
 abbrev pub next_rules : Code → ℕ → List (Rule Reason)
 next_rules code next =
-    (not (is_skipped code && nat_lt next 13) or_else reasons.OffsetShort)
-    ∷ ((not (is_end_code code) || next == 0 || next == 13) or_else reasons.OffsetWrong) ∷ []
+    (not (is_skipped code && nat_lt next HEAD_SIZE) or_else reasons.OffsetShort)
+    ∷ ((not (is_end_code code) || next == 0 || next == HEAD_SIZE) or_else reasons.OffsetWrong) ∷ []
 
 abbrev pub number_rules : Past → ℕ → List (Rule Reason)
 number_rules z number =
@@ -189,7 +190,7 @@ picture_payload z next parts = do
 -- the payload of auxiliary data and padding, whatever it is
 unfoldable pub skipped_payload : ℕ → Rows Reason DataUnit
 skipped_payload next = do
-  payload ← bytes_under (next - 13) (λ bytes. [])
+  payload ← bytes_under (next - HEAD_SIZE) (λ bytes. [])
   done Skipped
 
 -- the payload of each kind behind the first sequence header
@@ -222,7 +223,7 @@ abbrev pub after : Past → DataUnit → List ℕ → Past
 after z (Sequence parts) bytes = record {
   place = z.place + length bytes;
   previous = length bytes;
-  first = Some (record { parts = parts; payload = drop 13 bytes });
+  first = Some (record { parts = parts; payload = drop HEAD_SIZE bytes });
   pictures = z.pictures;
   last = z.last;
 }

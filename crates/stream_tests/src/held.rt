@@ -41,11 +41,16 @@ fn read_held(
     )
 }
 
-/// Reads whole, and a byte a read.
-fn read_twice(rt: &impl Abort, alloc: Global, bytes: &[u8], calls: &[Call]) -> Result<(), Fail> {
-    let ones = vec![in alloc; 1; bytes.len()]?;
-    read_held(rt, alloc, bytes, WHOLE, calls)?;
-    read_held(rt, alloc, bytes, ones.as_slice(), calls)
+/// Reads so many bytes a read.
+fn read_pieces(
+    rt: &impl Abort,
+    alloc: Global,
+    bytes: &[u8],
+    piece: usize,
+    calls: &[Call],
+) -> Result<(), Fail> {
+    let pieces = vec![in alloc; piece; bytes.len()]?;
+    read_held(rt, alloc, bytes, pieces.as_slice(), calls)
 }
 
 /// Auxiliary data with a payload of a million bytes between the header and a picture.
@@ -56,16 +61,27 @@ const LONG: [Call; 4] = [
     (Ok(Item::End), 1000064, WINDOW),
 ];
 
-/// A payload that is skipped is never held.
-#[test]
-fn a_million_bytes_are_skipped(rt: HostRuntime) -> Result<(), Fail> {
+/// The stream of these units.
+fn long_payload(alloc: Global) -> Result<Vec<u8>, Fail> {
     let front: [&[u8]; 2] = [HEADER, b"BBCD\x20\x00\x0F\x42\x4D\x00\x00\x00\x11"];
     let back: [&[u8]; 2] = [
         b"BBCD\xC8\x00\x00\x00\x15\x00\x0F\x42\x4D\x00\x00\x00\x00\x0C\x92\x70\x01",
         b"BBCD\x10\x00\x00\x00\x00\x00\x00\x00\x15",
     ];
-    let bytes = repeated(rt.alloc(), &front, &[0; 8], 125000, &back)?;
-    read_twice(&rt, rt.alloc(), bytes.as_slice(), &LONG)
+    repeated(alloc, &front, &[0; 8], 125000, &back)
+}
+
+/// A payload that is skipped is never held.
+#[test]
+fn a_million_bytes_are_skipped(rt: HostRuntime) -> Result<(), Fail> {
+    let bytes = long_payload(rt.alloc())?;
+    read_held(&rt, rt.alloc(), bytes.as_slice(), WHOLE, &LONG)
+}
+
+#[test]
+fn a_million_bytes_are_skipped_one_by_one(rt: HostRuntime) -> Result<(), Fail> {
+    let bytes = long_payload(rt.alloc())?;
+    read_pieces(&rt, rt.alloc(), bytes.as_slice(), 1, &LONG)
 }
 
 /// A picture of one slice of 2^20 bytes: its head, its parameters, and the first bytes of the slice, whose values are 0.
@@ -87,7 +103,8 @@ const TAKEN: [Call; 3] = [
 fn a_share_of_a_million_bytes(rt: HostRuntime) -> Result<(), Fail> {
     let end: [&[u8]; 1] = [b"BBCD\x10\x00\x00\x00\x00\x00\x10\x00\x19"];
     let bytes = repeated(rt.alloc(), &WIDE, &[0xFF; 4], (SHARE - 4) / 4, &end)?;
-    read_twice(&rt, rt.alloc(), bytes.as_slice(), &TAKEN)
+    read_held(&rt, rt.alloc(), bytes.as_slice(), WHOLE, &TAKEN)?;
+    read_pieces(&rt, rt.alloc(), bytes.as_slice(), 1000, &TAKEN)
 }
 
 /// The slice is cut short.
@@ -99,7 +116,8 @@ fn a_share_that_is_cut(rt: HostRuntime) -> Result<(), Fail> {
         (refused(42, Reason::Truncated), 17, WINDOW + SHARE),
         (refused(42, Reason::Truncated), 17, WINDOW + SHARE),
     ];
-    read_twice(&rt, rt.alloc(), bytes.as_slice(), &calls)
+    read_held(&rt, rt.alloc(), bytes.as_slice(), WHOLE, &calls)?;
+    read_pieces(&rt, rt.alloc(), bytes.as_slice(), 1000, &calls)
 }
 
 /// Parameters ask for a slice of 2^28 bytes, and three bytes follow.
@@ -114,5 +132,6 @@ fn a_share_that_never_comes(rt: HostRuntime) -> Result<(), Fail> {
         (Ok(Item::Sequence), 17, WINDOW),
         (refused(44, Reason::Truncated), 17, 3),
     ];
-    read_twice(&rt, rt.alloc(), bytes.as_slice(), &calls)
+    read_held(&rt, rt.alloc(), bytes.as_slice(), WHOLE, &calls)?;
+    read_pieces(&rt, rt.alloc(), bytes.as_slice(), 1, &calls)
 }

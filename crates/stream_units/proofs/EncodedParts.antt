@@ -19,8 +19,8 @@ use Rattle.sequence_header.specs.Checking as checking
 use Rattle.sequence_header.proofs.WroteText.{header_back}
 use Rattle.transform_params.specs.Params as params
 use Rattle.transform_params.specs.Params.{Params, params_rows}
-use Rattle.transform_params.specs.Fields as written_params
-use Rattle.transform_params.specs.Fields.{byte_length, params_bytes, IsLawful}
+use Rattle.transform_params.specs.ParameterFields as written_params
+use Rattle.transform_params.specs.ParameterFields.{byte_length, params_bytes, IsLawful}
 use Rattle.transform_params.proofs.WrittenBack.{written_back}
 use Rattle.unit_table.specs.Grammar.{bytes_at}
 use Rattle.unit_table.specs.Begun.{Moves}
@@ -32,7 +32,7 @@ use Rattle.stream_units.specs.Heads.{leads_behind}
 use Rattle.stream_rows.proofs.Groups.{group_moves}
 use Rattle.stream_rows.proofs.UnitGroups.{params_group}
 use Rattle.stream_units.proofs.HeadRows.{payload_is, read-checked_unit}
-use Rattle.stream_units.specs.Encoded.{AreSlices}
+use Rattle.stream_units.specs.EncodedStream.{AreSlices}
 use Rattle.stream_units.proofs.EncodedPieces.{moves_then, moves_none, moves_word, moves_bytes, moves_code}
 
 -- ---- the head

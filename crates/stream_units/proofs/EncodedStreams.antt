@@ -22,8 +22,8 @@ use Rattle.sequence_header.specs.declared.parts.HeaderParts.{HeaderParts}
 use Rattle.sequence_header.specs.Bytes.{header_len, header_text, header_bytes}
 use Rattle.sequence_header.proofs.Bounds.{header_short}
 use Rattle.transform_params.specs.Params.{Params}
-use Rattle.transform_params.specs.Fields as written_params
-use Rattle.transform_params.specs.Fields.{bit_length, unit_length, params_bytes, IsLawful}
+use Rattle.transform_params.specs.ParameterFields as written_params
+use Rattle.transform_params.specs.ParameterFields.{bit_length, unit_length, params_bytes, IsLawful}
 use Rattle.unit_table.specs.Grammar.{Inner, ends_by, tail_rows, bytes_at}
 use Rattle.unit_table.specs.Begun.{Moves}
 use Rattle.stream_rows.specs.declared.reason.Reason.TheVariants as reasons
@@ -32,7 +32,7 @@ use Rattle.stream_rows.specs.Streams.{bytes_between, Entry, Units, IsStreamFrom,
 use Rattle.stream_units.specs.StreamPictures.{pictures_of}
 use Rattle.picture_codec.specs.Samples.{picture_of}
 use Rattle.picture_codec.specs.Encoding.{picture_bytes}
-use Rattle.stream_units.specs.Encoded.{header_unit, picture_unit, end_unit, number_after, units_behind, Settings, encoded, pictures_under, units_of, AreSlices, IsSliced, AreLawful, IsStreamOf}
+use Rattle.stream_units.specs.EncodedStream.{header_unit, picture_unit, end_unit, number_after, units_behind, Settings, encoded, pictures_under, units_of, AreSlices, IsSliced, AreLawful, IsStreamOf}
 use Rattle.transform_params.proofs.Bounds.{unit_small}
 use Rattle.stream_units.proofs.EncodedUnits.{length-header_unit, length-picture_unit, moves_header_unit, moves_picture_unit, moves_end_unit}
 

@@ -15,12 +15,12 @@ use Rattle.sequence_header.specs.Checking as checking
 use Rattle.slice_geometry.specs.Slicing.{slice_count, bytes_before, total_bytes}
 use Rattle.slice_geometry.proofs.Shares.{bytes_before-rises, bytes_before-zero}
 use Rattle.transform_params.specs.Params.{Params, params_rows}
-use Rattle.transform_params.specs.Fields.{fields_of, byte_length, unit_length, params_bytes, IsLawful}
+use Rattle.transform_params.specs.ParameterFields.{fields_of, byte_length, unit_length, params_bytes, IsLawful}
 use Rattle.unit_table.specs.Begun.{Moves}
 use Rattle.stream_rows.specs.declared.reason.Reason.{Reason}
 use Rattle.stream_rows.specs.Units.{First, Past, nothing_yet, DataUnit, Sequence, Picture, End, transform_reason, code_rules, number_rules, slice_rows, next_checked, picture_payload, payload_of, payload_rows, body_rows, units}
 use Rattle.picture_codec.specs.Encoding.{picture_bytes}
-use Rattle.stream_units.specs.Encoded.{header_unit, picture_unit, end_unit, AreSlices, IsSliced}
+use Rattle.stream_units.specs.EncodedStream.{header_unit, picture_unit, end_unit, AreSlices, IsSliced}
 use Rattle.stream_units.proofs.EncodedPieces.{moves_then, moves_none, moves_word}
 use Rattle.stream_units.proofs.EncodedParts.{moves_head, moves_header, moves_checked, moves_params, moves_slices}
 

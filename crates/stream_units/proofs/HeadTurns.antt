@@ -18,7 +18,7 @@ use Rattle.stream_rows.specs.declared.reason.Refusal.{Refusal}
 use Rattle.stream_rows.specs.Units.{reason_of, is_truncated}
 use Rattle.stream_rows.specs.Streams.{refusal_of}
 use Rattle.stream_units.specs.Heads.{HeadAt}
-use Rattle.stream_units.proofs.Stopping.{IsTable, truncated, not_truncated}
+use Rattle.stream_units.proofs.Reasons.{IsTable, truncated, not_truncated}
 
 -- a head that stands in the first 13 of the bytes that are held
 pub head_stands : {Z U : Type 0} {place : ℕ} {g : Grammar Z Reason U} {z : Z} {held0 held1 : List ℕ} {rest0 rest1 : Option (List ℕ)} (table : IsTable g) (head : Rows Reason ParseInfo) (others : ParseInfo → Rows Reason U) (front still : List ℕ) (info : ParseInfo) → IsSteady head

@@ -1,9 +1,9 @@
-pub mod Gets
-pub mod Stopping
+pub mod Reasons
 pub mod HeadRows
 pub mod HeadTurns
-pub mod AloneRows
-pub mod AloneTurns
+pub mod HeadOnlyRows
+pub mod HeadOnlyTurns
+pub mod HeadReads
 pub mod Before
 pub mod FirstUnits
 pub mod PartTurns
@@ -11,8 +11,8 @@ pub mod HeaderTurns
 pub mod PictureTurns
 pub mod Ready
 pub mod UnitTurns
-pub mod Taking
 pub mod ReaderTurns
+pub mod StreamReads
 pub mod Judges
 pub mod EncodedPieces
 pub mod EncodedParts
@@ -25,7 +25,5 @@ pub mod WriterCalls
 pub mod WrittenSlices
 pub mod EncodedPictures
 pub mod SameShapes
-pub mod Refills
 pub mod HeldTurns
-pub mod HeldCalls
 pub mod WorkedHeld

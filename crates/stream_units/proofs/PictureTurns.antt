@@ -28,7 +28,7 @@ use Rattle.slice_decoder.specs.Slice.{slice_at, is_small}
 use Rattle.slice_decoder.specs.Decoded.{IsRefused}
 use Rattle.slice_geometry.specs.Frames.{Frame, frame_of}
 use Rattle.picture_codec.specs.Samples.{picture_of}
-use Rattle.picture_codec.specs.Decoding.{Decoding, HasTaken, IsTaken, IsSliceRefused, stack_of, wanted_of, column_of, row_of_slices, next_slice, synthesised_picture}
+use Rattle.picture_codec.specs.Decoding.{PictureDecoderSeen, HasTaken, IsTaken, IsSliceRefused, stack_of, wanted_of, column_of, row_of_slices, next_slice, synthesised_picture}
 use Rattle.picture_codec.proofs.Taking.{took_none, took_more}
 use Rattle.picture_codec.proofs.Steps.{column_in, number_is}
 use Rattle.unit_table.specs.Grammar.{bytes_at}
@@ -37,19 +37,20 @@ use Rattle.unit_table.proofs.Begins.{begun_held, begun_use, begun_same}
 use Rattle.unit_table.proofs.Fields.{needs_row, moves_row, short_row, broken_row, all_fit}
 use Rattle.stream_rows.specs.declared.reason.Reason.{Reason}
 use Rattle.stream_rows.specs.declared.reason.Reason.TheVariants as reasons
-use Rattle.stream_units.specs.declared.stop.ReadStop.{ReadStop}
-use Rattle.stream_units.specs.declared.stop.ReadStop.TheVariants as stops
-use Rattle.stream_units.specs.declared.window.Halt.{Halt}
+use Rattle.unit_reader.specs.declared.stop.ReadStop.{ReadStop}
+use Rattle.unit_reader.specs.declared.stop.ReadStop.TheVariants as stops
+use Rattle.unit_reader.specs.declared.window.Halt.{Halt}
 use Rattle.stream_rows.specs.Units.{is_truncated, Past, DataUnit, units, reason_of, transform_reason, has_fields, number_rules, share, slice_rules, slice_rows, next_checked, picture_payload, Picture}
 use Rattle.stream_rows.specs.Streams.{limit, frame_under}
 use Rattle.stream_units.specs.Heads.{leads_behind}
 use Rattle.stream_units.specs.declared.pictures.Shown.{Shown}
 use Rattle.stream_units.specs.Turns.{Takes, IsShown, Shows}
-use Rattle.stream_units.specs.Stops.{stop_of, StopsOver}
-use Rattle.stream_units.specs.Parts.{IsReady, TookSlices, slice_reason}
+use Rattle.unit_reader.specs.Stops.{stop_of, StopsOver}
+use Rattle.stream_units.specs.UnitParts.{IsReady, TookSlices, slice_reason}
 use Rattle.stream_units.proofs.SameShapes.{frame_is}
 use Rattle.stream_rows.proofs.Steady.{units_laws}
-use Rattle.stream_units.proofs.Stopping.{units_table, stops_lost, stops_short, stops_refused}
+use Rattle.stream_units.proofs.Reasons.{other_reason}
+use Rattle.unit_reader.proofs.Stopping.{stops_lost, stops_short, stops_refused}
 use Rattle.stream_rows.proofs.Groups.{group_moves, group_refused}
 use Rattle.stream_rows.proofs.UnitGroups.{params_group}
 use Rattle.bit_codes.proofs.Numbers.{bits_of-append}
@@ -67,21 +68,21 @@ asked : {z : Past} {held0 held1 : List ℕ} {rest0 rest1 : Option (List ℕ)} {a
     → left ≡ row (some_bytes n) None rules next → Got n held1 held2 rest1 rest2 [] → Asked z held0 rest0 rest2 n at held2 rules next
 asked n held2 rest2 rules next b e got = record { begun = begun_held units_laws n rest2 held2 (begun_same (row (some_bytes n) None rules next) b e) (field_needs n rules next) got }
 
-pub field_short : {z : Past} {held0 held2 : List ℕ} {rest0 rest2 : Option (List ℕ)} {n at : ℕ} {rules : Value → List (Rule Reason)} {next : Value → Rows Reason DataUnit} (room place : ℕ) (stop : ReadStop) → Asked z held0 rest0 rest2 n at held2 rules next → length held2 < n → IsAtEnd (within room rest2) → at + length held2 + room ≡ limit → place ≡ at
+pub field_short : {z : Past} {held0 held2 : List ℕ} {rest0 rest2 : Option (List ℕ)} {n at : ℕ} {rules : Value → List (Rule Reason)} {next : Value → Rows Reason DataUnit} (room place : ℕ) (stop : ReadStop Reason) → Asked z held0 rest0 rest2 n at held2 rules next → length held2 < n → IsAtEnd (within room rest2) → at + length held2 + room ≡ limit → place ≡ at
     → stop ≡ stops.Refused (record { place = place; reason = reasons.Truncated }) → StopsOver units z held0 rest0 rest2 room stop
-field_short {held2 = held2} {n = n} {at = at} {rules = rules} {next = next} room place stop a few at_end total there e = stops_short units_table room (8 * at) place reasons.Truncated stop a.begun (short_row units n rules next at held2 few) at_end total (omega (arith, there)) e
+field_short {held2 = held2} {n = n} {at = at} {rules = rules} {next = next} room place stop a few at_end total there e = stops_short units_laws room (8 * at) place reasons.Truncated stop a.begun (short_row units n rules next at held2 few) at_end total (omega (arith, there)) e
 
-pub field_lost : {z : Past} {held0 held2 : List ℕ} {rest0 rest2 : Option (List ℕ)} {n at : ℕ} {rules : Value → List (Rule Reason)} {next : Value → Rows Reason DataUnit} (room : ℕ) (halt : Halt) (stop : ReadStop) → Asked z held0 rest0 rest2 n at held2 rules next → length held2 < n → at + length held2 + room ≡ limit
+pub field_lost : {z : Past} {held0 held2 : List ℕ} {rest0 rest2 : Option (List ℕ)} {n at : ℕ} {rules : Value → List (Rule Reason)} {next : Value → Rows Reason DataUnit} (room : ℕ) (halt : Halt) (stop : ReadStop Reason) → Asked z held0 rest0 rest2 n at held2 rules next → length held2 < n → at + length held2 + room ≡ limit
     → stop ≡ stop_of halt → StopsOver units z held0 rest0 rest2 room stop
-field_lost {n = n} {rules = rules} {next = next} room halt stop a few total e = stops_lost units_table n room halt stop a.begun (field_needs n rules next) few total e
+field_lost {n = n} {rules = rules} {next = next} room halt stop a few total e = stops_lost units_laws n room halt stop a.begun (field_needs n rules next) few total e
 
-pub field_broken : {z : Past} {held0 held2 : List ℕ} {rest0 rest2 : Option (List ℕ)} {n at : ℕ} {rules : Value → List (Rule Reason)} {next : Value → Rows Reason DataUnit} (room place : ℕ) (reason : Reason) (stop : ReadStop) → Asked z held0 rest0 rest2 n at held2 rules next → n ≤ length held2
+pub field_broken : {z : Past} {held0 held2 : List ℕ} {rest0 rest2 : Option (List ℕ)} {n at : ℕ} {rules : Value → List (Rule Reason)} {next : Value → Rows Reason DataUnit} (room place : ℕ) (reason : Reason) (stop : ReadStop Reason) → Asked z held0 rest0 rest2 n at held2 rules next → n ≤ length held2
     → ((i : ℕ) → get_or (take n held2) i 0 < 256) → first_broken (rules (Bytes (take n held2))) ≡ Some reason → reason ≢ reasons.Truncated → at + length held2 + room ≡ limit → place ≡ at → stop ≡ stops.Refused (record { place = place; reason = reason }) → StopsOver units z held0 rest0 rest2 room stop
 field_broken {held2 = held2} {n = n} {at = at} {rules = rules} {next = next} room place reason stop a many fits broken other total there e =
-    stops_refused units_table room (8 * at) place reason stop a.begun
+    stops_refused units_laws room (8 * at) place reason stop a.begun
     (ap (λ l. read reason_of (row (some_bytes n) None rules next) (bytes_at at l)) (sym (take-append-drop n held2))
     ∙ broken_row units n rules next at (take n held2) (drop n held2) reason (omega (arith, length-take n held2, many)) (all_fit (take n held2) fits) broken)
-    other total (omega (arith, there)) e
+    (other_reason reason other) total (omega (arith, there)) e
 
 pub field_taken : {z : Past} {held0 held2 : List ℕ} {rest0 rest2 : Option (List ℕ)} {n at : ℕ} {rules : Value → List (Rule Reason)} {next : Value → Rows Reason DataUnit} → Asked z held0 rest0 rest2 n at held2 rules next → n ≤ length held2
     → ((i : ℕ) → get_or (take n held2) i 0 < 256) → first_broken (rules (Bytes (take n held2))) ≡ None → Begun units z held0 rest0 rest2 (at + n) (drop n held2) (next (Bytes (take n held2)))
@@ -119,7 +120,7 @@ number_at bytes front held n e same is = e ∙ ap (from_be_bytes w32) (same ∙ 
 abbrev NumberAsked : Past → List ℕ → Option (List ℕ) → Option (List ℕ) → ℕ → List ℕ → (ℕ → Rows Reason DataUnit) → Type 0
 NumberAsked z held0 rest0 rest2 at held2 others = Asked z held0 rest0 rest2 4 at held2 (λ v. number_rules z (number_of v)) (λ v. others (number_of v))
 
-pub number_broken : {z : Past} {held0 held2 : List ℕ} {rest0 rest2 : Option (List ℕ)} {at : ℕ} (others : ℕ → Rows Reason DataUnit) (n room place : ℕ) (reason : Reason) (stop : ReadStop) → NumberAsked z held0 rest0 rest2 at held2 others → 4 ≤ length held2
+pub number_broken : {z : Past} {held0 held2 : List ℕ} {rest0 rest2 : Option (List ℕ)} {at : ℕ} (others : ℕ → Rows Reason DataUnit) (n room place : ℕ) (reason : Reason) (stop : ReadStop Reason) → NumberAsked z held0 rest0 rest2 at held2 others → 4 ≤ length held2
     → ((i : ℕ) → get_or (take 4 held2) i 0 < 256) → n ≡ from_be_bytes w32 (take 4 held2) → first_broken (number_rules z n) ≡ Some reason → at + length held2 + room ≡ limit → place ≡ at → stop ≡ stops.Refused (record { place = place; reason = reason }) → StopsOver units z held0 rest0 rest2 room stop
 number_broken {z = z} others n room place reason stop a many fits number broken total there e =
     field_broken room place reason stop a many fits (ap (λ n. first_broken (number_rules z n)) (sym number) ∙ broken) (number_other z n reason broken) total there e
@@ -154,31 +155,31 @@ pub params_short : (held1 : List ℕ) (at : ℕ) (others : Params → Rows Reaso
     → read reason_of (params_then others) (bytes_at at held1) ≡ Err (record { place = 8 * at + fault.place; reason = transform_reason fault.reason })
 params_short held1 at others count front fault is all e = group_refused params_group others at held1 fault (ap params_read (sym (is ∙ take_all count held1 (omega (arith, all)))) ∙ e)
 
-refused_for : (place : ℕ) {r t : Reason} → r ≡ t → (let s : ReadStop = stops.Refused (record { place = place; reason = r }) in s) ≡ stops.Refused (record { place = place; reason = t })
-refused_for place e = ap (λ (r : Reason). let s : ReadStop = stops.Refused (record { place = place; reason = r }) in s) e
+refused_for : (place : ℕ) {r t : Reason} → r ≡ t → (let s : ReadStop Reason = stops.Refused (record { place = place; reason = r }) in s) ≡ stops.Refused (record { place = place; reason = t })
+refused_for place e = ap (λ (r : Reason). let s : ReadStop Reason = stops.Refused (record { place = place; reason = r }) in s) e
 
 transform_other : (reason : TransformReason) → is_truncated (transform_reason reason) ≡ false → reason ≢ transforms.Truncated
 transform_other reason h e = let short : is_truncated (transform_reason reason) ≡ true = ap (λ r. is_truncated (transform_reason r)) e in absurd cc
 
-pub params_refused : {z : Past} {held0 held1 : List ℕ} {rest0 rest1 : Option (List ℕ)} {at : ℕ} (others : Params → Rows Reason DataUnit) (count : ℕ) (front : List ℕ) (fault : Fault TransformReason) (room : ℕ) (reason : Reason) (stop : ReadStop) → Begun units z held0 rest0 rest1 at held1 (params_then others)
+pub params_refused : {z : Past} {held0 held1 : List ℕ} {rest0 rest1 : Option (List ℕ)} {at : ℕ} (others : Params → Rows Reason DataUnit) (count : ℕ) (front : List ℕ) (fault : Fault TransformReason) (room : ℕ) (reason : Reason) (stop : ReadStop Reason) → Begun units z held0 rest0 rest1 at held1 (params_then others)
     → front ≡ take count held1 → params_read front ≡ Err fault → is_truncated reason ≡ false → at + length held1 + room ≡ limit → reason ≡ transform_reason fault.reason → stop ≡ stops.Refused (record { place = at + fault.place / 8; reason = reason }) → StopsOver units z held0 rest0 rest1 room stop
 params_refused {held1 = held1} {at = at} others count front fault room reason stop b is e other' total why s =
     let other : is_truncated (transform_reason fault.reason) ≡ false = ap is_truncated (sym why) ∙ other' in
     let more : bits_of front ++ bits_of (drop count held1) ≡ bits_of held1 = sym (bits_of-append front (drop count held1)) ∙ ap (λ l. bits_of (l ++ drop count held1)) is ∙ ap bits_of (take-append-drop count held1) in
     let here : params_read held1 ≡ Err fault = ap (λ (l : List Bool). read params.reason_of params_rows (record { place = 0; rest = l })) (sym more)
     ∙ read-more_refused params.reason_of params_rows (cursor_at front 0) fault (bits_of (drop count held1)) params_steady.steady (record { whole = omega (arith, length-bits front) }) (transform_other fault.reason other) e in
-    stops_refused units_table room (8 * at + fault.place) (at + fault.place / 8) (transform_reason fault.reason) stop b (group_refused params_group others at held1 fault here)
-    (λ t. let short : is_truncated (transform_reason fault.reason) ≡ true = ap is_truncated t in absurd cc) total (omega arith) (s ∙ refused_for (at + fault.place / 8) why)
+    stops_refused units_laws room (8 * at + fault.place) (at + fault.place / 8) (transform_reason fault.reason) stop b (group_refused params_group others at held1 fault here)
+    other total (omega arith) (s ∙ refused_for (at + fault.place / 8) why)
 
 -- ---- the slices
 
 -- The decoder took slices in order, and the rows of the others are left.
-pub record SlicesSoFar (parts : HeaderParts) (z : Past) (held0 : List ℕ) (rest0 rest1 : Option (List ℕ)) (at : ℕ) (held1 : List ℕ) (others : List (List ℕ) → Rows Reason DataUnit) (p : Params) (d : Decoding) : Type 0 where
+pub record SlicesSoFar (parts : HeaderParts) (z : Past) (held0 : List ℕ) (rest0 rest1 : Option (List ℕ)) (at : ℕ) (held1 : List ℕ) (others : List (List ℕ) → Rows Reason DataUnit) (p : Params) (d : PictureDecoderSeen) : Type 0 where
   pub so_far : List (List ℕ)
   pub has : HasTaken so_far d
   pub begun : Begun units z held0 rest0 rest1 at held1 (slice_rows parts p (slice_count p.slicing - length so_far) so_far >>= others)
 
-pub slices_start : {z : Past} {held0 held1 : List ℕ} {rest0 rest1 : Option (List ℕ)} {at : ℕ} (parts : HeaderParts) (others : List (List ℕ) → Rows Reason DataUnit) (d : Decoding) → d.next ≡ 0
+pub slices_start : {z : Past} {held0 held1 : List ℕ} {rest0 rest1 : Option (List ℕ)} {at : ℕ} (parts : HeaderParts) (others : List (List ℕ) → Rows Reason DataUnit) (d : PictureDecoderSeen) → d.next ≡ 0
     → Begun units z held0 rest0 rest1 at held1 (slice_rows parts d.params (slice_count d.params.slicing) [] >>= others) → SlicesSoFar parts z held0 rest0 rest1 at held1 others d.params d
 slices_start {z} {held0} {held1} {rest0} {rest1} {at} parts others d first b = record {
   so_far = [];
@@ -187,7 +188,7 @@ slices_start {z} {held0} {held1} {rest0} {rest1} {at} parts others d first b = r
 }
 
 -- how many bytes are wanted
-pub wanted_is : (d : Decoding) (n : ℕ) → wanted_of d ≡ Some n → (d.next < slice_count d.params.slicing) × (n ≡ slice_bytes d.params.slicing.a d.params.slicing.b d.next)
+pub wanted_is : (d : PictureDecoderSeen) (n : ℕ) → wanted_of d ≡ Some n → (d.next < slice_count d.params.slicing) × (n ≡ slice_bytes d.params.slicing.a d.params.slicing.b d.next)
 wanted_is d n e = elim (cases_lt d.next (slice_count d.params.slicing)) [
   | inl lt ↦ (lt, let same : Some (slice_bytes d.params.slicing.a d.params.slicing.b d.next) ≡ Some n = sym (here lt) ∙ e in cc)
   | inr le ↦ absurd (let none : wanted_of d ≡ None = rw (le-ltb d.next (slice_count d.params.slicing) le) refl in cc)
@@ -196,7 +197,7 @@ wanted_is d n e = elim (cases_lt d.next (slice_count d.params.slicing)) [
     here : d.next < slice_count d.params.slicing → wanted_of d ≡ Some (slice_bytes d.params.slicing.a d.params.slicing.b d.next)
     here lt = rw (lt-ltb d.next (slice_count d.params.slicing) lt) refl
 
-none_wanted : (d : Decoding) → wanted_of d ≡ None → slice_count d.params.slicing ≤ d.next
+none_wanted : (d : PictureDecoderSeen) → wanted_of d ≡ None → slice_count d.params.slicing ≤ d.next
 none_wanted d e = elim (cases_lt d.next (slice_count d.params.slicing)) [
   | inr le ↦ le
   | inl lt ↦ absurd (let some : wanted_of d ≡ Some (slice_bytes d.params.slicing.a d.params.slicing.b d.next) = rw (lt-ltb d.next (slice_count d.params.slicing) lt) refl in cc)
@@ -215,12 +216,12 @@ unfolding slice_rows bytes_under ◌>>=◌
 slice_field parts p left so_far others = refl
 
 -- the next slice was asked for
-pub record SliceAsked (parts : HeaderParts) (z : Past) (held0 : List ℕ) (rest0 rest2 : Option (List ℕ)) (n at : ℕ) (held2 : List ℕ) (others : List (List ℕ) → Rows Reason DataUnit) (p : Params) (d : Decoding) : Type 0 where
+pub record SliceAsked (parts : HeaderParts) (z : Past) (held0 : List ℕ) (rest0 rest2 : Option (List ℕ)) (n at : ℕ) (held2 : List ℕ) (others : List (List ℕ) → Rows Reason DataUnit) (p : Params) (d : PictureDecoderSeen) : Type 0 where
   pub so_far : List (List ℕ)
   pub has : HasTaken so_far d
   pub asked : Asked z held0 rest0 rest2 n at held2 (slice_rules_of parts p so_far) (slices_behind parts p so_far others)
 
-pub slice_asked : {parts : HeaderParts} {z : Past} {held0 held1 : List ℕ} {rest0 rest1 : Option (List ℕ)} {at : ℕ} {others : List (List ℕ) → Rows Reason DataUnit} {p : Params} {d : Decoding} (n : ℕ) (held2 : List ℕ) (rest2 : Option (List ℕ)) → SlicesSoFar parts z held0 rest0 rest1 at held1 others p d
+pub slice_asked : {parts : HeaderParts} {z : Past} {held0 held1 : List ℕ} {rest0 rest1 : Option (List ℕ)} {at : ℕ} {others : List (List ℕ) → Rows Reason DataUnit} {p : Params} {d : PictureDecoderSeen} (n : ℕ) (held2 : List ℕ) (rest2 : Option (List ℕ)) → SlicesSoFar parts z held0 rest0 rest1 at held1 others p d
     → d.params ≡ p → Some n ≡ wanted_of d → Got n held1 held2 rest1 rest2 [] → SliceAsked parts z held0 rest0 rest2 n at held2 others p d
 slice_asked {parts} {z} {held0} {held1} {rest0} {rest1} {at} {others} {p} {d} n held2 rest2 f same wants got =
     let w = wanted_is d n (sym wants) in
@@ -245,7 +246,7 @@ frame_rules p f n bytes =
     (not slice.too_long or_else reasons.LumaLengthTooLong)
     ∷ (is_small s f.luma f.colour sx sy p.matrix slice or_else reasons.CoefficientTooLarge) ∷ []
 
-rules_same : (parts : HeaderParts) (p : Params) (d : Decoding) (so_far : List (List ℕ)) (bytes : List ℕ) → d.params ≡ p → frame_of d.shape ≡ frame_under parts → d.next ≡ length so_far → frame_rules d.params (frame_of d.shape) d.next bytes ≡ slice_rules parts p (length so_far) bytes
+rules_same : (parts : HeaderParts) (p : Params) (d : PictureDecoderSeen) (so_far : List (List ℕ)) (bytes : List ℕ) → d.params ≡ p → frame_of d.shape ≡ frame_under parts → d.next ≡ length so_far → frame_rules d.params (frame_of d.shape) d.next bytes ≡ slice_rules parts p (length so_far) bytes
 rules_same parts p d so_far bytes same frame number =
     ap (λ q. frame_rules q (frame_of d.shape) d.next bytes) same ∙ ap (λ f. frame_rules p f d.next bytes) frame ∙ ap (λ k. frame_rules p (frame_under parts) k bytes) number
 
@@ -258,7 +259,7 @@ broken_two long small e h = rw (e, h) refl
 broken_none : (long small : Bool) → long ≡ false → small ≡ true → first_broken ((not long or_else reasons.LumaLengthTooLong) ∷ (small or_else reasons.CoefficientTooLarge) ∷ []) ≡ None
 broken_none long small e h = rw (e, h) refl
 
-refused_breaks : (d : Decoding) (bytes : List ℕ) (fault : SliceFault) → IsRefused d.params.slicing d.shape (column_of d) (row_of_slices d) d.params.matrix (next_slice d bytes) fault → first_broken (frame_rules d.params (frame_of d.shape) d.next bytes) ≡ Some (slice_reason fault)
+refused_breaks : (d : PictureDecoderSeen) (bytes : List ℕ) (fault : SliceFault) → IsRefused d.params.slicing d.shape (column_of d) (row_of_slices d) d.params.matrix (next_slice d bytes) fault → first_broken (frame_rules d.params (frame_of d.shape) d.next bytes) ≡ Some (slice_reason fault)
 refused_breaks d bytes faults.LumaLengthTooLong why = broken_one _ _ why
 refused_breaks d bytes faults.CoefficientTooLarge why = broken_two _ _ why.0 why.1
 
@@ -266,7 +267,7 @@ slice_other : (fault : SliceFault) → slice_reason fault ≢ reasons.Truncated
 slice_other faults.LumaLengthTooLong e = cc
 slice_other faults.CoefficientTooLarge e = cc
 
-pub slice_broken : {parts : HeaderParts} {z : Past} {held0 held2 : List ℕ} {rest0 rest2 : Option (List ℕ)} {n at : ℕ} {others : List (List ℕ) → Rows Reason DataUnit} {p : Params} {d : Decoding} (room : ℕ) (bytes : List ℕ) (fault : SliceFault) (d' : Decoding) (reason : Reason) (stop : ReadStop) → SliceAsked parts z held0 rest0 rest2 n at held2 others p d
+pub slice_broken : {parts : HeaderParts} {z : Past} {held0 held2 : List ℕ} {rest0 rest2 : Option (List ℕ)} {n at : ℕ} {others : List (List ℕ) → Rows Reason DataUnit} {p : Params} {d : PictureDecoderSeen} (room : ℕ) (bytes : List ℕ) (fault : SliceFault) (d' : PictureDecoderSeen) (reason : Reason) (stop : ReadStop Reason) → SliceAsked parts z held0 rest0 rest2 n at held2 others p d
     → d.params ≡ p → frame_of d.shape ≡ frame_under parts → n ≤ length held2 → bytes ≡ take n held2 → ((i : ℕ) → get_or bytes i 0 < 256) → IsSliceRefused bytes fault d d' → at + length held2 + room ≡ limit
     → reason ≡ slice_reason fault → stop ≡ stops.Refused (record { place = at; reason = reason }) → StopsOver units z held0 rest0 rest2 room stop
 slice_broken {parts} {held2 = held2} {n = n} {at = at} {p = p} {d = d} room bytes fault d' reason stop a same frame many is fits refused total why e =
@@ -274,18 +275,18 @@ slice_broken {parts} {held2 = held2} {n = n} {at = at} {p = p} {d = d} room byte
     ap (λ l. first_broken (slice_rules parts p (length a.so_far) l)) (sym is) ∙ ap first_broken (sym (rules_same parts p d a.so_far bytes same frame a.has.number)) ∙ refused_breaks d bytes fault refused.why in
     field_broken room at (slice_reason fault) stop a.asked many (subst (λ l. (i : ℕ) → get_or l i 0 < 256) is fits) broken (slice_other fault) total refl (e ∙ refused_for at why)
 
-has_more : (so_far : List (List ℕ)) (bytes : List ℕ) (old new : Decoding) → IsAllowed old.params.slicing → old.next < slice_count old.params.slicing → HasTaken so_far old → IsTaken bytes old new → HasTaken (so_far ++ bytes ∷ []) new
+has_more : (so_far : List (List ℕ)) (bytes : List ℕ) (old new : PictureDecoderSeen) → IsAllowed old.params.slicing → old.next < slice_count old.params.slicing → HasTaken so_far old → IsTaken bytes old new → HasTaken (so_far ++ bytes ∷ []) new
 has_more so_far bytes old new allowed lt has taken =
     let s = old.params.slicing in
     let n = old.next in
-    let after : Decoding = record old { bands = new.bands; next = n + 1 } in
+    let after : PictureDecoderSeen = record old { bands = new.bands; next = n + 1 } in
     let more : HasTaken (so_far ++ bytes ∷ []) after = record {
       number = omega (arith, has.number, length-append so_far (bytes ∷ []));
       each = λ k. took_more (frame_of old.shape) old.params so_far bytes k (n % s.slices_x) (n / s.slices_x) (stack_of old.bands k) (stack_of new.bands k) allowed.slices (column_in s n lt) (number_is s n lt ∙ has.number) (has.each k) (taken.each k);
     } in
-    subst (λ (d : Decoding). HasTaken (so_far ++ bytes ∷ []) d) (sym taken.state) more
+    subst (λ (d : PictureDecoderSeen). HasTaken (so_far ++ bytes ∷ []) d) (sym taken.state) more
 
-pub slice_taken : {parts : HeaderParts} {z : Past} {held0 held2 : List ℕ} {rest0 rest2 : Option (List ℕ)} {n at : ℕ} {others : List (List ℕ) → Rows Reason DataUnit} {p : Params} {d : Decoding} (bytes : List ℕ) (d' : Decoding) (held3 : List ℕ) (at' : ℕ) → SliceAsked parts z held0 rest0 rest2 n at held2 others p d
+pub slice_taken : {parts : HeaderParts} {z : Past} {held0 held2 : List ℕ} {rest0 rest2 : Option (List ℕ)} {n at : ℕ} {others : List (List ℕ) → Rows Reason DataUnit} {p : Params} {d : PictureDecoderSeen} (bytes : List ℕ) (d' : PictureDecoderSeen) (held3 : List ℕ) (at' : ℕ) → SliceAsked parts z held0 rest0 rest2 n at held2 others p d
     → d.params ≡ p → frame_of d.shape ≡ frame_under parts → IsAllowed p.slicing → Some n ≡ wanted_of d → n ≤ length held2 → bytes ≡ take n held2 → ((i : ℕ) → get_or bytes i 0 < 256) → IsTaken bytes d d' → held3 ≡ drop n held2 → at' ≡ at + n → SlicesSoFar parts z held0 rest0 rest2 at' held3 others p d'
 slice_taken {parts} {z} {held0} {held2} {rest0} {rest2} {n} {at} {others} {p} {d} bytes d' held3 at' a same frame allowed wants many is fits taken behind further =
     let w = wanted_is d n (sym wants) in
@@ -303,7 +304,7 @@ slice_taken {parts} {z} {held0} {held2} {rest0} {rest2} {n} {at} {others} {p} {d
     }
 
 -- where the next slice begins
-pub slice_place : (p : Params) (d d' : Decoding) (bytes : List ℕ) (n place at at' : ℕ) → IsAllowed p.slicing → d.params ≡ p → Some n ≡ wanted_of d → IsTaken bytes d d' → at ≡ place + bytes_before p.slicing.a p.slicing.b d.next → at' ≡ at + n
+pub slice_place : (p : Params) (d d' : PictureDecoderSeen) (bytes : List ℕ) (n place at at' : ℕ) → IsAllowed p.slicing → d.params ≡ p → Some n ≡ wanted_of d → IsTaken bytes d d' → at ≡ place + bytes_before p.slicing.a p.slicing.b d.next → at' ≡ at + n
     → (at' ≡ place + bytes_before p.slicing.a p.slicing.b d'.next) × (d'.next ≤ slice_count p.slicing)
 slice_place p d d' bytes n place at at' allowed same wants taken there further =
     let w = wanted_is d n (sym wants) in
@@ -312,7 +313,7 @@ slice_place p d d' bytes n place at at' allowed same wants taken there further =
     let rises = bytes_before-rises p.slicing.a p.slicing.b d.next (d.next + 1) allowed.share.some (omega arith) in
     (omega (arith, there, further, size, rises, ap (bytes_before p.slicing.a p.slicing.b) number), omega (arith, number, w.0, ap (λ q. slice_count q.slicing) same))
 
-pub all_bytes : (p : Params) (d : Decoding) (place at : ℕ) → d.params ≡ p → wanted_of d ≡ None → d.next ≤ slice_count p.slicing → at ≡ place + bytes_before p.slicing.a p.slicing.b d.next → at ≡ place + total_bytes p.slicing
+pub all_bytes : (p : Params) (d : PictureDecoderSeen) (place at : ℕ) → d.params ≡ p → wanted_of d ≡ None → d.next ≤ slice_count p.slicing → at ≡ place + bytes_before p.slicing.a p.slicing.b d.next → at ≡ place + total_bytes p.slicing
 all_bytes p d place at same none few there =
     let all : d.next ≡ slice_count p.slicing = omega (arith, few, none_wanted d none, ap (λ q. slice_count q.slicing) same) in
     there ∙ ap (λ n. place + bytes_before p.slicing.a p.slicing.b n) all
@@ -322,7 +323,7 @@ unfolding slice_rows ◌>>=◌
 no_slices parts p so_far others = refl
 
 -- all were taken
-pub slices_done : {parts : HeaderParts} {z : Past} {held0 held1 : List ℕ} {rest0 rest1 : Option (List ℕ)} {at : ℕ} {others : List (List ℕ) → Rows Reason DataUnit} {p : Params} {d : Decoding} (behind : ℕ) → SlicesSoFar parts z held0 rest0 rest1 at held1 others p d
+pub slices_done : {parts : HeaderParts} {z : Past} {held0 held1 : List ℕ} {rest0 rest1 : Option (List ℕ)} {at : ℕ} {others : List (List ℕ) → Rows Reason DataUnit} {p : Params} {d : PictureDecoderSeen} (behind : ℕ) → SlicesSoFar parts z held0 rest0 rest1 at held1 others p d
     → d.params ≡ p → wanted_of d ≡ None → at ≡ behind → TookSlices z held0 rest0 rest1 behind held1 others d
 slices_done {parts} {z} {held0} {held1} {rest0} {rest1} {at} {others} {p} {d} behind f same none there =
     let all : slice_count p.slicing - length f.so_far ≡ 0 = omega (arith, none_wanted d none, f.has.number, ap (λ p. slice_count p.slicing) same) in
@@ -361,10 +362,10 @@ pub slices_begun : {z : Past} {held0 held1 : List ℕ} {rest0 rest1 : Option (Li
 slices_begun {z} {held0} {held1} {rest0} {rest1} {at} parts p q others b same = subst (λ q. Begun units z held0 rest0 rest1 at held1 (slice_rows parts q (slice_count q.slicing) [] >>= others)) (sym same) b
 
 -- the decoder makes pictures of the header's shape
-pub ready_frame : (parts header : HeaderParts) (shape : PictureShape) (p : Params) (d : Decoding) → IsReady shape p d → IsShapeOf shape header → header ≡ parts → frame_of d.shape ≡ frame_under parts
+pub ready_frame : (parts header : HeaderParts) (shape : PictureShape) (p : Params) (d : PictureDecoderSeen) → IsReady shape p d → IsShapeOf shape header → header ≡ parts → frame_of d.shape ≡ frame_under parts
 ready_frame parts header shape p d ready is same = ready.frame ∙ frame_is header shape is ∙ ap frame_under same
 
-pub finished_shows : (parts : HeaderParts) (p : Params) (slices : List (List ℕ)) (old new : Decoding) → frame_of old.shape ≡ frame_under parts → old.params ≡ p → new ≡ record old { picture = Some (synthesised_picture old) }
+pub finished_shows : (parts : HeaderParts) (p : Params) (slices : List (List ℕ)) (old new : PictureDecoderSeen) → frame_of old.shape ≡ frame_under parts → old.params ≡ p → new ≡ record old { picture = Some (synthesised_picture old) }
     → synthesised_picture old ≡ picture_of (frame_of old.shape) old.params slices → Shows parts p slices new
 finished_shows parts p slices old new frame same is made = record {
   frame = ap (λ d. frame_of d.shape) is ∙ frame;
@@ -383,10 +384,10 @@ next_read z next at span others bytes there =
     ∙ ap (λ (r : Result (ℕ × Cursor) (Fault Reason)). and_then r (λ x. read reason_of (others x.0) x.1)) (read-check_at reason_of (8 * (z.place + 5)) rules (bytes_at at bytes)
     ∙ ap (λ n. judged (8 * (z.place + 5)) (first_broken ((leads_behind next n or_else reasons.OffsetWrong) ∷ [])) (Ok (8 * at, bytes_at at bytes))) size)
 
-pub next_wrong : {z : Past} {held0 held1 : List ℕ} {rest0 rest1 : Option (List ℕ)} {at : ℕ} (others : ℕ → Rows Reason DataUnit) (next span room place : ℕ) (stop : ReadStop) → Begun units z held0 rest0 rest1 at held1 (next_checked z next >>= others)
+pub next_wrong : {z : Past} {held0 held1 : List ℕ} {rest0 rest1 : Option (List ℕ)} {at : ℕ} (others : ℕ → Rows Reason DataUnit) (next span room place : ℕ) (stop : ReadStop Reason) → Begun units z held0 rest0 rest1 at held1 (next_checked z next >>= others)
     → at ≡ z.place + span → leads_behind next span ≡ false → at + length held1 + room ≡ limit → place ≡ z.place + 5 → stop ≡ stops.Refused (record { place = place; reason = reasons.OffsetWrong }) → StopsOver units z held0 rest0 rest1 room stop
 next_wrong {z} {held1 = held1} {at = at} others next span room place stop b there wrong total field e =
-    stops_refused units_table room (8 * (z.place + 5)) place reasons.OffsetWrong stop b (next_read z next at span others held1 there ∙ rw wrong refl) (λ t. cc) total (omega (arith, field)) e
+    stops_refused units_laws room (8 * (z.place + 5)) place reasons.OffsetWrong stop b (next_read z next at span others held1 there ∙ rw wrong refl) refl total (omega (arith, field)) e
 
 pub next_right : {z : Past} {held0 held1 : List ℕ} {rest0 rest1 : Option (List ℕ)} {at : ℕ} (others : ℕ → Rows Reason DataUnit) (next span : ℕ) → Begun units z held0 rest0 rest1 at held1 (next_checked z next >>= others)
     → at ≡ z.place + span → leads_behind next span ≡ true → Begun units z held0 rest0 rest1 at held1 (others (8 * at))

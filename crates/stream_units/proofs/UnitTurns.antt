@@ -1,8 +1,7 @@
 -- How a unit comes out, by its head and its payload.
-use Rattle.std.proofs.Common.{◌≡◌, ℕ, ◌≤◌, ◌⊎◌, List, length, Option, Some, None, inl, inr, refl, ap, subst, ◌∙◌}
+use Rattle.std.proofs.Common.{◌≡◌, ℕ, ◌⊎◌, List, Option, Some, None, inl, inr, refl, ap, subst, ◌∙◌}
 use Rattle.field_rows.specs.Rows.{Rows, done, ◌>>=◌}
 use Rattle.unit_table.specs.Begun.{Begun}
-use Rattle.unit_table.proofs.Begins.{begun_start}
 use Rattle.parse_info.specs.declared.ParseInfo.{ParseInfo}
 use Rattle.parse_info.specs.declared.Code.TheVariants.{SequenceHeader, EndOfSequence, Auxiliary, Padding, LowDelayPicture}
 use Rattle.stream_rows.specs.declared.reason.Reason.{Reason}
@@ -49,9 +48,9 @@ along {z} {held0} {held1} {rest0} {rest1} {at} rows others e b = subst (λ r. Be
 
 -- ---- the head
 
-pub unit_begun : (z : Past) (held : List ℕ) (rest : Option (List ℕ)) → length held ≤ 4096 → Begun units z held rest rest z.place held (unit_head z >>= payload_rows z z.first)
+pub unit_begun : {z : Past} {held0 held1 : List ℕ} {rest0 rest1 : Option (List ℕ)} {at : ℕ} → Begun units z held0 rest0 rest1 at held1 ((units).rows z) → Begun units z held0 rest0 rest1 at held1 (unit_head z >>= payload_rows z z.first)
 unfolding body_rows
-unit_begun z held rest few = begun_start units z held rest few
+unit_begun b = b
 
 -- what was taken, by another word
 pub takes_such : {z : Past} {held0 held1 : List ℕ} {rest0 rest1 : Option (List ℕ)} {room : ℕ} (A B : DataUnit → List ℕ → Type 0) → ((unit : DataUnit) (bytes : List ℕ) → A unit bytes → B unit bytes) → Takes z held0 rest0 rest1 room held1 A → Takes z held0 rest0 rest1 room held1 B

@@ -5,10 +5,10 @@ use Rattle.sequence_header.specs.declared.parts.RateField.TheVariants as rates
 use Rattle.sequence_header.specs.declared.parts.AspectField.TheVariants as aspects
 use Rattle.sequence_header.specs.declared.parts.SignalField.TheVariants as signals
 use Rattle.sequence_header.specs.declared.parts.ColourField.TheVariants as colours
-use Rattle.sequence_header.specs.Fields.{fields_of}
+use Rattle.sequence_header.specs.HeaderFields.{fields_of}
 use Rattle.sequence_header.specs.Bytes.{header_bits}
 use Rattle.lifting.specs.declared.Wavelet.TheVariants.{HaarFlat}
-use Rattle.stream_units.specs.Encoded.{Settings, encoded}
+use Rattle.stream_units.specs.EncodedStream.{Settings, encoded}
 
 -- pictures of one place each
 abbrev one_place : ℕ → ℕ → ℕ → Settings

@@ -6,10 +6,10 @@ use Rattle.sequence_header.specs.Bytes.{header_len}
 use Rattle.sequence_header.proofs.Bounds.{header_short}
 use Rattle.slice_geometry.specs.Slicing.{slice_count}
 use Rattle.transform_params.specs.Params.{Params}
-use Rattle.transform_params.specs.Fields.{unit_length, IsLawful}
-use Rattle.stream_units.specs.Encoded.{Settings, header_unit, picture_unit, end_unit, number_after, units_behind, encoded, units_of, AreLawful, IsSliced, IsStreamOf}
+use Rattle.transform_params.specs.ParameterFields.{unit_length, IsLawful}
+use Rattle.stream_units.specs.EncodedStream.{Settings, header_unit, picture_unit, end_unit, number_after, units_behind, encoded, units_of, AreLawful, IsSliced, IsStreamOf}
 use Rattle.stream_rows.specs.Streams.{limit}
-use Rattle.stream_units.specs.Writer.{WriterState, next_place, next_previous, next_number, picture_shape, started, after_picture, texts_from, HaveRoom}
+use Rattle.stream_units.specs.Writer.{StreamWriterSeen, next_place, next_previous, next_number, picture_shape, started, after_picture, texts_from, HaveRoom}
 use Rattle.stream_units.proofs.EncodedUnits.{length-header_unit, length-picture_unit}
 use Rattle.stream_units.proofs.EncodedStreams.{encoded_stream}
 use Rattle.stream_units.proofs.WrittenShapes.{total_push, pictures_push, last_push, picture_length, plain_length, one_more}
@@ -20,16 +20,16 @@ some_slices p f = product p.slicing.slices_x p.slicing.slices_y f.allowed.slices
     product : (x y : ℕ) → 1 ≤ x → 1 ≤ y → 1 ≤ x * y
     product x y a b = grind arith
 
-next_is : (w : WriterState) → IsLawful w.settings.params → next_number (after_picture w) ≡ number_after (next_number w)
+next_is : (w : StreamWriterSeen) → IsLawful w.settings.params → next_number (after_picture w) ≡ number_after (next_number w)
 next_is w f =
     let u = picture_shape w.settings.params (next_place w) in
     let one = one_more u.slices (some_slices w.settings.params f) in
     omega (arith, pictures_push w.shapes u, one)
 
-previous_is : (w : WriterState) → next_previous (after_picture w) ≡ unit_length w.settings.params
+previous_is : (w : StreamWriterSeen) → next_previous (after_picture w) ≡ unit_length w.settings.params
 previous_is w = last_push 0 w.shapes (picture_shape w.settings.params (next_place w)) ∙ picture_length w.settings.params (next_place w)
 
-pub texts_are : (w : WriterState) (previous number : ℕ) (pictures : List (List (List ℕ))) → IsLawful w.settings.params → next_previous w ≡ previous → next_number w ≡ number → texts_from w pictures ≡ units_behind w.settings.params previous number pictures
+pub texts_are : (w : StreamWriterSeen) (previous number : ℕ) (pictures : List (List (List ℕ))) → IsLawful w.settings.params → next_previous w ≡ previous → next_number w ≡ number → texts_from w pictures ≡ units_behind w.settings.params previous number pictures
 texts_are w previous number [] f p n = ap end_unit p
 texts_are w previous number (slices ∷ pictures) f p n =
     ap (λ k. picture_unit w.settings.params k (next_number w) slices ++ texts_from (after_picture w) pictures) p
@@ -40,7 +40,7 @@ pub calls_write : (s : Settings) (pictures : List (List (List ℕ))) → IsLawfu
 calls_write s pictures f fits = ap (λ l. header_unit s.parts ++ l) (texts_are (started s) (13 + header_len s.parts) s.first pictures f (plain_length 0 (13 + header_len s.parts)) (omega (arith, fits)))
 
 -- calls that have room write no more than the limit
-within : (w : WriterState) (pictures : List (List (List ℕ))) → IsLawful w.settings.params → AllByRecursion (IsSliced w.settings.parts w.settings.params) pictures → next_place w + 13 ≤ limit → HaveRoom w pictures → next_place w + length (texts_from w pictures) ≤ limit
+within : (w : StreamWriterSeen) (pictures : List (List (List ℕ))) → IsLawful w.settings.params → AllByRecursion (IsSliced w.settings.parts w.settings.params) pictures → next_place w + 13 ≤ limit → HaveRoom w pictures → next_place w + length (texts_from w pictures) ≤ limit
 within w [] f s end room = omega (arith, end)
 within w (slices ∷ pictures) f s end room =
     let p = w.settings.params in

@@ -1,5 +1,6 @@
 -- The head of a unit and the whole first unit, as the functions of the code answer them.
 use Rattle.std.specs.Prelude.{◌≡◌, ◌≤◌, ◌<◌, ℕ, ◌+◌, ◌%◌, List, [], ◌∷◌, length, drop, ◌==◌, ◌||◌, ◌&&◌, not, Bool, false, Option, Some, None, is_some, Result, Ok, Err}
+use Rattle.parse_info.specs.declared.TheConstants.{HEAD_SIZE}
 use Rattle.field_rows.specs.Rows.{Rows, Rule, ◌or_else◌, first_broken, and_then, Fault, read}
 use Rattle.parse_info.specs.declared.Code.{Code}
 use Rattle.parse_info.specs.declared.InfoFault.{InfoFault}
@@ -10,6 +11,7 @@ use Rattle.unit_table.specs.Grammar.{bytes_at, unit_at}
 use Rattle.stream_rows.specs.declared.reason.Reason.{Reason}
 use Rattle.stream_rows.specs.declared.reason.Reason.TheVariants as reasons
 use Rattle.stream_rows.specs.declared.reason.Refusal.{Refusal}
+use Rattle.unit_reader.specs.declared.stop.Refusal.{Refusal as TableRefusal}
 use Rattle.stream_units.specs.declared.heads.Before.{Before}
 use Rattle.stream_rows.specs.Units.{First, Past, nothing_yet, Sequence, reason_of, is_header, is_end_code, next_rules, units}
 use Rattle.stream_rows.specs.Streams.{refusal_of}
@@ -28,9 +30,9 @@ looking_back z = record { place = z.place; previous = z.previous; coding = codin
 -- short field only where the bytes end inside the head.
 abbrev pub HeadAt : Rows Reason ParseInfo → ℕ → List ℕ → Result ParseInfo Refusal → Type 0
 HeadAt rows place bytes (Ok info) =
-    (13 ≤ length bytes) × (read reason_of rows (bytes_at place bytes) ≡ Ok (info, bytes_at (place + 13) (drop 13 bytes)))
+    (HEAD_SIZE ≤ length bytes) × (read reason_of rows (bytes_at place bytes) ≡ Ok (info, bytes_at (place + HEAD_SIZE) (drop HEAD_SIZE bytes)))
 HeadAt rows place bytes (Err refusal) = (fault : Fault Reason) × (refusal ≡ refusal_of fault)
-    × (read reason_of rows (bytes_at place bytes) ≡ Err fault) × (fault.reason ≡ reasons.Truncated → length bytes < 13)
+    × (read reason_of rows (bytes_at place bytes) ≡ Err fault) × (fault.reason ≡ reasons.Truncated → length bytes < HEAD_SIZE)
 
 -- The first unit in front of bytes: its sequence header and its length, or its first fault.
 abbrev pub IsFirstUnit : List ℕ → Result (HeaderParts × ℕ) Refusal → Type 0
@@ -84,17 +86,21 @@ abbrev pub leads_behind : ℕ → ℕ → Bool
 leads_behind next length = next == 0 || next == length
 
 -- the rule on the next offset of a head alone
-abbrev pub alone_rules : Code → ℕ → List (Rule Reason)
-alone_rules code next = (leads_on code next or_else reasons.OffsetShort) ∷ []
+abbrev pub head_only_rules : Code → ℕ → List (Rule Reason)
+head_only_rules code next = (leads_on code next or_else reasons.OffsetShort) ∷ []
 
 -- what was read of a head alone
-abbrev pub judged_alone : ℕ → Result ParseInfo InfoFault → Result ParseInfo Refusal
-judged_alone place (Ok info) = and_then (passes (place + 5) (first_broken (alone_rules info.code info.next))) (λ checked. Ok info)
-judged_alone place (Err faults.PrefixShort) = Err (record { place = place; reason = reasons.Truncated })
-judged_alone place (Err faults.BadPrefix) = Err (record { place = place; reason = reasons.BadPrefix })
-judged_alone place (Err faults.CodeShort) = Err (record { place = place + 4; reason = reasons.Truncated })
-judged_alone place (Err (faults.UnsupportedCode code)) = Err (record { place = place + 4; reason = reasons.UnsupportedCode code })
-judged_alone place (Err (faults.NextShort code)) = Err (record { place = place + 5; reason = reasons.Truncated })
-judged_alone place (Err (faults.PreviousShort code next)) = and_then
-    (passes (place + 5) (first_broken (alone_rules code next)))
+abbrev pub head_only_judged : ℕ → Result ParseInfo InfoFault → Result ParseInfo Refusal
+head_only_judged place (Ok info) = and_then (passes (place + 5) (first_broken (head_only_rules info.code info.next))) (λ checked. Ok info)
+head_only_judged place (Err faults.PrefixShort) = Err (record { place = place; reason = reasons.Truncated })
+head_only_judged place (Err faults.BadPrefix) = Err (record { place = place; reason = reasons.BadPrefix })
+head_only_judged place (Err faults.CodeShort) = Err (record { place = place + 4; reason = reasons.Truncated })
+head_only_judged place (Err (faults.UnsupportedCode code)) = Err (record { place = place + 4; reason = reasons.UnsupportedCode code })
+head_only_judged place (Err (faults.NextShort code)) = Err (record { place = place + 5; reason = reasons.Truncated })
+head_only_judged place (Err (faults.PreviousShort code next)) = and_then
+    (passes (place + 5) (first_broken (head_only_rules code next)))
     (λ checked. Err (record { place = place + 9; reason = reasons.Truncated }))
+
+-- a refusal, of a reader of any table
+abbrev pub asked_for : Refusal → TableRefusal Reason
+asked_for refusal = record { place = refusal.place; reason = refusal.reason }

@@ -11,15 +11,15 @@ use Rattle.stream_units.specs.declared.stop.Item.{Item}
 use Rattle.stream_units.specs.declared.stop.Item.TheVariants as items
 use Rattle.stream_rows.specs.Units.{Past, DataUnit, Sequence, Repeated, Picture, Skipped, End, units, after, nothing_yet}
 use Rattle.stream_rows.specs.Streams.{limit, past_limit, frame_under}
-use Rattle.picture_codec.specs.Decoding.{Decoding}
+use Rattle.picture_codec.specs.Decoding.{PictureDecoderSeen}
 use Rattle.stream_units.specs.Turns.{Shows, shape_of}
-use Rattle.stream_units.specs.Stops.{LimitStops}
+use Rattle.stream_units.specs.StreamStops.{LimitStops}
 use Rattle.stream_units.specs.Held.{greatest_of, IsGreatest}
 
 -- What is seen of a reader: what the units so far leave, the bytes that it holds, the shapes of the units, the picture of
 -- the last one, the greatest share of the last picture unit whose parameters were read, the stop that it keeps, and
 -- whether the stream is over.
-pub record ReaderState : Type 0 where
+pub record StreamReaderSeen : Type 0 where
   pub past : Past
   pub held : List ℕ
   pub shapes : List UnitShape
@@ -29,7 +29,7 @@ pub record ReaderState : Type 0 where
   pub ended : Bool
 
 -- a new reader
-abbrev pub new_reader : ReaderState
+abbrev pub new_reader : StreamReaderSeen
 new_reader = record { past = nothing_yet; held = []; shapes = []; picture = None; greatest = None; stop = None; ended = false }
 
 -- the item of a unit
@@ -47,8 +47,8 @@ IsPictureOf (Picture parts number params slices) shown = (seen : PictureSeen) ×
 IsPictureOf other shown = shown ≡ None
 
 -- the decoder that made the picture of a unit, if it has one
-abbrev pub IsDecoderOf : DataUnit → Option Decoding → Type 0
-IsDecoderOf (Picture parts number params slices) decoder = (d : Decoding) × (decoder ≡ Some d) × Shows parts params slices d
+abbrev pub IsDecoderOf : DataUnit → Option PictureDecoderSeen → Type 0
+IsDecoderOf (Picture parts number params slices) decoder = (d : PictureDecoderSeen) × (decoder ≡ Some d) × Shows parts params slices d
 IsDecoderOf other decoder = decoder ≡ None
 
 abbrev pub is_end_item : Item → Bool
@@ -56,14 +56,14 @@ is_end_item items.End = true
 is_end_item other = false
 
 -- what is behind a unit of these bytes
-pub record Steps (old new : Past) (unit : DataUnit) (bytes : List ℕ) (item : Item) (made : Option Decoding) : Type 0 where
+pub record Steps (old new : Past) (unit : DataUnit) (bytes : List ℕ) (item : Item) (made : Option PictureDecoderSeen) : Type 0 where
   pub past : new ≡ after old unit bytes
   pub is_item : item ≡ item_of unit
   pub decoder : IsDecoderOf unit made
 
 -- The unit in front, of the bytes that were held and those that were read, was taken: the others are held, and the reader
 -- is behind it.
-pub record TakesItem (old new : ReaderState) (rest0 rest1 : Option (List ℕ)) (item : Item) : Type 0 where
+pub record TakesItem (old new : StreamReaderSeen) (rest0 rest1 : Option (List ℕ)) (item : Item) : Type 0 where
   pub unit : DataUnit
   pub bytes : List ℕ
   pub is_item : item ≡ item_of unit
@@ -76,7 +76,7 @@ pub record TakesItem (old new : ReaderState) (rest0 rest1 : Option (List ℕ)) (
   pub going : (new.stop ≡ None) × (new.ended ≡ false)
 
 -- The end of sequence in front was taken, and nothing is behind it.
-pub record TakesEnd (old new : ReaderState) (rest0 rest1 : Option (List ℕ)) : Type 0 where
+pub record TakesEnd (old new : StreamReaderSeen) (rest0 rest1 : Option (List ℕ)) : Type 0 where
   pub bytes : List ℕ
   pub meets : MeetsFront limit past_limit units old.past old.held rest0 rest1 (Finishes (length bytes) End)
   pub whole : (more : List ℕ) → rest1 ≡ Some more → old.held ++ meets.read ++ more ≡ bytes
@@ -86,7 +86,7 @@ pub record TakesEnd (old new : ReaderState) (rest0 rest1 : Option (List ℕ)) : 
   pub over : (new.held ≡ []) × (new.picture ≡ None) × (new.stop ≡ None) × (new.ended ≡ true)
 
 -- A stop is kept; the units so far are as they were.
-pub record KeepsStop (old new : ReaderState) (stop : ReadStop) : Type 0 where
+pub record KeepsStop (old new : StreamReaderSeen) (stop : ReadStop) : Type 0 where
   pub past : new.past ≡ old.past
   pub shapes : new.shapes ≡ old.shapes
   pub picture : new.picture ≡ None
@@ -94,13 +94,13 @@ pub record KeepsStop (old new : ReaderState) (stop : ReadStop) : Type 0 where
   pub ended : new.ended ≡ false
 
 -- By how the call came out, of a reader that keeps no stop and whose stream isn't over.
-abbrev pub NextOver : ReaderState → ReaderState → Option (List ℕ) → Option (List ℕ) → Result Item ReadStop → Type 0
+abbrev pub NextOver : StreamReaderSeen → StreamReaderSeen → Option (List ℕ) → Option (List ℕ) → Result Item ReadStop → Type 0
 NextOver old new rest0 rest1 (Ok items.End) = TakesEnd old new rest0 rest1
 NextOver old new rest0 rest1 (Ok item) = TakesItem old new rest0 rest1 item
 NextOver old new rest0 rest1 (Err stop) = LimitStops units old.past old.held rest0 rest1 stop × KeepsStop old new stop
 
 -- The greatest share behind a call: that of the picture that was taken; behind another unit as before.
-abbrev pub GreatestOver : ReaderState → ReaderState → Option (List ℕ) → Result Item ReadStop → Type 0
+abbrev pub GreatestOver : StreamReaderSeen → StreamReaderSeen → Option (List ℕ) → Result Item ReadStop → Type 0
 GreatestOver old new rest0 (Ok (items.Picture number)) = (shape : UnitShape) × (new.shapes ≡ old.shapes ++ shape ∷ [])
     × (new.greatest ≡ Some (greatest_of shape.a shape.b shape.slices))
 GreatestOver old new rest0 (Ok item) = new.greatest ≡ old.greatest

@@ -1,46 +1,71 @@
--- What is true of the fields of a reader.
-use Rattle.std.specs.Prelude.{◌≡◌, ◌≤◌, ◌+◌, Bool, true, false, length, Option, Some, None}
+-- The reader of a stream, over the reader of its table.
+use Rattle.std.specs.Prelude.{◌≡◌, ◌≤◌, Bool, true, false, length, Option, Some, None, Result, Ok, Err}
 use Rattle.std.specs.Option.{option_map}
-use Rattle.slice_geometry.specs.Units.{UnitList}
 use Rattle.picture_codec.specs.Samples.{PictureSamples, PictureSeen}
-use Rattle.picture_codec.specs.Decoding.{Decoding}
+use Rattle.picture_codec.specs.Decoding.{PictureDecoderSeen}
+use Rattle.stream_rows.specs.declared.reason.Reason.{Reason}
+use Rattle.unit_reader.specs.declared.stop.ReadStop.{ReadStop as TableStop}
+use Rattle.unit_reader.specs.declared.reader.Turn.{Turn}
+use Rattle.unit_reader.specs.declared.reader.Turn.TheVariants as turns
+use Rattle.unit_reader.specs.Reading.{ReaderSeen}
 use Rattle.stream_units.specs.declared.stop.ReadStop.{ReadStop}
-use Rattle.stream_units.specs.Asking.{WindowSeen}
-use Rattle.stream_rows.specs.Units.{Past}
-use Rattle.stream_rows.specs.Streams.{limit}
+use Rattle.stream_units.specs.declared.stop.Item.{Item}
+use Rattle.stream_units.specs.declared.stop.Item.TheVariants as items
+use Rattle.stream_units.specs.StreamStops.{stop_told}
+use Rattle.stream_units.specs.Reader.{StreamReaderSeen}
+use Rattle.stream_units.specs.StreamTable.{TableState}
 use Rattle.stream_units.specs.Held.{held_most, greatest_in}
 
 -- the picture that a decoder finished
-abbrev pub seen_of : Decoding → Option PictureSeen
+abbrev pub seen_of : PictureDecoderSeen → Option PictureSeen
 seen_of d = option_map (λ (samples : PictureSamples). record { shape = d.shape; samples = samples }) d.picture
 
 -- the picture that is shown, if one is
-abbrev pub picture_in : Bool → Option Decoding → Option PictureSeen
+abbrev pub picture_in : Bool → Option PictureDecoderSeen → Option PictureSeen
 picture_in true (Some d) = seen_of d
 picture_in true None = None
 picture_in false decoder = None
 
 -- where a picture is shown, there is a decoder that finished one
-abbrev pub ShowsOne : Bool → Option Decoding → Type 0
+abbrev pub ShowsOne : Bool → Option PictureDecoderSeen → Type 0
 ShowsOne true (Some d) = d.picture ≡ None → ⊥
 ShowsOne true None = ⊥
 ShowsOne false decoder = Unit {0}
 
-pub record IsSound (past : Past) (window : WindowSeen) (shapes : UnitList) (shows : Bool) (decoder : Option Decoding)
-    (stop : Option ReadStop) (ended : Bool) : Type 0 where
-  -- the shapes are those of all units so far
-  pub total : shapes.total ≡ past.place
-  pub shown : ShowsOne shows decoder
-  -- a stopped reader shows no picture, and neither does one at the end
-  pub stopped : (reason : ReadStop) → stop ≡ Some reason → (shows ≡ false) × (ended ≡ false)
-  pub over : ended ≡ true → shows ≡ false
-  -- while the reader goes on, the bytes so far and those that may still come are the limit, and few are held
-  pub room : stop ≡ None → ended ≡ false → past.place + length window.held + window.room ≡ limit
-  pub few : stop ≡ None → ended ≡ false → length window.held ≤ 4096
-  -- whatever the last call answered
-  pub held : length window.held ≤ held_most (greatest_in decoder)
+-- what is seen of it, by the reader over its table
+abbrev pub seen_by : ReaderSeen TableState Reason → Bool → StreamReaderSeen
+seen_by r shows = record {
+  past = r.table.past;
+  held = r.held;
+  shapes = r.table.shapes.units;
+  picture = picture_in shows r.table.decoder;
+  greatest = greatest_in r.table.decoder;
+  stop = option_map stop_told r.stop;
+  ended = r.ended;
+}
 
--- a decoder that made a picture is kept, and shows it
-abbrev pub Keeps : Option Decoding → Option Decoding → Option Decoding → Bool → Type 0
-Keeps None old new shows = (new ≡ old) × (shows ≡ false)
-Keeps (Some d) old new shows = (new ≡ Some d) × (shows ≡ true)
+-- what a turn tells; behind the last unit it is the end again
+abbrev pub answer_of : Result (Turn Item) (TableStop Reason) → Result Item ReadStop
+answer_of (Ok (turns.Unit item)) = Ok item
+answer_of (Ok (turns.Last item)) = Ok item
+answer_of (Ok turns.Rest) = Ok items.End
+answer_of (Err stop) = Err (stop_told stop)
+
+-- a picture is shown behind its unit
+abbrev pub is_shown : Result Item ReadStop → Bool
+is_shown (Ok (items.Picture number)) = true
+is_shown (Ok other) = false
+is_shown (Err stop) = false
+
+pub record IsSound (r : ReaderSeen TableState Reason) (shows : Bool) : Type 0 where
+  pub shown : ShowsOne shows r.table.decoder
+  -- a stopped reader shows no picture, and neither does one at the end
+  pub stopped : (stop : TableStop Reason) → r.stop ≡ Some stop → shows ≡ false
+  pub over : r.ended ≡ true → shows ≡ false
+  -- whatever the last call answered
+  pub held : length r.held ≤ held_most (greatest_in r.table.decoder)
+
+-- a decoder that made a picture is kept
+abbrev pub Keeps : Option PictureDecoderSeen → Option PictureDecoderSeen → Option PictureDecoderSeen → Type 0
+Keeps None old new = new ≡ old
+Keeps (Some d) old new = new ≡ Some d

@@ -1,6 +1,7 @@
 -- How the unit in front of a stream is read from a source: what each answer says of the bytes that were held at entry
 -- and then those that were read.
 use Rattle.std.specs.Prelude.{◌≡◌, ◌≤◌, ◌<◌, ℕ, ◌+◌, ◌-◌, ◌^◌, List, length, take, drop, Option, Some, Result, Ok, Err, MatchResult, Bool, true, false}
+use Rattle.parse_info.specs.declared.TheConstants.{HEAD_SIZE}
 use Rattle.field_rows.specs.Rows.{done, ◌>>=◌}
 use Rattle.slice_geometry.specs.declared.unit_list.UnitShape.{UnitShape}
 use Rattle.slice_geometry.specs.Slicing.{slice_count, total_bytes}
@@ -8,17 +9,17 @@ use Rattle.sequence_header.specs.declared.parts.HeaderParts.{HeaderParts}
 use Rattle.transform_params.specs.Params.{Params}
 use Rattle.slice_geometry.specs.Frames.{frame_of}
 use Rattle.picture_codec.specs.Samples.{picture_of}
-use Rattle.picture_codec.specs.Decoding.{Decoding}
+use Rattle.picture_codec.specs.Decoding.{PictureDecoderSeen}
 use Rattle.unit_table.specs.Begun.{Begun}
-use Rattle.stream_units.specs.declared.stop.ReadStop.{ReadStop}
+use Rattle.unit_reader.specs.declared.stop.ReadStop.{ReadStop}
 use Rattle.stream_units.specs.declared.pictures.Shown.{Shown}
 use Rattle.stream_units.specs.declared.parts.Found.{Found}
 use Rattle.stream_units.specs.declared.parts.Found.TheVariants as founds
-use Rattle.stream_units.specs.Asking.{WindowSeen}
+use Rattle.unit_reader.specs.Asking.{WindowSeen}
 use Rattle.stream_rows.specs.Units.{Past, First, DataUnit, Sequence, Repeated, Picture, Skipped, End, units, next_checked}
 use Rattle.stream_rows.specs.Streams.{frame_under}
-use Rattle.stream_units.specs.Stops.{ReadsRows, StopsOver, LimitStops}
-use Rattle.stream_units.specs.Taking.{TakesSuch, EndsSuch}
+use Rattle.stream_rows.specs.declared.reason.Reason.{Reason}
+use Rattle.unit_reader.specs.Stops.{ReadsRows, StopsOver}
 
 -- a unit of which this is true was read; the bytes behind it are held
 abbrev pub Takes : Past → List ℕ → Option (List ℕ) → Option (List ℕ) → ℕ → List ℕ → (DataUnit → List ℕ → Type 0) → Type 0
@@ -29,10 +30,10 @@ Takes z held0 rest0 rest1 room held1 IsSuch = ReadsRows units z held0 rest0 rest
 
 -- the first header, with the bytes of its payload
 abbrev pub IsFirst : First → DataUnit → List ℕ → Type 0
-IsFirst first unit bytes = (unit ≡ Sequence first.parts) × (first.payload ≡ drop 13 bytes)
+IsFirst first unit bytes = (unit ≡ Sequence first.parts) × (first.payload ≡ drop HEAD_SIZE bytes)
 
 -- the decoder shows the picture of these slices
-pub record Shows (parts : HeaderParts) (params : Params) (slices : List (List ℕ)) (d : Decoding) : Type 0 where
+pub record Shows (parts : HeaderParts) (params : Params) (slices : List (List ℕ)) (d : PictureDecoderSeen) : Type 0 where
   pub frame : frame_of d.shape ≡ frame_under parts
   pub params_are : d.params ≡ params
   pub picture : d.picture ≡ Some (picture_of (frame_under parts) params slices)
@@ -52,12 +53,12 @@ shape_of z other bytes = record { start = z.place; head = length bytes; slices =
 pub record ReadsHeader (z : Past) (next : ℕ) (held0 : List ℕ) (rest0 rest1 : Option (List ℕ)) (held1 : List ℕ)
     (parts : HeaderParts) (len : ℕ) : Type 0 where
   pub inside : len ≤ length held1
-  pub begun : Begun units z held0 rest0 rest1 (z.place + 13 + len) (drop len held1)
+  pub begun : Begun units z held0 rest0 rest1 (z.place + HEAD_SIZE + len) (drop len held1)
       (next_checked z next >>= λ length. done (Sequence parts))
-  pub payload : drop 13 begun.gone ≡ take len held1
+  pub payload : drop HEAD_SIZE begun.gone ≡ take len held1
 
 abbrev pub HeaderOver : Past → ℕ → List ℕ → Option (List ℕ) → Option (List ℕ) → WindowSeen
-    → Result (HeaderParts × ℕ) ReadStop → Type 0
+    → Result (HeaderParts × ℕ) (ReadStop Reason) → Type 0
 HeaderOver z next held0 rest0 rest1 window (Ok x) = ReadsHeader z next held0 rest0 rest1 window.held x.0 x.1
 HeaderOver z next held0 rest0 rest1 window (Err stop) = StopsOver units z held0 rest0 rest1 window.room stop
 
@@ -72,7 +73,7 @@ pub record IsShown (parts : HeaderParts) (shown : Shown) (unit : DataUnit) (byte
 
 -- how the payload of a picture comes out
 abbrev pub PictureOver : Past → List ℕ → Option (List ℕ) → Option (List ℕ) → WindowSeen → HeaderParts
-    → Result Shown ReadStop → Type 0
+    → Result Shown (ReadStop Reason) → Type 0
 PictureOver z held0 rest0 rest1 window parts result = MatchResult result
     (λ shown. Takes z held0 rest0 rest1 window.room window.held (IsShown parts shown))
     (λ stop. StopsOver units z held0 rest0 rest1 window.room stop)
@@ -81,7 +82,7 @@ PictureOver z held0 rest0 rest1 window parts result = MatchResult result
 
 -- how a unit comes out
 abbrev pub TakesOver : {X : Type 0} → Past → List ℕ → Option (List ℕ) → Option (List ℕ) → WindowSeen
-    → (X → DataUnit → List ℕ → Type 0) → Result X ReadStop → Type 0
+    → (X → DataUnit → List ℕ → Type 0) → Result X (ReadStop Reason) → Type 0
 TakesOver z held0 rest0 rest1 window IsSuch result = MatchResult result
     (λ x. Takes z held0 rest0 rest1 window.room window.held (IsSuch x))
     (λ stop. StopsOver units z held0 rest0 rest1 window.room stop)
@@ -104,11 +105,5 @@ abbrev pub IsRead : Past → Found → DataUnit → List ℕ → Type 0
 IsRead z found unit bytes = IsFound z found unit bytes × (length bytes < 2 ^ 32)
 
 -- by how the unit came out, of an input that ends where the room does
-abbrev pub UnitOver : Past → List ℕ → Option (List ℕ) → Option (List ℕ) → WindowSeen → Result Found ReadStop → Type 0
+abbrev pub UnitOver : Past → List ℕ → Option (List ℕ) → Option (List ℕ) → WindowSeen → Result Found (ReadStop Reason) → Type 0
 UnitOver z held0 rest0 rest1 window result = TakesOver z held0 rest0 rest1 window (IsFound z) result
-
--- the same, of an input that counts up to the limit
-abbrev pub LimitOver : Past → List ℕ → Option (List ℕ) → Option (List ℕ) → WindowSeen → Result Found ReadStop → Type 0
-LimitOver z held0 rest0 rest1 window (Ok founds.End) = EndsSuch units z held0 rest0 rest1 window (IsRead z founds.End)
-LimitOver z held0 rest0 rest1 window (Ok found) = TakesSuch units z held0 rest0 rest1 window (IsRead z found)
-LimitOver z held0 rest0 rest1 window (Err stop) = LimitStops units z held0 rest0 rest1 stop

@@ -1,23 +1,24 @@
 -- A writer of a stream to any sink.
 use Rattle.std.specs.Prelude.{◌≡◌, ◌≤◌, ℕ, ◌+◌, ◌%◌, ◌^◌, Bool, true, false, nat_lt, if◌then◌else◌, List, [], ◌∷◌, ◌++◌, max, Option, Some, None, Result, Ok, Err}
+use Rattle.parse_info.specs.declared.TheConstants.{HEAD_SIZE}
 use Rattle.std.specs.Io.KnownBytes.{Appends}
 use Rattle.vc2_io.specs.Outside.{Rose, GrewShort}
 use Rattle.sequence_header.specs.Bytes.{header_len}
 use Rattle.sequence_header.specs.Coding.{luma_depth, colour_depth}
-use Rattle.slice_encoder.specs.Laws.{IsSteepOk}
+use Rattle.slice_encoder.specs.TrialLaws.{IsSteepOk}
 use Rattle.slice_geometry.specs.declared.unit_list.UnitShape.{UnitShape}
-use Rattle.slice_geometry.specs.Units as shapes
+use Rattle.slice_geometry.specs.UnitLengths as shapes
 use Rattle.slice_geometry.specs.Slicing.{slice_count}
 use Rattle.transform_params.specs.Params.{Params}
-use Rattle.transform_params.specs.Fields.{byte_length, unit_length}
+use Rattle.transform_params.specs.ParameterFields.{byte_length, unit_length}
 use Rattle.stream_units.specs.declared.write_stop.WriteStop.{WriteStop}
 use Rattle.stream_units.specs.declared.write_stop.WriteStop.TheVariants as stops
 use Rattle.stream_rows.specs.Streams.{limit}
-use Rattle.stream_units.specs.Encoded.{Settings, header_unit, picture_unit, end_unit}
+use Rattle.stream_units.specs.EncodedStream.{Settings, header_unit, picture_unit, end_unit}
 
 -- What is seen of a writer: what it writes under, the units so far by their lengths, whether the stream was ended, and
 -- the stop that it keeps.
-pub record WriterState : Type 0 where
+pub record StreamWriterSeen : Type 0 where
   pub settings : Settings
   pub shapes : List UnitShape
   pub ended : Bool
@@ -41,13 +42,13 @@ last_length before [] = before
 last_length before (u ∷ units) = last_length (shapes.unit_length u) units
 
 -- the number of the next picture
-abbrev pub next_number : WriterState → ℕ
+abbrev pub next_number : StreamWriterSeen → ℕ
 next_number w = (w.settings.first + pictures_among w.shapes) % 2 ^ 32
 
-abbrev pub next_place : WriterState → ℕ
+abbrev pub next_place : StreamWriterSeen → ℕ
 next_place w = total_length w.shapes
 
-abbrev pub next_previous : WriterState → ℕ
+abbrev pub next_previous : StreamWriterSeen → ℕ
 next_previous w = last_length 0 w.shapes
 
 -- ---- the shapes of units
@@ -62,16 +63,16 @@ picture_shape p start =
 -- ---- what the calls leave
 
 -- a writer that wrote the sequence header
-abbrev pub started : Settings → WriterState
-started s = record { settings = s; shapes = plain_shape 0 (13 + header_len s.parts) ∷ []; ended = false; stop = None }
+abbrev pub started : Settings → StreamWriterSeen
+started s = record { settings = s; shapes = plain_shape 0 (HEAD_SIZE + header_len s.parts) ∷ []; ended = false; stop = None }
 
-abbrev pub after_picture : WriterState → WriterState
+abbrev pub after_picture : StreamWriterSeen → StreamWriterSeen
 after_picture w = record w { shapes = w.shapes ++ picture_shape w.settings.params (next_place w) ∷ [] }
 
-abbrev pub after_end : WriterState → WriterState
-after_end w = record w { shapes = w.shapes ++ plain_shape (next_place w) 13 ∷ []; ended = true }
+abbrev pub after_end : StreamWriterSeen → StreamWriterSeen
+after_end w = record w { shapes = w.shapes ++ plain_shape (next_place w) HEAD_SIZE ∷ []; ended = true }
 
-abbrev pub stopped : WriterState → WriteStop → WriterState
+abbrev pub stopped : StreamWriterSeen → WriteStop → StreamWriterSeen
 stopped w stop = record w { stop = Some stop }
 
 -- a unit was written whole, or a proper front of it went out, or nothing
@@ -81,16 +82,16 @@ Wrote unit out0 out1 (Err stops.OutFault) = GrewShort out0 out1 unit
 Wrote unit out0 out1 (Err other) = out1 ≡ out0
 
 -- what is left of a writer that keeps no stop
-abbrev pub leaves : WriterState → WriterState → Result (Unit {0}) WriteStop → WriterState
+abbrev pub leaves : StreamWriterSeen → StreamWriterSeen → Result (Unit {0}) WriteStop → StreamWriterSeen
 leaves old next (Ok x) = next
 leaves old next (Err stop) = stopped old stop
 
 -- the next picture and the end fit before the limit
-abbrev pub HasRoom : WriterState → Type 0
-HasRoom w = next_place w + unit_length w.settings.params + 13 ≤ limit
+abbrev pub HasRoom : StreamWriterSeen → Type 0
+HasRoom w = next_place w + unit_length w.settings.params + HEAD_SIZE ≤ limit
 
 -- why a picture isn't written: without room for it and the end it never is, and with room only a write or memory fails
-abbrev pub PictureStops : WriterState → Result (Unit {0}) WriteStop → Type 0
+abbrev pub PictureStops : StreamWriterSeen → Result (Unit {0}) WriteStop → Type 0
 PictureStops w (Err stops.StreamTooLong) = HasRoom w → ⊥
 PictureStops w (Err stops.MatrixTooSteep) = ⊥
 PictureStops w other = HasRoom w
@@ -102,14 +103,14 @@ EndStops (Err stops.MatrixTooSteep) = ⊥
 EndStops other = Unit {0}
 
 -- How a picture whose slices are these came out, of a writer that keeps no stop.
-pub record WritesPicture (old new : WriterState) (slices : List (List ℕ)) (out0 out1 : Option (List ℕ))
+pub record WritesPicture (old new : StreamWriterSeen) (slices : List (List ℕ)) (out0 out1 : Option (List ℕ))
     (result : Result (Unit {0}) WriteStop) : Type 0 where
   pub wrote : Wrote (picture_unit old.settings.params (next_previous old) (next_number old) slices) out0 out1 result
   pub after : new ≡ leaves old (after_picture old) result
   pub why : PictureStops old result
 
 -- How the end came out.
-pub record WritesEnd (old new : WriterState) (out0 out1 : Option (List ℕ)) (result : Result (Unit {0}) WriteStop) : Type 0 where
+pub record WritesEnd (old new : StreamWriterSeen) (out0 out1 : Option (List ℕ)) (result : Result (Unit {0}) WriteStop) : Type 0 where
   pub wrote : Wrote (end_unit (next_previous old)) out0 out1 result
   pub after : new ≡ leaves old (after_end old) result
   pub why : EndStops result
@@ -119,7 +120,7 @@ abbrev pub IsSteepUnder : Settings → Type 0
 IsSteepUnder s = IsSteepOk s.params.slicing.depth (max (luma_depth s.parts) (colour_depth s.parts)) s.params.matrix
 
 -- How a start came out; want of memory alone is free.
-abbrev pub Starts : Settings → Option (List ℕ) → Option (List ℕ) → Result WriterState WriteStop → Type 0
+abbrev pub Starts : Settings → Option (List ℕ) → Option (List ℕ) → Result StreamWriterSeen WriteStop → Type 0
 Starts s out0 out1 (Ok w) = (w ≡ started s) × IsSteepUnder s × Appends out0 out1 (header_unit s.parts)
 Starts s out0 out1 (Err stops.OutFault) = IsSteepUnder s × GrewShort out0 out1 (header_unit s.parts)
 Starts s out0 out1 (Err stops.MatrixTooSteep) = (IsSteepUnder s → ⊥) × (out1 ≡ out0)
@@ -135,12 +136,12 @@ WriteCause before now (Err other) = now ≡ before
 -- ---- all calls of a writer
 
 -- what is written by a call for each of these pictures and then the end
-abbrev pub texts_from : WriterState → List (List (List ℕ)) → List ℕ
+abbrev pub texts_from : StreamWriterSeen → List (List (List ℕ)) → List ℕ
 texts_from w [] = end_unit (next_previous w)
 texts_from w (slices ∷ pictures) =
     picture_unit w.settings.params (next_previous w) (next_number w) slices ++ texts_from (after_picture w) pictures
 
 -- each of them has room when its turn comes, as it has where its call answers Ok
-abbrev pub HaveRoom : WriterState → List (List (List ℕ)) → Type 0
+abbrev pub HaveRoom : StreamWriterSeen → List (List (List ℕ)) → Type 0
 HaveRoom w [] = Unit {0}
 HaveRoom w (slices ∷ pictures) = HasRoom w × HaveRoom (after_picture w) pictures

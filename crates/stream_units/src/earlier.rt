@@ -71,7 +71,8 @@ impl Model for Earlier {
 }
 
 impl Earlier {
-    ghost use Rattle.std.specs.Prelude.{◌≡◌, ◌≤◌, ◌<◌, ◌+◌, ◌^◌, Some, None, IfSome, IsNone, ◌↔◌};
+    ghost use Rattle.std.specs.Prelude.{◌≡◌, ◌≤◌, ◌<◌, ◌+◌, Some, None, IfSome, IsNone, ◌↔◌};
+    ghost use Rattle.vc2_io.specs.declared.TheConstants.{INPUT_LIMIT};
     ghost use Rattle.stream_rows.specs.Units.{nothing_yet};
 
     /// Before the first unit.
@@ -89,7 +90,7 @@ impl Earlier {
     /// The place of the next unit.
     pub fn place(&self) -> u64
         ensures value { result ≡ self.now.place }
-        ensures most { result ≤ 2 ^ 40 }
+        ensures most { result ≤ INPUT_LIMIT }
     {
         self.chain.place()
     }
@@ -125,7 +126,7 @@ impl Earlier {
 
     /// Goes on behind a unit of so many bytes.
     pub fn step(&mut self, length: u32)
-        requires { self.old.place + length ≤ 2 ^ 40 }
+        requires { self.old.place + length ≤ INPUT_LIMIT }
         ensures { self.new ≡ record self.old { place = self.old.place + length; previous = length } }
     {
         self.chain.step(length);
@@ -133,7 +134,7 @@ impl Earlier {
 
     /// Goes on behind the first sequence header's unit.
     pub fn step_first(&mut self, first: First, length: u32)
-        requires { self.old.place + length ≤ 2 ^ 40 }
+        requires { self.old.place + length ≤ INPUT_LIMIT }
         ensures { self.new ≡ record self.old { place = self.old.place + length; previous = length; first = Some first } }
     {
         self.first = Some(first);
@@ -143,7 +144,7 @@ impl Earlier {
     /// Goes on behind the unit of a picture.
     pub fn step_picture(&mut self, number: u32, length: u32)
         requires some { 0 < length }
-        requires most { self.old.place + length ≤ 2 ^ 40 }
+        requires most { self.old.place + length ≤ INPUT_LIMIT }
         ensures { self.new ≡ record self.old { place = self.old.place + length; previous = length; pictures = self.old.pictures + 1; last = number } }
     {
         self.pictures += 1;

@@ -1,23 +1,19 @@
-//! Units by their heads alone, taken from a source.
+//! The table of units by their heads alone.
 
-ghost use Rattle.std.specs.Prelude.{◌≡◌, ◌+◌, ◌^◌, ◌≤◌, List, ℕ, Option, length, OnOk};
-ghost use Rattle.unit_table.specs.Begun.{Begun};
-ghost use Rattle.stream_units.specs.Stops.{StopCause};
-ghost use Rattle.stream_units.specs.HeadUnits.{leads_on, payload_length, head_alone, unit_alone, heads, AloneOver};
-ghost use Rattle.stream_units.specs.Taking.{FirstOver};
-ghost use Rattle.stream_units.specs.Parts.{PartOver};
-ghost use Rattle.stream_units.specs.HeadReader.{LimitAlone};
-ghost use Rattle.stream_units.specs.Heads.{HeadAt, judged_alone};
+ghost use Rattle.parse_info.specs.declared.TheConstants.{HEAD_SIZE};
+ghost use Rattle.vc2_io.specs.declared.TheConstants.{INPUT_LIMIT, READ_SIZE};
+ghost use Rattle.std.specs.Prelude.{◌≡◌, ◌+◌, ◌≤◌, length, OnOk, refl};
+ghost use Rattle.unit_reader.specs.Stops.{StopCause, PartOver};
+ghost use Rattle.stream_rows.specs.declared.reason.Reason.TheVariants as reasons;
+ghost use Rattle.stream_units.specs.HeadUnits.{leads_on, payload_length, head_only_head, heads};
+ghost use Rattle.stream_units.specs.HeadLaws.{heads_laws};
+ghost use Rattle.stream_units.specs.Heads.{HeadAt, head_only_judged};
 
-use crate::heads::refuse;
-use crate::limits::{limited, past_limit};
-use crate::short::read_on;
-use crate::stop::{ReadStop, refused, stop_of};
-use crate::window::Window;
+use crate::heads::{asked_for, refuse};
 use parse_info::{Code, InfoFault, ParseInfo};
 use stream_rows::{Reason, Refusal};
+use unit_reader::{After, ReadStop, Table, Units, Window, read_on, refused, stop_of};
 use vc2_io::Source;
-use vc2_run::LIMIT;
 
 fn leads_on(code: Code, next: u32) -> bool
     ensures { result ≡ leads_on code next }
@@ -36,8 +32,8 @@ fn payload_length(info: &ParseInfo) -> u32
 
 // The head after the rule on its next offset, which comes before the shortness of the previous one.
 fn judge(place: u64, read: Result<ParseInfo, InfoFault>) -> Result<ParseInfo, Refusal>
-    requires { place ≤ 2 ^ 40 }
-    ensures { result ≡ judged_alone place read }
+    requires { place ≤ INPUT_LIMIT }
+    ensures { result ≡ head_only_judged place read }
 {
     match read {
         Ok(info) => {
@@ -62,18 +58,22 @@ fn judge(place: u64, read: Result<ParseInfo, InfoFault>) -> Result<ParseInfo, Re
 
 // The head in front of the bytes, or its first fault.
 fn read_head(place: u64, bytes: &[u8]) -> Result<ParseInfo, Refusal>
-    requires { place ≤ 2 ^ 40 }
-    ensures { HeadAt head_alone place bytes.now result }
+    requires { place ≤ INPUT_LIMIT }
+    ensures { HeadAt head_only_head place bytes.now result }
 {
     judge(place, ParseInfo::read(bytes))
 }
 
 // The head of the unit. Bytes are asked for only while it is short.
-fn head<S: Source>(window: &mut Window, src: &mut S, place: u64) -> Result<ParseInfo, ReadStop>
-    requires place { place + length window.old.held + window.old.room ≡ 2 ^ 40 }
-    requires few { length window.old.held ≤ 4096 }
-    ensures part { PartOver heads head_alone (λ info. info) place (S.rest src.old) (S.rest src.new) place (λ info. 13) window.old window.new result }
-    ensures place { OnOk result (place + 13 + length window.new.held + window.new.room ≡ 2 ^ 40) }
+fn head<S: Source>(
+    window: &mut Window,
+    src: &mut S,
+    place: u64,
+) -> Result<ParseInfo, ReadStop<Reason>>
+    requires place { place + length window.old.held + window.old.room ≡ INPUT_LIMIT }
+    requires few { length window.old.held ≤ READ_SIZE }
+    ensures part { PartOver heads head_only_head (λ info. info) place (S.rest src.old) (S.rest src.new) place (λ info. HEAD_SIZE) window.old window.new result }
+    ensures place { OnOk result (place + HEAD_SIZE + length window.new.held + window.new.room ≡ INPUT_LIMIT) }
     ensures room { window.new.room ≤ window.old.room }
     ensures cause { StopCause (S.faults src.old) (S.faults src.new) result }
 {
@@ -86,78 +86,96 @@ fn head<S: Source>(window: &mut Window, src: &mut S, place: u64) -> Result<Parse
             }
             Err(refusal) => refusal,
         };
+        let told = asked_for(refusal);
         if !refusal.reason.is_truncated() {
-            return Err(ReadStop::Refused(refusal));
+            return Err(ReadStop::Refused(told));
         }
-        match read_on(window, src, refusal) {
+        match read_on::<HeadTable, S>(window, src, told) {
             Ok(()) => {}
             Err(stop) => return Err(stop),
         }
     }
 }
 
-// Asks for the first byte of a unit, and says whether there is one.
-fn first<S: Source>(window: &mut Window, src: &mut S, place: u64) -> Result<bool, ReadStop>
-    requires place { place + length window.old.held + window.old.room ≡ 2 ^ 40 }
-    requires few { length window.old.held ≤ 4096 }
-    ensures first { FirstOver heads place window.old (S.rest src.old) (S.rest src.new) window.new result }
-    ensures cause { StopCause (S.faults src.old) (S.faults src.new) result }
-{
-    match window.hold(src, 1) {
-        Ok(true) => return Ok(true),
-        Ok(false) => {}
-        Err(halt) => return Err(stop_of(halt)),
-    }
-    match past_limit(window, src) {
-        Ok(false) => Ok(false),
-        Ok(true) => Err(refused(LIMIT, Reason::StreamTooLong)),
-        Err(stop) => Err(stop),
-    }
+/// The table of units by their heads alone: the place of the next one.
+#[derive(Drop)]
+pub(crate) struct HeadTable {
+    pub place: u64,
 }
 
-// Reads the rows of the unit, of an input that ends where the window's room does.
-fn unit<S: Source>(window: &mut Window, src: &mut S, place: u64) -> Result<ParseInfo, ReadStop>
-    requires place { place + length window.old.held + window.old.room ≡ 2 ^ 40 }
-    requires few { length window.old.held ≤ 4096 }
-    ensures unit { (held0 : List ℕ) (rest0 : Option (List ℕ)) → Begun heads place held0 rest0 (S.rest src.old) place window.old.held unit_alone
-        → AloneOver place held0 rest0 (S.rest src.new) window.new result }
-    ensures room { window.new.room ≤ window.old.room }
-    ensures cause { StopCause (S.faults src.old) (S.faults src.new) result }
-{
-    let info = match head(window, src, place) {
-        Ok(info) => info,
-        Err(stop) => return Err(stop),
-    };
-    match window.skip(src, payload_length(&info) as u64) {
-        Ok(true) => Ok(info),
-        Ok(false) => Err(refused(place + 13, Reason::Truncated)),
-        Err(halt) => Err(stop_of(halt)),
+impl Units for HeadTable {
+    type Reason = Reason;
+
+    type Past = u64;
+
+    type Made = ParseInfo;
+
+    ghost grammar = { heads };
+
+    ghost past = { λ table. table.place };
+
+    ghost beyond = { reasons.StreamTooLong };
+
+    fn is_short(reason: Reason) -> bool {
+        reason.is_truncated()
     }
+
+    fn too_long() -> Reason {
+        Reason::StreamTooLong
+    }
+
+    ghost laws = { heads_laws };
+
+    ghost along = { λ place unit bytes. refl };
 }
 
-/// Takes the unit in front of the bytes that are held and then the source's; none where the input is over.
-pub(crate) fn next_unit_alone<S: Source>(
-    window: &mut Window,
-    src: &mut S,
-    place: u64,
-) -> Result<Option<ParseInfo>, ReadStop>
-    requires place { place + length window.old.held + window.old.room ≡ 2 ^ 40 }
-    requires few { length window.old.held ≤ 4096 }
-    ensures limit { LimitAlone place window.old.held (S.rest src.old) (S.rest src.new) window.new result }
-    ensures cause { StopCause (S.faults src.old) (S.faults src.new) result }
-{
-    match first(window, src, place) {
-        Ok(true) => {}
-        Ok(false) => return Ok(None),
-        Err(stop) => return Err(stop),
+impl Table for HeadTable {
+    type Found = ParseInfo;
+
+    type Item = ParseInfo;
+
+    ghost is_found = { λ before now found unit bytes. unit ≡ found };
+
+    ghost tells = { λ before behind unit bytes item. item ≡ unit };
+
+    ghost stopped = { λ before now held0 rest0 held stop. Unit {0} };
+
+    ghost stops_before = { λ table held0 rest0 held stop few. tt };
+
+    ghost stops_otherwise = { λ before now held0 rest0 held refusal stop h. tt };
+
+    ghost stops_behind = { λ before now found unit bytes other held0 rest0 held stop is final few. tt };
+
+    fn place(&self) -> u64 {
+        self.place
     }
-    let stop = match unit(window, src, place) {
-        Ok(info) => return Ok(Some(info)),
-        Err(stop) => stop,
-    };
-    match stop {
-        ReadStop::Refused(refusal) => Err(limited(window, src, refusal)),
-        ReadStop::ReadFault => Err(ReadStop::ReadFault),
-        ReadStop::NoMemory => Err(ReadStop::NoMemory),
+
+    fn rests(&self) -> bool {
+        true
+    }
+
+    fn behind(&self, _found: &ParseInfo) -> After<Reason> {
+        After::Inner
+    }
+
+    fn unit<S: Source>(
+        &mut self,
+        window: &mut Window,
+        src: &mut S,
+    ) -> Result<ParseInfo, ReadStop<Reason>> {
+        let info = match head(window, src, self.place) {
+            Ok(info) => info,
+            Err(stop) => return Err(stop),
+        };
+        match window.skip(src, payload_length(&info) as u64) {
+            Ok(true) => Ok(info),
+            Ok(false) => Err(refused(self.place + 13, Reason::Truncated)),
+            Err(halt) => Err(stop_of(halt)),
+        }
+    }
+
+    fn step(&mut self, found: ParseInfo, size: u64) -> ParseInfo {
+        self.place += size;
+        found
     }
 }

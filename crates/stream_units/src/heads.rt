@@ -1,9 +1,10 @@
 //! The heads of units under the rules of a stream, and the first unit.
 
-ghost use Rattle.std.specs.Prelude.{◌≡◌, ◌+◌, ◌^◌, ◌≤◌, length, Err};
+ghost use Rattle.vc2_io.specs.declared.TheConstants.{INPUT_LIMIT};
+ghost use Rattle.std.specs.Prelude.{◌≡◌, ◌+◌, ◌≤◌, length, Err};
 ghost use Rattle.field_rows.specs.Rows.{first_broken};
 ghost use Rattle.stream_rows.specs.Units.{is_header, is_end_code, is_skipped, header_reason, transform_reason, next_rules, unit_head};
-ghost use Rattle.stream_units.specs.Heads.{looking_back, are_fields, passes, code_rules_behind, previous_rules_behind, judged_head, HeadAt, leads_behind, IsFirstUnit};
+ghost use Rattle.stream_units.specs.Heads.{looking_back, are_fields, passes, code_rules_behind, previous_rules_behind, judged_head, HeadAt, leads_behind, IsFirstUnit, asked_for};
 
 use crate::earlier::Earlier;
 use parse_info::{Code, InfoFault, ParseInfo};
@@ -23,7 +24,7 @@ struct Before {
 
 fn look_back(earlier: &Earlier) -> Before
     ensures value { result ≡ looking_back earlier.now }
-    ensures most { result.place ≤ 2 ^ 40 }
+    ensures most { result.place ≤ INPUT_LIMIT }
 {
     let coding = match earlier.first() {
         Some(first) => Some(first.header().parts().coding),
@@ -34,6 +35,16 @@ fn look_back(earlier: &Earlier) -> Before
         previous: earlier.previous(),
         coding,
         pictures: earlier.pictures(),
+    }
+}
+
+/// The refusal, of a reader of any table.
+pub(crate) fn asked_for(refusal: Refusal) -> unit_reader::Refusal<Reason>
+    ensures { result ≡ asked_for refusal }
+{
+    unit_reader::Refusal {
+        place: refusal.place,
+        reason: refusal.reason,
     }
 }
 
@@ -100,7 +111,7 @@ fn has_fields(coding: Option<u32>) -> bool
 
 // The rules on a code.
 fn check_code(before: Before, code: Code) -> Result<(), Refusal>
-    requires { before.place ≤ 2 ^ 40 }
+    requires { before.place ≤ INPUT_LIMIT }
     ensures { result ≡ passes (before.place + 4) (first_broken (code_rules_behind before code)) }
 {
     let place = before.place + 4;
@@ -121,7 +132,7 @@ fn check_code(before: Before, code: Code) -> Result<(), Refusal>
 
 // The rules on a next offset behind a code.
 fn check_next(place: u64, code: Code, next: u32) -> Result<(), Refusal>
-    requires { place ≤ 2 ^ 40 }
+    requires { place ≤ INPUT_LIMIT }
     ensures { result ≡ passes (place + 5) (first_broken (next_rules code next)) }
 {
     let place = place + 5;
@@ -142,7 +153,7 @@ fn check_next(place: u64, code: Code, next: u32) -> Result<(), Refusal>
 
 // The rule on a previous offset.
 fn check_previous(before: Before, previous: u32) -> Result<(), Refusal>
-    requires { before.place ≤ 2 ^ 40 }
+    requires { before.place ≤ INPUT_LIMIT }
     ensures { result ≡ passes (before.place + 9) (first_broken (previous_rules_behind before previous)) }
 {
     if previous != before.previous {
@@ -163,7 +174,7 @@ pub(crate) fn refuse(place: u64, reason: Reason) -> Result<ParseInfo, Refusal>
 
 // The rules on what was read of a head: those on a field come before the shortness of a later one.
 fn judge(before: Before, read: Result<ParseInfo, InfoFault>) -> Result<ParseInfo, Refusal>
-    requires { before.place ≤ 2 ^ 40 }
+    requires { before.place ≤ INPUT_LIMIT }
     ensures { result ≡ judged_head before read }
 {
     let place = before.place;
@@ -207,7 +218,7 @@ pub(crate) fn leads_behind(next: u32, length: u64) -> bool
 /// The sequence header of the first unit, which stands in front of the bytes, and the length of the whole unit; or the
 /// unit's first fault.
 pub fn first_unit(bytes: &[u8]) -> Result<(SequenceHeader, usize), Refusal>
-    requires { length bytes.now ≤ 2 ^ 40 }
+    requires { length bytes.now ≤ INPUT_LIMIT }
     ensures { IsFirstUnit bytes.now result }
 {
     let info = read_head(&Earlier::new(), bytes)?;

@@ -1,21 +1,22 @@
 //! The parts of units: what stands behind their heads.
 
-ghost use Rattle.std.specs.Prelude.{◌≡◌, ◌+◌, ◌^◌, ◌≤◌, List, ℕ, Option, length, IfOk, IfErr, OnErr};
+ghost use Rattle.parse_info.specs.declared.TheConstants.{HEAD_SIZE};
+ghost use Rattle.vc2_io.specs.declared.TheConstants.{INPUT_LIMIT, READ_SIZE};
+ghost use Rattle.std.specs.Prelude.{◌≡◌, ◌+◌, ◌≤◌, List, ℕ, Option, length, IfOk, IfErr, OnErr};
 ghost use Rattle.unit_table.specs.Begun.{Begun};
 ghost use Rattle.stream_rows.specs.Units.{Skipped, Repeated, Past, units, first_payload, skipped_payload, repeated_payload};
 ghost use Rattle.stream_units.specs.Turns.{is_end_found, TakesOver, HeaderOver, IsFirst};
-ghost use Rattle.stream_units.specs.Stops.{StopCause};
-ghost use Rattle.stream_units.specs.declared.stop.ReadStop.TheVariants as stops;
+ghost use Rattle.unit_reader.specs.Stops.{StopCause};
+ghost use Rattle.unit_reader.specs.declared.stop.ReadStop.TheVariants as stops;
 
 use crate::earlier::{Earlier, First};
 use crate::heads::{header_reason, leads_behind};
 use crate::pictures::Shown;
-use crate::short::read_on;
-use crate::stop::{ReadStop, refused, stop_of};
-use crate::window::Window;
+use crate::table::StreamTable;
 use sequence_header::SequenceHeader;
 use std::alloc::Global;
-use stream_rows::{Reason, Refusal};
+use stream_rows::Reason;
+use unit_reader::{ReadStop, Refusal, Window, read_on, refused, stop_of};
 use vc2_io::Source;
 
 /// A unit that stands.
@@ -43,9 +44,9 @@ pub(crate) fn skipped<S: Source>(
     src: &mut S,
     earlier: &Earlier,
     next: u32,
-) -> Result<(), ReadStop>
-    requires place { earlier.now.place + 13 + length window.old.held + window.old.room ≡ 2 ^ 40 }
-    ensures unit { (held0 : List ℕ) (rest0 : Option (List ℕ)) → Begun units earlier.now held0 rest0 (S.rest src.old) (earlier.now.place + 13) window.old.held (skipped_payload next)
+) -> Result<(), ReadStop<Reason>>
+    requires place { earlier.now.place + HEAD_SIZE + length window.old.held + window.old.room ≡ INPUT_LIMIT }
+    ensures unit { (held0 : List ℕ) (rest0 : Option (List ℕ)) → Begun units earlier.now held0 rest0 (S.rest src.old) (earlier.now.place + HEAD_SIZE) window.old.held (skipped_payload next)
         → TakesOver earlier.now held0 rest0 (S.rest src.new) window.new (λ _ unit bytes. unit ≡ Skipped) result }
     ensures held { OnErr result (length window.new.held ≤ 8192) }
     ensures cause { StopCause (S.faults src.old) (S.faults src.new) result }
@@ -64,10 +65,10 @@ pub(crate) fn repeated<S: Source>(
     earlier: &Earlier,
     first: &First,
     next: u32,
-) -> Result<(), ReadStop>
-    requires place { earlier.now.place + 13 + length window.old.held + window.old.room ≡ 2 ^ 40 }
-    requires few { length window.old.held ≤ 4096 }
-    ensures unit { (held0 : List ℕ) (rest0 : Option (List ℕ)) → Begun units earlier.now held0 rest0 (S.rest src.old) (earlier.now.place + 13) window.old.held (repeated_payload earlier.now next first.now)
+) -> Result<(), ReadStop<Reason>>
+    requires place { earlier.now.place + HEAD_SIZE + length window.old.held + window.old.room ≡ INPUT_LIMIT }
+    requires few { length window.old.held ≤ READ_SIZE }
+    ensures unit { (held0 : List ℕ) (rest0 : Option (List ℕ)) → Begun units earlier.now held0 rest0 (S.rest src.old) (earlier.now.place + HEAD_SIZE) window.old.held (repeated_payload earlier.now next first.now)
         → TakesOver earlier.now held0 rest0 (S.rest src.new) window.new (λ _ unit bytes. unit ≡ Repeated) result }
     ensures held { length window.new.held ≤ 8192 }
     ensures cause { StopCause (S.faults src.old) (S.faults src.new) result }
@@ -94,10 +95,10 @@ fn read_header<S: Source>(
     window: &mut Window,
     src: &mut S,
     place: u64,
-) -> Result<(SequenceHeader, usize), ReadStop>
-    requires place { place + length window.old.held + window.old.room ≡ 2 ^ 40 }
+) -> Result<(SequenceHeader, usize), ReadStop<Reason>>
+    requires place { place + length window.old.held + window.old.room ≡ INPUT_LIMIT }
     requires few { length window.old.held ≤ 8192 }
-    ensures unit { (z : Past) (held0 : List ℕ) (rest0 : Option (List ℕ)) (next : ℕ) → place ≡ z.place + 13 → Begun units z held0 rest0 (S.rest src.old) place window.old.held (first_payload z next)
+    ensures unit { (z : Past) (held0 : List ℕ) (rest0 : Option (List ℕ)) (next : ℕ) → place ≡ z.place + HEAD_SIZE → Begun units z held0 rest0 (S.rest src.old) place window.old.held (first_payload z next)
         → HeaderOver z next held0 rest0 (S.rest src.new) window.new result }
     ensures room { length window.new.held + window.new.room ≡ length window.old.held + window.old.room }
     ensures inside { IfOk result (λ x. x.1 ≤ length window.new.held) }
@@ -118,7 +119,7 @@ fn read_header<S: Source>(
         if !refusal.reason.is_truncated() {
             return Err(ReadStop::Refused(refusal));
         }
-        match read_on(window, src, refusal) {
+        match read_on::<StreamTable, S>(window, src, refusal) {
             Ok(()) => {}
             Err(stop) => return Err(stop),
         }
@@ -126,7 +127,7 @@ fn read_header<S: Source>(
 }
 
 // A copy of bytes.
-fn copied(alloc: Global, bytes: &[u8]) -> Result<Vec<u8>, ReadStop>
+fn copied(alloc: Global, bytes: &[u8]) -> Result<Vec<u8>, ReadStop<Reason>>
     ensures ok { IfOk result (λ copy. copy.items ≡ bytes.now) }
     ensures err { IfErr result (λ stop. stop ≡ stops.NoMemory) }
 {
@@ -144,10 +145,10 @@ pub(crate) fn first_header<S: Source>(
     src: &mut S,
     earlier: &Earlier,
     next: u32,
-) -> Result<First, ReadStop>
-    requires place { earlier.now.place + 13 + length window.old.held + window.old.room ≡ 2 ^ 40 }
-    requires few { length window.old.held ≤ 4096 }
-    ensures unit { (held0 : List ℕ) (rest0 : Option (List ℕ)) → Begun units earlier.now held0 rest0 (S.rest src.old) (earlier.now.place + 13) window.old.held (first_payload earlier.now next)
+) -> Result<First, ReadStop<Reason>>
+    requires place { earlier.now.place + HEAD_SIZE + length window.old.held + window.old.room ≡ INPUT_LIMIT }
+    requires few { length window.old.held ≤ READ_SIZE }
+    ensures unit { (held0 : List ℕ) (rest0 : Option (List ℕ)) → Begun units earlier.now held0 rest0 (S.rest src.old) (earlier.now.place + HEAD_SIZE) window.old.held (first_payload earlier.now next)
         → TakesOver earlier.now held0 rest0 (S.rest src.new) window.new IsFirst result }
     ensures held { length window.new.held ≤ 8192 }
     ensures cause { StopCause (S.faults src.old) (S.faults src.new) result }

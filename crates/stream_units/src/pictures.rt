@@ -1,6 +1,8 @@
 //! The payload of a picture unit.
 
-ghost use Rattle.std.specs.Prelude.{◌≡◌, ◌+◌, ◌^◌, ◌≤◌, List, ℕ, Option, None, Some, OnOk, OnErr, IfOk, IfErr, MatchResult, length, false};
+ghost use Rattle.parse_info.specs.declared.TheConstants.{HEAD_SIZE};
+ghost use Rattle.vc2_io.specs.declared.TheConstants.{INPUT_LIMIT, READ_SIZE};
+ghost use Rattle.std.specs.Prelude.{◌≡◌, ◌+◌, ◌≤◌, List, ℕ, Option, None, Some, OnOk, OnErr, IfOk, IfErr, MatchResult, length, false};
 ghost use Rattle.field_rows.specs.Rows.{word_under, renamed, first_broken};
 ghost use Rattle.slice_geometry.specs.Slicing.{IsAllowed, total_bytes};
 ghost use Rattle.sequence_header.specs.declared.parts.HeaderParts.{HeaderParts};
@@ -10,25 +12,24 @@ ghost use Rattle.slice_geometry.specs.Frames.{frame_of};
 ghost use Rattle.picture_codec.specs.Samples.{picture_of};
 ghost use Rattle.picture_codec.specs.Decoding.{HasTaken, synthesised_picture, wanted_of};
 ghost use Rattle.unit_table.specs.Begun.{Begun};
-ghost use Rattle.stream_units.specs.declared.stop.ReadStop.TheVariants as stops;
+ghost use Rattle.unit_reader.specs.declared.stop.ReadStop.TheVariants as stops;
 ghost use Rattle.stream_rows.specs.Streams.{frame_under};
 ghost use Rattle.stream_rows.specs.Units.{Past, units, transform_reason, number_rules, picture_payload};
 ghost use Rattle.stream_units.specs.Turns.{PictureOver};
-ghost use Rattle.stream_units.specs.Stops.{StopCause};
-ghost use Rattle.stream_units.specs.Parts.{PartOver, SlicesOver, IsReady, slice_reason};
+ghost use Rattle.unit_reader.specs.Stops.{StopCause, PartOver};
+ghost use Rattle.stream_units.specs.UnitParts.{SlicesOver, IsReady, slice_reason};
 ghost use Rattle.stream_units.specs.Held.{greatest_share, StopsHeld};
 
 use crate::earlier::{Earlier, First};
 use crate::heads::{leads_behind, transform_reason};
-use crate::short::read_on;
-use crate::stop::{ReadStop, refused, stop_of};
-use crate::window::Window;
+use crate::table::StreamTable;
 use picture_codec::PictureDecoder;
 use slice_decoder::SliceFault;
 use slice_geometry::{Layout, PictureShape};
 use std::alloc::Global;
-use stream_rows::{Reason, Refusal};
+use stream_rows::Reason;
 use transform_params::TransformParams;
+use unit_reader::{ReadStop, Refusal, Window, read_on, refused, stop_of};
 use vc2_io::Source;
 
 /// A picture that was read: its number, how it is cut into slices, the bytes of its unit before the first slice, and
@@ -62,12 +63,12 @@ fn number<S: Source>(
     src: &mut S,
     earlier: &Earlier,
     first: &First,
-) -> Result<u32, ReadStop>
+) -> Result<u32, ReadStop<Reason>>
     requires first { earlier.now.first ≡ Some first.now }
-    requires place { earlier.now.place + 13 + length window.old.held + window.old.room ≡ 2 ^ 40 }
-    requires few { length window.old.held ≤ 4096 }
-    ensures part { PartOver units (word_under (number_rules earlier.now)) (λ n. n) earlier.now (S.rest src.old) (S.rest src.new) (earlier.now.place + 13) (λ n. 4) window.old window.new result }
-    ensures place { OnOk result (earlier.now.place + 17 + length window.new.held + window.new.room ≡ 2 ^ 40) }
+    requires place { earlier.now.place + HEAD_SIZE + length window.old.held + window.old.room ≡ INPUT_LIMIT }
+    requires few { length window.old.held ≤ READ_SIZE }
+    ensures part { PartOver units (word_under (number_rules earlier.now)) (λ n. n) earlier.now (S.rest src.old) (S.rest src.new) (earlier.now.place + HEAD_SIZE) (λ n. 4) window.old window.new result }
+    ensures place { OnOk result (earlier.now.place + 17 + length window.new.held + window.new.room ≡ INPUT_LIMIT) }
     ensures held { length window.new.held ≤ 8192 }
     ensures cause { StopCause (S.faults src.old) (S.faults src.new) result }
 {
@@ -93,13 +94,13 @@ fn params<S: Source>(
     window: &mut Window,
     src: &mut S,
     place: u64,
-) -> Result<(TransformParams, u64), ReadStop>
-    requires place { place + length window.old.held + window.old.room ≡ 2 ^ 40 }
+) -> Result<(TransformParams, u64), ReadStop<Reason>>
+    requires place { place + length window.old.held + window.old.room ≡ INPUT_LIMIT }
     requires few { length window.old.held ≤ 8192 }
     ensures part { (z : Past) → PartOver units (renamed transform_reason params_rows) (λ x. params_of x.0) z (S.rest src.old) (S.rest src.new) place (λ x. x.1) window.old window.new result }
     ensures most { IfOk result (λ x. x.1 ≤ 512) }
     ensures held { length window.new.held ≤ 8192 }
-    ensures place { IfOk result (λ x. place + x.1 + length window.new.held + window.new.room ≡ 2 ^ 40) }
+    ensures place { IfOk result (λ x. place + x.1 + length window.new.held + window.new.room ≡ INPUT_LIMIT) }
     ensures cause { StopCause (S.faults src.old) (S.faults src.new) result }
 {
     loop {
@@ -118,7 +119,7 @@ fn params<S: Source>(
         if !refusal.reason.is_truncated() {
             return Err(ReadStop::Refused(refusal));
         }
-        match read_on(window, src, refusal) {
+        match read_on::<StreamTable, S>(window, src, refusal) {
             Ok(()) => {}
             Err(stop) => return Err(stop),
         }
@@ -131,7 +132,7 @@ fn ready(
     kept: &mut Option<PictureDecoder>,
     shape: &PictureShape,
     params: &TransformParams,
-) -> Result<PictureDecoder, ReadStop>
+) -> Result<PictureDecoder, ReadStop<Reason>>
     ensures ready { MatchResult result (IsReady shape.now (params_of params.now)) (λ stop. stop ≡ stops.NoMemory) }
     ensures none { OnErr result (kept.new ≡ None) }
 {
@@ -164,13 +165,13 @@ fn slices<S: Source>(
     src: &mut S,
     place: u64,
     decoder: &mut PictureDecoder,
-) -> Result<(), ReadStop>
+) -> Result<(), ReadStop<Reason>>
     requires first { decoder.old.next ≡ 0 }
     requires unrefused { decoder.old.refused ≡ false }
-    requires place { place + length window.old.held + window.old.room ≡ 2 ^ 40 }
+    requires place { place + length window.old.held + window.old.room ≡ INPUT_LIMIT }
     requires few { length window.old.held ≤ 8192 }
     ensures part { (parts : HeaderParts) (z : Past) → frame_of decoder.old.shape ≡ frame_under parts → SlicesOver parts z (S.rest src.old) (S.rest src.new) place window.old window.new decoder.old decoder.new result }
-    ensures place { OnOk result (place + total_bytes decoder.old.params.slicing + length window.new.held + window.new.room ≡ 2 ^ 40) }
+    ensures place { OnOk result (place + total_bytes decoder.old.params.slicing + length window.new.held + window.new.room ≡ INPUT_LIMIT) }
     ensures shape { decoder.new.shape ≡ decoder.old.shape }
     ensures params { decoder.new.params ≡ decoder.old.params }
     ensures unrefused { OnOk result (decoder.new.refused ≡ false) }
@@ -218,13 +219,13 @@ pub(crate) fn picture<S: Source>(
     first: &First,
     next: u32,
     kept: &mut Option<PictureDecoder>,
-) -> Result<Shown, ReadStop>
+) -> Result<Shown, ReadStop<Reason>>
     requires first { earlier.now.first ≡ Some first.now }
-    requires place { earlier.now.place + 13 + length window.old.held + window.old.room ≡ 2 ^ 40 }
-    requires few { length window.old.held ≤ 4096 }
-    ensures unit { (held0 : List ℕ) (rest0 : Option (List ℕ)) → Begun units earlier.now held0 rest0 (S.rest src.old) (earlier.now.place + 13) window.old.held (picture_payload earlier.now next first.now.parts)
+    requires place { earlier.now.place + HEAD_SIZE + length window.old.held + window.old.room ≡ INPUT_LIMIT }
+    requires few { length window.old.held ≤ READ_SIZE }
+    ensures unit { (held0 : List ℕ) (rest0 : Option (List ℕ)) → Begun units earlier.now held0 rest0 (S.rest src.old) (earlier.now.place + HEAD_SIZE) window.old.held (picture_payload earlier.now next first.now.parts)
         → PictureOver earlier.now held0 rest0 (S.rest src.new) window.new first.now.parts result }
-    ensures held { (held0 : List ℕ) (rest0 : Option (List ℕ)) → Begun units earlier.now held0 rest0 (S.rest src.old) (earlier.now.place + 13) window.old.held (picture_payload earlier.now next first.now.parts)
+    ensures held { (held0 : List ℕ) (rest0 : Option (List ℕ)) → Begun units earlier.now held0 rest0 (S.rest src.old) (earlier.now.place + HEAD_SIZE) window.old.held (picture_payload earlier.now next first.now.parts)
         → IfErr result (StopsHeld earlier.now held0 rest0 kept.old kept.new window.new.held) }
     ensures cause { StopCause (S.faults src.old) (S.faults src.new) result }
 {

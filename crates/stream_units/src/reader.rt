@@ -1,50 +1,62 @@
 //! The reader of a stream.
 
-ghost use Rattle.std.specs.Prelude.{◌≡◌, ◌≤◌, ◌^◌, Ok, Err, Some, None, true, false, length, IfOk, IfSome, IsNone, ◌↔◌, option_map};
-ghost use Rattle.stream_units.specs.Stops.{StopCause};
+ghost use Rattle.vc2_io.specs.declared.TheConstants.{INPUT_LIMIT};
+ghost use Rattle.std.specs.Prelude.{◌≡◌, ◌≤◌, Ok, Err, Some, None, true, false, length, IfOk, IfSome, IsNone, ◌↔◌, option_map};
+ghost use Rattle.stream_units.specs.StreamStops.{StopCause};
 ghost use Rattle.stream_units.specs.Reader.{NextOver, GreatestOver, new_reader};
 ghost use Rattle.stream_units.specs.Held.{held_most};
+ghost use Rattle.stream_units.specs.ReaderInside.{answer_of, is_shown};
 ghost use Rattle.stream_units.specs.declared.stop.Item.TheVariants as items;
 
-use crate::earlier::Earlier;
-use crate::limits::next_unit;
-use crate::steps::{keep, shape_of, step};
-use crate::stop::{Item, ReadStop};
-use crate::window::Window;
-use picture_codec::{Picture, PictureDecoder};
+use crate::stop::{Item, ReadStop, stop_told};
+use crate::table::StreamTable;
+use picture_codec::Picture;
 use planes::NoMemory;
 use sequence_header::SequenceHeader;
 use slice_geometry::UnitShapes;
 use std::alloc::Global;
 use std::marker::Model;
+use stream_rows::Reason;
+use unit_reader::{Reader, Turn};
 use vc2_io::Source;
-use vc2_run::LIMIT;
+
+// What a turn of the reader over the table tells.
+fn answer_of(turn: Result<Turn<Item>, unit_reader::ReadStop<Reason>>) -> Result<Item, ReadStop>
+    ensures { result ≡ answer_of turn }
+{
+    match turn {
+        Ok(Turn::Unit(item)) => Ok(item),
+        Ok(Turn::Last(item)) => Ok(item),
+        Ok(Turn::Rest) => Ok(Item::End),
+        Err(stop) => Err(stop_told(stop)),
+    }
+}
+
+// A picture is shown behind its unit.
+fn is_shown(answer: &Result<Item, ReadStop>) -> bool
+    ensures { result ≡ is_shown answer.now }
+{
+    matches!(answer, Ok(Item::Picture(_)))
+}
 
 /// Reads the units of a stream from any source, one after another. Contracts see what the units so far leave, the bytes
 /// that it holds, the shapes of the units, the picture of the last one, the greatest share of the last picture unit whose
 /// parameters were read, and the stop that it keeps.
 #[derive(Drop)]
 pub struct StreamReader {
-    alloc: Global,
-    window: Window,
-    earlier: Earlier,
-    shapes: UnitShapes,
-    decoder: Option<PictureDecoder>,
+    reader: Reader<StreamTable>,
     shows: bool,
-    stop: Option<ReadStop>,
-    ended: bool,
 }
 
 impl Model for StreamReader {
-    ghost use Rattle.stream_units.specs.Reader.{ReaderState};
-    ghost use Rattle.stream_units.specs.ReaderInside.{picture_in, IsSound};
-    ghost use Rattle.stream_units.specs.Held.{greatest_in};
+    ghost use Rattle.stream_units.specs.Reader.{StreamReaderSeen};
+    ghost use Rattle.stream_units.specs.ReaderInside.{seen_by, IsSound};
 
-    ghost Value = { ReaderState };
+    ghost Value = { StreamReaderSeen };
 
-    ghost view = { λ a. record { past = a.earlier; held = a.window.held; shapes = a.shapes.units; picture = picture_in a.shows a.decoder; greatest = greatest_in a.decoder; stop = a.stop; ended = a.ended } };
+    ghost view = { λ a. seen_by a.reader a.shows };
 
-    ghost invariant = { λ a. IsSound a.earlier a.window a.shapes a.shows a.decoder a.stop a.ended };
+    ghost invariant = { λ a. IsSound a.reader a.shows };
 }
 
 impl StreamReader {
@@ -52,17 +64,13 @@ impl StreamReader {
     pub fn new(alloc: Global) -> Result<StreamReader, NoMemory>
         ensures { IfOk result (λ reader. reader ≡ new_reader) }
     {
-        let window = Window::made(alloc, LIMIT)?;
-        Ok(StreamReader {
-            alloc,
-            window,
-            earlier: Earlier::new(),
-            shapes: UnitShapes::new(alloc),
-            decoder: None,
-            shows: false,
-            stop: None,
-            ended: false,
-        })
+        match Reader::made(alloc, StreamTable::new(alloc)) {
+            Ok(reader) => Ok(StreamReader {
+                reader,
+                shows: false,
+            }),
+            Err(_) => Err(NoMemory),
+        }
     }
 
     /// Takes the unit in front of the bytes that are held and then the source's. The source is asked only while that
@@ -82,37 +90,9 @@ impl StreamReader {
         // After the end each call answers it again, and nothing is read.
         ensures ended { self.old.stop ≡ None → self.old.ended ≡ true → (result ≡ Ok items.End) × (self.new ≡ self.old) × (S.rest src.new ≡ S.rest src.old) × (S.faults src.new ≡ S.faults src.old) }
     {
-        if let Some(stop) = self.stop {
-            return Err(stop);
-        }
-        if self.ended {
-            return Ok(Item::End);
-        }
-        self.shows = false;
-        if self.shapes.reserve(1).is_err() {
-            self.stop = Some(ReadStop::NoMemory);
-            return Err(ReadStop::NoMemory);
-        }
-        let found = match next_unit(
-            self.alloc,
-            &mut self.window,
-            src,
-            &self.earlier,
-            &mut self.decoder,
-        ) {
-            Ok(found) => found,
-            Err(stop) => {
-                self.stop = Some(stop);
-                return Err(stop);
-            }
-        };
-        let start = self.earlier.place();
-        let size = (LIMIT - self.window.room() - self.window.len() as u64 - start) as u32;
-        self.shapes.push(shape_of(&found, start, size));
-        let (item, made) = step(&mut self.earlier, found, size);
-        self.shows = keep(&mut self.decoder, made);
-        self.ended = item.is_end();
-        Ok(item)
+        let answer = answer_of(self.reader.next(src));
+        self.shows = is_shown(&answer);
+        answer
     }
 
     /// The sequence header; none before the first `Sequence`.
@@ -120,7 +100,11 @@ impl StreamReader {
         ensures some { IfSome result (λ header. Some header.now ≡ option_map (λ first. first.parts) self.now.past.first) }
         ensures none { IsNone result ↔ (self.now.past.first ≡ None) }
     {
-        self.earlier.first().map(|first| first.header())
+        self.reader
+            .table()
+            .earlier()
+            .first()
+            .map(|first| first.header())
     }
 
     /// The picture of the unit that the last call of `next` answered; none where it didn't answer `Picture`.
@@ -128,7 +112,7 @@ impl StreamReader {
         ensures some { IfSome result (λ picture. self.now.picture ≡ Some picture.now) }
         ensures none { IsNone result ↔ (self.now.picture ≡ None) }
     {
-        match &self.decoder {
+        match self.reader.table().decoder() {
             Some(decoder) if self.shows => Some(decoder.picture()),
             _ => None,
         }
@@ -139,28 +123,28 @@ impl StreamReader {
         ensures units { result.now.units ≡ self.now.shapes }
         ensures total { result.now.total ≡ self.now.past.place }
     {
-        &self.shapes
+        self.reader.table().shapes()
     }
 
     /// The bytes of the units so far, at most 2^40.
     pub fn taken(&self) -> u64
         ensures value { result ≡ self.now.past.place }
-        ensures most { result ≤ 2 ^ 40 }
+        ensures most { result ≤ INPUT_LIMIT }
     {
-        self.earlier.place()
+        self.reader.table().earlier().place()
     }
 
     /// How many pictures the units so far have.
     pub fn pictures(&self) -> u64
         ensures { result ≡ self.now.past.pictures }
     {
-        self.earlier.pictures()
+        self.reader.table().earlier().pictures()
     }
 
     /// How many bytes are held.
     pub fn held(&self) -> usize
         ensures { result ≡ length self.now.held }
     {
-        self.window.len()
+        self.reader.held()
     }
 }

@@ -1,7 +1,8 @@
 //! What a unit that was found leaves.
 
-ghost use Rattle.std.specs.Prelude.{◌≡◌, ◌+◌, ◌^◌, ◌≤◌, ◌<◌, List, ℕ, length};
-ghost use Rattle.slice_geometry.specs.Units.{IsUnitAllowed, unit_length};
+ghost use Rattle.vc2_io.specs.declared.TheConstants.{INPUT_LIMIT};
+ghost use Rattle.std.specs.Prelude.{◌≡◌, ◌+◌, ◌≤◌, ◌<◌, List, ℕ, length};
+ghost use Rattle.slice_geometry.specs.UnitLengths.{IsUnitAllowed, unit_length};
 ghost use Rattle.stream_rows.specs.Units.{Past, DataUnit};
 ghost use Rattle.stream_units.specs.Turns.{IsFound, shape_of};
 ghost use Rattle.stream_units.specs.Reader.{Steps};
@@ -41,7 +42,7 @@ pub(crate) fn shape_of(found: &Found, start: u64, size: u32) -> UnitShape
 /// Goes on behind a unit of so many bytes; gives its item, and the decoder that made its picture.
 pub(crate) fn step(earlier: &mut Earlier, found: Found, size: u32) -> (Item, Option<PictureDecoder>)
     requires some { 0 < size }
-    requires most { earlier.old.place + size ≤ 2 ^ 40 }
+    requires most { earlier.old.place + size ≤ INPUT_LIMIT }
     requires found { (unit : DataUnit) × (bytes : List ℕ) × (length bytes ≡ size) × IsFound earlier.old found unit bytes }
     ensures { (unit : DataUnit) (bytes : List ℕ) → length bytes ≡ size → IsFound earlier.old found unit bytes → Steps earlier.old earlier.new unit bytes result.0 result.1 }
 {
@@ -69,15 +70,11 @@ pub(crate) fn step(earlier: &mut Earlier, found: Found, size: u32) -> (Item, Opt
     }
 }
 
-/// Keeps the decoder that made a picture, and says whether there is one.
-pub(crate) fn keep(decoder: &mut Option<PictureDecoder>, made: Option<PictureDecoder>) -> bool
-    ensures { Keeps made decoder.old decoder.new result }
+/// Keeps the decoder that made a picture.
+pub(crate) fn keep(decoder: &mut Option<PictureDecoder>, made: Option<PictureDecoder>)
+    ensures { Keeps made decoder.old decoder.new }
 {
-    match made {
-        Some(made) => {
-            drop(decoder.replace(made));
-            true
-        }
-        None => false,
+    if let Some(made) = made {
+        drop(decoder.replace(made));
     }
 }

@@ -1,11 +1,9 @@
 //! What reading a unit answers.
 
 ghost use Rattle.std.specs.Prelude.{◌≡◌};
-ghost use Rattle.stream_units.specs.declared.stop.ReadStop.TheVariants as stops;
-ghost use Rattle.stream_units.specs.Stops.{stop_of};
+ghost use Rattle.stream_units.specs.StreamStops.{stop_told};
 ghost use Rattle.stream_units.specs.Reader.{is_end_item};
 
-use crate::window::Halt;
 use stream_rows::{Reason, Refusal};
 
 /// A unit that stands.
@@ -43,19 +41,16 @@ pub enum ReadStop {
     NoMemory,
 }
 
-/// Why reading stops where no more bytes came.
-pub(crate) fn stop_of(halt: Halt) -> ReadStop
-    ensures { result ≡ stop_of halt }
+/// What the reader of any table answers, as a reader of a stream tells it.
+pub(crate) fn stop_told(stop: unit_reader::ReadStop<Reason>) -> ReadStop
+    ensures { result ≡ stop_told stop }
 {
-    match halt {
-        Halt::ReadFault => ReadStop::ReadFault,
-        Halt::NoMemory => ReadStop::NoMemory,
+    match stop {
+        unit_reader::ReadStop::Refused(refusal) => ReadStop::Refused(Refusal {
+            place: refusal.place,
+            reason: refusal.reason,
+        }),
+        unit_reader::ReadStop::ReadFault => ReadStop::ReadFault,
+        unit_reader::ReadStop::NoMemory => ReadStop::NoMemory,
     }
-}
-
-/// The stream is refused at a place.
-pub(crate) fn refused(place: u64, reason: Reason) -> ReadStop
-    ensures { result ≡ stops.Refused (record { place = place; reason = reason }) }
-{
-    ReadStop::Refused(Refusal { place, reason })
 }

@@ -18,10 +18,7 @@ use slice_geometry::UnitShapes;
 use std::alloc::Global;
 use std::marker::Model;
 use transform_params::TransformParams;
-use vc2_io::{Sink, write_whole};
-
-// A stream has at most this many bytes.
-const LIMIT: u64 = 1 << 40;
+use vc2_io::{INPUT_LIMIT, Sink, write_whole};
 
 // The first unit has at most this many bytes.
 const FIRST_UNIT: usize = 13 + 237;
@@ -45,12 +42,12 @@ pub struct StreamWriter {
 impl Model for StreamWriter {
     ghost use Rattle.std.specs.Prelude.{◌≡◌, length};
     ghost use Rattle.transform_params.specs.Views.{params_of};
-    ghost use Rattle.transform_params.specs.Fields.{unit_length};
+    ghost use Rattle.transform_params.specs.ParameterFields.{unit_length};
     ghost use Rattle.stream_rows.specs.Streams.{frame_under};
-    ghost use Rattle.stream_units.specs.Writer.{WriterState};
+    ghost use Rattle.stream_units.specs.Writer.{StreamWriterSeen};
     ghost use Rattle.stream_units.specs.WriterInside.{IsSound, Encodes};
 
-    ghost Value = { WriterState };
+    ghost Value = { StreamWriterSeen };
 
     ghost view = { λ w. record { settings = record { parts = w.header; params = params_of w.params; first = w.first }; shapes = w.shapes.units; ended = w.ended; stop = w.stop } };
 
@@ -123,7 +120,7 @@ impl StreamWriter {
             return Err(stop);
         }
         let size = self.params.unit_len();
-        if self.chain.place() + u64::from(size) + 13 > LIMIT {
+        if self.chain.place() + u64::from(size) + 13 > INPUT_LIMIT {
             self.stop = Some(WriteStop::StreamTooLong);
             return Err(WriteStop::StreamTooLong);
         }

@@ -1,13 +1,14 @@
 //! The units that are written, but for the slices of a picture.
 
+ghost use Rattle.parse_info.specs.declared.TheConstants.{HEAD_SIZE};
 ghost use Rattle.std.specs.Prelude.{◌≡◌, ◌+◌, ◌<◌, ◌≤◌, ◌^◌, length};
 ghost use Rattle.sequence_header.specs.Bytes.{header_len};
 ghost use Rattle.slice_geometry.specs.Frames.{frame_of};
-ghost use Rattle.slice_geometry.specs.Units.{IsUnitAllowed};
-ghost use Rattle.transform_params.specs.Fields.{unit_length};
+ghost use Rattle.slice_geometry.specs.UnitLengths.{IsUnitAllowed};
+ghost use Rattle.transform_params.specs.ParameterFields.{unit_length};
 ghost use Rattle.transform_params.specs.Views.{params_of};
 ghost use Rattle.picture_codec.specs.Encoding.{slices_of};
-ghost use Rattle.stream_units.specs.Encoded.{header_unit, picture_unit, end_unit};
+ghost use Rattle.stream_units.specs.EncodedStream.{header_unit, picture_unit, end_unit};
 ghost use Rattle.stream_units.specs.Writer.{picture_shape, plain_shape};
 
 use parse_info::{Code, ParseInfo};
@@ -18,7 +19,7 @@ use transform_params::TransformParams;
 
 /// Writes the first unit.
 pub(crate) fn write_header_unit(header: &SequenceHeader, unit: &mut [u8])
-    requires { length unit.old ≡ 13 + header_len header.now }
+    requires { length unit.old ≡ HEAD_SIZE + header_len header.now }
     ensures { unit.new ≡ header_unit header.now }
 {
     let mut head = [0; 13];

@@ -2,7 +2,7 @@
 use Rattle.std.proofs.Common.{ℕ, ◌+◌, ◌^◌, ◌<◌, ◌≤◌, List, [], ◌∷◌, length, arith}
 use Rattle.field_rows.proofs.CodeLengths.{AreFew, AreFew-append, few_short}
 use Rattle.transform_params.specs.Params.{Params, params_fields}
-use Rattle.transform_params.specs.Fields.{wavelet_fields, slicing_fields, entry_fields, matrix_fields, fields_of, byte_length, unit_length, IsLawful}
+use Rattle.transform_params.specs.ParameterFields.{wavelet_fields, slicing_fields, entry_fields, matrix_fields, fields_of, byte_length, unit_length, IsLawful}
 use Rattle.transform_params.proofs.WrittenBack.{params_kinds}
 
 few_entries : (entries : List ℕ) → AreFew (length entries) (entry_fields entries)

@@ -9,7 +9,7 @@ use Rattle.bit_codes.specs.Bits.{bits_of, bits_before, zeros_to_byte_end}
 use Rattle.bit_codes.proofs.BitLemmas.{length-bits}
 use Rattle.field_rows.proofs.Written.{written-number, written-append}
 use Rattle.transform_params.specs.Params.{Params}
-use Rattle.transform_params.specs.Fields.{wavelet_index, entry_fields, slicing_fields, matrix_fields, fields_of, bit_length}
+use Rattle.transform_params.specs.ParameterFields.{wavelet_index, entry_fields, slicing_fields, matrix_fields, fields_of, bit_length}
 
 -- one entry more
 pub entry_next : (n : ℕ) (items : List ℕ) → n < length items → written (entry_fields (drop n items)) ≡ code_of (get_or items n 0) ++ written (entry_fields (drop (n + 1) items))

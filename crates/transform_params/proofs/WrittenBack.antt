@@ -14,7 +14,7 @@ use Rattle.lifting.specs.declared.Wavelet.TheVariants.{LeGall, HaarFlat, HaarShi
 use Rattle.transform_params.specs.declared.faults.TransformReason.{TransformReason}
 use Rattle.transform_params.specs.declared.faults.TransformReason.TheVariants.{DefaultMatrix}
 use Rattle.transform_params.specs.Params.{Params, reason_of, wavelet_index_rows, wavelet_rows, slices_y_rows, denominator_rows, slicing_rows, matrix_rows, params_fields, params_rows}
-use Rattle.transform_params.specs.Fields.{wavelet_fields, slicing_fields, entry_fields, matrix_fields, fields_of, byte_length, params_bytes, IsLawful}
+use Rattle.transform_params.specs.ParameterFields.{wavelet_fields, slicing_fields, entry_fields, matrix_fields, fields_of, byte_length, params_bytes, IsLawful}
 
 -- fields that pass and are of their rows' kinds
 record Passes {R A : Type 0} (rows : Rows R A) (vs : List Value) (a : A) : Type 0 where

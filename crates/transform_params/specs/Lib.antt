@@ -1,3 +1,3 @@
 pub mod Params
 pub mod Views
-pub mod Fields
+pub mod ParameterFields

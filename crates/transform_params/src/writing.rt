@@ -6,7 +6,7 @@ ghost use Rattle.bit_codes.specs.Bits.{bits_before, cursor_at};
 ghost use Rattle.field_rows.specs.Rows.{read};
 ghost use Rattle.field_rows.specs.Given.{written};
 ghost use Rattle.transform_params.specs.Params.{reason_of, params_rows};
-ghost use Rattle.transform_params.specs.Fields.{wavelet_index, slicing_fields, matrix_fields, entry_fields, bit_length, byte_length, unit_length, params_bytes, IsLawful};
+ghost use Rattle.transform_params.specs.ParameterFields.{wavelet_index, slicing_fields, matrix_fields, entry_fields, bit_length, byte_length, unit_length, params_bytes, IsLawful};
 ghost use Rattle.transform_params.specs.Views.{params_of};
 
 use crate::TransformParams;

@@ -3,18 +3,18 @@ use Rattle.std.proofs.Common.{◌≡◌, ◌⊎◌, inl, inr, ℕ, ◌+◌, ◌*
 use Rattle.std.proofs.Math.ListN.{get_or-append}
 use Rattle.std.proofs.lemmas.List.{length-take, get_or-take, get_or-append-add}
 use Rattle.slice_geometry.specs.declared.Size.{Size}
-use Rattle.picture_codec.specs.Samples.{SampleRows, sample_at, tabulated, with_run}
+use Rattle.picture_codec.specs.Samples.{SamplesSeen, sample_at, tabulated, with_run}
 use Rattle.picture_codec.proofs.Tables.{tabulated_is}
 use Rattle.trial_video.specs.Video.{state_at, video_sample, video_rows}
 use Rattle.trial_video.proofs.States.{more_steps, sample_from, sample_is}
 
 -- before samples that are put, and among them
-put_before : (s : SampleRows) (from k : ℕ) (samples : List ℕ) → from ≤ length s.cells → k < from → get_or (with_run s from samples).cells k 0 ≡ get_or s.cells k 0
+put_before : (s : SamplesSeen) (from k : ℕ) (samples : List ℕ) → from ≤ length s.cells → k < from → get_or (with_run s from samples).cells k 0 ≡ get_or s.cells k 0
 put_before s from k samples inside lt =
     let long : length (take from s.cells) ≡ from = omega (arith, length-take from s.cells, inside) in
     get_or-append (take from s.cells) (samples ++ drop (from + length samples) s.cells) 0 k (omega (arith, long, lt)) ∙ get_or-take from s.cells k 0 lt
 
-put_among : (s : SampleRows) (from k : ℕ) (samples : List ℕ) → from ≤ length s.cells → k < length samples → get_or (with_run s from samples).cells (from + k) 0 ≡ get_or samples k 0
+put_among : (s : SamplesSeen) (from k : ℕ) (samples : List ℕ) → from ≤ length s.cells → k < length samples → get_or (with_run s from samples).cells (from + k) 0 ≡ get_or samples k 0
 put_among s from k samples inside lt =
     let a = take from s.cells in
     let d = drop (from + length samples) s.cells in
@@ -34,7 +34,7 @@ place_before k y w x lt in_row = grind arith
 pub row_ends : (y w h : ℕ) → y < h → y * w + w ≤ h * w
 row_ends y w h lt = row_inside y w h lt
 
-pub row_more : (s : SampleRows) (start p depth w h y : ℕ) (row : List ℕ) → s.w ≡ w → length s.cells ≡ h * w → y < h → length row ≡ w
+pub row_more : (s : SamplesSeen) (start p depth w h y : ℕ) (row : List ℕ) → s.w ≡ w → length s.cells ≡ h * w → y < h → length row ≡ w
     → ((k x : ℕ) → k < y → x < w → sample_at s k x ≡ sample_from start p depth w k x)
     → ((x : ℕ) → x < w → get_or row x 0 ≡ (x + (2 * y + 3 * p) + state_at (state_at start (y * w)) (x + 1) / 4096) % 2 ^ depth)
     → (k x : ℕ) → k < y + 1 → x < w → sample_at (with_run s (y * w) row) k x ≡ sample_from start p depth w k x
@@ -54,7 +54,7 @@ row_more s start p depth w h y row width many inside long done new k x lt in_row
     fits = omega (arith, many, row_inside y w h inside)
 
 -- all rows of a component
-pub rows_are : (s : SampleRows) (size : Size) (seed first start p depth : ℕ) → s.w ≡ size.w → s.h ≡ size.h → length s.cells ≡ size.h * size.w → start ≡ state_at seed first
+pub rows_are : (s : SamplesSeen) (size : Size) (seed first start p depth : ℕ) → s.w ≡ size.w → s.h ≡ size.h → length s.cells ≡ size.h * size.w → start ≡ state_at seed first
     → ((y x : ℕ) → y < size.h → x < size.w → sample_at s y x ≡ sample_from start p depth size.w y x) → s ≡ video_rows seed p first depth size
 rows_are s size seed first start p depth width height many e done =
     let g : ℕ → ℕ → ℕ = λ y x. video_sample seed depth p (first + (y * size.w + x)) y x in

@@ -2,14 +2,14 @@
 use Rattle.std.proofs.Common.{◌≡◌, ap, ◌∙◌}
 use Rattle.slice_geometry.specs.declared.Component.TheVariants.{Luma, C1, C2}
 use Rattle.slice_geometry.specs.declared.PictureShape.{PictureShape}
-use Rattle.picture_codec.specs.Samples.{SampleRows, PictureSamples, PictureSeen, shown}
+use Rattle.picture_codec.specs.Samples.{SamplesSeen, PictureSamples, PictureSeen, shown}
 
-abbrev of : PictureShape → SampleRows → SampleRows → SampleRows → PictureSeen
+abbrev of : PictureShape → SamplesSeen → SamplesSeen → SamplesSeen → PictureSeen
 of shape luma c1 c2 = record { shape = shape; samples = record { luma = luma; c1 = c1; c2 = c2 } }
 
 pub picture_is : (q : PictureSeen) (shape : PictureShape) (p : PictureSamples) → q.shape ≡ shape → shown q Luma ≡ p.luma → shown q C1 ≡ p.c1 → shown q C2 ≡ p.c2 → q ≡ record { shape = shape; samples = p }
 picture_is q shape p e luma c1 c2 =
     ap (λ (x : PictureShape). of x q.samples.luma q.samples.c1 q.samples.c2) e
-    ∙ ap (λ (x : SampleRows). of shape x q.samples.c1 q.samples.c2) luma
-    ∙ ap (λ (x : SampleRows). of shape p.luma x q.samples.c2) c1
-    ∙ ap (λ (x : SampleRows). of shape p.luma p.c1 x) c2
+    ∙ ap (λ (x : SamplesSeen). of shape x q.samples.c1 q.samples.c2) luma
+    ∙ ap (λ (x : SamplesSeen). of shape p.luma x q.samples.c2) c1
+    ∙ ap (λ (x : SamplesSeen). of shape p.luma p.c1 x) c2

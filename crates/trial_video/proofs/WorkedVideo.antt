@@ -2,7 +2,7 @@
 use Rattle.std.proofs.Common.{◌≡◌, ℕ, [], ◌∷◌, refl}
 use Rattle.slice_geometry.specs.declared.Size.{Size}
 use Rattle.slice_geometry.specs.Frames.{Frame}
-use Rattle.picture_codec.specs.Samples.{SampleRows, PictureSamples}
+use Rattle.picture_codec.specs.Samples.{SamplesSeen, PictureSamples}
 use Rattle.trial_video.specs.Video.{video_picture}
 use Rattle.trial_video.specs.Worst.{worst}
 
@@ -12,7 +12,7 @@ dot = record { w = 1; h = 1 }
 abbrev dots : Frame
 dots = record { luma = dot; colour = dot; luma_depth = 8; colour_depth = 8 }
 
-abbrev one : ℕ → SampleRows
+abbrev one : ℕ → SamplesSeen
 one v = record { w = 1; h = 1; cells = v ∷ [] }
 
 abbrev picture : ℕ → ℕ → ℕ → PictureSamples

@@ -5,7 +5,7 @@ use Rattle.std.specs.List.{range_with_len}
 use Rattle.slice_geometry.specs.declared.Size.{Size}
 use Rattle.slice_geometry.specs.declared.PictureShape.{PictureShape}
 use Rattle.slice_geometry.specs.Frames.{Frame}
-use Rattle.picture_codec.specs.Samples.{SampleRows, PictureSamples, tabulated}
+use Rattle.picture_codec.specs.Samples.{SamplesSeen, PictureSamples, tabulated}
 use Rattle.raw_video.specs.RawParse.{luma_count, colour_count}
 
 -- the state behind so many steps from the seed
@@ -19,7 +19,7 @@ abbrev pub video_sample : (seed depth p j y x : ℕ) → ℕ
 video_sample seed depth p j y x = (x + 2 * y + 3 * p + state_at seed (j + 1) / 4096) % 2 ^ depth
 
 -- a component of picture p, whose first sample is the video's sample `first`
-abbrev pub video_rows : (seed p first depth : ℕ) → Size → SampleRows
+abbrev pub video_rows : (seed p first depth : ℕ) → Size → SamplesSeen
 video_rows seed p first depth size = tabulated size (λ y x. video_sample seed depth p (first + (y * size.w + x)) y x)
 
 -- how many samples a picture has
@@ -41,7 +41,7 @@ abbrev pub video : Frame → (seed n : ℕ) → List PictureSamples
 video f seed n = map (λ p. video_picture f seed p) (range_with_len 0 n)
 
 -- What is seen of a video: the shape of its pictures, its seed, and how many pictures were given.
-pub record VideoSeen : Type 0 where
+pub record TrialVideoSeen : Type 0 where
   pub shape : PictureShape
   pub seed : ℕ
   pub pictures : ℕ

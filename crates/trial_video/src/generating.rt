@@ -27,9 +27,9 @@ pub struct TrialVideo {
 impl Model for TrialVideo {
     ghost use Rattle.std.specs.Prelude.{◌≡◌, ◌*◌, ◌^◌, ◌<◌};
     ghost use Rattle.slice_geometry.specs.Frames.{frame_of};
-    ghost use Rattle.trial_video.specs.Video.{VideoSeen, state_at, picture_count};
+    ghost use Rattle.trial_video.specs.Video.{TrialVideoSeen, state_at, picture_count};
 
-    ghost Value = { VideoSeen };
+    ghost Value = { TrialVideoSeen };
 
     ghost view = { λ v. record { shape = v.shape; seed = v.seed; pictures = v.pictures } };
 

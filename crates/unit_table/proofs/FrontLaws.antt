@@ -8,7 +8,7 @@ use Rattle.bit_codes.proofs.BitLemmas.{length-bits}
 use Rattle.field_rows.specs.Rows.{Fault, is_nil}
 use Rattle.field_rows.specs.Pieces.{with_more}
 use Rattle.vc2_run.specs.Walk.{Step, Whole, IsMachine, NoneWhole}
-pub use Rattle.unit_table.specs.Laws.{AreFronts}
+pub use Rattle.unit_table.specs.GrammarLaws.{AreFronts}
 use Rattle.unit_table.specs.Grammar.{Grammar, Behind, Inner, Final, ends_by, unit_at, is_settled_by, Waits}
 use Rattle.unit_table.specs.Fronts.{Front, Stands, Finishes, Rests, Refuses, size_to, front_behind, front_by, front_of, front_within, front_or_rest, Between, Command, step_by, machine_of}
 use Rattle.unit_table.proofs.GrammarLaws.{IsGrammar, unit-more, unit-shorter}

@@ -8,7 +8,7 @@ use Rattle.field_rows.specs.Pieces.{with_more, IsWhole}
 use Rattle.field_rows.proofs.Pieces.{read-more, read-more_refused}
 use Rattle.field_rows.proofs.Answers.{found_fields}
 use Rattle.field_rows.proofs.Shorter.{Stand-shorter}
-pub use Rattle.unit_table.specs.Laws.{IsGrammar}
+pub use Rattle.unit_table.specs.GrammarLaws.{IsGrammar}
 use Rattle.unit_table.specs.Grammar.{Grammar, Behind, Inner, Final, ends_by, bytes_at, unit_at, is_settled_by, Waits}
 use Rattle.bit_codes.proofs.Numbers.{bits_of-append}
 

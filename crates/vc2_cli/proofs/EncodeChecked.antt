@@ -7,14 +7,14 @@ use Rattle.slice_geometry.specs.declared.Size.{Size}
 use Rattle.slice_geometry.specs.declared.PictureShape.{PictureShape}
 use Rattle.slice_geometry.specs.Frames.{Frame, frame_of}
 use Rattle.slice_geometry.specs.declared.unit_list.UnitShape.{UnitShape}
-use Rattle.slice_geometry.specs.Units.{IsUnitAllowed, StandInTurn}
+use Rattle.slice_geometry.specs.UnitLengths.{IsUnitAllowed, StandInTurn}
 use Rattle.slice_geometry.specs.Slicing.{slice_count, total_bytes}
 use Rattle.slice_geometry.proofs.UnitLemmas.{in_turn-push}
 use Rattle.sequence_header.specs.declared.parts.HeaderParts.{HeaderParts}
 use Rattle.sequence_header.specs.Coding.{IsShapeOf}
 use Rattle.sequence_header.proofs.Bounds.{header_short}
 use Rattle.transform_params.specs.Params.{Params}
-use Rattle.transform_params.specs.Fields.{unit_length, IsLawful}
+use Rattle.transform_params.specs.ParameterFields.{unit_length, IsLawful}
 use Rattle.transform_params.proofs.Bounds.{unit_small}
 use Rattle.channel_schedule.specs.declared.schedule.Schedule.{Schedule}
 use Rattle.channel_schedule.specs.declared.schedule.Outcome.{Outcome}
@@ -24,7 +24,7 @@ use Rattle.channel_schedule.specs.Courses.{course_of, count_in, held, outcome_fr
 use Rattle.channel_schedule.specs.Plans.{lead_of, greatest, plan_delay, plan_size}
 use Rattle.channel_schedule.proofs.Unique.{greatest-is, plan_found, plan_replays, one_outcome}
 use Rattle.channel_schedule.proofs.Leads.{lead_low, ceil_low}
-use Rattle.picture_codec.specs.Samples.{SampleRows, PictureSamples, AreSamples, HaveShape, picture_of}
+use Rattle.picture_codec.specs.Samples.{SamplesSeen, PictureSamples, AreSamples, HaveShape, picture_of}
 use Rattle.picture_codec.specs.Encoding.{slices_of}
 use Rattle.picture_codec.proofs.Runs.{below-all}
 use Rattle.picture_codec.proofs.Tables.{positive}
@@ -35,7 +35,7 @@ use Rattle.stream_rows.specs.Units.{Past, nothing_yet, DataUnit, Sequence, Pictu
 use Rattle.stream_rows.specs.Streams.{Entry, total, limit, frame_under}
 use Rattle.stream_units.specs.StreamPictures.{pictures_of}
 use Rattle.stream_units.specs.Turns.{shape_of}
-use Rattle.stream_units.specs.Encoded.{Settings, header_unit, picture_unit, end_unit, number_after, units_behind, pictures_under, units_of, IsSliced}
+use Rattle.stream_units.specs.EncodedStream.{Settings, header_unit, picture_unit, end_unit, number_after, units_behind, pictures_under, units_of, IsSliced}
 use Rattle.stream_units.specs.Writer.{plain_shape, picture_shape}
 use Rattle.stream_units.proofs.WrittenShapes.{plain_length, picture_length}
 use Rattle.stream_units.proofs.EncodedUnits.{length-header_unit, length-picture_unit, length-end_unit, moves_header_unit, moves_picture_unit, moves_end_unit}
@@ -54,8 +54,8 @@ use Rattle.vc2_words.specs.Commands.{AskedCommand}
 use Rattle.vc2_cli.specs.Reply.{reply_of, command_reply}
 use Rattle.vc2_cli.specs.ScheduleWords.{HasWords}
 use Rattle.vc2_cli.proofs.ScheduleWords.{line_is_read}
-use Rattle.vc2_cli.specs.Streams as streams
-use Rattle.vc2_cli.specs.Streams.{pictures_in}
+use Rattle.vc2_cli.specs.StreamReplies as streams
+use Rattle.vc2_cli.specs.StreamReplies.{pictures_in}
 use Rattle.vc2_cli.specs.WholePictures.{raw_input, stream_of, decoded_of, plan_for, stream_length}
 use Rattle.vc2_cli.specs.EncodeReply.{MayBeWritten, AreSettings, replayed_reply, TheScheduleRuns, decoded_reply, AreDecoded}
 use Rattle.vc2_cli.specs.Texts.{decoded_line}
@@ -184,7 +184,7 @@ plan_runs s n f rate =
 
 -- ---- samples that are read have the shape
 
-rows_fit : (size : Size) (depth : ℕ) (r : SampleRows) → AreRows size depth r → AreSamples size depth r
+rows_fit : (size : Size) (depth : ℕ) (r : SamplesSeen) → AreRows size depth r → AreSamples size depth r
 rows_fit size depth r a = record { width = a.width; height = a.height; small = below-all (2 ^ depth) r.cells (positive depth) a.below }
 
 has_shape : (s : Asked) (shape : PictureShape) (p : PictureSamples) → IsShapeOf shape s.parts → IsOfFrame (frame_under s.parts) p → HaveShape shape p

@@ -12,7 +12,7 @@ use Rattle.sequence_header.proofs.Shapes.{luma_fits, colour_fits, depth_fits, ex
 use Rattle.slice_geometry.specs.declared.PictureShape.{PictureShape}
 use Rattle.slice_geometry.specs.Frames.{Frame, frame_of}
 use Rattle.slice_geometry.specs.Slicing.{slice_count}
-use Rattle.transform_params.specs.Fields.{unit_length, IsLawful}
+use Rattle.transform_params.specs.ParameterFields.{unit_length, IsLawful}
 use Rattle.picture_codec.specs.Samples.{PictureSamples}
 use Rattle.picture_codec.specs.Encoding.{slices_of}
 use Rattle.raw_video.specs.RawText.{is_wide, raw_text}
@@ -23,7 +23,7 @@ use Rattle.vc2_run.specs.Walk.{Answer, Ends, Whole, answer_from, answer_to, afte
 use Rattle.vc2_run.proofs.Walks.{answer_step}
 use Rattle.stream_rows.specs.declared.reason.Reason.TheVariants.{StreamTooLong}
 use Rattle.stream_rows.specs.Streams.{limit, frame_under}
-use Rattle.stream_units.specs.Encoded.{header_unit, picture_unit, end_unit, number_after, units_behind}
+use Rattle.stream_units.specs.EncodedStream.{header_unit, picture_unit, end_unit, number_after, units_behind}
 use Rattle.stream_units.proofs.SameShapes.{frame_is}
 use Rattle.channel_schedule.specs.declared.schedule.Schedule.{Schedule}
 use Rattle.vc2_words.specs.Settings.{Asked}

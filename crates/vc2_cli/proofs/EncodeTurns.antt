@@ -6,14 +6,14 @@ use Rattle.std.specs.Io.KnownBytes.{Appends, IsAtEnd}
 use Rattle.vc2_io.specs.Outside.{Rose, GrewShort}
 use Rattle.vc2_io.proofs.Known.{Consumes-none, Consumes-then, Appends-none}
 use Rattle.slice_geometry.specs.declared.unit_list.UnitShape.{UnitShape}
-use Rattle.slice_geometry.specs.Units.{UnitList}
+use Rattle.slice_geometry.specs.UnitLengths.{UnitShapesSeen}
 use Rattle.slice_geometry.specs.Slicing.{slice_count}
 use Rattle.channel_schedule.specs.declared.schedule.Rate.{Rate}
 use Rattle.channel_schedule.specs.declared.schedule.Schedule.{Schedule}
 use Rattle.channel_schedule.specs.Plans.{plan_of}
 use Rattle.vc2_cli.specs.Scheduled.{shapes_in}
 use Rattle.vc2_words.specs.Settings.{Asked}
-use Rattle.transform_params.specs.Fields.{unit_length}
+use Rattle.transform_params.specs.ParameterFields.{unit_length}
 use Rattle.slice_geometry.specs.Frames.{Frame, frame_of}
 use Rattle.picture_codec.specs.Samples.{PictureSamples}
 use Rattle.picture_codec.specs.Encoding.{slices_of}
@@ -33,8 +33,8 @@ use Rattle.stream_rows.specs.declared.reason.Reason.TheVariants as reasons
 use Rattle.stream_units.specs.declared.write_stop.WriteStop.{WriteStop}
 use Rattle.stream_units.specs.declared.write_stop.WriteStop.TheVariants as stops
 use Rattle.stream_rows.specs.Streams.{limit, frame_under}
-use Rattle.stream_units.specs.Encoded.{Settings, header_unit, picture_unit, end_unit}
-use Rattle.stream_units.specs.Writer.{WriterState, total_length, next_place, next_previous, next_number, plain_shape, picture_shape, started, after_picture, after_end, HasRoom, WritesPicture, WriteCause, Starts, IsSteepUnder}
+use Rattle.stream_units.specs.EncodedStream.{Settings, header_unit, picture_unit, end_unit}
+use Rattle.stream_units.specs.Writer.{StreamWriterSeen, total_length, next_place, next_previous, next_number, plain_shape, picture_shape, started, after_picture, after_end, HasRoom, WritesPicture, WriteCause, Starts, IsSteepUnder}
 use Rattle.stream_units.proofs.WrittenShapes.{total_push, pictures_push, last_push, plain_length, picture_length, one_more}
 use Rattle.vc2_cli.specs.declared.status.Ending.{Ending}
 use Rattle.vc2_cli.specs.declared.status.Ending.TheVariants.{Encoded}
@@ -50,7 +50,7 @@ use Rattle.vc2_cli.proofs.Exits.{takes_none, cause_then}
 abbrev pub closes_at : Asked → ℕ → Step ℕ Ending
 closes_at e n = closing (is_half e.parts.coding n) (raw_place e n) (previous_at e n) (ended_plan e (shapes_at e n) (stream_place e n))
 
-pub behind_first : (e : Asked) (w : WriterState) → w ≡ started (written_under e) → IsBehind e 0 w
+pub behind_first : (e : Asked) (w : StreamWriterSeen) → w ≡ started (written_under e) → IsBehind e 0 w
 behind_first e w new = subst (IsBehind e 0) (sym new) (record {
   settings = refl;
   unended = refl;
@@ -61,7 +61,7 @@ behind_first e w new = subst (IsBehind e 0) (sym new) (record {
   pictures = refl;
 })
 
-behind_after : (e : Asked) (n : ℕ) (w : WriterState) → 1 ≤ slice_count e.params.slicing → IsBehind e n w → IsBehind e (suc n) (after_picture w)
+behind_after : (e : Asked) (n : ℕ) (w : StreamWriterSeen) → 1 ≤ slice_count e.params.slicing → IsBehind e n w → IsBehind e (suc n) (after_picture w)
 behind_after e n w some b =
     let u = picture_shape w.settings.params (next_place w) in
     let long = picture_length w.settings.params (next_place w) in
@@ -79,17 +79,17 @@ behind_after e n w some b =
     one_unit : (first n unit : ℕ) → (first + n * unit) + unit ≡ first + suc n * unit
     one_unit first n unit = grind arith
 
-pub behind_next : (e : Asked) (n : ℕ) (w w' : WriterState) → 1 ≤ slice_count e.params.slicing → IsBehind e n w → w' ≡ after_picture w → IsBehind e (n + 1) w'
+pub behind_next : (e : Asked) (n : ℕ) (w w' : StreamWriterSeen) → 1 ≤ slice_count e.params.slicing → IsBehind e n w → w' ≡ after_picture w → IsBehind e (n + 1) w'
 behind_next e n w w' some b after =
     let one : suc n ≡ n + 1 = omega arith in
     subst (λ (k : ℕ). IsBehind e k w') one (subst (IsBehind e (suc n)) (sym after) (behind_after e n w some b))
 
 -- the plan is of the units alone
-pub planned : (list : UnitList) (rate : Rate) (idle : ℕ) (units : List UnitShape) (total : ℕ) → list.units ≡ units → list.total ≡ total → plan_of list rate idle ≡ plan_of (shapes_in units total) rate idle
+pub planned : (list : UnitShapesSeen) (rate : Rate) (idle : ℕ) (units : List UnitShape) (total : ℕ) → list.units ≡ units → list.total ≡ total → plan_of list rate idle ≡ plan_of (shapes_in units total) rate idle
 planned list rate idle units total u t = ap (λ (l : List UnitShape). plan_of (shapes_in l list.total) rate idle) u ∙ ap (λ (k : ℕ). plan_of (shapes_in units k) rate idle) t
 
 -- the bytes of the units and the end
-pub with_end : (w : WriterState) → total_length (after_end w).shapes ≡ next_place w + 13
+pub with_end : (w : StreamWriterSeen) → total_length (after_end w).shapes ≡ next_place w + 13
 with_end w = total_push w.shapes (plain_shape (next_place w) 13) ∙ ap (λ (k : ℕ). next_place w + k) (plain_length (next_place w) 13)
 
 -- the run is over, and all was written
@@ -102,22 +102,22 @@ abbrev pub unit_at : Asked → ℕ → PictureSamples → List ℕ
 unit_at e n p = picture_unit e.params (previous_at e n) (number_at e n) (slices_of (frame_under e.parts) e.params p)
 
 -- the unit that the writer writes
-abbrev pub unit_of : WriterState → PictureSamples → List ℕ
+abbrev pub unit_of : StreamWriterSeen → PictureSamples → List ℕ
 unit_of w p = picture_unit w.settings.params (next_previous w) (next_number w) (slices_of (frame_under w.settings.parts) w.settings.params p)
 
-pub unit_is : (e : Asked) (n : ℕ) (w : WriterState) (p : PictureSamples) → IsBehind e n w → unit_of w p ≡ unit_at e n p
+pub unit_is : (e : Asked) (n : ℕ) (w : StreamWriterSeen) (p : PictureSamples) → IsBehind e n w → unit_of w p ≡ unit_at e n p
 unit_is e n w p b =
     ap (λ (k : ℕ). picture_unit w.settings.params k (next_number w) (slices_of (frame_under w.settings.parts) w.settings.params p)) b.previous
     ∙ ap (λ (k : ℕ). picture_unit w.settings.params (previous_at e n) ((w.settings.first + k) % 2 ^ 32) (slices_of (frame_under w.settings.parts) w.settings.params p)) b.pictures
     ∙ ap (λ (s : Settings). picture_unit s.params (previous_at e n) ((s.first + n) % 2 ^ 32) (slices_of (frame_under s.parts) s.params p)) b.settings
 
-pub with_place : (e : Asked) (n : ℕ) (w : WriterState) → IsBehind e n w → next_place w + unit_length w.settings.params + 13 ≡ stream_place e n + unit_length e.params + 13
+pub with_place : (e : Asked) (n : ℕ) (w : StreamWriterSeen) → IsBehind e n w → next_place w + unit_length w.settings.params + 13 ≡ stream_place e n + unit_length e.params + 13
 with_place e n w b = ap (λ (k : ℕ). k + unit_length w.settings.params + 13) b.place ∙ ap (λ (s : Settings). stream_place e n + unit_length s.params + 13) b.settings
 
-room_is : (e : Asked) (n : ℕ) (w : WriterState) → IsBehind e n w → HasRoom w → has_room e n ≡ true
+room_is : (e : Asked) (n : ℕ) (w : StreamWriterSeen) → IsBehind e n w → HasRoom w → has_room e n ≡ true
 room_is e n w b room = le-leb (stream_place e n + unit_length e.params + 13) limit (subst (λ (k : ℕ). k ≤ limit) (with_place e n w b) room)
 
-no_room_is : (e : Asked) (n : ℕ) (w : WriterState) → IsBehind e n w → (HasRoom w → ⊥) → has_room e n ≡ false
+no_room_is : (e : Asked) (n : ℕ) (w : StreamWriterSeen) → IsBehind e n w → (HasRoom w → ⊥) → has_room e n ≡ false
 no_room_is e n w b none = by (has_room e n) refl
   where
     by : (room : Bool) → has_room e n ≡ room → room ≡ false
@@ -139,7 +139,7 @@ nothing_more : (rest : Option (List ℕ)) (taken more : List ℕ) → IsAtEnd re
 nothing_more rest taken more over told = let none = subst IsAtEnd told over in let nil : more ≡ [] = none in ap (λ (l : List ℕ). taken ++ l) nil ∙ append-nil taken
 
 -- no writer was made
-pub runs_unopened : (e : Asked) (rest out0 out1 : Option (List ℕ)) (src to0 to1 : ℕ) (stop : WriteStop) → IsSteepUnder (written_under e) → Starts (written_under e) out0 out1 (Err stop) → WriteCause {X = WriterState} to0 to1 (Err stop)
+pub runs_unopened : (e : Asked) (rest out0 out1 : Option (List ℕ)) (src to0 to1 : ℕ) (stop : WriteStop) → IsSteepUnder (written_under e) → Starts (written_under e) out0 out1 (Err stop) → WriteCause {X = StreamWriterSeen} to0 to1 (Err stop)
     → Runs (encode_machine e) IsDone (record { was = rest; is = rest; faults_were = src; faults_are = src }) (record { was = out0; is = out1; faults_were = to0; faults_are = to1 }) (told_of_stop 0 stop)
 runs_unopened e rest out0 out1 src to0 to1 stops.OutFault flat starts why = record {
   ran = ran_unopened (encode_machine e) rest out0 out1 starts.1;
@@ -156,7 +156,7 @@ runs_unopened e rest out0 out1 src to0 to1 stops.NoMemory flat starts why = reco
   end = λ ending e done. absurd cc;
 }
 
-pub goes_first : (e : Asked) (rest out0 out1 : Option (List ℕ)) (r : RawReaderSeen) (w : WriterState) → 0 < raw_size e → frame_of r.shape ≡ frame_under e.parts → r.place ≡ 0 → r.refused ≡ false → w ≡ started (written_under e)
+pub goes_first : (e : Asked) (rest out0 out1 : Option (List ℕ)) (r : RawReaderSeen) (w : StreamWriterSeen) → 0 < raw_size e → frame_of r.shape ≡ frame_under e.parts → r.place ≡ 0 → r.refused ≡ false → w ≡ started (written_under e)
     → Appends out0 out1 (header_unit e.parts) → Goes e 0 rest rest out0 out1 r w
 goes_first e rest out0 out1 r w some frame at unrefused start wrote =
     let none : 0 ≡ raw_place e 0 = no_bytes (raw_size e) in
@@ -173,7 +173,7 @@ goes_first e rest out0 out1 r w some frame at unrefused start wrote =
     no_bytes : (size : ℕ) → 0 ≡ 0 * size
     no_bytes size = omega arith
 
-module _ (e : Asked) (n : ℕ) (rest0 rest1 out0 out1 : Option (List ℕ)) (reader : RawReaderSeen) (w : WriterState) (some : 0 < raw_size e) (goes : Goes e n rest0 rest1 out0 out1 reader w) where
+module _ (e : Asked) (n : ℕ) (rest0 rest1 out0 out1 : Option (List ℕ)) (reader : RawReaderSeen) (w : StreamWriterSeen) (some : 0 < raw_size e) (goes : Goes e n rest0 rest1 out0 out1 reader w) where
   laws : IsMachine (encode_machine e)
   laws = encode_laws e some
 
@@ -197,7 +197,7 @@ module _ (e : Asked) (n : ℕ) (rest0 rest1 out0 out1 : Option (List ℕ)) (read
     some_taken : 0 < length r.taken
     some_taken = omega (arith, some, r.front.0)
 
-    pub goes_more : (out2 : Option (List ℕ)) (reader' : RawReaderSeen) (w' : WriterState) → 1 ≤ slice_count e.params.slicing → reader' ≡ reader_after reader (Ok steps.Picture)
+    pub goes_more : (out2 : Option (List ℕ)) (reader' : RawReaderSeen) (w' : StreamWriterSeen) → 1 ≤ slice_count e.params.slicing → reader' ≡ reader_after reader (Ok steps.Picture)
         → WritesPicture w w' (slices_of (frame_under w.settings.parts) w.settings.params p) out1 out2 (Ok tt) → Goes e (n + 1) rest0 rest2 out0 out2 reader' w'
     goes_more out2 reader' w' slices after wrote =
         let text : Appends out1 out2 (unit_at e n p) = subst (λ (l : List ℕ). Appends out1 out2 l) (unit_is e n w p goes.writer) wrote.wrote in
@@ -220,7 +220,7 @@ module _ (e : Asked) (n : ℕ) (rest0 rest1 out0 out1 : Option (List ℕ)) (read
         next_place_is n size = grind arith
 
     -- its unit was not written
-    pub runs_stopped : (out2 : Option (List ℕ)) (w' : WriterState) (place src0 src1 src2 to0 to1 to2 : ℕ) (stop : WriteStop) → place ≡ reader.place → src1 ≡ src0 → src2 ≡ src1 → to1 ≡ to0
+    pub runs_stopped : (out2 : Option (List ℕ)) (w' : StreamWriterSeen) (place src0 src1 src2 to0 to1 to2 : ℕ) (stop : WriteStop) → place ≡ reader.place → src1 ≡ src0 → src2 ≡ src1 → to1 ≡ to0
         → WritesPicture w w' (slices_of (frame_under w.settings.parts) w.settings.params p) out1 out2 (Err stop) → WriteCause {X = Unit {0}} to1 to2 (Err stop)
         → Runs (encode_machine e) IsDone (record { was = rest0; is = rest2; faults_were = src0; faults_are = src2 }) (record { was = out0; is = out2; faults_were = to0; faults_are = to2 }) (told_of_stop place stop)
     runs_stopped out2 w' place src0 src1 src2 to0 to1 to2 stops.OutFault at steady read steady_out wrote why =

@@ -7,9 +7,9 @@ use Rattle.planes.specs.Subbands.{band_index}
 use Rattle.slice_geometry.specs.SliceOrder.{level_of, orient_of}
 use Rattle.slice_geometry.proofs.NumberedBands.{band-exists, index-numbered}
 use Rattle.slice_decoder.proofs.Whole.{is_band}
-use Rattle.transform_params.specs.Fields.{IsLawful}
+use Rattle.transform_params.specs.ParameterFields.{IsLawful}
 use Rattle.vc2_words.specs.Settings.{Asked}
-use Rattle.slice_encoder.specs.Laws.{IsSteepOk}
+use Rattle.slice_encoder.specs.TrialLaws.{IsSteepOk}
 use Rattle.stream_units.specs.Writer.{IsSteepUnder}
 use Rattle.vc2_cli.specs.Encode.{written_under}
 use Rattle.vc2_cli.specs.Words.{greater_depth, is_flat}

@@ -1,5 +1,6 @@
 pub mod Settling
 pub mod Parts
+mod RanBy
 pub mod WorkedRows
 pub mod HeaderRuns
 pub mod Decoding

@@ -2,14 +2,14 @@
 use Rattle.std.proofs.Common.{◌≡◌, ℕ, ◌+◌, List, [], ◌∷◌, ◌++◌, length, Option, refl, ap, ◌∙◌}
 use Rattle.vc2_run.specs.Walk.{IsMachine}
 use Rattle.slice_geometry.specs.declared.unit_list.UnitShape.{UnitShape}
-use Rattle.slice_geometry.specs.Units.{UnitList}
+use Rattle.slice_geometry.specs.UnitLengths.{UnitShapesSeen}
 use Rattle.unit_table.specs.Grammar.{Final}
 use Rattle.unit_table.proofs.FrontLaws.{machine_laws}
 use Rattle.stream_rows.specs.declared.reason.Reason.{Reason}
 use Rattle.stream_rows.specs.Units.{Past, nothing_yet, DataUnit, Sequence, Repeated, Picture, Skipped, End, after, units}
 use Rattle.stream_rows.specs.Streams.{limit, past_limit}
 use Rattle.stream_units.specs.Turns.{shape_of}
-use Rattle.stream_units.specs.Reader.{ReaderState}
+use Rattle.stream_units.specs.Reader.{StreamReaderSeen}
 use Rattle.stream_rows.proofs.Steady.{units_laws}
 use Rattle.stream_rows.proofs.Answering.{after-place}
 use Rattle.channel_schedule.specs.declared.schedule.Schedule.{Schedule}
@@ -36,7 +36,7 @@ slices_are z Skipped bytes = refl
 slices_are z End bytes = refl
 
 -- what a unit leaves to the command
-pub replayed_more : (schedule : Schedule) (slices slices' : ℕ) (old new : ReaderState) (z : Past) (unit : DataUnit) (bytes : List ℕ) → TellsUnit old new z unit bytes → slices' ≡ slices + (shape_of z unit bytes).slices
+pub replayed_more : (schedule : Schedule) (slices slices' : ℕ) (old new : StreamReaderSeen) (z : Past) (unit : DataUnit) (bytes : List ℕ) → TellsUnit old new z unit bytes → slices' ≡ slices + (shape_of z unit bytes).slices
     → (let own : Replayed = record { schedule = schedule; slices = slices'; shapes = new.shapes } in own) ≡ replaying_any.next z (record { schedule = schedule; slices = slices; shapes = old.shapes }) unit bytes
 replayed_more schedule slices slices' old new z unit bytes t sum =
     ap (λ n. let own : Replayed = record { schedule = schedule; slices = n; shapes = new.shapes } in own) (sum ∙ ap (λ n. slices + n) (slices_are z unit bytes))
@@ -51,7 +51,7 @@ last_pictures z Skipped bytes other final = absurd cc
 last_pictures z End bytes other final = refl
 
 -- the outcome, as a value
-outcome_is : (shapes : UnitList) (units : List UnitShape) (total : ℕ) (schedule : Schedule) (outcome : Outcome) → shapes.units ≡ units → shapes.total ≡ total
+outcome_is : (shapes : UnitShapesSeen) (units : List UnitShape) (total : ℕ) (schedule : Schedule) (outcome : Outcome) → shapes.units ≡ units → shapes.total ≡ total
     → IsOutcome (course_of shapes schedule.rate schedule.idle schedule.delay) schedule.size (count_in shapes) outcome → outcome ≡ outcome_of schedule units total
 outcome_is shapes units total schedule outcome same_units same_total is =
     (one_outcome (course_of shapes schedule.rate schedule.idle schedule.delay) schedule.size (count_in shapes)).only outcome is
@@ -59,7 +59,7 @@ outcome_is shapes units total schedule outcome same_units same_total is =
     ∙ ap (λ (t : ℕ). outcome_of schedule units t) same_total
 
 -- the ending of a stream
-pub ending_is : (schedule : Schedule) (slices pictures taken : ℕ) (outcome : Outcome) (old new : ReaderState) (shapes : UnitList) (z : Past) (unit : DataUnit) (bytes : List ℕ) (other : Option Reason) → TellsUnit old new z unit bytes → units.behind unit ≡ Final other
+pub ending_is : (schedule : Schedule) (slices pictures taken : ℕ) (outcome : Outcome) (old new : StreamReaderSeen) (shapes : UnitShapesSeen) (z : Past) (unit : DataUnit) (bytes : List ℕ) (other : Option Reason) → TellsUnit old new z unit bytes → units.behind unit ≡ Final other
     → pictures ≡ new.past.pictures → taken ≡ new.past.place → shapes.units ≡ new.shapes → shapes.total ≡ new.past.place
     → IsOutcome (course_of shapes schedule.rate schedule.idle schedule.delay) schedule.size (count_in shapes) outcome
     → Scheduled pictures slices taken outcome ≡ replaying_any.finished z (record { schedule = schedule; slices = slices; shapes = old.shapes }) unit bytes

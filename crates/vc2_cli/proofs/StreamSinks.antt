@@ -6,10 +6,11 @@ use Rattle.std.proofs.lemmas.Bool.Decides.{nat_tests}
 use Rattle.std.specs.Io.KnownBytes.{Appends}
 use Rattle.std.proofs.lemmas.List.{length-append, length-take}
 use Rattle.vc2_io.specs.Outside.{Rose, GrewShort, next_count}
-use Rattle.vc2_io.specs.Memory.{SinkState, is_named, fails_write, write_len, after_write}
+use Rattle.vc2_io.specs.Memory.{MemSinkSeen, is_named, fails_write, write_len, after_write}
+use Rattle.vc2_io.proofs.Short.{IsProperPrefix-shorter}
 use Rattle.vc2_io.specs.declared.outside.Failed.{Failed}
-use Rattle.stream_units.specs.Encoded.{Settings, header_unit, picture_unit, end_unit}
-use Rattle.stream_units.specs.Writer.{WriterState, next_previous, next_number, HasRoom, WritesPicture, WritesEnd, WriteCause, Starts, IsSteepUnder}
+use Rattle.stream_units.specs.EncodedStream.{Settings, header_unit, picture_unit, end_unit}
+use Rattle.stream_units.specs.Writer.{StreamWriterSeen, next_previous, next_number, HasRoom, WritesPicture, WritesEnd, WriteCause, Starts, IsSteepUnder}
 use Rattle.stream_units.specs.declared.write_stop.WriteStop.{WriteStop}
 use Rattle.stream_units.specs.declared.write_stop.WriteStop.TheVariants as stops
 use Rattle.vc2_cli.specs.TrialTurn.{FailsWhenFull, told_of_sink, IsWant}
@@ -29,7 +30,7 @@ none_named calls = by (eqb calls top) (eqb top calls) refl refl
 -- ---- what a call leaves
 
 -- a list that grew at its end
-pub grew_rest : (s s' : SinkState) (piece : List ℕ) → Appends (told_of_sink s) (told_of_sink s') piece → (s'.room ≡ s.room) × (s'.bytes ≡ s.bytes ++ piece)
+pub grew_rest : (s s' : MemSinkSeen) (piece : List ℕ) → Appends (told_of_sink s) (told_of_sink s') piece → (s'.room ≡ s.room) × (s'.bytes ≡ s.bytes ++ piece)
 grew_rest s s' piece grew =
     let all : s'.room ∷ s'.bytes ≡ s.room ∷ (s.bytes ++ piece) = grew in
     let room : s'.room ≡ s.room = cc in
@@ -38,33 +39,33 @@ grew_rest s s' piece grew =
 
 -- ---- it never fails
 
-never_short : (s s' : SinkState) (text : List ℕ) → FailsWhenFull s → FailsWhenFull s' → GrewShort (told_of_sink s) (told_of_sink s') text → length s.bytes + length text ≤ s.room → Rose s.failures s'.failures → ⊥
+never_short : (s s' : MemSinkSeen) (text : List ℕ) → FailsWhenFull s → FailsWhenFull s' → GrewShort (told_of_sink s) (told_of_sink s') text → length s.bytes + length text ≤ s.room → Rose s.failures s'.failures → ⊥
 never_short s s' text full full' g fits rose =
     let part = g.0 in
     let grown = grew_rest s s' part g.2 in
     let long : length s'.bytes ≡ length s.bytes + length part = ap (λ (l : List ℕ). length l) grown.1 ∙ length-append s.bytes part in
-    let none : s.failures ≡ 0 = full.steady (omega (arith, g.1.shorter, fits)) in
-    let none' : s'.failures ≡ 0 = full'.steady (omega (arith, g.1.shorter, fits, long, grown.0)) in
+    let none : s.failures ≡ 0 = full.steady (omega (arith, IsProperPrefix-shorter part text g.1, fits)) in
+    let none' : s'.failures ≡ 0 = full'.steady (omega (arith, IsProperPrefix-shorter part text g.1, fits, long, grown.0)) in
     let risen : Rose 0 0 = subst (λ (k : ℕ). Rose k 0) none (subst (λ (k : ℕ). Rose s.failures k) none' rose) in
     omega (arith, risen)
 
 -- ---- what a writer stops for
 
-pub start_stop : (settings : Settings) (s s' : SinkState) (stop : WriteStop) → IsSteepUnder settings → FailsWhenFull s → FailsWhenFull s' → Starts settings (told_of_sink s) (told_of_sink s') (Err stop) → WriteCause {X = WriterState} s.failures s'.failures (Err stop)
+pub start_stop : (settings : Settings) (s s' : MemSinkSeen) (stop : WriteStop) → IsSteepUnder settings → FailsWhenFull s → FailsWhenFull s' → Starts settings (told_of_sink s) (told_of_sink s') (Err stop) → WriteCause {X = StreamWriterSeen} s.failures s'.failures (Err stop)
     → length s.bytes + length (header_unit settings.parts) ≤ s.room → IsWant stop
 start_stop settings s s' stops.OutFault flat full full' starts why fits = absurd (never_short s s' (header_unit settings.parts) full full' starts.1 fits why.1)
 start_stop settings s s' stops.MatrixTooSteep flat full full' starts why fits = absurd (starts.0 flat)
 start_stop settings s s' stops.StreamTooLong flat full full' starts why fits = absurd starts
 start_stop settings s s' stops.NoMemory flat full full' starts why fits = tt
 
-pub picture_stop : (w w' : WriterState) (slices : List (List ℕ)) (s s' : SinkState) (stop : WriteStop) → HasRoom w → FailsWhenFull s → FailsWhenFull s' → WritesPicture w w' slices (told_of_sink s) (told_of_sink s') (Err stop) → WriteCause {X = Unit {0}} s.failures s'.failures (Err stop)
+pub picture_stop : (w w' : StreamWriterSeen) (slices : List (List ℕ)) (s s' : MemSinkSeen) (stop : WriteStop) → HasRoom w → FailsWhenFull s → FailsWhenFull s' → WritesPicture w w' slices (told_of_sink s) (told_of_sink s') (Err stop) → WriteCause {X = Unit {0}} s.failures s'.failures (Err stop)
     → length s.bytes + length (picture_unit w.settings.params (next_previous w) (next_number w) slices) ≤ s.room → IsWant stop
 picture_stop w w' slices s s' stops.OutFault room full full' wrote why fits = absurd (never_short s s' (picture_unit w.settings.params (next_previous w) (next_number w) slices) full full' wrote.wrote fits why.1)
 picture_stop w w' slices s s' stops.MatrixTooSteep room full full' wrote why fits = absurd wrote.why
 picture_stop w w' slices s s' stops.StreamTooLong room full full' wrote why fits = absurd (wrote.why room)
 picture_stop w w' slices s s' stops.NoMemory room full full' wrote why fits = tt
 
-pub end_stop : (w w' : WriterState) (s s' : SinkState) (stop : WriteStop) → FailsWhenFull s → FailsWhenFull s' → WritesEnd w w' (told_of_sink s) (told_of_sink s') (Err stop) → WriteCause {X = Unit {0}} s.failures s'.failures (Err stop)
+pub end_stop : (w w' : StreamWriterSeen) (s s' : MemSinkSeen) (stop : WriteStop) → FailsWhenFull s → FailsWhenFull s' → WritesEnd w w' (told_of_sink s) (told_of_sink s') (Err stop) → WriteCause {X = Unit {0}} s.failures s'.failures (Err stop)
     → length s.bytes + length (end_unit (next_previous w)) ≤ s.room → IsWant stop
 end_stop w w' s s' stops.OutFault full full' wrote why fits = absurd (never_short s s' (end_unit (next_previous w)) full full' wrote.wrote fits why.1)
 end_stop w w' s s' stops.MatrixTooSteep full full' wrote why fits = absurd wrote.why
@@ -73,23 +74,23 @@ end_stop w w' s s' stops.NoMemory full full' wrote why fits = tt
 
 -- ---- a write keeps it
 
-pub written_keeps : (s s' : SinkState) (piece : List ℕ) (result : Result ℕ Failed) → FailsWhenFull s → is_err result ≡ fails_write s (length piece) → s' ≡ after_write s piece result → FailsWhenFull s'
+pub written_keeps : (s s' : MemSinkSeen) (piece : List ℕ) (result : Result ℕ Failed) → FailsWhenFull s → is_err result ≡ fails_write s (length piece) → s' ≡ after_write s piece result → FailsWhenFull s'
 written_keeps s s' piece (Ok count) full fails after = record {
-  unnamed = ap (λ (x : SinkState). x.failing) after ∙ full.unnamed;
+  unnamed = ap (λ (x : MemSinkSeen). x.failing) after ∙ full.unnamed;
   steady = λ less.
-      let room : s'.room ≡ s.room = ap (λ (x : SinkState). x.room) after in
-      let bytes : length s'.bytes ≡ length s.bytes + length (take count piece) = ap (λ (x : SinkState). length x.bytes) after ∙ length-append s.bytes (take count piece) in
-      ap (λ (x : SinkState). x.failures) after ∙ full.steady (omega (arith, less, room, bytes));
+      let room : s'.room ≡ s.room = ap (λ (x : MemSinkSeen). x.room) after in
+      let bytes : length s'.bytes ≡ length s.bytes + length (take count piece) = ap (λ (x : MemSinkSeen). length x.bytes) after ∙ length-append s.bytes (take count piece) in
+      ap (λ (x : MemSinkSeen). x.failures) after ∙ full.steady (omega (arith, less, room, bytes));
 }
 written_keeps s s' piece (Err failed) full fails after = record {
-  unnamed = ap (λ (x : SinkState). x.failing) after ∙ full.unnamed;
+  unnamed = ap (λ (x : MemSinkSeen). x.failing) after ∙ full.unnamed;
   steady = λ less. absurd (never fails less);
 }
   where
     never : true ≡ fails_write s (length piece) → length s'.bytes < s'.room → ⊥
     never told less =
-        let room : s'.room ≡ s.room = ap (λ (x : SinkState). x.room) after in
-        let bytes : s'.bytes ≡ s.bytes = ap (λ (x : SinkState). x.bytes) after in
+        let room : s'.room ≡ s.room = ap (λ (x : MemSinkSeen). x.room) after in
+        let bytes : s'.bytes ≡ s.bytes = ap (λ (x : MemSinkSeen). x.bytes) after in
         let some : eqb (s.room - length s.bytes) 0 ≡ false = has_room (s.room - length s.bytes) (omega (arith, less, room, ap (λ (l : List ℕ). length l) bytes)) in
         let unnamed : (not (eqb s.calls top) && is_named s.calls s.failing) ≡ false = ap (λ (l : List ℕ). not (eqb s.calls top) && is_named s.calls l) full.unnamed ∙ none_named s.calls in
         let not_failing : fails_write s (length piece) ≡ false = rw (unnamed, some) refl in

@@ -8,11 +8,11 @@ use Rattle.slice_geometry.specs.Frames.{Frame, frame_of}
 use Rattle.sequence_header.specs.declared.parts.HeaderParts.{HeaderParts}
 use Rattle.sequence_header.proofs.Bounds.{header_short}
 use Rattle.transform_params.specs.Params.{Params}
-use Rattle.transform_params.specs.Fields.{unit_length, IsLawful}
+use Rattle.transform_params.specs.ParameterFields.{unit_length, IsLawful}
 use Rattle.transform_params.proofs.Bounds.{unit_small}
 use Rattle.picture_codec.specs.Samples.{PictureSamples, picture_of}
 use Rattle.picture_codec.specs.Encoding.{slices_of}
-use Rattle.trial_video.specs.Video.{VideoSeen, video_picture}
+use Rattle.trial_video.specs.Video.{TrialVideoSeen, video_picture}
 use Rattle.trial_video.specs.Worst.{worst, worst_of}
 use Rattle.channel_schedule.specs.declared.schedule.Schedule.{Schedule}
 use Rattle.vc2_run.specs.Walk.{Machine, Answer, answer_from, answer_to, before}
@@ -22,7 +22,7 @@ use Rattle.vc2_run.specs.declared.Halt.TheVariants as halts
 use Rattle.unit_table.specs.Fronts.{Between}
 use Rattle.stream_rows.specs.Units.{Past, nothing_yet, DataUnit, Sequence, Picture, End, after}
 use Rattle.stream_rows.specs.Streams.{limit, frame_under}
-use Rattle.stream_units.specs.Encoded.{Settings, header_unit, picture_unit, end_unit, number_after, units_behind, IsSliced}
+use Rattle.stream_units.specs.EncodedStream.{Settings, header_unit, picture_unit, end_unit, number_after, units_behind, IsSliced}
 use Rattle.stream_units.specs.Writer.{IsSteepUnder}
 use Rattle.stream_units.proofs.EncodedUnits.{length-header_unit, length-picture_unit, length-end_unit, moves_header_unit, moves_picture_unit, moves_end_unit}
 use Rattle.stream_units.proofs.EncodedStreams.{Going, picture_code, end_code, going_on, going_first}
@@ -148,9 +148,9 @@ is_compared m rest stream most (Err halts.OutFault) ran why e = absurd (omega (a
 is_compared m rest stream most (Err halts.NoMemory) ran why e = tt
 
 -- where the comparison begins
-pub begins_as : (s : Asked) (part : TrialPart) (video : VideoSeen) (shape : PictureShape) → video ≡ record { shape = shape; seed = part.seed; pictures = 0 } → frame_of shape ≡ frame_under s.parts → comparison_of video part.pictures 0 ≡ nothing_compared s part
+pub begins_as : (s : Asked) (part : TrialPart) (video : TrialVideoSeen) (shape : PictureShape) → video ≡ record { shape = shape; seed = part.seed; pictures = 0 } → frame_of shape ≡ frame_under s.parts → comparison_of video part.pictures 0 ≡ nothing_compared s part
 begins_as s part video shape new frame =
-    ap (λ (v : VideoSeen). comparison_of v part.pictures 0) new ∙ ap (λ (f : Frame). record { frame = f; seed = part.seed; pictures = 0; left = part.pictures; worst = 0 }) frame
+    ap (λ (v : TrialVideoSeen). comparison_of v part.pictures 0) new ∙ ap (λ (f : Frame). record { frame = f; seed = part.seed; pictures = 0; left = part.pictures; worst = 0 }) frame
 
 pub compared_here : (s : Asked) (part : TrialPart) (t : IsTrial s part) → IsSteepUnder (written_under s) → (start : Comparison) (stream : List ℕ) → start ≡ nothing_compared s part → stream ≡ stream_of s (trial_pictures s part)
     → (answer_to (machine (comparing start)) stream).ending ≡ Compared (trial_worst s part)

@@ -5,28 +5,28 @@ use Rattle.std.specs.Io.KnownBytes.{Appends}
 use Rattle.std.proofs.Math.Nat.{zero-mul}
 use Rattle.std.proofs.lemmas.List.{length-append}
 use Rattle.std.proofs.lemmas.List.FromFn.{length-map-range_with_len}
-use Rattle.vc2_io.specs.Memory.{SinkState}
+use Rattle.vc2_io.specs.Memory.{MemSinkSeen}
 use Rattle.sequence_header.specs.declared.parts.HeaderParts.{HeaderParts}
 use Rattle.slice_geometry.specs.declared.PictureShape.{PictureShape}
 use Rattle.slice_geometry.specs.Frames.{Frame, frame_of}
 use Rattle.slice_geometry.specs.Slicing.{slice_count}
 use Rattle.slice_geometry.specs.declared.unit_list.UnitShape.{UnitShape}
-use Rattle.slice_geometry.specs.Units.{UnitList}
-use Rattle.transform_params.specs.Fields.{unit_length}
+use Rattle.slice_geometry.specs.UnitLengths.{UnitShapesSeen}
+use Rattle.transform_params.specs.ParameterFields.{unit_length}
 use Rattle.picture_codec.specs.Samples.{PictureSamples}
 use Rattle.picture_codec.specs.Encoding.{slices_of}
 use Rattle.raw_video.specs.RawText.{is_wide, raw_text}
 use Rattle.raw_video.specs.RawParse.{luma_count, colour_count, sample_size, raw_length, IsOfFrame, raw_texts}
 use Rattle.raw_video.proofs.ReadBack.{length_raw}
 use Rattle.raw_video.proofs.ComponentTurns.{luma_few, colour_few}
-use Rattle.trial_video.specs.Video.{VideoSeen, video, video_picture}
+use Rattle.trial_video.specs.Video.{TrialVideoSeen, video, video_picture}
 use Rattle.trial_video.proofs.Fits.{pictures_fit}
 use Rattle.channel_schedule.specs.declared.schedule.Rate.{Rate}
 use Rattle.channel_schedule.specs.declared.schedule.Schedule.{Schedule}
 use Rattle.channel_schedule.specs.Plans.{plan_of}
 use Rattle.stream_rows.specs.Streams.{limit, frame_under}
-use Rattle.stream_units.specs.Encoded.{Settings, header_unit, picture_unit, end_unit, number_after, units_behind}
-use Rattle.stream_units.specs.Writer.{WriterState, total_length, next_place, next_previous, next_number, plain_shape, started, after_picture, after_end, HasRoom, WritesPicture, WritesEnd, IsSteepUnder}
+use Rattle.stream_units.specs.EncodedStream.{Settings, header_unit, picture_unit, end_unit, number_after, units_behind}
+use Rattle.stream_units.specs.Writer.{StreamWriterSeen, total_length, next_place, next_previous, next_number, plain_shape, started, after_picture, after_end, HasRoom, WritesPicture, WritesEnd, IsSteepUnder}
 use Rattle.stream_units.proofs.SameShapes.{frame_is}
 use Rattle.vc2_words.specs.declared.words.TrialPart.{TrialPart}
 use Rattle.vc2_words.specs.Settings.{Asked, stream_length}
@@ -105,7 +105,7 @@ units_are s n (p ∷ pictures) =
     let unit = picture_unit s.params (previous_at s n) (number_at s n) (slices_of (frame_under s.parts) s.params p) in
     ap (λ (l : List ℕ). unit ++ l) (units_are s (suc n) pictures ∙ ap (λ (k : ℕ). units_behind s.params (unit_length s.params) k (map (slices_of (frame_under s.parts) s.params) pictures)) (sym (after_number s.first n)))
 
-pub begins : (s : Asked) (part : TrialPart) (t : IsTrial s part) (flat : IsSteepUnder (written_under s)) (video : VideoSeen) (w : WriterState) (sink sink' : SinkState) → frame_of video.shape ≡ frame_under s.parts → video.seed ≡ part.seed → video.pictures ≡ 0
+pub begins : (s : Asked) (part : TrialPart) (t : IsTrial s part) (flat : IsSteepUnder (written_under s)) (video : TrialVideoSeen) (w : StreamWriterSeen) (sink sink' : MemSinkSeen) → frame_of video.shape ≡ frame_under s.parts → video.seed ≡ part.seed → video.pictures ≡ 0
     → w ≡ started (written_under s) → sink.bytes ≡ [] → sink.room ≡ stream_length s.parts s.params part.pictures → Appends (told_of_sink sink) (told_of_sink sink') (header_unit s.parts) → HasWritten s part 0 video w sink'
 begins s part t flat video w sink sink' frame seed given new empty room grew =
     let grown = grew_rest sink sink' (header_unit s.parts) grew in
@@ -127,7 +127,7 @@ begins s part t flat video w sink sink' frame seed given new empty room grew =
 at_most : (n m size : ℕ) → n + 1 ≤ m → n * size + size ≤ m * size
 at_most n m size le = grind arith
 
-module _ (s : Asked) (part : TrialPart) (t : IsTrial s part) (n : ℕ) (video : VideoSeen) (w : WriterState) (sink : SinkState) (b : HasWritten s part n video w sink) where
+module _ (s : Asked) (part : TrialPart) (t : IsTrial s part) (n : ℕ) (video : TrialVideoSeen) (w : StreamWriterSeen) (sink : MemSinkSeen) (b : HasWritten s part n video w sink) where
   -- ---- one picture more
 
   module _ (lt : n < part.pictures) (p : PictureSamples) (is : p ≡ video_picture (frame_of video.shape) video.seed video.pictures) where
@@ -157,14 +157,14 @@ module _ (s : Asked) (part : TrialPart) (t : IsTrial s part) (n : ℕ) (video : 
     pub has_room : HasRoom w
     has_room = subst (λ (k : ℕ). k ≤ limit) (sym (with_place s n w b.stands)) (omega (arith, t.short, at_most n part.pictures (unit_length s.params) (omega (arith, lt))))
 
-    pub written_more : (video' : VideoSeen) (w' : WriterState) (sink' : SinkState) → 1 ≤ slice_count s.params.slicing → video' ≡ record video { pictures = video.pictures + 1 }
+    pub written_more : (video' : TrialVideoSeen) (w' : StreamWriterSeen) (sink' : MemSinkSeen) → 1 ≤ slice_count s.params.slicing → video' ≡ record video { pictures = video.pictures + 1 }
         → WritesPicture w w' (slices_of (frame_under w.settings.parts) w.settings.params p) (told_of_sink sink) (told_of_sink sink') (Ok tt) → HasWritten s part (n + 1) video' w' sink'
     written_more video' w' sink' some after wrote =
         let grown = grew_rest sink sink' (unit_of w p) wrote.wrote in
         record {
-          frame = ap (λ (v : VideoSeen). frame_of v.shape) after ∙ b.frame;
-          seed = ap (λ (v : VideoSeen). v.seed) after ∙ b.seed;
-          given = ap (λ (v : VideoSeen). v.pictures) after ∙ ap (λ (k : ℕ). k + 1) b.given;
+          frame = ap (λ (v : TrialVideoSeen). frame_of v.shape) after ∙ b.frame;
+          seed = ap (λ (v : TrialVideoSeen). v.seed) after ∙ b.seed;
+          given = ap (λ (v : TrialVideoSeen). v.pictures) after ∙ ap (λ (k : ℕ). k + 1) b.given;
           stands = behind_next s n w w' some b.stands wrote.after;
           room = grown.0 ∙ b.room;
           bytes = ap (λ (l : List ℕ). l ++ more) grown.1 ∙ append_assoc sink.bytes (unit_of w p) more ∙ all_is;
@@ -182,12 +182,12 @@ module _ (s : Asked) (part : TrialPart) (t : IsTrial s part) (n : ℕ) (video : 
     pub end_fits : length sink.bytes + length (end_unit (next_previous w)) ≤ sink.room
     end_fits = omega (arith, b.room, ap (λ (l : List ℕ). length l) end_is, length-append sink.bytes (end_unit (next_previous w)))
 
-    pub written_all : (w' : WriterState) (sink' : SinkState) → WritesEnd w w' (told_of_sink sink) (told_of_sink sink') (Ok tt) → sink'.bytes ≡ stream_of s (trial_pictures s part)
+    pub written_all : (w' : StreamWriterSeen) (sink' : MemSinkSeen) → WritesEnd w w' (told_of_sink sink) (told_of_sink sink') (Ok tt) → sink'.bytes ≡ stream_of s (trial_pictures s part)
     written_all w' sink' wrote = (grew_rest sink sink' (end_unit (next_previous w)) wrote.wrote).1 ∙ end_is
 
-    pub planned_all : (w' : WriterState) (list : UnitList) (out0 out1 : Option (List ℕ)) → WritesEnd w w' out0 out1 (Ok tt) → list.units ≡ w'.shapes → list.total ≡ total_length w'.shapes → plan_of list s.rate s.idle ≡ plan_for s (trial_pictures s part)
+    pub planned_all : (w' : StreamWriterSeen) (list : UnitShapesSeen) (out0 out1 : Option (List ℕ)) → WritesEnd w w' out0 out1 (Ok tt) → list.units ≡ w'.shapes → list.total ≡ total_length w'.shapes → plan_of list s.rate s.idle ≡ plan_for s (trial_pictures s part)
     planned_all w' list out0 out1 wrote units total =
-        planned list s.rate s.idle (w.shapes ++ plain_shape (next_place w) 13 ∷ []) (next_place w + 13) (units ∙ ap (λ (x : WriterState). x.shapes) wrote.after) (total ∙ ap (λ (x : WriterState). total_length x.shapes) wrote.after ∙ with_end w)
+        planned list s.rate s.idle (w.shapes ++ plain_shape (next_place w) 13 ∷ []) (next_place w + 13) (units ∙ ap (λ (x : StreamWriterSeen). x.shapes) wrote.after) (total ∙ ap (λ (x : StreamWriterSeen). total_length x.shapes) wrote.after ∙ with_end w)
         ∙ ap (λ (l : List UnitShape). ended_plan s l (next_place w)) b.stands.shapes
         ∙ ap (λ (k : ℕ). ended_plan s (shapes_at s n) k) b.stands.place
         ∙ ap (λ (k : ℕ). ended_plan s (shapes_at s k) (stream_place s k)) (over ∙ sym (trial_count s part))

@@ -1,7 +1,8 @@
 -- The command `encode`: a unit of its input is a raw picture, whose text is the picture's unit.
 use Rattle.std.specs.Prelude.{ℕ, zero, suc, ◌+◌, ◌*◌, ◌%◌, ◌^◌, ◌==◌, ◌&&◌, nat_le, Bool, List, [], ◌∷◌, ◌++◌, Option, Result, Ok, Err, if◌then◌else◌}
+use Rattle.parse_info.specs.declared.TheConstants.{HEAD_SIZE}
 use Rattle.sequence_header.specs.Bytes.{header_len}
-use Rattle.transform_params.specs.Fields.{unit_length}
+use Rattle.transform_params.specs.ParameterFields.{unit_length}
 use Rattle.picture_codec.specs.Encoding.{slices_of}
 use Rattle.raw_video.specs.RawParse.{raw_length, RawFront, Shown, Over, LargeAt, CutAt, TooLong, raw_front}
 use Rattle.raw_video.specs.declared.reader.RawFault.{RawFault}
@@ -12,7 +13,7 @@ use Rattle.vc2_run.specs.declared.Halt.TheVariants as halts
 use Rattle.stream_rows.specs.declared.reason.Reason.{Reason}
 use Rattle.stream_rows.specs.declared.reason.Reason.TheVariants.{HalfFrame, StreamTooLong, SampleTooLarge, RawTruncated}
 use Rattle.stream_rows.specs.Streams.{limit, frame_under}
-use Rattle.stream_units.specs.Encoded.{Settings, header_unit, picture_unit, end_unit}
+use Rattle.stream_units.specs.EncodedStream.{Settings, header_unit, picture_unit, end_unit}
 use Rattle.stream_units.specs.Writer.{plain_shape, picture_shape}
 use Rattle.slice_geometry.specs.declared.unit_list.UnitShape.{UnitShape}
 use Rattle.channel_schedule.specs.declared.schedule.Schedule.{Schedule}
@@ -40,7 +41,7 @@ abbrev pub raw_place : Asked → ℕ → ℕ
 raw_place s n = n * raw_size s
 
 abbrev pub first_length : Asked → ℕ
-first_length s = 13 + header_len s.parts
+first_length s = HEAD_SIZE + header_len s.parts
 
 -- the bytes of the stream
 abbrev pub stream_place : Asked → ℕ → ℕ
@@ -57,7 +58,7 @@ number_at s n = (s.first + n) % 2 ^ 32
 
 -- the next picture's unit and the end fit before the limit
 abbrev pub has_room : Asked → ℕ → Bool
-has_room s n = nat_le (stream_place s n + unit_length s.params + 13) limit
+has_room s n = nat_le (stream_place s n + unit_length s.params + HEAD_SIZE) limit
 
 -- the units of the stream, by their lengths
 abbrev pub shapes_at : Asked → ℕ → List UnitShape
@@ -66,7 +67,7 @@ shapes_at s (suc n) = shapes_at s n ++ picture_shape s.params (stream_place s n)
 
 -- the least schedule of units that end at this place and the end unit behind them
 abbrev pub ended_plan : Asked → List UnitShape → ℕ → Schedule
-ended_plan s units place = plan_of (shapes_in (units ++ plain_shape place 13 ∷ []) (place + 13)) s.rate s.idle
+ended_plan s units place = plan_of (shapes_in (units ++ plain_shape place HEAD_SIZE ∷ []) (place + HEAD_SIZE)) s.rate s.idle
 
 -- the pictures are fields, and the last frame has only one
 abbrev pub is_half : ℕ → ℕ → Bool

@@ -1,5 +1,7 @@
 -- What `encode` replies to whole pictures, and `decode` to what it wrote.
 use Rattle.std.specs.Prelude.{◌≡◌, ◌≤◌, ◌%◌, ◌^◌, ◌+◌, ℕ, List, [], length, map, Ok, ◌*◌, ◌<◌}
+use Rattle.parse_info.specs.declared.TheConstants.{HEAD_SIZE}
+use Rattle.vc2_io.specs.declared.TheConstants.{INPUT_LIMIT}
 use Rattle.std.specs.List.{AllByRecursion}
 use Rattle.slice_geometry.specs.Slicing.{slice_count}
 use Rattle.picture_codec.specs.Samples.{PictureSamples, picture_of}
@@ -9,7 +11,7 @@ use Rattle.stream_rows.specs.Streams.{limit, frame_under}
 use Rattle.channel_schedule.specs.declared.schedule.Schedule.{Schedule}
 use Rattle.channel_schedule.specs.declared.schedule.Outcome.TheVariants.{Runs}
 use Rattle.channel_schedule.specs.Rates.{IsRate}
-use Rattle.stream_units.specs.Encoded.{AreLawful}
+use Rattle.stream_units.specs.EncodedStream.{AreLawful}
 use Rattle.stream_units.specs.Writer.{IsSteepUnder}
 use Rattle.stream_units.specs.EncodedPictures.{encoded_pictures}
 use Rattle.vc2_words.specs.Settings.{Asked}
@@ -36,8 +38,8 @@ pub record AreSettings (s : Asked) : Type 0 where
 pub record MayBeWritten (s : Asked) (pictures : List PictureSamples) : Type 0 where
   pub each : AllByRecursion (IsOfFrame (frame_under s.parts)) pictures
   pub even : s.parts.coding ≡ 1 → length pictures % 2 ≡ 0
-  pub raw : length (raw_input s pictures) ≤ 2 ^ 40
-  pub stream : stream_place s (length pictures) + 13 ≤ limit
+  pub raw : length (raw_input s pictures) ≤ INPUT_LIMIT
+  pub stream : stream_place s (length pictures) + HEAD_SIZE ≤ limit
 
 -- `encode` writes the whole stream, and tells that schedule
 abbrev pub encoded_reply : Asked → List PictureSamples → Reply

@@ -1,6 +1,7 @@
 pub mod Texts
+pub mod Change
 pub mod Words
-pub mod Chain
+pub mod ChainLines
 pub mod Decode
 pub mod Scheduled
 pub mod Encode
@@ -9,7 +10,7 @@ pub mod WholePictures
 pub mod Trial
 pub mod TrialTurn
 pub mod Reply
-pub mod Streams
+pub mod StreamReplies
 pub mod ScheduleWords
 pub mod EncodeReply
 pub mod Settled

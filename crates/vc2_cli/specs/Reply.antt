@@ -1,14 +1,15 @@
 -- What the program replies to its words and its input, and what of it stands after a status.
 use Rattle.std.specs.Prelude.{◌≡◌, ◌≤◌, ◌⊎◌, ℕ, List, [], Option, Some, None, Result, Ok, Err}
 use Rattle.std.specs.Io.KnownBytes.{Appends, Consumes, Keeps}
-use Rattle.vc2_io.specs.Outside.{Rose, GrewShort}
-use Rattle.vc2_run.specs.Walk.{Answer, answer_to, out_of, due, IsPrefix, IsProperPrefix, IsPrompt}
+use Rattle.vc2_io.specs.Outside.{Rose, IsPrefix, IsProperPrefix, GrewShort}
+use Rattle.vc2_run.specs.Walk.{Answer, answer_to, out_of, due, IsPrompt}
 use Rattle.channel_schedule.specs.declared.schedule.Outcome.{Outcome}
 use Rattle.channel_schedule.specs.declared.schedule.Outcome.TheVariants as outcomes
 use Rattle.vc2_words.specs.declared.keys.WordFault.{WordFault}
 use Rattle.vc2_words.specs.declared.words.TrialPart.{TrialPart}
 use Rattle.vc2_words.specs.Settings.{Asked}
 use Rattle.vc2_words.specs.Commands.{AskedCommand, chain, header, decode, check, encode, trial}
+use Rattle.vc2_cli.specs.Change.{Change, IsSteady, HasFailed}
 use Rattle.vc2_cli.specs.declared.status.ScheduleFault.{ScheduleFault}
 use Rattle.vc2_cli.specs.declared.status.ScheduleFault.TheVariants.{Late, Overfull}
 use Rattle.vc2_cli.specs.declared.status.Status.{Status}
@@ -16,7 +17,7 @@ use Rattle.vc2_cli.specs.declared.status.Status.TheVariants as status
 use Rattle.vc2_cli.specs.declared.status.Ending.{Ending}
 use Rattle.vc2_cli.specs.declared.status.Ending.TheVariants as ending
 use Rattle.vc2_cli.specs.Texts.{refusal_line, usage_line, decoded_line, schedule_line, fault_line}
-use Rattle.vc2_cli.specs.Chain.{chain_machine}
+use Rattle.vc2_cli.specs.ChainLines.{chain_machine}
 use Rattle.vc2_cli.specs.First.{header_machine, behind_first}
 use Rattle.vc2_cli.specs.Decode.{decode_machine, check_machine}
 use Rattle.vc2_cli.specs.Scheduled.{replay_machine}
@@ -133,11 +134,11 @@ abbrev pub Breaks : (List ℕ → List ℕ) → List ℕ → Option (List ℕ) �
 Breaks due input rest out0 out1 = (taken : List ℕ) × Consumes (Some input) rest taken × Appends out0 out1 (due taken)
 
 -- A fault is answered only where its object's count rose; every other count stands still.
-abbrev pub HasCauses : ℕ → ℕ → ℕ → ℕ → ℕ → ℕ → Status → Type 0
-HasCauses src0 src1 out0 out1 note0 note1 status.ReadFault = (src0 ≤ src1) × Rose src0 src1 × (out1 ≡ out0) × (note1 ≡ note0)
-HasCauses src0 src1 out0 out1 note0 note1 status.OutFault = (src1 ≡ src0) × (out0 ≤ out1) × Rose out0 out1 × (note1 ≡ note0)
-HasCauses src0 src1 out0 out1 note0 note1 status.NoteFault = (src1 ≡ src0) × (out1 ≡ out0) × (note0 ≤ note1) × Rose note0 note1
-HasCauses src0 src1 out0 out1 note0 note1 other = (src1 ≡ src0) × (out1 ≡ out0) × (note1 ≡ note0)
+abbrev pub HasCauses : Change → Change → Change → Status → Type 0
+HasCauses src out note status.ReadFault = HasFailed src × IsSteady out × IsSteady note
+HasCauses src out note status.OutFault = IsSteady src × HasFailed out × IsSteady note
+HasCauses src out note status.NoteFault = IsSteady src × IsSteady out × HasFailed note
+HasCauses src out note other = IsSteady src × IsSteady out × IsSteady note
 
 -- Words with this fault: the usage line went to `note`, or a part of it, or there was no memory for it.
 abbrev pub AnswersUsage : WordFault → Option (List ℕ) → Option (List ℕ) → Status → Type 0

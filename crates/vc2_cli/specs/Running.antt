@@ -1,5 +1,6 @@
 -- What a loop knows of a reader of units, and what the run of a command over one leaves.
-use Rattle.std.specs.Prelude.{◌≡◌, ℕ, ◌+◌, ◌^◌, Bool, false, List, [], ◌++◌, length, Option, Some, None, Result, Ok, Err}
+use Rattle.std.specs.Prelude.{◌≡◌, ℕ, ◌+◌, Bool, false, List, [], ◌++◌, length, Option, Some, None, Result, Ok, Err}
+use Rattle.vc2_io.specs.declared.TheConstants.{INPUT_LIMIT}
 use Rattle.std.specs.Io.KnownBytes.{Appends, IsAtEnd}
 use Rattle.vc2_io.specs.Outside.{GrewShort}
 use Rattle.vc2_run.specs.Walk.{Machine}
@@ -12,7 +13,8 @@ use Rattle.unit_table.specs.Turn.{TakesUnit, MeetsFront, RestsHere}
 use Rattle.stream_rows.specs.declared.reason.Reason.{Reason}
 use Rattle.stream_units.specs.declared.stop.ReadStop.{ReadStop}
 use Rattle.stream_rows.specs.Streams.{limit, past_limit}
-use Rattle.stream_units.specs.Stops.{LimitStops}
+use Rattle.stream_units.specs.StreamStops.{LimitStops}
+use Rattle.vc2_cli.specs.Change.{Change}
 use Rattle.vc2_cli.specs.declared.status.Ending.{Ending}
 use Rattle.vc2_cli.specs.declared.status.Ending.TheVariants.{Done, Decoded, Accepted, Scheduled, Encoded, Compared, Refused}
 use Rattle.vc2_cli.specs.declared.running.Turn.{Turn}
@@ -70,22 +72,12 @@ IsDone (Encoded schedule) = Unit {0}
 IsDone (Compared worst) = Unit {0}
 IsDone (Refused refusal) = ⊥
 
--- an object before and after a call: what it tells of its bytes, and its count of faults
-pub record Change : Type 0 where
-  pub was : Option (List ℕ)
-  pub is : Option (List ℕ)
-  pub faults_were : ℕ
-  pub faults_are : ℕ
-
-abbrev pub change : {T : Type 0} → (T → Option (List ℕ)) → (T → ℕ) → T → T → Change
-change told faults old new = record { was = told old; is = told new; faults_were = faults old; faults_are = faults new }
-
 -- What a run leaves: it ran, took at most the limit and one byte more, each halt has its cause, and where all is done the
 -- input is over.
 pub record Runs {Z E : Type 0} (machine : Machine Z E) (IsDone : E → Type 0) (src out : Change)
     (result : Result E Halt) : Type 0 where
   pub ran : Ran machine src.was src.is out.was out.is result
-  pub limit : TakesAtMost (2 ^ 40 + 1) src.was src.is
+  pub limit : TakesAtMost (INPUT_LIMIT + 1) src.was src.is
   pub cause : HaltHasCause src.faults_were src.faults_are out.faults_were out.faults_are result
   pub end : (ending : E) → result ≡ Ok ending → IsDone ending → IsAtEnd src.is
 

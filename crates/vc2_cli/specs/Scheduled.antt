@@ -2,7 +2,7 @@
 use Rattle.std.specs.Prelude.{ℕ, ◌+◌, List, [], ◌∷◌, ◌++◌, length}
 use Rattle.vc2_run.specs.Walk.{Machine}
 use Rattle.slice_geometry.specs.declared.unit_list.UnitShape.{UnitShape}
-use Rattle.slice_geometry.specs.Units.{UnitList}
+use Rattle.slice_geometry.specs.UnitLengths.{UnitShapesSeen}
 use Rattle.unit_table.specs.Fronts.{Between, Command, machine_of}
 use Rattle.stream_rows.specs.declared.reason.Reason.{Reason}
 use Rattle.stream_rows.specs.Units.{Past, nothing_yet, DataUnit, units}
@@ -24,7 +24,7 @@ pub record Replayed : Type 0 where
 abbrev pub nothing_replayed : Schedule → Replayed
 nothing_replayed schedule = record { schedule = schedule; slices = 0; shapes = [] }
 
-abbrev pub shapes_in : List UnitShape → ℕ → UnitList
+abbrev pub shapes_in : List UnitShape → ℕ → UnitShapesSeen
 shapes_in units total = record { units = units; total = total; spare = 0 }
 
 -- how the slices of these units and the tail of the stream come out, the stream having so many bytes

@@ -1,5 +1,6 @@
 -- How soon a run is over behind a refusal.
 use Rattle.std.specs.Prelude.{◌≡◌, ℕ, ◌-◌, true, List, length, take, Option, Some, Result, Ok, Err}
+use Rattle.vc2_io.specs.declared.TheConstants.{READ_SIZE}
 use Rattle.std.specs.Io.KnownBytes.{Consumes}
 use Rattle.field_rows.specs.Rows.{Fault}
 use Rattle.vc2_run.specs.Walk.{Machine, answer_to}
@@ -33,10 +34,10 @@ StopsSoon reply most input rest told = (taken : List ℕ) × Consumes (Some inpu
 
 -- where words ask for a command that reads units, and the most bytes that one read of it takes
 abbrev pub IfUnits : Result AskedCommand WordFault → (ℕ → Type 0) → Type 0
-IfUnits (Ok chain) P = P 4096
+IfUnits (Ok chain) P = P READ_SIZE
 IfUnits (Ok header) P = P 1
-IfUnits (Ok decode) P = P 4096
-IfUnits (Ok (check schedule)) P = P 4096
+IfUnits (Ok decode) P = P READ_SIZE
+IfUnits (Ok (check schedule)) P = P READ_SIZE
 IfUnits (Ok (encode settings)) P = Unit {0}
 IfUnits (Ok (trial settings part)) P = Unit {0}
 IfUnits (Err fault) P = Unit {0}

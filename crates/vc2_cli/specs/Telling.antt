@@ -2,16 +2,16 @@
 use Rattle.std.specs.Prelude.{◌≡◌, ◌≤◌, ℕ, List, [], ◌∷◌, ◌++◌, length}
 use Rattle.stream_rows.specs.Units.{Past, DataUnit, after}
 use Rattle.stream_units.specs.Turns.{shape_of}
-use Rattle.stream_units.specs.Reader.{ReaderState, IsPictureOf}
+use Rattle.stream_units.specs.Reader.{StreamReaderSeen, IsPictureOf}
 
 -- the new reader is behind a unit of these bytes, and shows its picture; each of its slices has a byte
-pub record TellsUnit (old new : ReaderState) (z : Past) (unit : DataUnit) (bytes : List ℕ) : Type 0 where
+pub record TellsUnit (old new : StreamReaderSeen) (z : Past) (unit : DataUnit) (bytes : List ℕ) : Type 0 where
   pub past : new.past ≡ after z unit bytes
   pub picture : IsPictureOf unit new.picture
   pub shapes : new.shapes ≡ old.shapes ++ shape_of z unit bytes ∷ []
   pub few : (shape_of z unit bytes).slices ≤ length bytes
 
 -- it shows the same units
-pub record StaysBehind (old new : ReaderState) : Type 0 where
+pub record StaysBehind (old new : StreamReaderSeen) : Type 0 where
   pub past : new.past ≡ old.past
   pub shapes : new.shapes ≡ old.shapes

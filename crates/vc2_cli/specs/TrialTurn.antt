@@ -1,16 +1,16 @@
 -- The two halves of a trial between two pictures, and the sink between them.
 use Rattle.std.specs.Prelude.{◌≡◌, ◌≤◌, ◌<◌, ℕ, zero, suc, ◌+◌, ◌-◌, ◌^◌, List, [], ◌∷◌, ◌++◌, length, map, Option, Some, Result, Ok, Err}
 use Rattle.std.specs.List.{range_with_len}
-use Rattle.vc2_io.specs.Memory.{SinkState}
+use Rattle.vc2_io.specs.Memory.{MemSinkSeen}
 use Rattle.slice_geometry.specs.Frames.{Frame, frame_of}
 use Rattle.picture_codec.specs.Samples.{PictureSamples}
 use Rattle.picture_codec.specs.Encoding.{slices_of}
-use Rattle.trial_video.specs.Video.{VideoSeen, video_picture}
+use Rattle.trial_video.specs.Video.{TrialVideoSeen, video_picture}
 use Rattle.vc2_run.specs.declared.Halt.{Halt}
 use Rattle.vc2_run.specs.declared.Halt.TheVariants.{NoMemory}
 use Rattle.stream_rows.specs.Streams.{frame_under}
-use Rattle.stream_units.specs.Encoded.{picture_unit, end_unit}
-use Rattle.stream_units.specs.Writer.{WriterState}
+use Rattle.stream_units.specs.EncodedStream.{picture_unit, end_unit}
+use Rattle.stream_units.specs.Writer.{StreamWriterSeen}
 use Rattle.stream_units.specs.declared.write_stop.WriteStop.{WriteStop}
 use Rattle.stream_units.specs.declared.write_stop.WriteStop.TheVariants as stops
 use Rattle.vc2_words.specs.declared.words.TrialPart.{TrialPart}
@@ -25,12 +25,12 @@ use Rattle.vc2_cli.specs.Trial.{Comparison, trial_pictures}
 -- ---- the sink
 
 -- No call of it is named to fail, and none has failed as long as there is room.
-pub record FailsWhenFull (s : SinkState) : Type 0 where
+pub record FailsWhenFull (s : MemSinkSeen) : Type 0 where
   pub unnamed : s.failing ≡ (2 ^ 64 - 1) ∷ (2 ^ 64 - 1) ∷ (2 ^ 64 - 1) ∷ (2 ^ 64 - 1) ∷ []
   pub steady : length s.bytes < s.room → s.failures ≡ 0
 
 -- What it tells: its room, and then its bytes. So a call over any sink leaves the room as it was.
-abbrev pub told_of_sink : SinkState → Option (List ℕ)
+abbrev pub told_of_sink : MemSinkSeen → Option (List ℕ)
 told_of_sink s = Some (s.room ∷ s.bytes)
 
 -- ---- writing
@@ -51,8 +51,8 @@ abbrev pub pictures_from : Frame → ℕ → ℕ → ℕ → List PictureSamples
 pictures_from f seed n count = map (λ p. video_picture f seed p) (range_with_len n count)
 
 -- n pictures are given and written, and what is left of the stream stands behind them
-pub record HasWritten (s : Asked) (part : TrialPart) (n : ℕ) (video : VideoSeen) (writer : WriterState)
-    (sink : SinkState) : Type 0 where
+pub record HasWritten (s : Asked) (part : TrialPart) (n : ℕ) (video : TrialVideoSeen) (writer : StreamWriterSeen)
+    (sink : MemSinkSeen) : Type 0 where
   pub frame : frame_of video.shape ≡ frame_under s.parts
   pub seed : video.seed ≡ part.seed
   pub given : video.pictures ≡ n
@@ -64,7 +64,7 @@ pub record HasWritten (s : Asked) (part : TrialPart) (n : ℕ) (video : VideoSee
 -- ---- comparing
 
 -- what a comparison shows
-abbrev pub comparison_of : VideoSeen → ℕ → ℕ → Comparison
+abbrev pub comparison_of : TrialVideoSeen → ℕ → ℕ → Comparison
 comparison_of video left worst =
     record { frame = frame_of video.shape; seed = video.seed; pictures = video.pictures; left = left; worst = worst }
 

@@ -1,5 +1,6 @@
 -- Whole pictures as raw video, as a stream, and as what a decoder makes of it.
 use Rattle.std.specs.Prelude.{ℕ, ◌+◌, List, length, map}
+use Rattle.parse_info.specs.declared.TheConstants.{HEAD_SIZE}
 use Rattle.picture_codec.specs.Samples.{PictureSamples, picture_of}
 use Rattle.picture_codec.specs.Encoding.{slices_of}
 use Rattle.raw_video.specs.RawParse.{raw_texts}
@@ -27,4 +28,4 @@ plan_for s pictures = ended_plan s (shapes_at s (length pictures)) (stream_place
 
 -- the bytes of the stream
 abbrev pub stream_length : Asked → List PictureSamples → ℕ
-stream_length s pictures = stream_place s (length pictures) + 13
+stream_length s pictures = stream_place s (length pictures) + HEAD_SIZE

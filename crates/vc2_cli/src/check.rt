@@ -1,8 +1,10 @@
 // The command `check`.
+ghost use Rattle.vc2_io.specs.declared.TheConstants.{READ_SIZE};
 ghost use Rattle.std.specs.Prelude.{ℕ, ◌≤◌};
 ghost use Rattle.vc2_run.specs.Ran.{HaltHasCause};
 ghost use Rattle.vc2_cli.specs.declared.status.Ending.TheVariants as ending;
-ghost use Rattle.vc2_cli.specs.Running.{IsDone, Runs, change, Closes};
+ghost use Rattle.vc2_cli.specs.Change.{change};
+ghost use Rattle.vc2_cli.specs.Running.{IsDone, Runs, Closes};
 ghost use Rattle.vc2_cli.specs.Soon.{Soon};
 ghost use Rattle.vc2_cli.specs.Decode.{checking, check_machine, last_line, IsLastCount};
 
@@ -124,7 +126,7 @@ pub(crate) fn check<S: Source, K: Sink>(
     out: &mut K,
 ) -> Result<Ending, Halt>
     ensures runs { Runs check_machine IsDone (change S.rest S.faults src.old src.new) (change K.written K.faults out.old out.new) result }
-    ensures soon { Soon check_machine 4096 (S.rest src.old) (S.rest src.new) result }
+    ensures soon { Soon check_machine READ_SIZE (S.rest src.old) (S.rest src.new) result }
 {
     match StreamReader::new(alloc) {
         Ok(mut reader) => {

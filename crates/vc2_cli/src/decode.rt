@@ -1,8 +1,10 @@
 // The command `decode`.
+ghost use Rattle.vc2_io.specs.declared.TheConstants.{READ_SIZE};
 ghost use Rattle.std.specs.Prelude.{OnOk, OnErr};
 ghost use Rattle.std.specs.Io.KnownBytes.{Appends};
 ghost use Rattle.vc2_io.specs.Outside.{HasCause, GrewShort};
-ghost use Rattle.vc2_cli.specs.Running.{IsDone, Runs, change};
+ghost use Rattle.vc2_cli.specs.Change.{change};
+ghost use Rattle.vc2_cli.specs.Running.{IsDone, Runs};
 ghost use Rattle.vc2_cli.specs.Soon.{Soon};
 ghost use Rattle.vc2_cli.specs.Decode.{decoding, decode_machine, shown_text};
 
@@ -28,9 +30,9 @@ fn write_shown<K: Sink>(out: &mut K, reader: &StreamReader) -> Result<(), Failed
 
 /// The pictures of a stream.
 #[derive(Drop)]
-struct Decoding {}
+struct PictureDecoderSeen {}
 
-impl UnitCommand<StreamReader> for Decoding {
+impl UnitCommand<StreamReader> for PictureDecoderSeen {
     ghost Own = { Unit {0} };
 
     ghost command = { decoding };
@@ -96,11 +98,11 @@ pub(crate) fn decode<S: Source, K: Sink>(
     out: &mut K,
 ) -> Result<Ending, Halt>
     ensures runs { Runs decode_machine IsDone (change S.rest S.faults src.old src.new) (change K.written K.faults out.old out.new) result }
-    ensures soon { Soon decode_machine 4096 (S.rest src.old) (S.rest src.new) result }
+    ensures soon { Soon decode_machine READ_SIZE (S.rest src.old) (S.rest src.new) result }
 {
     match StreamReader::new(alloc) {
         Ok(mut reader) => {
-            let mut command = Decoding {};
+            let mut command = PictureDecoderSeen {};
             let result = run_units(&mut reader, &mut command, src, out);
             drop(reader);
             result

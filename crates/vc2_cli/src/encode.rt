@@ -2,7 +2,7 @@
 ghost use Rattle.std.specs.Prelude.{◌≡◌, ◌+◌, ◌<◌, ◌≤◌, ◌^◌, ◌%◌, ◌++◌, ◌∷◌, [], None, false, true, Ok, ℕ, List, Option};
 ghost use Rattle.slice_geometry.specs.Frames.{frame_of};
 ghost use Rattle.slice_geometry.specs.Slicing.{slice_count};
-ghost use Rattle.slice_geometry.specs.Units.{IsUnitAllowed};
+ghost use Rattle.slice_geometry.specs.UnitLengths.{IsUnitAllowed};
 ghost use Rattle.sequence_header.specs.Coding.{IsShapeOf};
 ghost use Rattle.channel_schedule.specs.Rates.{IsRate};
 ghost use Rattle.vc2_words.specs.Settings.{Asked};
@@ -10,7 +10,8 @@ ghost use Rattle.vc2_words.specs.Shown.{shown};
 ghost use Rattle.vc2_words.specs.Lawful.{AreLawful};
 ghost use Rattle.vc2_run.specs.Ran.{HaltHasCause};
 ghost use Rattle.stream_units.specs.Writer.{next_place, next_previous, IsSteepUnder};
-ghost use Rattle.vc2_cli.specs.Running.{IsDone, Runs, change};
+ghost use Rattle.vc2_cli.specs.Change.{change};
+ghost use Rattle.vc2_cli.specs.Running.{IsDone, Runs};
 ghost use Rattle.vc2_cli.specs.Encode.{written_under, raw_size, encode_machine, refused_at, is_half, ended_plan, closing, ClosesBy, told_of_fault, told_of_stop};
 ghost use Rattle.vc2_cli.specs.EncodeTurn.{Goes};
 
@@ -20,12 +21,9 @@ use picture_codec::Picture;
 use raw_video::{RawFault, RawReader, RawStep};
 use std::alloc::Global;
 use stream_units::{Reason, Refusal, StreamWriter, WriteStop};
-use vc2_io::{Sink, Source};
+use vc2_io::{INPUT_LIMIT, Sink, Source};
 use vc2_run::Halt;
 use vc2_words::Settings;
-
-// An input counts up to so many bytes.
-const LIMIT: u64 = 1 << 40;
 
 fn refused(place: u64, reason: Reason) -> Result<Ending, Halt>
     ensures { result ≡ Ok (refused_at place reason) }
@@ -40,7 +38,7 @@ fn without_picture(fault: RawFault) -> Result<Ending, Halt>
     match fault {
         RawFault::SampleTooLarge(place) => refused(place, Reason::SampleTooLarge),
         RawFault::RawTruncated(place) => refused(place, Reason::RawTruncated),
-        RawFault::TooLong => refused(LIMIT, Reason::StreamTooLong),
+        RawFault::TooLong => refused(INPUT_LIMIT, Reason::StreamTooLong),
         RawFault::ReadFault => Err(Halt::ReadFault),
     }
 }
@@ -92,7 +90,7 @@ fn finish<K: Sink>(
 fn most_turns() -> u64
     ensures { result ≤ 2 ^ 41 }
 {
-    LIMIT + 1
+    INPUT_LIMIT + 1
 }
 
 // Reads picture after picture, and writes the unit of each before the next is read.

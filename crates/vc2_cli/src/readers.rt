@@ -4,7 +4,7 @@ ghost use Rattle.std.specs.Prelude.{◌≡◌, refl};
 ghost use Rattle.stream_rows.specs.Units.{nothing_yet, units};
 ghost use Rattle.stream_units.specs.HeadUnits.{heads};
 ghost use Rattle.stream_rows.proofs.Steady.{units_laws};
-ghost use Rattle.stream_units.proofs.AloneRows.{heads_laws};
+ghost use Rattle.stream_units.proofs.HeadOnlyRows.{heads_laws};
 ghost use Rattle.stream_rows.proofs.Answering.{after-place};
 ghost use Rattle.vc2_cli.specs.Telling.{TellsUnit, StaysBehind};
 

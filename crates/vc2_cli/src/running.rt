@@ -1,6 +1,7 @@
 //! A command over the units that a reader takes, turn by turn.
 
-ghost use Rattle.std.specs.Prelude.{◌≡◌, ◌≤◌, ◌^◌, ◌+◌, ℕ, List, length, Option, None, false, OnOk};
+ghost use Rattle.vc2_io.specs.declared.TheConstants.{INPUT_LIMIT, READ_SIZE};
+ghost use Rattle.std.specs.Prelude.{◌≡◌, ◌≤◌, ◌+◌, ℕ, List, length, Option, None, false, OnOk};
 ghost use Rattle.field_rows.specs.Rows.{Fault};
 ghost use Rattle.vc2_run.specs.Ran.{HaltHasCause};
 ghost use Rattle.unit_table.specs.Grammar.{Grammar, Final};
@@ -8,11 +9,12 @@ ghost use Rattle.unit_table.specs.Fronts.{Command, machine_of};
 ghost use Rattle.unit_table.proofs.GrammarLaws.{IsGrammar};
 ghost use Rattle.stream_rows.specs.declared.reason.Reason.{Reason};
 ghost use Rattle.stream_rows.specs.Streams.{limit, past_limit, refusal_of};
-ghost use Rattle.stream_units.specs.Stops.{StopCause};
+ghost use Rattle.stream_units.specs.StreamStops.{StopCause};
 ghost use Rattle.vc2_cli.specs.declared.status.Ending.{Ending};
 ghost use Rattle.stream_rows.specs.Units.{is_truncated};
 ghost use Rattle.vc2_cli.specs.Soon.{Soon, HasOpenEndings};
-ghost use Rattle.vc2_cli.specs.Running.{ReaderSeen, first_seen, NextOver, Runs, change, begun, WritesText, Closes, Turns};
+ghost use Rattle.vc2_cli.specs.Change.{change};
+ghost use Rattle.vc2_cli.specs.Running.{ReaderSeen, first_seen, NextOver, Runs, begun, WritesText, Closes, Turns};
 
 use crate::status::Ending;
 use stream_units::{ReadStop, Refusal};
@@ -99,7 +101,7 @@ pub(crate) trait UnitCommand<R: UnitReader>: Drop {
 
     /// Writes the text of a unit, behind which the reader is.
     fn turn<K: Sink>(&mut self, reader: &R, item: R::Item, out: &mut K) -> Result<(), Halt>
-        requires { (before : R) × (z : R.Past) × (unit : R.Made) × (bytes : List ℕ) × R.tells before reader.now z unit bytes item × keeps self.old before × (z ≡ (R.seen before).past) × ((R.grammar).place z + length bytes ≤ 2 ^ 40) }
+        requires { (before : R) × (z : R.Past) × (unit : R.Made) × (bytes : List ℕ) × R.tells before reader.now z unit bytes item × keeps self.old before × (z ≡ (R.seen before).past) × ((R.grammar).place z + length bytes ≤ INPUT_LIMIT) }
         ensures wrote { (before : R) (z : R.Past) (unit : R.Made) (bytes : List ℕ) → R.tells before reader.now z unit bytes item → Turns (command) z unit bytes (own self.old before) (own self.new reader.now) (K.written out.old) (K.written out.new) result }
         ensures keeps { (before : R) (z : R.Past) (unit : R.Made) (bytes : List ℕ) → R.tells before reader.now z unit bytes item → z ≡ (R.seen before).past → keeps self.old before → OnOk result (keeps self.new reader.now) }
         ensures cause { HaltHasCause 0 0 (K.faults out.old) (K.faults out.new) result };
@@ -134,7 +136,7 @@ pub(crate) fn run_units<R: UnitReader, C: UnitCommand<R>, S: Source, K: Sink>(
     requires start { C.own command.old reader.old ≡ C.start command.old }
     requires keeps { C.keeps command.old reader.old }
     ensures runs { Runs (machine_of limit past_limit R.grammar R.first (begun C.command (C.start command.old))) C.is_done (change S.rest S.faults src.old src.new) (change K.written K.faults out.old out.new) result }
-    ensures soon { Soon (machine_of limit past_limit R.grammar R.first (begun C.command (C.start command.old))) 4096 (S.rest src.old) (S.rest src.new) result }
+    ensures soon { Soon (machine_of limit past_limit R.grammar R.first (begun C.command (C.start command.old))) READ_SIZE (S.rest src.old) (S.rest src.new) result }
 {
     match command.open(out) {
         Ok(()) => {}

@@ -1,9 +1,11 @@
 // The command `check` with a schedule.
+ghost use Rattle.vc2_io.specs.declared.TheConstants.{READ_SIZE};
 ghost use Rattle.std.specs.Prelude.{◌≤◌};
 ghost use Rattle.vc2_run.specs.Ran.{HaltHasCause};
 ghost use Rattle.channel_schedule.specs.Rates.{IsSchedule};
 ghost use Rattle.vc2_cli.specs.declared.status.Ending.TheVariants as ending;
-ghost use Rattle.vc2_cli.specs.Running.{IsDone, Runs, change, Closes};
+ghost use Rattle.vc2_cli.specs.Change.{change};
+ghost use Rattle.vc2_cli.specs.Running.{IsDone, Runs, Closes};
 ghost use Rattle.vc2_cli.specs.Soon.{Soon};
 ghost use Rattle.vc2_cli.specs.Decode.{last_line};
 ghost use Rattle.vc2_cli.specs.Scheduled.{Replayed, nothing_replayed, replaying_any, replay_machine};
@@ -126,7 +128,7 @@ pub(crate) fn check_schedule<S: Source, K: Sink>(
 ) -> Result<Ending, Halt>
     requires { IsSchedule schedule }
     ensures runs { Runs (replay_machine schedule) IsDone (change S.rest S.faults src.old src.new) (change K.written K.faults out.old out.new) result }
-    ensures soon { Soon (replay_machine schedule) 4096 (S.rest src.old) (S.rest src.new) result }
+    ensures soon { Soon (replay_machine schedule) READ_SIZE (S.rest src.old) (S.rest src.new) result }
 {
     match StreamReader::new(alloc) {
         Ok(mut reader) => {

@@ -15,10 +15,10 @@ pub(crate) struct StreamSink {
 }
 
 impl Model for StreamSink {
-    ghost use Rattle.vc2_io.specs.Memory.{SinkState};
+    ghost use Rattle.vc2_io.specs.Memory.{MemSinkSeen};
     ghost use Rattle.vc2_cli.specs.TrialTurn.{FailsWhenFull};
 
-    ghost Value = { SinkState };
+    ghost Value = { MemSinkSeen };
 
     ghost view = { λ s. s.inner };
 

@@ -1,7 +1,6 @@
 // The top call.
-ghost use Rattle.std.specs.Prelude.{◌≡◌, ◌^◌, ◌+◌, ℕ, List, map, string_bytes, Ok, Some, IfSome, IfOk, IfErr};
-ghost use Rattle.std.specs.Io.KnownBytes.{Appends, Keeps};
-ghost use Rattle.vc2_io.specs.Outside.{GrewShort};
+ghost use Rattle.vc2_io.specs.declared.TheConstants.{INPUT_LIMIT};
+ghost use Rattle.std.specs.Prelude.{◌≡◌, ◌+◌, ℕ, List, map, string_bytes, Ok, Some, IfSome, IfOk, IfErr};
 ghost use Rattle.vc2_run.specs.Ran.{TakesAtMost};
 ghost use Rattle.channel_schedule.specs.declared.schedule.Schedule.{Schedule};
 ghost use Rattle.channel_schedule.specs.Rates.{IsSchedule};
@@ -11,9 +10,11 @@ ghost use Rattle.vc2_words.specs.declared.words.TrialPart.{TrialPart};
 ghost use Rattle.vc2_words.specs.Lawful.{AreLawful, IsTrial};
 ghost use Rattle.stream_units.specs.Writer.{IsSteepUnder};
 ghost use Rattle.vc2_cli.specs.Encode.{written_under};
-ghost use Rattle.vc2_cli.specs.Words.{seen_words, words_ask};
+ghost use Rattle.vc2_cli.specs.Words.{seen_words};
 ghost use Rattle.vc2_cli.specs.Trial.{trial_text};
-ghost use Rattle.vc2_cli.specs.Reply.{reply_to, due_to, command_reply, command_due, status_of, note_of, fault_of, schedule_status, schedule_note, ReadsAll, IsStatusOf, Breaks, Stops, StopsShort, HasCauses, AnswersUsage, AnswersTrial, IfTrial, IfHeader};
+ghost use Rattle.vc2_cli.specs.Change.{change};
+ghost use Rattle.vc2_cli.specs.Program.{Ran};
+ghost use Rattle.vc2_cli.specs.Reply.{command_reply, command_due, status_of, note_of, fault_of, schedule_status, schedule_note, HasCauses, AnswersUsage, AnswersTrial, IfTrial, IfHeader};
 ghost use Rattle.vc2_cli.specs.Soon.{StopsSoon, IfUnits};
 ghost use Rattle.vc2_cli.specs.Settled.{Settles, Concludes, HasNoteCause, status_of_halt};
 
@@ -151,8 +152,8 @@ fn answer<S: Source, K: Sink, N: Sink>(
     ensures settled { (input : List ℕ) → S.rest src.old ≡ Some input →
         Settles (command_reply (seen_words command) input) (command_due (seen_words command)) input (S.rest src.new)
         (K.written out.old) (K.written out.new) (N.written note.old) (N.written note.new) result }
-    ensures limit { TakesAtMost (2 ^ 40 + 1) (S.rest src.old) (S.rest src.new) }
-    ensures causes { HasCauses (S.faults src.old) (S.faults src.new) (K.faults out.old) (K.faults out.new) (N.faults note.old) (N.faults note.new) result }
+    ensures limit { TakesAtMost (INPUT_LIMIT + 1) (S.rest src.old) (S.rest src.new) }
+    ensures causes { HasCauses (change S.rest S.faults src.old src.new) (change K.written K.faults out.old out.new) (change N.written N.faults note.old note.new) result }
     ensures usage { IfErr command (λ fault. AnswersUsage fault (N.written note.old) (N.written note.new) result
         × (S.rest src.new ≡ S.rest src.old) × (K.written out.new ≡ K.written out.old)) }
     ensures trial { IfTrial (seen_words command) (λ s part. AnswersTrial (trial_text s part) (K.written out.old) (K.written out.new) (N.written note.old) (N.written note.new) result
@@ -181,7 +182,7 @@ fn answer<S: Source, K: Sink, N: Sink>(
 /// Does what the words ask for: reads the input from `src`, writes to `out`, and at last to `note`. `words` are the words
 /// after the program's name. Work goes on unit by unit, and what is due is written before the next read.
 ///
-/// The clauses say of an input that the source tells:
+/// What a run comes to is the record `Ran` (specs/Program), clause by clause.
 pub fn run<S: Source, K: Sink, N: Sink>(
     alloc: Global,
     words: &[String],
@@ -189,61 +190,7 @@ pub fn run<S: Source, K: Sink, N: Sink>(
     out: &mut K,
     note: &mut N,
 ) -> Status
-    // The status is that of the reply to these words and this input, or something outside failed.
-    ensures status { IfSome (S.rest src.old) (λ input. IsStatusOf (reply_to (map string_bytes words.now) input) result) }
-
-    // Where it is the reply's, both texts were written, and all of them.
-    ensures texts { IfSome (S.rest src.old) (λ input. let reply = reply_to (map string_bytes words.now) input in
-        result ≡ reply.status → Appends (K.written out.old) (K.written out.new) reply.out × Appends (N.written note.old) (N.written note.new) reply.note) }
-
-    // `Done` and `Schedule` leave of the input what the reply says: of a command that reads to the end, nothing.
-    ensures done { IfSome (S.rest src.old) (λ input. ReadsAll result →
-        IfSome (S.rest src.new) (λ left. left ≡ (reply_to (map string_bytes words.now) input).rest)) }
-
-    // Where a read failed, all that was due for the bytes that were taken was written, and no note.
-    ensures read_fault { IfSome (S.rest src.old) (λ input. result ≡ Status.ReadFault →
-        Breaks (due_to (map string_bytes words.now)) input (S.rest src.new) (K.written out.old) (K.written out.new)
-        × Keeps (N.written note.old) (N.written note.new)) }
-
-    // Where a write of the output failed, a proper front of the reply's text was written, no note, and no later than
-    // 4096 bytes after it was due.
-    ensures out_fault { IfSome (S.rest src.old) (λ input. result ≡ Status.OutFault →
-        StopsShort (reply_to (map string_bytes words.now) input) (due_to (map string_bytes words.now)) input (S.rest src.new) (K.written out.old) (K.written out.new)
-        × Keeps (N.written note.old) (N.written note.new)) }
-
-    // Where no memory was found, a front of the reply's text was written, as promptly, and no note.
-    ensures no_memory { IfSome (S.rest src.old) (λ input. result ≡ Status.NoMemory →
-        Stops (reply_to (map string_bytes words.now) input) (due_to (map string_bytes words.now)) input (S.rest src.new) (K.written out.old) (K.written out.new)
-        × Keeps (N.written note.old) (N.written note.new)) }
-
-    // Where a write of the note failed, all of the output was written, and a proper front of the note.
-    ensures note_fault { IfSome (S.rest src.old) (λ input. let reply = reply_to (map string_bytes words.now) input in
-        result ≡ Status.NoteFault → Appends (K.written out.old) (K.written out.new) reply.out × GrewShort (N.written note.old) (N.written note.new) reply.note) }
-
-    // `chain`, `decode` and `check` take at most 4096 bytes behind a refusal, those that came with it in one read, and `header`
-    // none: without its last 4096 bytes, or its last byte, what was taken is not refused as an input of its own, unless for
-    // a field that is short. Where a read failed, all that was taken is not.
-    ensures soon { IfSome (S.rest src.old) (λ input. IfUnits (words_ask (map string_bytes words.now)) (λ most.
-        StopsSoon (reply_to (map string_bytes words.now)) most input (S.rest src.new) result)) }
-
-    // At most 2^40 bytes and one more are taken, however the run comes out.
-    ensures limit { TakesAtMost (2 ^ 40 + 1) (S.rest src.old) (S.rest src.new) }
-
-    // Whatever is told: a fault is answered only where its object's count rose. So a failed read ends the run, and is
-    // never taken for the end of input.
-    ensures causes { HasCauses (S.faults src.old) (S.faults src.new) (K.faults out.old) (K.faults out.new) (N.faults note.old) (N.faults note.new) result }
-
-    // Whatever is told: words that are refused are refused, nothing is read, and nothing is written to `out`.
-    ensures usage { IfErr (words_ask (map string_bytes words.now)) (λ fault. AnswersUsage fault (N.written note.old) (N.written note.new) result
-        × (S.rest src.new ≡ S.rest src.old) × (K.written out.new ≡ K.written out.old)) }
-
-    // Whatever is told: `trial` reads nothing, writes its text and no note, and ends otherwise only where a write of the
-    // output failed or no memory was found.
-    ensures trial { IfTrial (words_ask (map string_bytes words.now)) (λ s part. AnswersTrial (trial_text s part) (K.written out.old) (K.written out.new) (N.written note.old) (N.written note.new) result
-        × (S.rest src.new ≡ S.rest src.old) × (S.faults src.new ≡ S.faults src.old)) }
-
-    // Whatever is told: `header` takes at most 250 bytes, however it comes out.
-    ensures header { IfHeader (words_ask (map string_bytes words.now)) (TakesAtMost 250 (S.rest src.old) (S.rest src.new)) }
+    ensures { Ran (map string_bytes words.now) (change S.rest S.faults src.old src.new) (change K.written K.faults out.old out.new) (change N.written N.faults note.old note.new) result }
 {
     let command = checked(read_words(words));
     answer(alloc, command, src, out, note)

@@ -16,7 +16,7 @@ pub struct StdSource<R> {
 }
 
 impl<R> Model for StdSource<R> {
-    ghost use Rattle.vc2_io.specs.Streams.{Counted};
+    ghost use Rattle.vc2_io.specs.StdStreams.{Counted};
 
     ghost Value = { Counted R };
 
@@ -62,7 +62,7 @@ pub struct StdSink<W> {
 }
 
 impl<W> Model for StdSink<W> {
-    ghost use Rattle.vc2_io.specs.Streams.{Counted};
+    ghost use Rattle.vc2_io.specs.StdStreams.{Counted};
 
     ghost Value = { Counted W };
 
@@ -91,7 +91,7 @@ impl<W: Write> Sink for StdSink<W> {
         ensures bytes { WriteAppends None None result piece.now }
         ensures cause { HasCause self.old.failures self.new.failures result }
         ensures count { self.new.failures ≡ (if is_err result then next_count self.old.failures else self.old.failures) }
-        // The writer got the front of the piece that is told; after a fault, some front.
+        // The writer got the prefix of the piece that is told; after a fault, some prefix.
         ensures wrote { IfOk result (λ n. Appends (W.contents self.old.inner) (W.contents self.new.inner) (take n piece.now)) }
         ensures failed { OnErr result ((n : ℕ) × Appends (W.contents self.old.inner) (W.contents self.new.inner) (take n piece.now)) }
     {

@@ -1,7 +1,8 @@
 // Laws of all machines.
 ghost use Rattle.std.specs.Prelude.{◌≡◌, ℕ, List, ◌++◌};
-ghost use Rattle.vc2_run.specs.Walk.{Machine, Answer, answer_to, due, IsMachine, IsPrefix};
-ghost use Rattle.vc2_run.specs.Units.{IsRun};
+ghost use Rattle.vc2_io.specs.Outside.{IsPrefix};
+ghost use Rattle.vc2_run.specs.Walk.{Machine, Answer, answer_to, due, IsMachine};
+ghost use Rattle.vc2_run.specs.UnitRuns.{IsRun};
 
 /// The answer to an input is that of its units, one after another, and no other is.
 pub fn each_input_is_one_run<Z, E>()

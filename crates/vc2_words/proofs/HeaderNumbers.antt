@@ -7,7 +7,7 @@ use Rattle.sequence_header.specs.declared.parts.RateField.TheVariants as rates
 use Rattle.sequence_header.specs.declared.parts.SignalField.{SignalField}
 use Rattle.sequence_header.specs.declared.parts.SignalField.TheVariants as signals
 use Rattle.sequence_header.specs.Header.{scan_rows, rate_rows, signal_rows}
-use Rattle.sequence_header.specs.Fields.{scan_fields, rate_fields, signal_fields, version_of, frame_size}
+use Rattle.sequence_header.specs.HeaderFields.{scan_fields, rate_fields, signal_fields, version_of, frame_size}
 use Rattle.sequence_header.specs.Checking.{Passes, IsLawful}
 use Rattle.sequence_header.proofs.FieldKinds.{version_kinds, size_kinds, sampling_kinds, scan_kinds_none, scan_kinds, rate_kinds, rate_kinds_pair, aspect_kinds_none, clean_kinds_none, signal_kinds, signal_kinds_custom, colour_kinds_none, coding_kinds}
 use Rattle.sequence_header.proofs.WroteText.{HaveKinds, header_kinds}

@@ -7,7 +7,7 @@ use Rattle.field_rows.specs.Rows.{first_broken}
 use Rattle.sequence_header.specs.Checking.{Passes}
 use Rattle.slice_geometry.specs.Slicing.{Slicing, slice_count, AreSlicesAllowed, IsShareAllowed}
 use Rattle.transform_params.specs.Params.{Params}
-use Rattle.transform_params.specs.Fields.{IsLawful, unit_length}
+use Rattle.transform_params.specs.ParameterFields.{IsLawful, unit_length}
 use Rattle.channel_schedule.specs.declared.schedule.Rate.{Rate}
 use Rattle.channel_schedule.specs.declared.schedule.Schedule.{Schedule}
 use Rattle.channel_schedule.specs.Rates.{IsRate}

@@ -1,7 +1,7 @@
 -- Settings that a stream can be written with.
 use Rattle.std.specs.Prelude.{◌≡◌, ◌≤◌, ◌<◌, ◌^◌, ◌%◌}
 use Rattle.sequence_header.specs.Checking as checking
-use Rattle.transform_params.specs.Fields.{IsLawful}
+use Rattle.transform_params.specs.ParameterFields.{IsLawful}
 use Rattle.channel_schedule.specs.declared.schedule.Schedule.{Schedule}
 use Rattle.channel_schedule.specs.Rates.{IsRate, IsSchedule}
 use Rattle.vc2_words.specs.declared.words.TrialPart.{TrialPart}

@@ -14,7 +14,7 @@ use Rattle.slice_geometry.specs.Slicing.{Slicing, slice_count, total_bytes}
 use Rattle.lifting.specs.declared.Wavelet.{Wavelet}
 use Rattle.lifting.specs.declared.Wavelet.TheVariants.{LeGall, HaarFlat, HaarShift}
 use Rattle.transform_params.specs.Params.{Params}
-use Rattle.transform_params.specs.Fields.{unit_length}
+use Rattle.transform_params.specs.ParameterFields.{unit_length}
 use Rattle.vc2_words.specs.declared.keys.Key.TheVariants as of_key
 use Rattle.vc2_words.specs.declared.keys.Key.{Key}
 use Rattle.vc2_words.specs.declared.keys.Rule.TheVariants as broken

@@ -9,6 +9,7 @@ use Rattle.lifting.specs.Lines.{Line, after, synthesis_line}
 use Rattle.lifting.specs.Places.{beside}
 use Rattle.lifting.specs.Ranges.{line_reach}
 use Rattle.lifting.specs.Transform.{interleaved, synthesis_level}
+use Rattle.lifting.proofs.BandRows.{row_small, rows_small, kept_small, last_row, turn_row, turn_low}
 use Rattle.lifting.proofs.RollingUp.{column_of, evens_down, turn_even, turn_even_small, turn_odd, turn_odd_small, waiting_small, waiting_made, row_made, after_odd_last, after_odd_inner}
 use Rattle.planes.proofs.Floors.{wider}
 use Rattle.lifting.proofs.roll_narrow.roll_up.Goals as goal
@@ -340,3 +341,39 @@ returns-clause-level c j x lj lx =
       | inl here ↦ rw here (c.weave_row-2.ensures.row x lx ∙ waiting_made (2 ^ 26) (2 ^ 29) (lit≤ tt) kk h w ll hl lh hh sl sh sv sd 0 (at c.loop-k.scratch 0) waits x lx)
       | inr ne ↦ c.weave_row-2.ensures.others j x ne ∙ i.done j x (omega arith) lj lx
     ]
+
+pub make_even-requires-clause-ll_small : goal.make_even-requires-clause-ll_small
+make_even-requires-clause-ll_small c = row_small (2 ^ 26) (2 ^ 29) (lit≤ tt) c.args.h c.args.w (at c.args.plane.now) c.requires.ll_small (c.args.h - 1) (last_row c.args.h c.requires.some_rows)
+
+pub make_even-requires-clause-hl_small : goal.make_even-requires-clause-hl_small
+make_even-requires-clause-hl_small c = row_small (2 ^ 26) (2 ^ 29) (lit≤ tt) c.args.h c.args.w (at c.args.hl.now) c.requires.hl_small (c.args.h - 1) (last_row c.args.h c.requires.some_rows)
+
+pub make_even-requires-clause-lh_small : goal.make_even-requires-clause-lh_small
+make_even-requires-clause-lh_small c = rows_small (2 ^ 26) (2 ^ 29) (lit≤ tt) c.args.h c.args.w (at c.args.lh.now) c.requires.lh_small (c.args.h - 1) (last_row c.args.h c.requires.some_rows)
+
+pub make_even-requires-clause-hh_small : goal.make_even-requires-clause-hh_small
+make_even-requires-clause-hh_small c = rows_small (2 ^ 26) (2 ^ 29) (lit≤ tt) c.args.h c.args.w (at c.args.hh.now) c.requires.hh_small (c.args.h - 1) (last_row c.args.h c.requires.some_rows)
+
+pub make_odd-requires-clause-lh_small : goal.make_odd-requires-clause-lh_small
+make_odd-requires-clause-lh_small c = row_small (2 ^ 26) (2 ^ 29) (lit≤ tt) c.args.h c.args.w (at c.args.lh.now) c.requires.lh_small (c.args.h - 1) (last_row c.args.h c.requires.some_rows)
+
+pub make_odd-requires-clause-hh_small : goal.make_odd-requires-clause-hh_small
+make_odd-requires-clause-hh_small c = row_small (2 ^ 26) (2 ^ 29) (lit≤ tt) c.args.h c.args.w (at c.args.hh.now) c.requires.hh_small (c.args.h - 1) (last_row c.args.h c.requires.some_rows)
+
+pub make_even-requires-in-loop-k-clause-ll_small : goal.make_even-requires-in-loop-k-clause-ll_small
+make_even-requires-in-loop-k-clause-ll_small c = kept_small (2 ^ 26) (2 ^ 29) (lit≤ tt) c.args.h c.args.w (at c.args.plane.now) c.requires.ll_small (c.args.h - 1 - c.loop-k.k) (turn_row c.args.h c.loop-k.k c.loop-k-test.true) (at c.loop-k.plane (c.args.h - 1 - c.loop-k.k)) (λ x. c.loop-k.invariant.rest (c.args.h - 1 - c.loop-k.k) x (turn_low c.args.h c.loop-k.k c.loop-k-test.true))
+
+pub make_even-requires-in-loop-k-clause-hl_small : goal.make_even-requires-in-loop-k-clause-hl_small
+make_even-requires-in-loop-k-clause-hl_small c = row_small (2 ^ 26) (2 ^ 29) (lit≤ tt) c.args.h c.args.w (at c.args.hl.now) c.requires.hl_small (c.args.h - 1 - c.loop-k.k) (turn_row c.args.h c.loop-k.k c.loop-k-test.true)
+
+pub make_even-requires-in-loop-k-clause-lh_small : goal.make_even-requires-in-loop-k-clause-lh_small
+make_even-requires-in-loop-k-clause-lh_small c = rows_small (2 ^ 26) (2 ^ 29) (lit≤ tt) c.args.h c.args.w (at c.args.lh.now) c.requires.lh_small (c.args.h - 1 - c.loop-k.k) (turn_row c.args.h c.loop-k.k c.loop-k-test.true)
+
+pub make_even-requires-in-loop-k-clause-hh_small : goal.make_even-requires-in-loop-k-clause-hh_small
+make_even-requires-in-loop-k-clause-hh_small c = rows_small (2 ^ 26) (2 ^ 29) (lit≤ tt) c.args.h c.args.w (at c.args.hh.now) c.requires.hh_small (c.args.h - 1 - c.loop-k.k) (turn_row c.args.h c.loop-k.k c.loop-k-test.true)
+
+pub make_odd-requires-in-loop-k-clause-lh_small : goal.make_odd-requires-in-loop-k-clause-lh_small
+make_odd-requires-in-loop-k-clause-lh_small c = row_small (2 ^ 26) (2 ^ 29) (lit≤ tt) c.args.h c.args.w (at c.args.lh.now) c.requires.lh_small (c.args.h - 1 - c.loop-k.k) (turn_row c.args.h c.loop-k.k c.loop-k-test.true)
+
+pub make_odd-requires-in-loop-k-clause-hh_small : goal.make_odd-requires-in-loop-k-clause-hh_small
+make_odd-requires-in-loop-k-clause-hh_small c = row_small (2 ^ 26) (2 ^ 29) (lit≤ tt) c.args.h c.args.w (at c.args.hh.now) c.requires.hh_small (c.args.h - 1 - c.loop-k.k) (turn_row c.args.h c.loop-k.k c.loop-k-test.true)

@@ -1,6 +1,6 @@
 use Rattle.std.proofs.Common.{◌≡◌, ℕ, ◌<◌, ◌+◌, ◌-◌, ◌*◌, ◌%◌, length, slice_index_or}
 use Rattle.planes.specs.Raster.{height, at}
-use Rattle.lifting.specs.Samples.{sample_of}
+use Rattle.lifting.specs.Clipping.{sample_of}
 use Rattle.lifting.specs.Transform.{interleaved, synthesis_level}
 use Rattle.lifting.proofs.RollingUp.{column_of, evens_down}
 use Rattle.lifting.proofs.roll_samples.roll_samples.Given as goal

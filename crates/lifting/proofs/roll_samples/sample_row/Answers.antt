@@ -2,7 +2,7 @@ use Rattle.std.proofs.Common.{◌∙◌, ap, ℕ, ◌+◌, ◌-◌, ◌*◌, ◌
 use Rattle.lifting.specs.Places.{place, woven}
 use Rattle.lifting.specs.Steps.{halved}
 use Rattle.lifting.specs.Lines.{synthesis_line}
-use Rattle.lifting.specs.Samples.{sample_of}
+use Rattle.lifting.specs.Clipping.{sample_of}
 use Rattle.lifting.proofs.SampleRows.{part_row, row_inside}
 use Rattle.lifting.proofs.roll_samples.sample_row.Goals as goal
 

@@ -4,7 +4,7 @@ use Rattle.std.proofs.lemmas.List.{get_or-set_other, get_or-set_same}
 use mir.Syntax.{w32}
 use mir.Val.{to_z, of_z}
 use Rattle.lifting.specs.Places.{place}
-use Rattle.lifting.specs.Samples.{clipped_up, sample_of}
+use Rattle.lifting.specs.Clipping.{clipped_up, sample_of}
 use Rattle.lifting.proofs.SampleRows.{sample_is, as_it_was, half_as_it_was}
 use Rattle.lifting.proofs.samples_narrow.sample_band.Goals as goal
 

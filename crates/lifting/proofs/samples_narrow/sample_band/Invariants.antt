@@ -1,6 +1,6 @@
 use Rattle.std.proofs.Common.{◌≡◌, ℕ, ◌<◌, slice_index_or}
 use Rattle.lifting.specs.Places.{place}
-use Rattle.lifting.specs.Samples.{sample_of}
+use Rattle.lifting.specs.Clipping.{sample_of}
 use Rattle.lifting.proofs.samples_narrow.sample_band.Given as goal
 
 abbrev pub invariant-loop-i : goal.invariant-loop-i

@@ -2,7 +2,7 @@ use Rattle.std.proofs.Common.{◌∙◌, refl, sym, ap, ◌^◌, length, arith, 
 use Rattle.lifting.specs.Places.{place}
 use Rattle.lifting.specs.Steps.{halved}
 use Rattle.lifting.specs.Ranges.{line_reach}
-use Rattle.lifting.specs.Samples.{sample_of}
+use Rattle.lifting.specs.Clipping.{sample_of}
 use Rattle.lifting.proofs.WovenLines.{evens_within, odds_within, woven_made, odd_small, odd_pass}
 use Rattle.lifting.proofs.samples_narrow.sample_halves.Goals as goal
 use Rattle.lifting.proofs.SampleRows.{woven_each}

@@ -3,7 +3,7 @@ use Rattle.std.proofs.lemmas.List.{get_or-take, get_or-drop}
 use Rattle.lifting.specs.Places.{place, woven}
 use Rattle.lifting.specs.Steps.{halved}
 use Rattle.lifting.specs.Lines.{synthesis_line}
-use Rattle.lifting.specs.Samples.{sample_of}
+use Rattle.lifting.specs.Clipping.{sample_of}
 use Rattle.lifting.proofs.Inside.{line_same}
 use Rattle.lifting.proofs.WovenLines.{woven_same}
 use Rattle.lifting.proofs.samples_narrow.sample_sides.Goals as goal

@@ -3,7 +3,7 @@ use mir.Syntax.{w32}
 use mir.Val.{to_z, of_z}
 use Rattle.lifting.specs.Places.{place, woven}
 use Rattle.lifting.specs.Steps.{halved}
-use Rattle.lifting.specs.Samples.{clipped_up}
+use Rattle.lifting.specs.Clipping.{clipped_up}
 use Rattle.lifting.proofs.SampleRows.{put_two, woven_even, woven_odd, as_it_was}
 use Rattle.lifting.proofs.samples_narrow.weave_pairs.Goals as goal
 

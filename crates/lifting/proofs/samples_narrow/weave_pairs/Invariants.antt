@@ -1,7 +1,7 @@
 use Rattle.std.proofs.Common.{◌≡◌, ℕ, ◌<◌, ◌*◌, pos, slice_index_or}
 use Rattle.lifting.specs.Places.{place, woven}
 use Rattle.lifting.specs.Steps.{halved}
-use Rattle.lifting.specs.Samples.{clipped_up}
+use Rattle.lifting.specs.Clipping.{clipped_up}
 use Rattle.lifting.proofs.samples_narrow.weave_pairs.Given as goal
 
 abbrev pub invariant-loop-k : goal.invariant-loop-k

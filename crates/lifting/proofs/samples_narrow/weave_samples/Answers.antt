@@ -5,7 +5,7 @@ use mir.Syntax.{w32}
 use mir.Val.{to_z, of_z}
 use Rattle.lifting.specs.Places.{place, woven}
 use Rattle.lifting.specs.Steps.{halved}
-use Rattle.lifting.specs.Samples.{clipped_up, sample_of}
+use Rattle.lifting.specs.Clipping.{clipped_up, sample_of}
 use Rattle.lifting.proofs.SampleRows.{sample_is, as_it_was, half_as_it_was}
 use Rattle.lifting.proofs.WovenLines.{at_even}
 use Rattle.lifting.proofs.samples_narrow.weave_samples.Goals as goal

@@ -1,6 +1,6 @@
 use Rattle.std.proofs.Common.{◌≡◌, ℕ, ◌+◌, ◌*◌, ◌<◌, length, slice_index_or}
 use Rattle.planes.specs.Raster.{at}
-use Rattle.lifting.specs.Samples.{sample_of}
+use Rattle.lifting.specs.Clipping.{sample_of}
 use Rattle.lifting.proofs.synthesis_samples.sample_lowest.Given as goal
 
 abbrev pub invariant-loop-y : goal.invariant-loop-y

@@ -1,5 +1,5 @@
 use Rattle.std.proofs.Common.{◌∙◌, ap, ℕ, arith}
-use Rattle.lifting.specs.Samples.{sample_of}
+use Rattle.lifting.specs.Clipping.{sample_of}
 use Rattle.lifting.proofs.Levels.{twice_half}
 use Rattle.lifting.proofs.LastLevel as last
 use Rattle.lifting.proofs.synthesis_samples.synth_last.Goals as goal

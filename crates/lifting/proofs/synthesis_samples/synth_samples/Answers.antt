@@ -3,7 +3,7 @@ use Rattle.planes.specs.Numbers.{Within}
 use Rattle.planes.specs.Raster.{Raster, at}
 use Rattle.planes.proofs.Floors.{wider}
 use Rattle.lifting.specs.Bands.{coefficients_of, lowest}
-use Rattle.lifting.specs.Samples.{sample_of}
+use Rattle.lifting.specs.Clipping.{sample_of}
 use Rattle.lifting.specs.Transform.{synthesis}
 use Rattle.lifting.proofs.Levels.{lowest_columns, lowest_rows, whole_at_zero}
 use Rattle.lifting.proofs.synthesis_samples.synth_samples.Goals as goal

@@ -7,7 +7,7 @@ use Rattle.slice_geometry.specs.Geometry.{padded_size}
 use Rattle.slice_geometry.specs.Frames.{frame_of}
 use Rattle.lifting.specs.SampleRoom.{HaveRoom, AreNarrowIn, synthesis_of}
 use Rattle.picture_codec.specs.Pictures.{size_of}
-use Rattle.picture_codec.specs.Samples.{SampleRows, PictureSeen, bits_of, with_component, with_shown}
+use Rattle.picture_codec.specs.Samples.{SamplesSeen, PictureSeen, bits_of, with_component, with_shown}
 use Rattle.picture_codec.proofs.Sizes as sizes
 use Rattle.picture_codec.proofs.decoded_bands.show_in_32_bits.Goals as goal
 
@@ -69,7 +69,7 @@ returns-clause-picture c =
     let low = c.depth.ensures.allowed.depth in
     let taken = c.requires.taken in
     let is : IsSize size.w size.h = subst (λ (z : Size). IsSize z.w z.h) same c.size_of.ensures.allowed in
-    let with_rows : SampleRows → PictureSeen = λ rows. record p { samples = with_component p.samples c.args.c rows } in
+    let with_rows : SamplesSeen → PictureSeen = λ rows. record p { samples = with_component p.samples c.args.c rows } in
     c.synthesise.ensures.samples
     ∙ ap (λ (z : Size). with_shown p c.args.c (synthesis_of c.args.params.now.wavelet c.args.bands.now z.w z.h)) padded
     ∙ ap with_rows (sizes.synthesised_is s size c.args.bands.now (slice_count s) taken low is c.args.params.now.wavelet (bits_of p c.args.c))

@@ -5,7 +5,7 @@ use Rattle.slice_geometry.specs.Shape.{IsSize}
 use Rattle.slice_geometry.specs.Slicing.{slice_count}
 use Rattle.picture_codec.specs.Pictures.{size_of}
 use Rattle.slice_geometry.specs.Frames.{frame_of}
-use Rattle.picture_codec.specs.Samples.{SampleRows, PictureSeen, bits_of, with_component}
+use Rattle.picture_codec.specs.Samples.{SamplesSeen, PictureSeen, bits_of, with_component}
 use Rattle.picture_codec.proofs.Sizes as sizes
 use Rattle.picture_codec.proofs.decoded_bands.show_in_64_bits.Goals as goal
 
@@ -32,7 +32,7 @@ returns-clause-picture c =
     let size : Size = size_of (frame_of p.shape) c.args.c in
     let same : c.size_of.result ≡ size = c.size_of.ensures.value ∙ ap (λ (sh : PictureShape). size_of (frame_of sh) c.args.c) c.shape.ensures in
     let is : IsSize size.w size.h = subst (λ (z : Size). IsSize z.w z.h) same c.size_of.ensures.allowed in
-    let with_rows : SampleRows → PictureSeen = λ rows. record p { samples = with_component p.samples c.args.c rows } in
+    let with_rows : SamplesSeen → PictureSeen = λ rows. record p { samples = with_component p.samples c.args.c rows } in
     c.show.ensures
     ∙ ap with_rows (sizes.shown_is s size c.args.bands.now c.args.room.now.plane c.args.room.now.scratch (slice_count s) c.requires.taken refl c.depth.ensures.allowed.slices c.depth.ensures.allowed.depth is c.requires.room
     c.args.params.now.wavelet (bits_of p c.args.c) c.synth.new.plane c.synth.ensures.whole)

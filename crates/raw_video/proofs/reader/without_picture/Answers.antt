@@ -6,4 +6,4 @@ use Rattle.raw_video.proofs.reader.without_picture.Goals as goal
 pub returns-in-Ok-true-clause-front : goal.returns-in-Ok-true-clause-front
 returns-in-Ok-true-clause-front g c f rest cells samples r =
     let found = subst (FoundByte (g.S.Source.rest c.args.src.now) (g.S.Source.rest c.has_byte.new.src)) c.in-Ok-true.field-0-test c.in-Ok-true.ensures.ok in
-    read_past f c.args.place (omega (arith, c.requires)) rest (g.S.Source.rest c.args.src.now) cells samples c.args.came r (g.S.Source.rest c.has_byte.new.src) found.0 c.if-place-came-eq-LIMIT.true found.1
+    read_past f c.args.place (omega (arith, c.requires)) rest (g.S.Source.rest c.args.src.now) cells samples c.args.came r (g.S.Source.rest c.has_byte.new.src) found.0 c.if-place-came-eq-INPUT_LIMIT.true found.1

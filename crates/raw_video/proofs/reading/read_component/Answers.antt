@@ -4,7 +4,7 @@ use Rattle.std.proofs.lemmas.Result.{err_from_is_err_and}
 use Rattle.slice_geometry.specs.declared.PictureShape.{PictureShape}
 use Rattle.picture_codec.specs.Pictures.{depth_of}
 use Rattle.slice_geometry.specs.Frames.{frame_of}
-use Rattle.picture_codec.specs.Samples.{PictureSeen, SampleRows, shown, with_run, width_of, height_of, bits_of}
+use Rattle.picture_codec.specs.Samples.{PictureSeen, SamplesSeen, shown, with_run, width_of, height_of, bits_of}
 use Rattle.raw_video.specs.RawText.{is_wide}
 use Rattle.raw_video.specs.Reading.{ReadsSamples}
 use Rattle.raw_video.proofs.ComponentTurns.{piece_more, piece_halted, piece_below, run_front, run_long, put_here, put_others}
@@ -46,7 +46,7 @@ loop-piece-preserved g c =
     let n = c.min-n.result in
     let old = c.loop-piece.picture in
     let new = c.put_samples.new.self in
-    let rows : SampleRows = shown old c.args.c in
+    let rows : SamplesSeen = shown old c.args.c in
     let samples = take n c.read_piece.new.samples in
     let inside : from < count = omega (arith, c.loop-piece-test.true) in
     let done : min count from ≡ from = omega (arith, inside) in
@@ -60,13 +60,13 @@ loop-piece-preserved g c =
       bytes_long = c.read_piece.ensures.bytes_len;
       long = c.read_piece.ensures.len;
       same_shape = same_shape ∙ i.same_shape;
-      many = ap (λ (r : SampleRows). length r.cells) here ∙ run_long rows from samples (omega (arith, many, i.many, c.min-n.ensures, inside)) ∙ i.many;
+      many = ap (λ (r : SamplesSeen). length r.cells) here ∙ run_long rows from samples (omega (arith, many, i.many, c.min-n.ensures, inside)) ∙ i.many;
       size = ap (λ (p : PictureSeen). height_of p c.args.c * width_of p c.args.c) is ∙ i.size;
       below = ap (λ (p : PictureSeen). 2 ^ bits_of p c.args.c) is ∙ i.below;
       so_far =
           piece_more c.are_wide-wide.result c.args.start c.args.room from n c.bound_of-bound.result (rest c.args.src.now) (rest c.loop-piece.src) (rest c.read_piece.new.src) (take from rows.cells) so_far samples
           (take (min count (2048 * (c.loop-piece.piece + 1))) (shown new c.args.c).cells) (min count (2048 * (c.loop-piece.piece + 1))) next
-          (ap (λ (m : ℕ). take m (shown new c.args.c).cells) next ∙ ap (λ (r : SampleRows). take (from + n) r.cells) here ∙ run_front rows from n samples (omega (arith, i.many, inside)) many)
+          (ap (λ (m : ℕ). take m (shown new c.args.c).cells) next ∙ ap (λ (r : SamplesSeen). take (from + n) r.cells) here ∙ run_front rows from n samples (omega (arith, i.many, inside)) many)
           c.in_ok-read_piece.ensures.piece;
       others = λ other ne. ap (λ (p : PictureSeen). shown p other) is ∙ put_others old.samples c.args.c other (with_run rows from samples) ne ∙ i.others other ne;
       steady = c.in_ok-read_piece.ensures.cause ∙ i.steady;

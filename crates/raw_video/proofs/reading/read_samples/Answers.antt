@@ -3,7 +3,7 @@ use Rattle.std.proofs.lemmas.Result.{err_from_is_err_and}
 use Rattle.slice_geometry.specs.declared.Component.TheVariants.{Luma, C1, C2}
 use Rattle.slice_geometry.specs.declared.PictureShape.{PictureShape}
 use Rattle.slice_geometry.specs.Frames.{frame_of}
-use Rattle.picture_codec.specs.Samples.{SampleRows, shown}
+use Rattle.picture_codec.specs.Samples.{SamplesSeen, shown}
 use Rattle.raw_video.specs.RawText.{is_wide}
 use Rattle.raw_video.specs.RawParse.{luma_count, colour_count, sample_bounds}
 use Rattle.raw_video.specs.Reading.{ReadsSamples}
@@ -51,5 +51,5 @@ returns-clause-read g c =
     let luma : shown p3 Luma ≡ shown p1 Luma = c.read_component-3.ensures.others Luma (λ e. cc) ∙ c.in_ok-read_component-2.ensures.others Luma (λ e. cc) in
     let c1 : shown p3 C1 ≡ shown p2 C1 = c.read_component-3.ensures.others C1 (λ e. cc) in
     let all = c2_read (frame_of shape) c.args.room (rest c.args.src.now) (rest c.read_component.new.src) (shown p1 Luma).cells c.in_ok-read_component.ensures.read (rest c.read_component-2.new.src) (rest c.read_component-3.new.src) (shown p2 C1).cells (shown p3 C2).cells c.read_component-3.result second third in
-    subst (λ (r : SampleRows). ReadsSamples (is_wide (frame_of shape)) 0 c.args.room (sample_bounds (frame_of shape)) (rest c.args.src.now) (rest c.read_component-3.new.src) (r.cells ++ (p3.samples.c1.cells ++ p3.samples.c2.cells)) c.read_component-3.result) (sym luma)
-    (subst (λ (r : SampleRows). ReadsSamples (is_wide (frame_of shape)) 0 c.args.room (sample_bounds (frame_of shape)) (rest c.args.src.now) (rest c.read_component-3.new.src) ((shown p1 Luma).cells ++ (r.cells ++ p3.samples.c2.cells)) c.read_component-3.result) (sym c1) all)
+    subst (λ (r : SamplesSeen). ReadsSamples (is_wide (frame_of shape)) 0 c.args.room (sample_bounds (frame_of shape)) (rest c.args.src.now) (rest c.read_component-3.new.src) (r.cells ++ (p3.samples.c1.cells ++ p3.samples.c2.cells)) c.read_component-3.result) (sym luma)
+    (subst (λ (r : SamplesSeen). ReadsSamples (is_wide (frame_of shape)) 0 c.args.room (sample_bounds (frame_of shape)) (rest c.args.src.now) (rest c.read_component-3.new.src) ((shown p1 Luma).cells ++ (r.cells ++ p3.samples.c2.cells)) c.read_component-3.result) (sym c1) all)

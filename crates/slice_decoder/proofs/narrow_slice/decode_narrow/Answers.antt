@@ -53,9 +53,10 @@ returns-in-Wide-clause-decoded c =
     are-values c.args.layout.now c.args.shape.now.luma c.args.shape.now.colour c.args.sx c.args.sy c.args.matrix.now c.args.bytes.now c.head_of-head.result.qindex c.head_of-head.result.luma_bits c.head_of-head.ensures.qindex c.head_of-head.ensures.luma_bits fits_in
     in
     let room : ℕ = length c.args.buffer.now in
+    let same = c.read_ahead.auto.kept in
     elim c.in-Wide.ensures.answer [
-      | inl lumas ↦ inl (subst (λ (vs : List ℤ). NeedMore room vs) (sym are.of_luma) lumas)
-      | inr colours ↦ inr (inl (subst (λ (vs : List ℤ). NeedMore room vs) (sym are.of_colour) colours))
+      | inl lumas ↦ inl (subst (λ (vs : List ℤ). NeedMore room vs) (sym are.of_luma) (elim lumas [ inl few ↦ inl (omega (arith, few, same)) | inr apart ↦ inr apart ]))
+      | inr colours ↦ inr (inl (subst (λ (vs : List ℤ). NeedMore room vs) (sym are.of_colour) (elim colours [ inl few ↦ inl (omega (arith, few, same)) | inr apart ↦ inr apart ])))
     ]
 
 pub returns-in-Wide-clause-others : goal.returns-in-Wide-clause-others

@@ -11,8 +11,7 @@ use Rattle.quant_factors.specs.Factors.{factor_of, inverse_of}
 use Rattle.quant_factors.proofs.Quantisers.{index_here}
 use Rattle.slice_decoder.specs.Components.{Part, part_of, index_of, quantisers_before}
 use Rattle.slice_decoder.specs.Restored.{restored_at}
-use Rattle.slice_decoder.proofs.Dealt.{le_tested}
-use Rattle.slice_decoder.proofs.Restores.{safe_below, restored_here, part-not, part-more, low-stay}
+use Rattle.slice_decoder.proofs.Restores.{lt_tested, safe_below, restored_here, part-not, part-more, low-stay}
 use Rattle.slice_decoder.proofs.restoring.restore_block.Goals as goal
 
 none : (n : ℕ) → 0 ≡ n * 0
@@ -68,8 +67,8 @@ pub restore_part-requires-clause-low : goal.restore_part-requires-clause-low
 restore_part-requires-clause-low c safe k low lt =
     let values = c.args.values.now in
     let at : get_or c.loop-k.values k (pos 0) ≡ get_or c.args.values.now k (pos 0) = c.loop-k.invariant.rest k low in
-    subst (λ (v : ℤ). unsigned_abs v * factor_of c.quantiser-index.result ≤ 2 ^ 37) (sym at)
-    (safe_below (unsigned_abs (get_or c.args.values.now k (pos 0))) c.all_magnitudes.result c.safe_magnitude.result c.quantiser-index.result c.args.place.qindex (c.all_magnitudes.ensures k) (le_tested c.all_magnitudes.result c.safe_magnitude.result safe) (omega (arith, c.quantiser-index.ensures)) c.requires.qindex c.safe_magnitude.ensures)
+    subst (λ (v : ℤ). (unsigned_abs v + 1) * factor_of c.quantiser-index.result ≤ 2 ^ 30) (sym at)
+    (safe_below (unsigned_abs (get_or c.args.values.now k (pos 0))) c.all_magnitudes.result c.safe_magnitude.result c.quantiser-index.result c.args.place.qindex (c.all_magnitudes.ensures k) (lt_tested c.all_magnitudes.result c.safe_magnitude.result safe) (omega (arith, c.quantiser-index.ensures)) c.requires.qindex c.safe_magnitude.ensures)
 
 pub returns-then-not-restore_part-clause-small : goal.returns-then-not-restore_part-clause-small
 returns-then-not-restore_part-clause-small c =

@@ -1,11 +1,11 @@
 use Rattle.std.proofs.Common.{◌≡◌, ◌∙◌, ◌-◌, ◌+◌, ◌<◌, ◌^◌, ◌++◌, ℕ, Bool, List, ap, subst, arith}
 use Rattle.bit_codes.proofs.CodeOf.{length-digits_below}
-use Rattle.slice_encoder.specs.Fronts.{front_bits}
-use Rattle.slice_encoder.proofs.FrontBits.{unit_is, high_part_fits, digits_cut}
+use Rattle.slice_encoder.specs.BitQueues.{bits_so_far}
+use Rattle.slice_encoder.proofs.QueueBits.{unit_is, high_part_fits, digits_cut}
 use Rattle.slice_encoder.proofs.block_texts.put_digits.Goals as goal
 
-pub put_bits-front-requires-clause-small : goal.put_bits-front-requires-clause-small
-put_bits-front-requires-clause-small c =
+pub put_bits-queue-requires-clause-small : goal.put_bits-queue-requires-clause-small
+put_bits-queue-requires-clause-small c =
     let n = c.args.n in
     let fit = c.min-fit.result in
     let all : n ≡ fit + (n - fit) = omega arith in
@@ -16,13 +16,13 @@ pub returns : goal.returns
 returns c =
     let n = c.args.n in
     let b = c.args.block in
-    let put = c.put_bits-front in
+    let put = c.put_bits-queue in
     let fit = c.min-fit.result in
     let length = length-digits_below n c.args.number in
     record {
       same_length = put.auto.bytes;
-      block = record { front = put.ensures.front; waits = put.ensures.waits; inside = omega (arith, put.ensures.place, c.requires.block.inside) };
+      block = record { queue = put.ensures.queue; waits = put.ensures.waits; inside = omega (arith, put.ensures.place, c.requires.block.inside) };
       left = omega (arith, length);
       place = omega (arith, put.ensures.place);
-      written = put.ensures.text ∙ ap (λ (t : List Bool). front_bits c.args.bytes.now b.front ++ t) (digits_cut n fit b.left c.args.number _ (omega arith) (unit_is (n - fit) (omega (arith, c.requires.few))));
+      written = put.ensures.text ∙ ap (λ (t : List Bool). bits_so_far c.args.bytes.now b.queue ++ t) (digits_cut n fit b.left c.args.number _ (omega arith) (unit_is (n - fit) (omega (arith, c.requires.few))));
     }

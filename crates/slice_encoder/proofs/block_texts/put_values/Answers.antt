@@ -4,7 +4,7 @@ use Rattle.bit_codes.specs.Codes.{signed_code_of}
 use Rattle.bounded_blocks.specs.Parts.{IsSmall}
 use Rattle.bounded_blocks.specs.Writing.{codes_of}
 use Rattle.bounded_blocks.proofs.CodeLengths.{codes_of-next}
-use Rattle.slice_encoder.specs.Fronts.{IsPut}
+use Rattle.slice_encoder.specs.BitQueues.{IsPut}
 use Rattle.slice_encoder.proofs.BlockTexts.{put_join, told}
 use Rattle.slice_encoder.proofs.block_texts.put_values.Goals as goal
 

@@ -1,6 +1,6 @@
 use Rattle.std.proofs.Common.{◌≡◌, length, take}
 use Rattle.bounded_blocks.specs.Writing.{codes_of}
-use Rattle.slice_encoder.specs.Fronts.{IsPut}
+use Rattle.slice_encoder.specs.BitQueues.{IsPut}
 use Rattle.slice_encoder.proofs.block_texts.put_values.Given as goal
 
 abbrev pub invariant-loop-value : goal.invariant-loop-value

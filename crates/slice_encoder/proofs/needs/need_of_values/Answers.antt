@@ -1,7 +1,7 @@
 use Rattle.std.proofs.Common.{◌≡◌, ◌≢◌, ◌∙◌, ℕ, ◌+◌, ◌-◌, ◌<◌, ◌∷◌, [], length, take, get_or, ap, arith, pos}
 use Rattle.std.proofs.lemmas.List.Elements.{All-get_or}
 use Rattle.bounded_blocks.specs.Parts.{IsSmall}
-use Rattle.bounded_blocks.specs.Writing.{codes_of, need, NeedCount}
+use Rattle.bounded_blocks.specs.Writing.{codes_of, need, NeedSeen}
 use Rattle.bounded_blocks.proofs.Needs.{need-most}
 use Rattle.bounded_blocks.proofs.CodeLengths.{length-codes_of-most}
 use Rattle.slice_encoder.proofs.LastValues.{need_with, one_at}
@@ -15,7 +15,7 @@ returns c =
     let lt : n < length vs = omega (arith, c.if-count-eq0.false, c.count_to_last-count.ensures.most) in
     let up : n + 1 ≡ count = omega (arith, c.if-count-eq0.false) in
     let some : get_or vs n (pos 0) ≢ pos 0 = c.count_to_last-count.ensures.last (omega (arith, c.if-count-eq0.false)) in
-    let end : c.bits.result ≡ need (get_or vs n (pos 0) ∷ []) = c.bits.ensures ∙ ap (λ (k : NeedCount). k.bits) c.of.ensures ∙ ap need (one_at vs n _ lt (omega (arith, c.if-count-eq0.false))) in
+    let end : c.bits.result ≡ need (get_or vs n (pos 0) ∷ []) = c.bits.ensures ∙ ap (λ (k : NeedSeen). k.bits) c.of.ensures ∙ ap need (one_at vs n _ lt (omega (arith, c.if-count-eq0.false))) in
     omega (
       arith,
       end,

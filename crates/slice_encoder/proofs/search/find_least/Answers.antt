@@ -3,7 +3,7 @@ use Rattle.planes.specs.Raster.{at}
 use Rattle.slice_encoder.specs.Trials.{CodedPicture, luma_of, c1_of, c2_of}
 use Rattle.slice_encoder.specs.Tries.{tried, tried_lists}
 use Rattle.slice_encoder.specs.Choice.{fits}
-use Rattle.slice_encoder.specs.Ready.{coded_picture}
+use Rattle.slice_encoder.specs.Jobs.{picture_of}
 use Rattle.slice_encoder.proofs.Again.{all_tried_again, all_tried_keep, all_keep_nothing, coarsest_tried}
 use Rattle.slice_encoder.proofs.GatheredLists.{fit_may, low_refutes}
 use Rattle.slice_encoder.proofs.Searching.{ready_again, holds_again, fit_again, refuted_more}
@@ -12,94 +12,100 @@ use Rattle.slice_encoder.proofs.search.find_least.Goals as goal
 pub find_first-first-requires-clause-last : goal.find_first-first-requires-clause-last
 find_first-first-requires-clause-last c =
     let a = c.args in
-    let j : CodedPicture = coded_picture a.layout.now a.shape.now a.matrix.now a.coefficients.now in
-    fit_may j a.sx a.sy a.gathered.now c.requires.gathered a.bytes 127 (tried (luma_of j) a.sx a.sy 127 (at a.kept.now.luma)) (tried (c1_of j) a.sx a.sy 127 (at a.kept.now.c1)) (tried (c2_of j) a.sx a.sy 127 (at a.kept.now.c2))
-    (coarsest_tried j a.bytes a.sx a.sy a.kept.now a.shape.now.luma_depth_fits a.shape.now.colour_depth_fits c.requires.ready c.requires.steep)
+    let j : CodedPicture = picture_of a.job in
+    fit_may j a.job.sx a.job.sy a.gathered.now c.requires.gathered a.bytes 127 (tried (luma_of j) a.job.sx a.job.sy 127 (at a.kept.now.luma)) (tried (c1_of j) a.job.sx a.job.sy 127 (at a.kept.now.c1)) (tried (c2_of j) a.job.sx a.job.sy 127 (at a.kept.now.c2))
+    (coarsest_tried j a.bytes a.job.sx a.job.sy a.kept.now a.job.shape.now.luma_depth_fits a.job.shape.now.colour_depth_fits c.requires.ready c.requires.steep)
 
 pub loop-index-init : goal.loop-index-init
 loop-index-init c =
     let a = c.args in
-    let j : CodedPicture = coded_picture a.layout.now a.shape.now a.matrix.now a.coefficients.now in
+    let j : CodedPicture = picture_of a.job in
     record {
       luma_length = refl;
       colour_length = refl;
-      keeps = all_keep_nothing j a.sx a.sy a.kept.now;
+      keeps = all_keep_nothing j a.job.sx a.job.sy a.kept.now;
       refuted = λ i lt.
-          low_refutes j a.sx a.sy a.gathered.now c.requires.gathered a.bytes i (tried (luma_of j) a.sx a.sy i (at a.kept.now.luma)) (tried (c1_of j) a.sx a.sy i (at a.kept.now.c1)) (tried (c2_of j) a.sx a.sy i (at a.kept.now.c2)) (c.find_first-first.ensures.least i lt);
+          low_refutes j a.job.sx a.job.sy a.gathered.now c.requires.gathered a.bytes i (tried (luma_of j) a.job.sx a.job.sy i (at a.kept.now.luma)) (tried (c1_of j) a.job.sx a.job.sy i (at a.kept.now.c1)) (tried (c2_of j) a.job.sx a.job.sy i (at a.kept.now.c2)) (c.find_first-first.ensures.least i lt);
     }
 
 pub try_at-trying-requires-clause-ready : goal.try_at-trying-requires-clause-ready
 try_at-trying-requires-clause-ready c =
     let a = c.args in
-    let j : CodedPicture = coded_picture a.layout.now a.shape.now a.matrix.now a.coefficients.now in
-    ready_again j a.sx a.sy a.kept.now c.loop-index.kept c.requires.ready c.loop-index.invariant.keeps
+    let j : CodedPicture = picture_of a.job in
+    ready_again j a.job.sx a.job.sy a.kept.now c.loop-index.kept c.requires.ready c.loop-index.invariant.keeps
 
 pub returns-then-trying-clause-least : goal.returns-then-trying-clause-least
 returns-then-trying-clause-least c =
     let a = c.args in
-    let j : CodedPicture = coded_picture a.layout.now a.shape.now a.matrix.now a.coefficients.now in
+    let j : CodedPicture = picture_of a.job in
     let l = c.loop-index in
     record {
       most = omega arith;
-      fit = fit_again j a.bytes a.sx a.sy l.index a.kept.now l.kept c.try_at-trying.result c.try_at-trying.new.luma c.try_at-trying.new.colour l.invariant.keeps c.try_at-trying.ensures.holds true c.if-trying.true;
+      fit = fit_again j a.bytes a.job.sx a.job.sy l.index a.kept.now l.kept c.try_at-trying.result c.try_at-trying.new.luma c.try_at-trying.new.colour l.invariant.keeps c.try_at-trying.ensures.holds true c.if-trying.true;
       least = l.invariant.refuted;
     }
 
 pub returns-then-trying-clause-holds : goal.returns-then-trying-clause-holds
 returns-then-trying-clause-holds c =
     let a = c.args in
-    let j : CodedPicture = coded_picture a.layout.now a.shape.now a.matrix.now a.coefficients.now in
+    let j : CodedPicture = picture_of a.job in
     let l = c.loop-index in
-    holds_again j a.bytes a.sx a.sy l.index a.kept.now l.kept c.try_at-trying.result c.try_at-trying.new.luma c.try_at-trying.new.colour l.invariant.keeps c.try_at-trying.ensures.holds
+    holds_again j a.bytes a.job.sx a.job.sy l.index a.kept.now l.kept c.try_at-trying.result c.try_at-trying.new.luma c.try_at-trying.new.colour l.invariant.keeps c.try_at-trying.ensures.holds
 
 pub returns-then-trying-clause-kept : goal.returns-then-trying-clause-kept
 returns-then-trying-clause-kept c =
     let a = c.args in
-    let j : CodedPicture = coded_picture a.layout.now a.shape.now a.matrix.now a.coefficients.now in
+    let j : CodedPicture = picture_of a.job in
     let l = c.loop-index in
-    all_tried_again j a.sx a.sy l.index a.kept.now l.kept c.try_at-trying.new.kept l.invariant.keeps c.try_at-trying.ensures.kept
+    all_tried_again j a.job.sx a.job.sy l.index a.kept.now l.kept c.try_at-trying.new.kept l.invariant.keeps c.try_at-trying.ensures.kept
 
 pub loop-index-preserved : goal.loop-index-preserved
 loop-index-preserved c =
     let a = c.args in
-    let j : CodedPicture = coded_picture a.layout.now a.shape.now a.matrix.now a.coefficients.now in
+    let j : CodedPicture = picture_of a.job in
     let l = c.loop-index in
     record {
       luma_length = c.try_at-trying.auto.luma ∙ l.invariant.luma_length;
       colour_length = c.try_at-trying.auto.colour ∙ l.invariant.colour_length;
-      keeps = all_tried_keep j a.sx a.sy l.index a.kept.now c.try_at-trying.new.kept (all_tried_again j a.sx a.sy l.index a.kept.now l.kept c.try_at-trying.new.kept l.invariant.keeps c.try_at-trying.ensures.kept);
+      keeps = all_tried_keep j a.job.sx a.job.sy l.index a.kept.now c.try_at-trying.new.kept (all_tried_again j a.job.sx a.job.sy l.index a.kept.now l.kept c.try_at-trying.new.kept l.invariant.keeps c.try_at-trying.ensures.kept);
       refuted =
-          refuted_more (λ i. fits a.bytes (tried_lists j a.kept.now a.sx a.sy i)) l.index l.invariant.refuted
-          (fit_again j a.bytes a.sx a.sy l.index a.kept.now l.kept c.try_at-trying.result c.try_at-trying.new.luma c.try_at-trying.new.colour l.invariant.keeps c.try_at-trying.ensures.holds false c.if-trying.false);
+          refuted_more (λ i. fits a.bytes (tried_lists j a.kept.now a.job.sx a.job.sy i)) l.index l.invariant.refuted
+          (fit_again j a.bytes a.job.sx a.job.sy l.index a.kept.now l.kept c.try_at-trying.result c.try_at-trying.new.luma c.try_at-trying.new.colour l.invariant.keeps c.try_at-trying.ensures.holds false c.if-trying.false);
     }
 
 pub try_at-trying-requires-2-clause-ready : goal.try_at-trying-requires-2-clause-ready
 try_at-trying-requires-2-clause-ready c =
     let a = c.args in
-    let j : CodedPicture = coded_picture a.layout.now a.shape.now a.matrix.now a.coefficients.now in
-    ready_again j a.sx a.sy a.kept.now c.loop-index.kept c.requires.ready c.loop-index.invariant.keeps
+    let j : CodedPicture = picture_of a.job in
+    ready_again j a.job.sx a.job.sy a.kept.now c.loop-index.kept c.requires.ready c.loop-index.invariant.keeps
 
 pub returns-clause-least : goal.returns-clause-least
 returns-clause-least c =
     let a = c.args in
-    let j : CodedPicture = coded_picture a.layout.now a.shape.now a.matrix.now a.coefficients.now in
+    let j : CodedPicture = picture_of a.job in
     let l = c.loop-index in
     record {
       most = omega arith;
-      fit = coarsest_tried j a.bytes a.sx a.sy a.kept.now a.shape.now.luma_depth_fits a.shape.now.colour_depth_fits c.requires.ready c.requires.steep;
+      fit = coarsest_tried j a.bytes a.job.sx a.job.sy a.kept.now a.job.shape.now.luma_depth_fits a.job.shape.now.colour_depth_fits c.requires.ready c.requires.steep;
       least = λ i lt. l.invariant.refuted i (omega arith);
     }
 
 pub returns-clause-holds : goal.returns-clause-holds
 returns-clause-holds c =
     let a = c.args in
-    let j : CodedPicture = coded_picture a.layout.now a.shape.now a.matrix.now a.coefficients.now in
+    let j : CodedPicture = picture_of a.job in
     let l = c.loop-index in
-    holds_again j a.bytes a.sx a.sy 127 a.kept.now l.kept c.try_at-trying-2.result c.try_at-trying-2.new.luma c.try_at-trying-2.new.colour l.invariant.keeps c.try_at-trying-2.ensures.holds
+    holds_again j a.bytes a.job.sx a.job.sy 127 a.kept.now l.kept c.try_at-trying-2.result c.try_at-trying-2.new.luma c.try_at-trying-2.new.colour l.invariant.keeps c.try_at-trying-2.ensures.holds
 
 pub returns-clause-kept : goal.returns-clause-kept
 returns-clause-kept c =
     let a = c.args in
-    let j : CodedPicture = coded_picture a.layout.now a.shape.now a.matrix.now a.coefficients.now in
+    let j : CodedPicture = picture_of a.job in
     let l = c.loop-index in
-    all_tried_again j a.sx a.sy 127 a.kept.now l.kept c.try_at-trying-2.new.kept l.invariant.keeps c.try_at-trying-2.ensures.kept
+    all_tried_again j a.job.sx a.job.sy 127 a.kept.now l.kept c.try_at-trying-2.new.kept l.invariant.keeps c.try_at-trying-2.ensures.kept
+
+pub returns-then-trying-clause-near : goal.returns-then-trying-clause-near
+returns-then-trying-clause-near c = c.find_first-first.ensures.most
+
+pub returns-clause-near : goal.returns-clause-near
+returns-clause-near c = c.find_first-first.ensures.most

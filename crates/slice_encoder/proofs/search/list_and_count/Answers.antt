@@ -5,7 +5,7 @@ use Rattle.bounded_blocks.proofs.Needs.{need-most}
 use Rattle.slice_encoder.specs.Trials.{CodedComponent, luma_list, colour_list}
 use Rattle.slice_encoder.specs.Tries.{tried}
 use Rattle.slice_encoder.specs.Choice.{needs_fit}
-use Rattle.slice_encoder.specs.Laws.{AreSmall}
+use Rattle.slice_encoder.specs.TrialLaws.{AreSmall}
 use Rattle.slice_encoder.specs.Buffers.{coded_component}
 use Rattle.bounded_blocks.proofs.CodeLengths.{length-codes_of-most}
 use Rattle.slice_encoder.proofs.WholeTrial.{length_luma, length_colour, all_small, luma_small, colour_small, grid_is, can_list_all}
@@ -17,17 +17,17 @@ list_luma-lumas-requires-clause-can c =
     let old = c.requires.restored.0 in
     let ready = c.requires.restored.1 in
     let was = c.requires.restored.2 in
-    let shape = a.shape.now in
-    let l : CodedComponent = coded_component a.layout.now shape.luma a.matrix.now a.coefficients.now.luma in
+    let shape = a.job.shape.now in
+    let l : CodedComponent = coded_component a.job.layout.now shape.luma a.job.matrix.now a.job.coefficients.now.luma in
     let shallow = c.depth-depth.ensures.allowed.depth in
-    can_list_all l shape.luma_depth a.sx a.sy a.index old.luma c.requires.index shallow shape.luma_depth_fits.most ready.luma a.kept.now.luma was.luma ready.across ready.down
+    can_list_all l shape.luma_depth a.job.sx a.job.sy a.index old.luma c.requires.index shallow shape.luma_depth_fits.most ready.luma a.kept.now.luma was.luma ready.across ready.down
 
 pub list_luma-lumas-requires-clause-room : goal.list_luma-lumas-requires-clause-room
 list_luma-lumas-requires-clause-room c =
     let a = c.args in
-    let shape = a.shape.now in
-    let l : CodedComponent = coded_component a.layout.now shape.luma a.matrix.now a.coefficients.now.luma in
-    omega (arith, length_luma l (at a.kept.now.luma) a.index a.sx a.sy, c.requires.room.luma)
+    let shape = a.job.shape.now in
+    let l : CodedComponent = coded_component a.job.layout.now shape.luma a.job.matrix.now a.job.coefficients.now.luma in
+    omega (arith, length_luma l (at a.kept.now.luma) a.index a.job.sx a.job.sy, c.requires.room.luma)
 
 pub list_colour-colours-requires-clause-first_can : goal.list_colour-colours-requires-clause-first_can
 list_colour-colours-requires-clause-first_can c =
@@ -35,10 +35,10 @@ list_colour-colours-requires-clause-first_can c =
     let old = c.requires.restored.0 in
     let ready = c.requires.restored.1 in
     let was = c.requires.restored.2 in
-    let shape = a.shape.now in
-    let c1 : CodedComponent = coded_component a.layout.now shape.colour a.matrix.now a.coefficients.now.c1 in
+    let shape = a.job.shape.now in
+    let c1 : CodedComponent = coded_component a.job.layout.now shape.colour a.job.matrix.now a.job.coefficients.now.c1 in
     let shallow = c.depth-depth.ensures.allowed.depth in
-    can_list_all c1 shape.colour_depth a.sx a.sy a.index old.c1 c.requires.index shallow shape.colour_depth_fits.most ready.c1 a.kept.now.c1 was.c1 ready.across ready.down
+    can_list_all c1 shape.colour_depth a.job.sx a.job.sy a.index old.c1 c.requires.index shallow shape.colour_depth_fits.most ready.c1 a.kept.now.c1 was.c1 ready.across ready.down
 
 pub list_colour-colours-requires-clause-second_can : goal.list_colour-colours-requires-clause-second_can
 list_colour-colours-requires-clause-second_can c =
@@ -46,18 +46,18 @@ list_colour-colours-requires-clause-second_can c =
     let old = c.requires.restored.0 in
     let ready = c.requires.restored.1 in
     let was = c.requires.restored.2 in
-    let shape = a.shape.now in
-    let c2 : CodedComponent = coded_component a.layout.now shape.colour a.matrix.now a.coefficients.now.c2 in
+    let shape = a.job.shape.now in
+    let c2 : CodedComponent = coded_component a.job.layout.now shape.colour a.job.matrix.now a.job.coefficients.now.c2 in
     let shallow = c.depth-depth.ensures.allowed.depth in
-    can_list_all c2 shape.colour_depth a.sx a.sy a.index old.c2 c.requires.index shallow shape.colour_depth_fits.most ready.c2 a.kept.now.c2 was.c2 ready.across ready.down
+    can_list_all c2 shape.colour_depth a.job.sx a.job.sy a.index old.c2 c.requires.index shallow shape.colour_depth_fits.most ready.c2 a.kept.now.c2 was.c2 ready.across ready.down
 
 pub list_colour-colours-requires-clause-room : goal.list_colour-colours-requires-clause-room
 list_colour-colours-requires-clause-room c =
     let a = c.args in
-    let shape = a.shape.now in
-    let c1 : CodedComponent = coded_component a.layout.now shape.colour a.matrix.now a.coefficients.now.c1 in
-    let c2 : CodedComponent = coded_component a.layout.now shape.colour a.matrix.now a.coefficients.now.c2 in
-    omega (arith, length_colour c1 c2 (at a.kept.now.c1) (at a.kept.now.c2) a.index a.sx a.sy, c.requires.room.colour)
+    let shape = a.job.shape.now in
+    let c1 : CodedComponent = coded_component a.job.layout.now shape.colour a.job.matrix.now a.job.coefficients.now.c1 in
+    let c2 : CodedComponent = coded_component a.job.layout.now shape.colour a.job.matrix.now a.job.coefficients.now.c2 in
+    omega (arith, length_colour c1 c2 (at a.kept.now.c1) (at a.kept.now.c2) a.index a.job.sx a.job.sy, c.requires.room.colour)
 
 pub need_of_values-luma_need-requires-clause-small : goal.need_of_values-luma_need-requires-clause-small
 need_of_values-luma_need-requires-clause-small c =
@@ -65,12 +65,12 @@ need_of_values-luma_need-requires-clause-small c =
     let old = c.requires.restored.0 in
     let ready = c.requires.restored.1 in
     let was = c.requires.restored.2 in
-    let shape = a.shape.now in
-    let l : CodedComponent = coded_component a.layout.now shape.luma a.matrix.now a.coefficients.now.luma in
+    let shape = a.job.shape.now in
+    let l : CodedComponent = coded_component a.job.layout.now shape.luma a.job.matrix.now a.job.coefficients.now.luma in
     let shallow = c.depth-depth.ensures.allowed.depth in
-    let lumas = luma_list l (tried l a.sx a.sy a.index (at old.luma)) a.index a.sx a.sy in
-    let luma_is : take c.list_luma-lumas.result c.list_luma-lumas.new.out ≡ lumas = c.list_luma-lumas.ensures.listed ∙ ap (λ (g : Grid). luma_list l g a.index a.sx a.sy) (grid_is l shape.luma_depth a.sx a.sy a.index old.luma c.requires.index shallow shape.luma_depth_fits.most ready.luma a.kept.now.luma was.luma) in
-    let luma_all : AreSmall lumas = luma_small l shape.luma_depth a.sx a.sy a.index old.luma c.requires.index shallow shape.luma_depth_fits.most ready.luma in
+    let lumas = luma_list l (tried l a.job.sx a.job.sy a.index (at old.luma)) a.index a.job.sx a.job.sy in
+    let luma_is : take c.list_luma-lumas.result c.list_luma-lumas.new.out ≡ lumas = c.list_luma-lumas.ensures.listed ∙ ap (λ (g : Grid). luma_list l g a.index a.job.sx a.job.sy) (grid_is l shape.luma_depth a.job.sx a.job.sy a.index old.luma c.requires.index shallow shape.luma_depth_fits.most ready.luma a.kept.now.luma was.luma) in
+    let luma_all : AreSmall lumas = luma_small l shape.luma_depth a.job.sx a.job.sy a.index old.luma c.requires.index shallow shape.luma_depth_fits.most ready.luma in
     subst (λ (vs : List ℤ). AreSmall vs) (sym luma_is) luma_all
 
 pub need_of_values-colour_need-requires-clause-small : goal.need_of_values-colour_need-requires-clause-small
@@ -79,17 +79,17 @@ need_of_values-colour_need-requires-clause-small c =
     let old = c.requires.restored.0 in
     let ready = c.requires.restored.1 in
     let was = c.requires.restored.2 in
-    let shape = a.shape.now in
-    let c1 : CodedComponent = coded_component a.layout.now shape.colour a.matrix.now a.coefficients.now.c1 in
-    let c2 : CodedComponent = coded_component a.layout.now shape.colour a.matrix.now a.coefficients.now.c2 in
+    let shape = a.job.shape.now in
+    let c1 : CodedComponent = coded_component a.job.layout.now shape.colour a.job.matrix.now a.job.coefficients.now.c1 in
+    let c2 : CodedComponent = coded_component a.job.layout.now shape.colour a.job.matrix.now a.job.coefficients.now.c2 in
     let shallow = c.depth-depth.ensures.allowed.depth in
-    let colours = colour_list c1 c2 (tried c1 a.sx a.sy a.index (at old.c1)) (tried c2 a.sx a.sy a.index (at old.c2)) a.index a.sx a.sy in
+    let colours = colour_list c1 c2 (tried c1 a.job.sx a.job.sy a.index (at old.c1)) (tried c2 a.job.sx a.job.sy a.index (at old.c2)) a.index a.job.sx a.job.sy in
     let colour_is : take c.list_colour-colours.result c.list_colour-colours.new.out ≡ colours =
     c.list_colour-colours.ensures.listed
-    ∙ ap (λ (g : Grid). colour_list c1 c2 g (at a.kept.now.c2) a.index a.sx a.sy) (grid_is c1 shape.colour_depth a.sx a.sy a.index old.c1 c.requires.index shallow shape.colour_depth_fits.most ready.c1 a.kept.now.c1 was.c1)
-    ∙ ap (λ (g : Grid). colour_list c1 c2 (tried c1 a.sx a.sy a.index (at old.c1)) g a.index a.sx a.sy) (grid_is c2 shape.colour_depth a.sx a.sy a.index old.c2 c.requires.index shallow shape.colour_depth_fits.most ready.c2 a.kept.now.c2 was.c2)
+    ∙ ap (λ (g : Grid). colour_list c1 c2 g (at a.kept.now.c2) a.index a.job.sx a.job.sy) (grid_is c1 shape.colour_depth a.job.sx a.job.sy a.index old.c1 c.requires.index shallow shape.colour_depth_fits.most ready.c1 a.kept.now.c1 was.c1)
+    ∙ ap (λ (g : Grid). colour_list c1 c2 (tried c1 a.job.sx a.job.sy a.index (at old.c1)) g a.index a.job.sx a.job.sy) (grid_is c2 shape.colour_depth a.job.sx a.job.sy a.index old.c2 c.requires.index shallow shape.colour_depth_fits.most ready.c2 a.kept.now.c2 was.c2)
     in
-    let colour_all : AreSmall colours = colour_small c1 c2 (tried c1 a.sx a.sy a.index (at old.c1)) (tried c2 a.sx a.sy a.index (at old.c2)) a.index a.sx a.sy (all_small c1 shape.colour_depth a.sx a.sy a.index old.c1 c.requires.index shallow shape.colour_depth_fits.most ready.c1) (all_small c2 shape.colour_depth a.sx a.sy a.index old.c2 c.requires.index shallow shape.colour_depth_fits.most ready.c2) in
+    let colour_all : AreSmall colours = colour_small c1 c2 (tried c1 a.job.sx a.job.sy a.index (at old.c1)) (tried c2 a.job.sx a.job.sy a.index (at old.c2)) a.index a.job.sx a.job.sy (all_small c1 shape.colour_depth a.job.sx a.job.sy a.index old.c1 c.requires.index shallow shape.colour_depth_fits.most ready.c1) (all_small c2 shape.colour_depth a.job.sx a.job.sy a.index old.c2 c.requires.index shallow shape.colour_depth_fits.most ready.c2) in
     subst (λ (vs : List ℤ). AreSmall vs) (sym colour_is) colour_all
 
 pub do_fit-requires-clause-luma_small : goal.do_fit-requires-clause-luma_small
@@ -98,13 +98,13 @@ do_fit-requires-clause-luma_small c =
     let old = c.requires.restored.0 in
     let ready = c.requires.restored.1 in
     let was = c.requires.restored.2 in
-    let shape = a.shape.now in
-    let l : CodedComponent = coded_component a.layout.now shape.luma a.matrix.now a.coefficients.now.luma in
+    let shape = a.job.shape.now in
+    let l : CodedComponent = coded_component a.job.layout.now shape.luma a.job.matrix.now a.job.coefficients.now.luma in
     let shallow = c.depth-depth.ensures.allowed.depth in
-    let lumas = luma_list l (tried l a.sx a.sy a.index (at old.luma)) a.index a.sx a.sy in
-    let luma_is : take c.list_luma-lumas.result c.list_luma-lumas.new.out ≡ lumas = c.list_luma-lumas.ensures.listed ∙ ap (λ (g : Grid). luma_list l g a.index a.sx a.sy) (grid_is l shape.luma_depth a.sx a.sy a.index old.luma c.requires.index shallow shape.luma_depth_fits.most ready.luma a.kept.now.luma was.luma) in
-    let luma_all : AreSmall lumas = luma_small l shape.luma_depth a.sx a.sy a.index old.luma c.requires.index shallow shape.luma_depth_fits.most ready.luma in
-    omega (arith, c.need_of_values-luma_need.ensures, ap need luma_is, need-most (codes_of lumas), length-codes_of-most lumas luma_all, length_luma l (tried l a.sx a.sy a.index (at old.luma)) a.index a.sx a.sy, c.requires.room.luma, c.requires.room.few_luma)
+    let lumas = luma_list l (tried l a.job.sx a.job.sy a.index (at old.luma)) a.index a.job.sx a.job.sy in
+    let luma_is : take c.list_luma-lumas.result c.list_luma-lumas.new.out ≡ lumas = c.list_luma-lumas.ensures.listed ∙ ap (λ (g : Grid). luma_list l g a.index a.job.sx a.job.sy) (grid_is l shape.luma_depth a.job.sx a.job.sy a.index old.luma c.requires.index shallow shape.luma_depth_fits.most ready.luma a.kept.now.luma was.luma) in
+    let luma_all : AreSmall lumas = luma_small l shape.luma_depth a.job.sx a.job.sy a.index old.luma c.requires.index shallow shape.luma_depth_fits.most ready.luma in
+    omega (arith, c.need_of_values-luma_need.ensures, ap need luma_is, need-most (codes_of lumas), length-codes_of-most lumas luma_all, length_luma l (tried l a.job.sx a.job.sy a.index (at old.luma)) a.index a.job.sx a.job.sy, c.requires.room.luma, c.requires.room.few_luma)
 
 pub do_fit-requires-clause-colour_small : goal.do_fit-requires-clause-colour_small
 do_fit-requires-clause-colour_small c =
@@ -112,37 +112,37 @@ do_fit-requires-clause-colour_small c =
     let old = c.requires.restored.0 in
     let ready = c.requires.restored.1 in
     let was = c.requires.restored.2 in
-    let shape = a.shape.now in
-    let c1 : CodedComponent = coded_component a.layout.now shape.colour a.matrix.now a.coefficients.now.c1 in
-    let c2 : CodedComponent = coded_component a.layout.now shape.colour a.matrix.now a.coefficients.now.c2 in
+    let shape = a.job.shape.now in
+    let c1 : CodedComponent = coded_component a.job.layout.now shape.colour a.job.matrix.now a.job.coefficients.now.c1 in
+    let c2 : CodedComponent = coded_component a.job.layout.now shape.colour a.job.matrix.now a.job.coefficients.now.c2 in
     let shallow = c.depth-depth.ensures.allowed.depth in
-    let colours = colour_list c1 c2 (tried c1 a.sx a.sy a.index (at old.c1)) (tried c2 a.sx a.sy a.index (at old.c2)) a.index a.sx a.sy in
+    let colours = colour_list c1 c2 (tried c1 a.job.sx a.job.sy a.index (at old.c1)) (tried c2 a.job.sx a.job.sy a.index (at old.c2)) a.index a.job.sx a.job.sy in
     let colour_is : take c.list_colour-colours.result c.list_colour-colours.new.out ≡ colours =
     c.list_colour-colours.ensures.listed
-    ∙ ap (λ (g : Grid). colour_list c1 c2 g (at a.kept.now.c2) a.index a.sx a.sy) (grid_is c1 shape.colour_depth a.sx a.sy a.index old.c1 c.requires.index shallow shape.colour_depth_fits.most ready.c1 a.kept.now.c1 was.c1)
-    ∙ ap (λ (g : Grid). colour_list c1 c2 (tried c1 a.sx a.sy a.index (at old.c1)) g a.index a.sx a.sy) (grid_is c2 shape.colour_depth a.sx a.sy a.index old.c2 c.requires.index shallow shape.colour_depth_fits.most ready.c2 a.kept.now.c2 was.c2)
+    ∙ ap (λ (g : Grid). colour_list c1 c2 g (at a.kept.now.c2) a.index a.job.sx a.job.sy) (grid_is c1 shape.colour_depth a.job.sx a.job.sy a.index old.c1 c.requires.index shallow shape.colour_depth_fits.most ready.c1 a.kept.now.c1 was.c1)
+    ∙ ap (λ (g : Grid). colour_list c1 c2 (tried c1 a.job.sx a.job.sy a.index (at old.c1)) g a.index a.job.sx a.job.sy) (grid_is c2 shape.colour_depth a.job.sx a.job.sy a.index old.c2 c.requires.index shallow shape.colour_depth_fits.most ready.c2 a.kept.now.c2 was.c2)
     in
-    let colour_all : AreSmall colours = colour_small c1 c2 (tried c1 a.sx a.sy a.index (at old.c1)) (tried c2 a.sx a.sy a.index (at old.c2)) a.index a.sx a.sy (all_small c1 shape.colour_depth a.sx a.sy a.index old.c1 c.requires.index shallow shape.colour_depth_fits.most ready.c1) (all_small c2 shape.colour_depth a.sx a.sy a.index old.c2 c.requires.index shallow shape.colour_depth_fits.most ready.c2) in
-    omega (arith, c.need_of_values-colour_need.ensures, ap need colour_is, need-most (codes_of colours), length-codes_of-most colours colour_all, length_colour c1 c2 (tried c1 a.sx a.sy a.index (at old.c1)) (tried c2 a.sx a.sy a.index (at old.c2)) a.index a.sx a.sy, c.requires.room.colour, c.requires.room.few_colour)
+    let colour_all : AreSmall colours = colour_small c1 c2 (tried c1 a.job.sx a.job.sy a.index (at old.c1)) (tried c2 a.job.sx a.job.sy a.index (at old.c2)) a.index a.job.sx a.job.sy (all_small c1 shape.colour_depth a.job.sx a.job.sy a.index old.c1 c.requires.index shallow shape.colour_depth_fits.most ready.c1) (all_small c2 shape.colour_depth a.job.sx a.job.sy a.index old.c2 c.requires.index shallow shape.colour_depth_fits.most ready.c2) in
+    omega (arith, c.need_of_values-colour_need.ensures, ap need colour_is, need-most (codes_of colours), length-codes_of-most colours colour_all, length_colour c1 c2 (tried c1 a.job.sx a.job.sy a.index (at old.c1)) (tried c2 a.job.sx a.job.sy a.index (at old.c2)) a.index a.job.sx a.job.sy, c.requires.room.colour, c.requires.room.few_colour)
 
 pub returns : goal.returns
 returns c = λ old ready was.
     let a = c.args in
-    let shape = a.shape.now in
-    let l : CodedComponent = coded_component a.layout.now shape.luma a.matrix.now a.coefficients.now.luma in
-    let c1 : CodedComponent = coded_component a.layout.now shape.colour a.matrix.now a.coefficients.now.c1 in
-    let c2 : CodedComponent = coded_component a.layout.now shape.colour a.matrix.now a.coefficients.now.c2 in
+    let shape = a.job.shape.now in
+    let l : CodedComponent = coded_component a.job.layout.now shape.luma a.job.matrix.now a.job.coefficients.now.luma in
+    let c1 : CodedComponent = coded_component a.job.layout.now shape.colour a.job.matrix.now a.job.coefficients.now.c1 in
+    let c2 : CodedComponent = coded_component a.job.layout.now shape.colour a.job.matrix.now a.job.coefficients.now.c2 in
     let shallow = c.depth-depth.ensures.allowed.depth in
-    let lumas = luma_list l (tried l a.sx a.sy a.index (at old.luma)) a.index a.sx a.sy in
-    let luma_is : take c.list_luma-lumas.result c.list_luma-lumas.new.out ≡ lumas = c.list_luma-lumas.ensures.listed ∙ ap (λ (g : Grid). luma_list l g a.index a.sx a.sy) (grid_is l shape.luma_depth a.sx a.sy a.index old.luma c.requires.index shallow shape.luma_depth_fits.most ready.luma a.kept.now.luma was.luma) in
-    let luma_all : AreSmall lumas = luma_small l shape.luma_depth a.sx a.sy a.index old.luma c.requires.index shallow shape.luma_depth_fits.most ready.luma in
-    let colours = colour_list c1 c2 (tried c1 a.sx a.sy a.index (at old.c1)) (tried c2 a.sx a.sy a.index (at old.c2)) a.index a.sx a.sy in
+    let lumas = luma_list l (tried l a.job.sx a.job.sy a.index (at old.luma)) a.index a.job.sx a.job.sy in
+    let luma_is : take c.list_luma-lumas.result c.list_luma-lumas.new.out ≡ lumas = c.list_luma-lumas.ensures.listed ∙ ap (λ (g : Grid). luma_list l g a.index a.job.sx a.job.sy) (grid_is l shape.luma_depth a.job.sx a.job.sy a.index old.luma c.requires.index shallow shape.luma_depth_fits.most ready.luma a.kept.now.luma was.luma) in
+    let luma_all : AreSmall lumas = luma_small l shape.luma_depth a.job.sx a.job.sy a.index old.luma c.requires.index shallow shape.luma_depth_fits.most ready.luma in
+    let colours = colour_list c1 c2 (tried c1 a.job.sx a.job.sy a.index (at old.c1)) (tried c2 a.job.sx a.job.sy a.index (at old.c2)) a.index a.job.sx a.job.sy in
     let colour_is : take c.list_colour-colours.result c.list_colour-colours.new.out ≡ colours =
     c.list_colour-colours.ensures.listed
-    ∙ ap (λ (g : Grid). colour_list c1 c2 g (at a.kept.now.c2) a.index a.sx a.sy) (grid_is c1 shape.colour_depth a.sx a.sy a.index old.c1 c.requires.index shallow shape.colour_depth_fits.most ready.c1 a.kept.now.c1 was.c1)
-    ∙ ap (λ (g : Grid). colour_list c1 c2 (tried c1 a.sx a.sy a.index (at old.c1)) g a.index a.sx a.sy) (grid_is c2 shape.colour_depth a.sx a.sy a.index old.c2 c.requires.index shallow shape.colour_depth_fits.most ready.c2 a.kept.now.c2 was.c2)
+    ∙ ap (λ (g : Grid). colour_list c1 c2 g (at a.kept.now.c2) a.index a.job.sx a.job.sy) (grid_is c1 shape.colour_depth a.job.sx a.job.sy a.index old.c1 c.requires.index shallow shape.colour_depth_fits.most ready.c1 a.kept.now.c1 was.c1)
+    ∙ ap (λ (g : Grid). colour_list c1 c2 (tried c1 a.job.sx a.job.sy a.index (at old.c1)) g a.index a.job.sx a.job.sy) (grid_is c2 shape.colour_depth a.job.sx a.job.sy a.index old.c2 c.requires.index shallow shape.colour_depth_fits.most ready.c2 a.kept.now.c2 was.c2)
     in
-    let colour_all : AreSmall colours = colour_small c1 c2 (tried c1 a.sx a.sy a.index (at old.c1)) (tried c2 a.sx a.sy a.index (at old.c2)) a.index a.sx a.sy (all_small c1 shape.colour_depth a.sx a.sy a.index old.c1 c.requires.index shallow shape.colour_depth_fits.most ready.c1) (all_small c2 shape.colour_depth a.sx a.sy a.index old.c2 c.requires.index shallow shape.colour_depth_fits.most ready.c2) in
+    let colour_all : AreSmall colours = colour_small c1 c2 (tried c1 a.job.sx a.job.sy a.index (at old.c1)) (tried c2 a.job.sx a.job.sy a.index (at old.c2)) a.index a.job.sx a.job.sy (all_small c1 shape.colour_depth a.job.sx a.job.sy a.index old.c1 c.requires.index shallow shape.colour_depth_fits.most ready.c1) (all_small c2 shape.colour_depth a.job.sx a.job.sy a.index old.c2 c.requires.index shallow shape.colour_depth_fits.most ready.c2) in
     let luma_need : c.need_of_values-luma_need.result ≡ need lumas = c.need_of_values-luma_need.ensures ∙ ap need luma_is in
     let colour_need : c.need_of_values-colour_need.result ≡ need colours = c.need_of_values-colour_need.ensures ∙ ap need colour_is in
     record {

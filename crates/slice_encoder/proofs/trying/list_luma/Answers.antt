@@ -13,26 +13,26 @@ use Rattle.slice_encoder.proofs.trying.list_luma.Goals as goal
 pub list_rect-requires-clause-room : goal.list_rect-requires-clause-room
 list_rect-requires-clause-room c =
     let a = c.args in
-    let coded : CodedComponent = coded_component a.layout.now a.size a.matrix.now a.coefficients.now in
-    omega (arith, ap area c.band_rect-rect.ensures, first_within coded a.index a.sx a.sy a.gathered.now c.requires.gathered, length_luma coded (at a.kept.now) a.index a.sx a.sy, c.requires.room)
+    let coded : CodedComponent = coded_component a.job.layout.now a.job.shape.now.luma a.job.matrix.now a.job.coefficients.now.luma in
+    omega (arith, ap area c.band_rect-rect.ensures, first_within coded a.index a.job.sx a.job.sy a.gathered.now c.requires.gathered, length_luma coded (at a.kept.now) a.index a.job.sx a.job.sy, c.requires.room)
 
 pub list-requires-clause-room : goal.list-requires-clause-room
 list-requires-clause-room c =
     let a = c.args in
-    let coded : CodedComponent = coded_component a.layout.now a.size a.matrix.now a.coefficients.now in
-    omega (arith, last_end coded a.index a.sx a.sy a.gathered.now c.requires.gathered, length_luma coded (at a.kept.now) a.index a.sx a.sy, c.requires.room, c.list_rect.auto.out)
+    let coded : CodedComponent = coded_component a.job.layout.now a.job.shape.now.luma a.job.matrix.now a.job.coefficients.now.luma in
+    omega (arith, last_end coded a.index a.job.sx a.job.sy a.gathered.now c.requires.gathered, length_luma coded (at a.kept.now) a.index a.job.sx a.job.sy, c.requires.room, c.list_rect.auto.out)
 
 pub returns-clause-most : goal.returns-clause-most
 returns-clause-most c =
     let a = c.args in
-    let coded : CodedComponent = coded_component a.layout.now a.size a.matrix.now a.coefficients.now in
-    omega (arith, c.list.ensures.count, last_end coded a.index a.sx a.sy a.gathered.now c.requires.gathered, length_luma coded (at a.kept.now) a.index a.sx a.sy, c.requires.room)
+    let coded : CodedComponent = coded_component a.job.layout.now a.job.shape.now.luma a.job.matrix.now a.job.coefficients.now.luma in
+    omega (arith, c.list.ensures.count, last_end coded a.index a.job.sx a.job.sy a.gathered.now c.requires.gathered, length_luma coded (at a.kept.now) a.index a.job.sx a.job.sy, c.requires.room)
 
 pub returns-clause-listed : goal.returns-clause-listed
 returns-clause-listed c =
     let a = c.args in
-    let coded : CodedComponent = coded_component a.layout.now a.size a.matrix.now a.coefficients.now in
-    let first = first_end coded a.index a.sx a.sy a.gathered.now c.requires.gathered in
+    let coded : CodedComponent = coded_component a.job.layout.now a.job.shape.now.luma a.job.matrix.now a.job.coefficients.now.luma in
+    let first = first_end coded a.index a.job.sx a.job.sy a.gathered.now c.requires.gathered in
     let count : 0 + area c.band_rect-rect.result ≡ slice_index a.gathered.now.ends 0 = omega (arith, first, ap area c.band_rect-rect.ensures) in
-    luma_listed coded a.index a.sx a.sy a.gathered.now a.kept.now (take c.list.result c.list.new.out) (rect_values (band_value c.band.result.now a.kept.now 0 c.quantiser-quantiser.result) c.band_rect-rect.result) c.list_rect.new.out (0 + area c.band_rect-rect.result)
-    c.requires.gathered c.list.ensures.listed count c.list_rect.ensures.listed (part_here coded a.kept.now a.index a.sx a.sy 0 0 c.quantiser-quantiser.result c.band_rect-rect.result c.band.result.now refl c.band_rect-rect.ensures c.band.ensures c.quantiser-quantiser.ensures)
+    luma_listed coded a.index a.job.sx a.job.sy a.gathered.now a.kept.now (take c.list.result c.list.new.out) (rect_values (band_value c.band-lowest.result.now a.kept.now 0 c.quantiser-quantiser.result) c.band_rect-rect.result) c.list_rect.new.out (0 + area c.band_rect-rect.result)
+    c.requires.gathered c.list.ensures.listed count c.list_rect.ensures.listed (part_here coded a.kept.now a.index a.job.sx a.job.sy 0 0 c.quantiser-quantiser.result c.band_rect-rect.result c.band-lowest.result.now refl c.band_rect-rect.ensures c.band-lowest.ensures c.quantiser-quantiser.ensures)

@@ -1,5 +1,5 @@
 use Rattle.std.proofs.Common.{◌∙◌, ℕ, sym, subst, arith}
-use Rattle.slice_encoder.specs.Laws.{AreCoefficients}
+use Rattle.slice_encoder.specs.TrialLaws.{AreCoefficients}
 use Rattle.slice_encoder.specs.Ready.{IsReady}
 use Rattle.slice_encoder.specs.Buffers.{coded_component}
 use Rattle.slice_tests.proofs.slice_writing.can_try.Goals as goal

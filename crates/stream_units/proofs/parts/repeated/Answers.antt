@@ -6,7 +6,7 @@ use Rattle.field_rows.specs.Rows.{done, ◌>>=◌}
 use Rattle.unit_table.specs.Begun.{Begun, Got}
 use Rattle.stream_rows.specs.Units.{Repeated, units, next_checked}
 use Rattle.stream_units.specs.Heads.{leads_behind}
-use Rattle.stream_units.proofs.Gets.{got_most}
+use Rattle.unit_reader.proofs.Gets.{got_most}
 use Rattle.stream_units.proofs.HeldTurns.{drop_most}
 use Rattle.stream_units.proofs.PartTurns.{repeated_short, repeated_lost, repeated_differs, repeated_same, checked_takes, checked_refused}
 use Rattle.stream_units.proofs.parts.repeated.Goals as goal

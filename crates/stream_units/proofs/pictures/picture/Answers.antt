@@ -5,11 +5,12 @@ use Rattle.slice_geometry.specs.Slicing.{total_bytes}
 use Rattle.transform_params.specs.Params.{Params}
 use Rattle.slice_geometry.specs.Frames.{frame_of}
 use Rattle.field_rows.specs.Rows.{done}
+use Rattle.stream_rows.specs.declared.reason.Reason.{Reason}
 use Rattle.stream_rows.specs.Units.{Picture}
 use Rattle.stream_units.specs.Turns.{PictureOver}
-use Rattle.stream_units.proofs.Stopping.{stops_due}
+use Rattle.unit_reader.proofs.Stopping.{stops_due}
 use Rattle.stream_units.proofs.PictureTurns.{behind_slices, behind_params, behind_number, payload_begun, begun_at, slices_begun, ready_frame, finished_shows, next_wrong, next_right, picture_taken}
-use Rattle.stream_units.specs.declared.stop.ReadStop.{ReadStop}
+use Rattle.unit_reader.specs.declared.stop.ReadStop.{ReadStop}
 use Rattle.stream_units.specs.declared.pictures.Shown.{Shown}
 use Rattle.stream_units.specs.Held.{greatest_share, StopsHeld, BeforeSlices, InSlices, NoDecoder}
 use Rattle.stream_units.proofs.HeldTurns.{if_err, reads_params}
@@ -111,7 +112,7 @@ returns-in_err-params-clause-held g c = λ held0 rest0 b. if_err _ _ (λ stop. B
 pub returns-in_err-decoder-clause-held : goal.returns-in_err-decoder-clause-held
 returns-in_err-decoder-clause-held g c = λ held0 rest0 b.
     let e = err_from_is_err_and c.from_residual-in_err-decoder.result c.from_residual-in_err-decoder.ensures.1 in
-    subst (λ (r : Result Shown ReadStop). IfErr r (StopsHeld c.args.earlier.now held0 rest0 c.args.kept.now c.ready.new.kept c.params.new.window.held)) (sym (e.1 ∙ ap Err (e.2 ∙ c.in_err-decoder.ensures.ready)))
+    subst (λ (r : Result Shown (ReadStop Reason)). IfErr r (StopsHeld c.args.earlier.now held0 rest0 c.args.kept.now c.ready.new.kept c.params.new.window.held)) (sym (e.1 ∙ ap Err (e.2 ∙ c.in_err-decoder.ensures.ready)))
     (NoDecoder refl c.in_err-decoder.ensures.none c.params.ensures.held)
 
 pub returns-in-Err-clause-held : goal.returns-in-Err-clause-held

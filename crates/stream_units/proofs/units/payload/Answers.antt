@@ -50,4 +50,4 @@ pub returns-in-Err-picture-clause-held : goal.returns-in-Err-picture-clause-held
 returns-in-Err-picture-clause-held g c = λ held0 rest0 b. c.in-Err-picture.ensures.held held0 rest0 (along _ _ (rows_picture c.args.earlier.now c.args.earlier.now.first c.in-Some.first.now c.args.info c.in-Some.ensures.some c.in-LowDelayPicture.is) b)
 
 pub returns-in-EndOfSequence-clause-held : goal.returns-in-EndOfSequence-clause-held
-returns-in-EndOfSequence-clause-held g c = λ held0 rest0 b. (refl, omega (arith, c.requires.few))
+returns-in-EndOfSequence-clause-held g c = λ held0 rest0 b. refl

@@ -5,7 +5,7 @@ use Rattle.field_rows.specs.Given.{written}
 use Rattle.field_rows.proofs.Filled.{bytes_by_bits, length-filled}
 use Rattle.transform_params.specs.Params.{reason_of, params_rows}
 use Rattle.bit_codes.specs.Codes.{code_of}
-use Rattle.transform_params.specs.Fields.{fields_of, bit_length, params_bytes}
+use Rattle.transform_params.specs.ParameterFields.{fields_of, bit_length, params_bytes}
 use Rattle.transform_params.proofs.Entries.{all_written, all_bits, bit_length-parts}
 use Rattle.transform_params.specs.Views.{params_of}
 use Rattle.transform_params.proofs.WrittenBack.{written_back}

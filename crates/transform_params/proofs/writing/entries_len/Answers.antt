@@ -3,7 +3,7 @@ use Rattle.std.proofs.lemmas.List.{length-append}
 use Rattle.bit_codes.specs.Codes.{code_of}
 use Rattle.field_rows.specs.Given.{written}
 use Rattle.field_rows.proofs.CodeLengths.{code_short}
-use Rattle.transform_params.specs.Fields.{entry_fields}
+use Rattle.transform_params.specs.ParameterFields.{entry_fields}
 use Rattle.transform_params.proofs.Entries.{entry_next, entries_done, all_small}
 use Rattle.transform_params.proofs.writing.entries_len.Goals as goal
 

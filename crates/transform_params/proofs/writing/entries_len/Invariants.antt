@@ -1,6 +1,6 @@
 use Rattle.std.proofs.Common.{◌≡◌, ◌≤◌, ◌+◌, ◌*◌, length, drop}
 use Rattle.field_rows.specs.Given.{written}
-use Rattle.transform_params.specs.Fields.{entry_fields}
+use Rattle.transform_params.specs.ParameterFields.{entry_fields}
 use Rattle.transform_params.proofs.writing.entries_len.Given as goal
 
 abbrev pub invariant-loop-entry : goal.invariant-loop-entry

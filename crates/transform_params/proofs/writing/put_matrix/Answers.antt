@@ -3,7 +3,7 @@ use Rattle.std.proofs.lemmas.List.{length-append}
 use Rattle.bit_codes.specs.Codes.{code_of}
 use Rattle.bit_codes.specs.Bits.{bits_before}
 use Rattle.field_rows.specs.Given.{written}
-use Rattle.transform_params.specs.Fields.{entry_fields}
+use Rattle.transform_params.specs.ParameterFields.{entry_fields}
 use Rattle.transform_params.proofs.Entries.{entry_next, entry_first, entry_put, entries_done}
 use Rattle.transform_params.proofs.writing.put_matrix.Goals as goal
 

@@ -1,7 +1,7 @@
 use Rattle.std.proofs.Common.{◌≡◌, ◌+◌, ◌++◌, length, drop}
 use Rattle.bit_codes.specs.Bits.{bits_before}
 use Rattle.field_rows.specs.Given.{written}
-use Rattle.transform_params.specs.Fields.{entry_fields, matrix_fields}
+use Rattle.transform_params.specs.ParameterFields.{entry_fields, matrix_fields}
 use Rattle.transform_params.proofs.writing.put_matrix.Given as goal
 
 abbrev pub invariant-loop-entry : goal.invariant-loop-entry

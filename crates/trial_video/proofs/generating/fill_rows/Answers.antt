@@ -3,7 +3,7 @@ use Rattle.slice_geometry.specs.declared.Size.{Size}
 use Rattle.slice_geometry.specs.declared.PictureShape.{PictureShape}
 use Rattle.slice_geometry.specs.Frames.{frame_of}
 use Rattle.picture_codec.specs.Pictures.{size_of, depth_of}
-use Rattle.picture_codec.specs.Samples.{SampleRows, PictureSeen, shown, width_of, height_of, bits_of, sample_at, with_run}
+use Rattle.picture_codec.specs.Samples.{SamplesSeen, PictureSeen, shown, width_of, height_of, bits_of, sample_at, with_run}
 use Rattle.raw_video.proofs.ComponentTurns.{run_long, put_here, put_others}
 use Rattle.trial_video.specs.Video.{state_at, video_rows}
 use Rattle.trial_video.proofs.States.{sample_from, more_steps}
@@ -66,7 +66,7 @@ loop-y-preserved c =
     let line = c.fill_row-state.new.row in
     let old = c.loop-y.picture in
     let new = c.put_samples.new.self in
-    let rows : SampleRows = shown old c.args.c in
+    let rows : SamplesSeen = shown old c.args.c in
     let is = c.put_samples.ensures in
     let long : length line ≡ w = c.fill_row-state.ensures.len ∙ i.long in
     let here : shown new c.args.c ≡ with_run rows (y * w) line =
@@ -76,15 +76,15 @@ loop-y-preserved c =
     record {
       long = long;
       same_shape = ap (λ (q : PictureSeen). q.shape) is ∙ i.same_shape;
-      width = ap (λ (r : SampleRows). r.w) here ∙ i.width;
-      height = ap (λ (r : SampleRows). r.h) here ∙ i.height;
-      many = ap (λ (r : SampleRows). length r.cells) here ∙ run_long rows (y * w) line fits ∙ i.many;
+      width = ap (λ (r : SamplesSeen). r.w) here ∙ i.width;
+      height = ap (λ (r : SamplesSeen). r.h) here ∙ i.height;
+      many = ap (λ (r : SamplesSeen). length r.cells) here ∙ run_long rows (y * w) line fits ∙ i.many;
       state =
           c.fill_row-state.ensures.state ∙ ap (λ (s : ℕ). state_at s (length c.loop-y.line)) i.state ∙ ap (λ (n : ℕ). state_at (state_at start (y * w)) n) i.long
           ∙ more_steps start (y * w) w ∙ ap (state_at start) (next_row y w);
       low = c.fill_row-state.ensures.small;
       done = λ k x lt across.
-          ap (λ (r : SampleRows). sample_at r k x) here
+          ap (λ (r : SamplesSeen). sample_at r k x) here
           ∙ row_more rows start c.args.p depth w h y line i.width i.many c.loop-y-test.true long i.done
           (λ z inside.
           c.fill_row-state.ensures.row z (omega (arith, inside, i.long))
@@ -103,7 +103,7 @@ returns-clause-rows c = λ seed first e.
     let size = c.size_of-size.result in
     let depth = c.depth_of-depth.result in
     let start = c.args.start in
-    let rows : SampleRows = shown c.loop-y.picture c.args.c in
+    let rows : SamplesSeen = shown c.loop-y.picture c.args.c in
     let sized : size ≡ size_of (frame_of c.args.picture.now.shape) c.args.c = c.size_of-size.ensures.value ∙ ap (λ (s : PictureShape). size_of (frame_of s) c.args.c) c.shape.ensures in
     let deep : depth ≡ bits_of c.args.picture.now c.args.c = c.depth_of-depth.ensures.value ∙ ap (λ (s : PictureShape). depth_of (frame_of s) c.args.c) c.shape-2.ensures in
     let wide : length c.args.line.now ≡ size.w = c.requires.long ∙ sym (ap (λ (z : Size). z.w) sized) in

@@ -1,6 +1,6 @@
 use Rattle.std.proofs.Common.{◌≡◌, ◌∙◌, ℕ, List, sym, ap, subst}
 use Rattle.slice_geometry.specs.Frames.{Frame, frame_of}
-use Rattle.trial_video.specs.Video.{VideoSeen}
+use Rattle.trial_video.specs.Video.{TrialVideoSeen}
 use Rattle.stream_rows.specs.Streams.{frame_under}
 use Rattle.stream_units.proofs.SameShapes.{frame_is}
 use Rattle.vc2_words.specs.Settings.{Asked}

@@ -6,7 +6,7 @@ use Rattle.raw_video.specs.Reading.{RawReaderSeen, ReadsFront, reader_after}
 use Rattle.raw_video.specs.declared.reader.RawStep.{RawStep}
 use Rattle.raw_video.specs.declared.reader.RawStep.TheVariants.{Picture, End}
 use Rattle.vc2_run.specs.declared.Halt.{Halt}
-use Rattle.stream_units.specs.Writer.{WriterState}
+use Rattle.stream_units.specs.Writer.{StreamWriterSeen}
 use Rattle.vc2_words.specs.Shown.{shown}
 use Rattle.vc2_cli.specs.declared.status.Ending.{Ending}
 use Rattle.vc2_cli.specs.Running.{IsDone, Runs}
@@ -81,9 +81,9 @@ loop-turn-preserved g c =
     record {
       unrefused = ap (λ (r : RawReaderSeen). r.refused) after ∙ i.unrefused;
       shape = ap (λ (r : RawReaderSeen). r.shape) after ∙ i.shape ∙ sym c.in-Ok-Picture.ensures.same_shape;
-      pictures = subst (λ (w : WriterState). IsShapeOf c.next.new.picture.shape w.settings.parts) (sym wrote.after) (subst (λ (s : PictureShape). IsShapeOf s l.writer.settings.parts) (sym c.in-Ok-Picture.ensures.same_shape) i.pictures);
-      unended = ap (λ (w : WriterState). w.ended) wrote.after ∙ i.unended;
-      going = ap (λ (w : WriterState). w.stop) wrote.after ∙ i.going;
+      pictures = subst (λ (w : StreamWriterSeen). IsShapeOf c.next.new.picture.shape w.settings.parts) (sym wrote.after) (subst (λ (s : PictureShape). IsShapeOf s l.writer.settings.parts) (sym c.in-Ok-Picture.ensures.same_shape) i.pictures);
+      unended = ap (λ (w : StreamWriterSeen). w.ended) wrote.after ∙ i.unended;
+      going = ap (λ (w : StreamWriterSeen). w.stop) wrote.after ∙ i.going;
       goes = λ rest out0 some slices first.
           let go = i.goes rest out0 some slices first in
           let front = at_place e l.turn rest r1 out0 o1 l.reader l.writer some go r2 p (Ok Picture) (subst (λ (s : RawStep). ReadsFront (frame_of l.reader.shape) l.reader.place r1 r2 p (Ok s)) c.in-Ok-Picture.field-0-is c.in-Ok-Picture.ensures.front) in

@@ -2,7 +2,7 @@ use Rattle.std.proofs.Common.{◌≡◌, ◌∙◌, ℕ, List, Result, Ok, IfOk,
 use Rattle.std.specs.Vec.Iter.{into_iter_items}
 use Rattle.vc2_cli.specs.declared.status.Status.{Status}
 use Rattle.vc2_cli.specs.Exit.{exit_code_of}
-use Rattle.vc2_cli.specs.Running.{Change, change}
+use Rattle.vc2_cli.specs.Change.{Change, change}
 use Rattle.vc2_cli.specs.Program.{Ran, Exits}
 use Rattle.vc2_cli.proofs.program.run_to_exit.Goals as goal
 
@@ -22,18 +22,4 @@ returns-in-Ok-words_behind-clause-runs g c =
     if_ok _ c.args.args c.in-Ok.args c.in-Ok.is
     (exits_by (map string_bytes (drop 1 (into_iter_items c.in-Ok.args))) (map string_bytes c.deref.result.now) src out note c.run.result c.exit_code.result
     (ap (map string_bytes) (c.deref.ensures.value ∙ c.in-Ok-words_behind.ensures))
-    (record {
-      status = e.status;
-      texts = e.texts;
-      done = e.done;
-      read_fault = e.read_fault;
-      out_fault = e.out_fault;
-      no_memory = e.no_memory;
-      note_fault = e.note_fault;
-      soon = e.soon;
-      limit = e.limit;
-      causes = e.causes;
-      usage = e.usage;
-      trial = e.trial;
-      header = e.header;
-    }) c.exit_code.ensures)
+    e c.exit_code.ensures)

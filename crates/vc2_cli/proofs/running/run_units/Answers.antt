@@ -1,6 +1,6 @@
 use Rattle.std.proofs.Common.{◌≤◌, ◌∙◌, Ok, Err, refl, sym, ap, subst, arith}
 use Rattle.vc2_io.specs.Outside.{Rose}
-use Rattle.stream_units.specs.Stops.{LimitStops, StopCause}
+use Rattle.stream_units.specs.StreamStops.{LimitStops, StopCause}
 use Rattle.vc2_cli.specs.Running.{NextOver, begun}
 use Rattle.vc2_cli.proofs.Exits.{goes_first, holds_first, ran_unopened_by, goes_more, place_more, holds_turn, ran_unwritten, ran_finished, ran_refused, ran_rested, ran_lost, ran_no_memory, takes_at_most, takes_none, cause_then, cause_halt, closed_is, begun_opens, unrefused_begun, unrefused_turn, turned_soon, lost_soon, none_soon, closes_no_read, writes_no_read}
 use Rattle.vc2_cli.proofs.Soon.{opens_machine}

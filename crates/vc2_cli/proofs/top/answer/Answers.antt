@@ -8,7 +8,7 @@ use Rattle.vc2_cli.specs.Settled.{Settles}
 use Rattle.vc2_cli.specs.Soon.{StopsSoon}
 use Rattle.vc2_cli.proofs.SoonTold.{told_soon, units_at}
 use Rattle.vc2_cli.specs.Trial.{trial_worst, trial_text}
-use Rattle.vc2_cli.specs.Chain.{chain_machine}
+use Rattle.vc2_cli.specs.ChainLines.{chain_machine}
 use Rattle.vc2_cli.specs.First.{header_machine, behind_first}
 use Rattle.vc2_cli.proofs.HeaderRuns.{header_laws}
 use Rattle.vc2_cli.proofs.Chaining.{chain_laws}

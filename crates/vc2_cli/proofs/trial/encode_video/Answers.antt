@@ -1,7 +1,7 @@
 use Rattle.std.proofs.Common.{◌≡◌, ◌∙◌, ◌+◌, ◌≤◌, ℕ, List, length, ap, arith}
 use Rattle.slice_geometry.specs.Frames.{frame_of}
-use Rattle.trial_video.specs.Video.{VideoSeen}
-use Rattle.stream_units.specs.Encoded.{header_unit}
+use Rattle.trial_video.specs.Video.{TrialVideoSeen}
+use Rattle.stream_units.specs.EncodedStream.{header_unit}
 use Rattle.stream_units.proofs.SameShapes.{frame_is}
 use Rattle.stream_units.proofs.EncodedUnits.{length-header_unit}
 use Rattle.vc2_words.specs.Settings.{Asked}
@@ -17,7 +17,7 @@ write_video-result-requires-clause-begun c =
     let s : Asked = shown a.settings.now in
     let made = c.new-video.ensures in
     begins s a.part c.requires.lawful c.requires.flat c.new-video.result c.in-Ok-started.writer a.sink.now c.start-started.new.sink
-    (ap (λ (v : VideoSeen). frame_of v.shape) made ∙ frame_is s.parts c.picture_shape-shape.result c.picture_shape-shape.ensures) (ap (λ (v : VideoSeen). v.seed) made) (ap (λ (v : VideoSeen). v.pictures) made)
+    (ap (λ (v : TrialVideoSeen). frame_of v.shape) made ∙ frame_is s.parts c.picture_shape-shape.result c.picture_shape-shape.ensures) (ap (λ (v : TrialVideoSeen). v.seed) made) (ap (λ (v : TrialVideoSeen). v.pictures) made)
     c.in-Ok-started.ensures.starts.0 c.requires.empty c.requires.room c.in-Ok-started.ensures.starts.2
 
 pub want_of-requires : goal.want_of-requires

@@ -4,7 +4,7 @@ use Rattle.slice_geometry.specs.Slicing.{slice_count}
 use Rattle.sequence_header.specs.Coding.{IsShapeOf}
 use Rattle.picture_codec.specs.Samples.{PictureSamples, PictureSeen}
 use Rattle.picture_codec.specs.Encoding.{slices_of}
-use Rattle.trial_video.specs.Video.{VideoSeen}
+use Rattle.trial_video.specs.Video.{TrialVideoSeen}
 use Rattle.stream_rows.specs.Streams.{frame_under}
 use Rattle.vc2_words.specs.Shown.{shown}
 use Rattle.vc2_cli.proofs.EncodeReplies.{some_slices}
@@ -35,7 +35,7 @@ loop-n-preserved c =
     let shape : c.next.new.picture.shape ≡ l.picture.shape = ap (λ (x : PictureSeen). x.shape) c.next.ensures.picture in
     record {
       pictures = subst (λ (x : PictureShape). IsShapeOf x (shown a.settings.now).parts) (sym shape) l.invariant.pictures;
-      shape = shape ∙ l.invariant.shape ∙ sym (ap (λ (v : VideoSeen). v.shape) c.next.ensures.after);
+      shape = shape ∙ l.invariant.shape ∙ sym (ap (λ (v : TrialVideoSeen). v.shape) c.next.ensures.after);
       begun =
           written_more (shown a.settings.now) a.part c.requires.lawful l._n l.video w l.sink b c.loop-n-test.true p is c.next.new.self c.picture-written.new.self c.picture-written.new.sink
           (some_slices (shown a.settings.now) c.requires.lawful.settings.params) c.next.ensures.after (c.in-Ok.ensures.picture b.stands.going);

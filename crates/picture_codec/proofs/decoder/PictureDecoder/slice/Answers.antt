@@ -6,7 +6,7 @@ use Rattle.slice_geometry.proofs.Shares.{share_most, some_share}
 use Rattle.slice_decoder.specs.Slice.{slice_at}
 use Rattle.slice_decoder.specs.Decoded.{AreReady, AllKeepOthers, IsDecoded}
 use Rattle.transform_params.specs.Views.{params_of}
-use Rattle.picture_codec.specs.Decoding.{Decoding, IsTaken, wanted_of}
+use Rattle.picture_codec.specs.Decoding.{PictureDecoderSeen, IsTaken, wanted_of}
 use Rattle.picture_codec.proofs.Tables.{row_below}
 use Rattle.picture_codec.proofs.Steps.{all_ready, all_same, all_more, takes_each}
 use Rattle.picture_codec.proofs.Whole.{wanted_some}
@@ -109,8 +109,8 @@ returns-in-Ok c =
     (subst (λ (sh : PictureShape). AllKeepOthers s sh (n % across) (n / across) old new) c.shape.ensures c.in-Ok.ensures.others) in
     let decoded = subst (λ a. IsDecoded s shape (n % a) (n / a) matrix (slice_at s shape.luma shape.colour (n % a) (n / a) bytes) head new) c.slices_x-across.ensures.value
     (subst (λ (sh : PictureShape). IsDecoded s sh (n % across) (n / across) matrix (slice_at s sh.luma sh.colour (n % across) (n / across) bytes) head new) c.shape.ensures c.in-Ok.ensures.decoded) in
-    let after : Decoding = record { shape = shape; params = p; bands = new; next = n + 1; refused = c.self.inside.refused; picture = if c.self.inside.finished then Some c.self.inside.picture.samples else None } in
-    subst (λ (d : Decoding). IsTaken bytes d after) c.self.view_is
+    let after : PictureDecoderSeen = record { shape = shape; params = p; bands = new; next = n + 1; refused = c.self.inside.refused; picture = if c.self.inside.finished then Some c.self.inside.picture.samples else None } in
+    subst (λ (d : PictureDecoderSeen). IsTaken bytes d after) c.self.view_is
     (record {
       state = refl;
       fits = decoded.fits;

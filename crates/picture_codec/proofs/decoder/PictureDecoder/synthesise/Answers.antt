@@ -3,7 +3,7 @@ use Rattle.slice_geometry.specs.declared.PictureShape.{PictureShape}
 use Rattle.slice_geometry.specs.Slicing.{slice_count, slice_bytes}
 use Rattle.slice_geometry.specs.Frames.{frame_of}
 use Rattle.picture_codec.specs.Samples.{picture_of}
-use Rattle.picture_codec.specs.Decoding.{Decoding, AreTaken, HasTaken, wanted_of, synthesised_picture}
+use Rattle.picture_codec.specs.Decoding.{PictureDecoderSeen, AreTaken, HasTaken, wanted_of, synthesised_picture}
 use Rattle.picture_codec.proofs.Whole.{unit_is, wanted_none}
 use Rattle.picture_codec.proofs.decoder.PictureDecoder.synthesise.Goals as goal
 
@@ -45,5 +45,5 @@ returns-clause-unit c =
     let taken = c.self.invariant.taken in
     let none = ap wanted_of c.self.view_is ∙ c.requires.whole in
     let all : n ≡ slice_count s = omega (arith, taken.few, wanted_none n (slice_count s) (slice_bytes s.a s.b n) none) in
-    subst (λ (d : Decoding). (slices : List (List ℕ)) → HasTaken slices d → synthesised_picture d ≡ picture_of (frame_of d.shape) d.params slices) c.self.view_is
+    subst (λ (d : PictureDecoderSeen). (slices : List (List ℕ)) → HasTaken slices d → synthesised_picture d ≡ picture_of (frame_of d.shape) d.params slices) c.self.view_is
     (λ slices has. unit_is _ slices n c.show.ensures.allowed taken has (sym has.number ∙ all))

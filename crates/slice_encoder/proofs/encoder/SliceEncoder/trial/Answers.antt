@@ -2,7 +2,7 @@ use Rattle.std.proofs.Common.{◌≡◌, ◌∙◌, ap, subst}
 use Rattle.slice_encoder.specs.Trials.{CodedPicture, Lists}
 use Rattle.slice_encoder.specs.Tries.{AreTried, tried_lists}
 use Rattle.slice_encoder.specs.Ready.{coded_picture}
-use Rattle.slice_encoder.specs.Encoded.{EncoderSeen, share_of, trial_of}
+use Rattle.slice_encoder.specs.Encoded.{SliceEncoderSeen, share_of, trial_of}
 use Rattle.slice_encoder.proofs.Continues.{lists_go_on, go_on}
 use Rattle.slice_encoder.proofs.Encoding.{sizes_of, trial_is}
 use Rattle.slice_encoder.proofs.encoder.SliceEncoder.trial.Goals as goal
@@ -11,7 +11,7 @@ pub returns-clause-answer : goal.returns-clause-answer
 returns-clause-answer c =
     let a = c.args in
     let e = c.self.inside in
-    subst (λ (s : EncoderSeen). record { luma_need = c.try_at-trying.result.luma_need; colour_need = c.try_at-trying.result.colour_need; fits = c.try_at-trying.result.fits }
+    subst (λ (s : SliceEncoderSeen). record { luma_need = c.try_at-trying.result.luma_need; colour_need = c.try_at-trying.result.colour_need; fits = c.try_at-trying.result.fits }
     ≡ trial_of (share_of s.slicing a.sx a.sy) (tried_lists (coded_picture s.slicing s.shape a.matrix.now a.coefficients.now) a.kept.now a.sx a.sy a.qindex)) c.self.view_is
     (trial_is c.share_of-bytes.result _ (tried_lists (coded_picture e.layout e.shape a.matrix.now a.coefficients.now) a.kept.now a.sx a.sy a.qindex) c.try_at-trying.result _ _ c.share_of-bytes.ensures.value c.try_at-trying.ensures.holds)
 
@@ -20,7 +20,7 @@ returns-clause-after c = λ indices next kept.
     let a = c.args in
     let j : CodedPicture = coded_picture a.self.now.slicing a.self.now.shape a.matrix.now a.coefficients.now in
     let sizes = sizes_of j a.sx a.sy a.kept.now c.requires.ready in
-    let tries = subst (λ (s : EncoderSeen). AreTried (coded_picture s.slicing s.shape a.matrix.now a.coefficients.now) a.sx a.sy a.qindex a.kept.now c.try_at-trying.new.kept) c.self.view_is c.try_at-trying.ensures.kept in
+    let tries = subst (λ (s : SliceEncoderSeen). AreTried (coded_picture s.slicing s.shape a.matrix.now a.coefficients.now) a.sx a.sy a.qindex a.kept.now c.try_at-trying.new.kept) c.self.view_is c.try_at-trying.ensures.kept in
     record {
       answer = returns-clause-answer c ∙ ap (λ (l : Lists). trial_of (share_of j.slicing a.sx a.sy) l) (lists_go_on j indices a.sx a.sy a.qindex a.kept.now next sizes kept);
       values = (go_on j indices a.sx a.sy a.qindex a.kept.now c.try_at-trying.new.kept next sizes kept tries).1;

@@ -3,18 +3,18 @@ use Rattle.std.specs.Prelude.{slice_index}
 use Rattle.slice_geometry.specs.SliceOrder.{level_of, orient_of}
 use Rattle.quant_factors.specs.Weights.{band_quantiser}
 use Rattle.quant_factors.proofs.Quantisers.{index_here}
-use Rattle.slice_encoder.specs.Gathering.{GatheredBands, IsSound, quantised, quantised_piece, in_turn}
+use Rattle.slice_encoder.specs.Gathering.{GatheredSeen, IsSound, quantised, quantised_piece, in_turn}
 use Rattle.slice_encoder.proofs.Gathers.{band_listed}
 use Rattle.slice_encoder.proofs.gathered.Gathered.list_pair.Goals as goal
 
 pub loop-k-preserved : goal.loop-k-preserved
 loop-k-preserved c =
     let a = c.args in
-    let g : GatheredBands = a.self.now in
-    let h : GatheredBands = a.second.now in
+    let g : GatheredSeen = a.self.now in
+    let h : GatheredSeen = a.second.now in
     let l = c.loop-k in
     let k = l.k in
-    let same_depth : c.self.inside.depth ≡ g.depth = ap (λ (v : GatheredBands). v.depth) c.self.view_is in
+    let same_depth : c.self.inside.depth ≡ g.depth = ap (λ (v : GatheredSeen). v.depth) c.self.view_is in
     let sound : IsSound g = subst IsSound c.self.view_is c.self.invariant in
     let rise = sound.rise k l.invariant.some (omega (arith, same_depth, c.loop-k-test.true)) in
     let back : k + 1 - 1 ≡ k = omega arith in

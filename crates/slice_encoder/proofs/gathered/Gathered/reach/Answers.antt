@@ -3,16 +3,16 @@ use Rattle.std.specs.Prelude.{slice_index}
 use Rattle.slice_geometry.specs.SliceOrder.{level_of, orient_of}
 use Rattle.quant_factors.specs.Weights.{band_quantiser}
 use Rattle.quant_factors.proofs.Quantisers.{index_here}
-use Rattle.slice_encoder.specs.Gathering.{GatheredBands, IsSound, quantised, quantised_piece, reach}
+use Rattle.slice_encoder.specs.Gathering.{GatheredSeen, IsSound, quantised, quantised_piece, reach}
 use Rattle.slice_encoder.proofs.Gathers.{reach_band}
 use Rattle.slice_encoder.proofs.gathered.Gathered.reach.Goals as goal
 
 pub loop-passed-preserved : goal.loop-passed-preserved
 loop-passed-preserved c =
     let a = c.args in
-    let g : GatheredBands = a.self.now in
+    let g : GatheredSeen = a.self.now in
     let l = c.loop-passed in
-    let same_depth : c.self.inside.depth ≡ g.depth = ap (λ (v : GatheredBands). v.depth) c.self.view_is in
+    let same_depth : c.self.inside.depth ≡ g.depth = ap (λ (v : GatheredSeen). v.depth) c.self.view_is in
     let k : ℕ = 3 * c.self.inside.depth - l.passed in
     let n : ℕ = 3 * g.depth in
     let here : k ≡ n - l.passed = omega (arith, same_depth) in

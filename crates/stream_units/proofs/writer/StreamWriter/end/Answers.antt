@@ -1,11 +1,11 @@
 use Rattle.std.proofs.Common.{◌≡◌, [], ◌∷◌, ◌++◌, true, Some, Ok, Err, ap, subst, ◌∙◌, arith}
 use Rattle.std.specs.Io.KnownBytes.{Appends}
-use Rattle.slice_geometry.specs.Units as shapes
+use Rattle.slice_geometry.specs.UnitLengths as shapes
 use Rattle.transform_params.specs.Views.{params_of}
 use Rattle.vc2_io.specs.Outside.{GrewShort}
 use Rattle.stream_units.specs.declared.write_stop.WriteStop.TheVariants.{OutFault}
-use Rattle.stream_units.specs.Encoded.{end_unit}
-use Rattle.stream_units.specs.Writer.{WriterState, WritesEnd, plain_shape, total_length}
+use Rattle.stream_units.specs.EncodedStream.{end_unit}
+use Rattle.stream_units.specs.Writer.{StreamWriterSeen, WritesEnd, plain_shape, total_length}
 use Rattle.stream_units.proofs.WrittenShapes.{sound_plain}
 use Rattle.stream_units.proofs.writer.StreamWriter.end.Goals as goal
 
@@ -24,8 +24,8 @@ pub returns-clause-end : goal.returns-clause-end
 returns-clause-end g c no_stop =
     let out0 = g.K.Sink.written c.args.sink.now in
     let out1 = g.K.Sink.written c.write_whole.new.sink in
-    let old : WriterState = record { settings = record { parts = c.self.inside.header; params = params_of c.self.inside.params; first = c.self.inside.first }; shapes = c.self.inside.shapes.units; ended = c.self.inside.ended; stop = c.self.inside.stop } in
-    let new : WriterState = record { settings = record { parts = c.self.inside.header; params = params_of c.self.inside.params; first = c.self.inside.first }; shapes = c.push.new.self.units; ended = true; stop = c.self.inside.stop } in
+    let old : StreamWriterSeen = record { settings = record { parts = c.self.inside.header; params = params_of c.self.inside.params; first = c.self.inside.first }; shapes = c.self.inside.shapes.units; ended = c.self.inside.ended; stop = c.self.inside.stop } in
+    let new : StreamWriterSeen = record { settings = record { parts = c.self.inside.header; params = params_of c.self.inside.params; first = c.self.inside.first }; shapes = c.push.new.self.units; ended = true; stop = c.self.inside.stop } in
     let list : c.push.new.self.units ≡ c.self.inside.shapes.units ++ plain_shape (total_length c.self.inside.shapes.units) 13 ∷ [] =
     c.push.ensures.units ∙ ap (λ l. l ++ c.plain_shape.result ∷ []) c.reserve.ensures.units ∙ ap (λ u. c.self.inside.shapes.units ++ u ∷ []) c.plain_shape.ensures
     ∙ ap (λ n. c.self.inside.shapes.units ++ plain_shape n 13 ∷ []) (c.place.ensures.value ∙ c.self.invariant.0.place ∙ c.self.invariant.0.total) in
@@ -41,8 +41,8 @@ pub returns-in-Err-clause-end : goal.returns-in-Err-clause-end
 returns-in-Err-clause-end g c no_stop =
     let out0 = g.K.Sink.written c.args.sink.now in
     let out1 = g.K.Sink.written c.write_whole.new.sink in
-    let old : WriterState = record { settings = record { parts = c.self.inside.header; params = params_of c.self.inside.params; first = c.self.inside.first }; shapes = c.self.inside.shapes.units; ended = c.self.inside.ended; stop = c.self.inside.stop } in
-    let new : WriterState = record old { shapes = c.reserve.new.self.units; stop = Some OutFault } in
+    let old : StreamWriterSeen = record { settings = record { parts = c.self.inside.header; params = params_of c.self.inside.params; first = c.self.inside.first }; shapes = c.self.inside.shapes.units; ended = c.self.inside.ended; stop = c.self.inside.stop } in
+    let new : StreamWriterSeen = record old { shapes = c.reserve.new.self.units; stop = Some OutFault } in
     let unit : c.end_unit-unit.result ≡ end_unit c.self.inside.chain.previous = c.end_unit-unit.ensures ∙ ap end_unit c.previous.ensures in
     let here : WritesEnd old new out0 out1 (Err OutFault) = record {
       wrote = subst (λ l. GrewShort out0 out1 l) (unit ∙ ap end_unit c.self.invariant.0.previous) (c.in-Err.ensures.err);

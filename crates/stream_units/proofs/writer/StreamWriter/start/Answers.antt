@@ -2,7 +2,7 @@ use Rattle.std.proofs.Common.{◌+◌, [], ◌∷◌, ◌++◌, ap, subst, ◌�
 use Rattle.std.specs.Io.KnownBytes.{Appends}
 use Rattle.vc2_io.specs.Outside.{GrewShort}
 use Rattle.transform_params.specs.Views.{params_of}
-use Rattle.stream_units.specs.Encoded.{Settings}
+use Rattle.stream_units.specs.EncodedStream.{Settings}
 use Rattle.stream_units.specs.Writer.{started, plain_shape}
 use Rattle.stream_units.proofs.SameShapes.{steep_under}
 use Rattle.stream_units.proofs.writer.StreamWriter.start.Goals as goal

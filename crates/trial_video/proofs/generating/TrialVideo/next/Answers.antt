@@ -4,7 +4,7 @@ use Rattle.slice_geometry.specs.declared.Component.TheVariants.{Luma, C1, C2}
 use Rattle.slice_geometry.specs.Frames.{frame_of}
 use Rattle.picture_codec.specs.Samples.{shown}
 use Rattle.raw_video.specs.RawParse.{luma_count, colour_count}
-use Rattle.trial_video.specs.Video.{VideoSeen, state_at, video_rows, picture_count, video_picture}
+use Rattle.trial_video.specs.Video.{TrialVideoSeen, state_at, video_rows, picture_count, video_picture}
 use Rattle.trial_video.proofs.States.{picture_steps}
 use Rattle.trial_video.proofs.Whole.{picture_is}
 use Rattle.trial_video.proofs.generating.TrialVideo.next.Goals as goal
@@ -15,7 +15,7 @@ invariant_of-self c =
     let one = c.fill_component-luma in
     let two = c.fill_component-c1 in
     let three = c.fill_component-self-inside in
-    let same : c.args.picture.now.shape ≡ v.shape = c.requires.shape ∙ sym (ap (λ (x : VideoSeen). x.shape) c.self.view_is) in
+    let same : c.args.picture.now.shape ≡ v.shape = c.requires.shape ∙ sym (ap (λ (x : TrialVideoSeen). x.shape) c.self.view_is) in
     let s1 = one.ensures.state ∙ ap (λ (x : PictureShape). state_at v.state (luma_count (frame_of x))) same in
     let s2 = two.ensures.state ∙ ap (λ (x : PictureShape). state_at one.result (colour_count (frame_of x))) (one.ensures.same_shape ∙ same) in
     let s3 = three.ensures.state ∙ ap (λ (x : PictureShape). state_at two.result (colour_count (frame_of x))) (two.ensures.same_shape ∙ one.ensures.same_shape ∙ same) in
@@ -30,7 +30,7 @@ returns-clause-picture c =
     let three = c.fill_component-self-inside in
     let p3 = three.new.picture in
     let first = v.pictures * picture_count f in
-    let same : c.args.picture.now.shape ≡ v.shape = c.requires.shape ∙ sym (ap (λ (x : VideoSeen). x.shape) c.self.view_is) in
+    let same : c.args.picture.now.shape ≡ v.shape = c.requires.shape ∙ sym (ap (λ (x : TrialVideoSeen). x.shape) c.self.view_is) in
     let same1 : one.new.picture.shape ≡ v.shape = one.ensures.same_shape ∙ same in
     let same2 : two.new.picture.shape ≡ v.shape = two.ensures.same_shape ∙ same1 in
     let s1 = one.ensures.state ∙ ap (λ (x : PictureShape). state_at v.state (luma_count (frame_of x))) same in
@@ -46,5 +46,5 @@ returns-clause-picture c =
     let c2 : shown p3 C2 ≡ (video_picture f v.seed v.pictures).c2 =
     three.ensures.rows v.seed (first + luma_count f + colour_count f) steps.1
     ∙ ap (λ (x : PictureShape). video_rows v.seed v.pictures (first + luma_count f + colour_count f) x.colour_depth x.colour) same2 in
-    subst (λ (x : VideoSeen). p3 ≡ record { shape = c.args.picture.now.shape; samples = video_picture (frame_of x.shape) x.seed x.pictures }) c.self.view_is
+    subst (λ (x : TrialVideoSeen). p3 ≡ record { shape = c.args.picture.now.shape; samples = video_picture (frame_of x.shape) x.seed x.pictures }) c.self.view_is
     (picture_is p3 c.args.picture.now.shape (video_picture f v.seed v.pictures) (three.ensures.same_shape ∙ two.ensures.same_shape ∙ one.ensures.same_shape) luma c1 c2)

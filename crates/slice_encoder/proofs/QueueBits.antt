@@ -1,0 +1,104 @@
+-- Bits that are put into bytes one after another.
+use Rattle.std.proofs.Common.{◌≡◌, ◌∙◌, refl, sym, ap, subst, ℕ, zero, suc, ◌+◌, ◌-◌, ◌*◌, ◌/◌, ◌%◌, ◌^◌, ◌<◌, ◌≤◌, min, Bool, true, false, List, [], ◌∷◌, ◌++◌, length, take, replicate, bit_and, slice_set, append_assoc, arith, inl, inr}
+use Rattle.std.specs.Int.{bit_at}
+use Rattle.std.specs.Prelude.{◌==◌}
+use Rattle.std.proofs.lemmas.Bool.{cases_lt}
+use Rattle.std.proofs.lemmas.Nat.{pow-add, pow_pos, shr_split, div_below, mul-add-lt}
+use Rattle.std.proofs.lemmas.Nat.Bits.{bit_at_cat_low, bit_at_cat_high, bit_at_ones, bit_at-lt, shr_and_one}
+use Rattle.std.proofs.lemmas.List.{take_all, take_more_set}
+use Rattle.std.proofs.Math.Seq.{take-append_seam}
+use Rattle.std.proofs.Math.Nat.{pow-le-pow_right}
+use Rattle.bit_codes.specs.Bits.{bit, bits_of, digits_below}
+use Rattle.bit_codes.proofs.Numbers.{bits_of-append}
+use Rattle.bit_codes.proofs.CodeOf.{length-digits_below}
+use Rattle.slice_encoder.specs.BitQueues.{bits_so_far}
+
+-- ---- digits
+
+digits_low : (c q r k : ℕ) → k ≤ c → digits_below k (q * 2 ^ c + r) ≡ digits_below k r
+digits_low c q r zero le = refl
+digits_low c q r (suc k) le =
+    ap (λ (d : ℕ). (d == 1) ∷ digits_below k (q * 2 ^ c + r)) (bit_at_cat_low q c r k (omega arith)) ∙ ap (λ (t : List Bool). bit r k ∷ t) (digits_low c q r k (omega arith))
+
+-- the digits of a number, and behind them those of another
+pub digits_join : (a c q r : ℕ) → r < 2 ^ c → digits_below (a + c) (q * 2 ^ c + r) ≡ digits_below a q ++ digits_below c r
+digits_join zero c q r lt =
+    let none : 0 + c ≡ c = omega arith in
+    ap (λ (n : ℕ). digits_below n (q * 2 ^ c + r)) none ∙ digits_low c q r c (omega arith)
+digits_join (suc a) c q r lt =
+    let up : suc a + c ≡ suc (a + c) = omega arith in
+    let back : a + c - c ≡ a = omega arith in
+    ap (λ (n : ℕ). digits_below n (q * 2 ^ c + r)) up
+    ∙ ap (λ (d : ℕ). (d == 1) ∷ digits_below (a + c) (q * 2 ^ c + r)) (bit_at_cat_high q c r (a + c) lt (omega arith) ∙ ap (bit_at q) back)
+    ∙ ap (λ (t : List Bool). bit q a ∷ t) (digits_join a c q r lt)
+
+-- and apart again
+pub digits_split : (a c n : ℕ) → digits_below (a + c) n ≡ digits_below a (n / 2 ^ c) ++ digits_below c (n % 2 ^ c)
+digits_split a c n = ap (λ (m : ℕ). digits_below (a + c) m) (sym (shr_split n c)) ∙ digits_join a c (n / 2 ^ c) (n % 2 ^ c) (let some = pow_pos c in omega (arith, some))
+
+-- the first digits alone
+pub digits_cut : (n fit left number unit : ℕ) → fit ≡ min n left → unit ≡ 2 ^ (n - fit) → digits_below fit (number / unit) ≡ take left (digits_below n number)
+digits_cut n fit left number unit fit_is unit_is = elim (cases_lt left n) as (λ _. digits_below fit (number / unit) ≡ take left (digits_below n number)) [
+  | inl short ↦
+      let all : n ≡ fit + (n - fit) = omega (arith, fit_is) in
+      let high = digits_below fit (number / 2 ^ (n - fit)) in
+      let low = digits_below (n - fit) (number % 2 ^ (n - fit)) in
+      let here : left ≡ length high = omega (arith, fit_is, length-digits_below fit (number / 2 ^ (n - fit))) in
+      ap (λ (u : ℕ). digits_below fit (number / u)) unit_is
+      ∙ sym (ap (λ (k : ℕ). take k (high ++ low)) here ∙ take-append_seam high low)
+      ∙ sym (ap (λ (t : List Bool). take left t) (ap (λ (k : ℕ). digits_below k number) all ∙ digits_split fit (n - fit) number))
+  | inr long ↦
+      let same : fit ≡ n = omega (arith, fit_is) in
+      let none : n - fit ≡ 0 = omega (arith, fit_is) in
+      let one : unit ≡ 1 = unit_is ∙ ap (λ (k : ℕ). 2 ^ k) none in
+      let whole : number / 1 ≡ number = omega arith in
+      ap (λ (k : ℕ). digits_below k (number / unit)) same
+      ∙ ap (λ (u : ℕ). digits_below n (number / u)) one
+      ∙ ap (λ (m : ℕ). digits_below n m) whole
+      ∙ sym (take_all left (digits_below n number) (omega (arith, length-digits_below n number)))
+]
+
+ones_below : (n k : ℕ) → k ≤ n → digits_below k (2 ^ n - 1) ≡ replicate k true
+ones_below n zero le = refl
+ones_below n (suc k) le = ap (λ (d : ℕ). (d == 1) ∷ digits_below k (2 ^ n - 1)) (bit_at_ones n k (omega arith)) ∙ ap (λ (t : List Bool). true ∷ t) (ones_below n k (omega arith))
+
+pub digits_ones : (n : ℕ) → digits_below n (2 ^ n - 1) ≡ replicate n true
+digits_ones n = ones_below n n (omega arith)
+
+-- a bit of a number, behind a zero
+two_digits : (d : ℕ) → d < 2 → digits_below 2 d ≡ false ∷ (d == 1) ∷ []
+two_digits zero lt = refl
+two_digits (suc zero) lt = refl
+two_digits (suc (suc d)) lt = absurd (omega arith)
+
+pub zero_and_bit : (n k : ℕ) → digits_below 2 (bit_and (n / 2 ^ k) 1) ≡ false ∷ bit n k ∷ []
+zero_and_bit n k = ap (digits_below 2) (shr_and_one n k) ∙ two_digits (bit_at n k) (bit_at-lt n k)
+
+-- ---- powers
+
+pub unit_is : (n : ℕ) → n < 64 → 1 * 2 ^ n % 18446744073709551616 ≡ 2 ^ n
+unit_is n lt =
+    let small : 2 ^ n ≤ 2 ^ 63 = pow-le-pow_right {n = 2} (omega arith) {i = n} {j = 63} (omega arith) in
+    omega (arith, small)
+
+pub high_part_fits : (a c n : ℕ) → n < 2 ^ (a + c) → n / 2 ^ c < 2 ^ a
+high_part_fits a c n lt = div_below n (2 ^ c) (2 ^ a) (pow_pos c) (subst (λ (m : ℕ). n < m) (pow-add 2 a c) lt)
+
+pub joined_fits : (a c q r : ℕ) → q < 2 ^ a → r < 2 ^ c → q * 2 ^ c + r < 2 ^ (a + c)
+joined_fits a c q r high low =
+    let turned : c + a ≡ a + c = omega arith in
+    subst (λ (m : ℕ). q * 2 ^ c + r < m) (sym (pow-add 2 c a) ∙ ap (λ (n : ℕ). 2 ^ n) turned) (mul-add-lt q (2 ^ c) r (2 ^ a) high low)
+
+-- ---- a byte
+
+pub byte_stored : (bytes : List ℕ) (whole count number : ℕ) → whole < length bytes → 8 ≤ count
+    → bits_so_far (slice_set bytes whole (number / 2 ^ (count - 8))) (record { whole = whole + 1; count = count - 8; number = number % 2 ^ (count - 8) }) ≡ bits_so_far bytes (record { whole = whole; count = count; number = number })
+byte_stored bytes whole count number lt eight =
+    let k : ℕ = count - 8 in
+    let q : ℕ = number / 2 ^ k in
+    let low = digits_below k (number % 2 ^ k) in
+    let all : count ≡ 8 + k = omega arith in
+    ap (λ (t : List ℕ). bits_of t ++ low) (take_more_set bytes whole q lt)
+    ∙ ap (λ (t : List Bool). t ++ low) (bits_of-append (take whole bytes) (q ∷ []))
+    ∙ append_assoc (bits_of (take whole bytes)) (digits_below 8 q) low
+    ∙ ap (λ (t : List Bool). bits_of (take whole bytes) ++ t) (sym (ap (λ (n : ℕ). digits_below n number) all ∙ digits_split 8 k number))

@@ -1,0 +1,86 @@
+// Bits put into bytes one after another, whole bytes at a time.
+
+ghost use Rattle.std.specs.Prelude.{◌≡◌, ◌+◌, ◌*◌, ◌^◌, ◌<◌, ◌≤◌, ◌++◌, length};
+ghost use Rattle.bit_codes.specs.Bits.{bits_of, digits_below};
+ghost use Rattle.slice_encoder.specs.BitQueues.{bits_so_far, IsQueue};
+
+/// How far some bytes are written: whole bytes, and the bits behind them that wait in a number until they fill some.
+#[derive(Clone, Copy, Debug, PartialEq, Eq)]
+pub struct BitQueue {
+    pub whole: usize,
+    pub count: u32,
+    pub number: u64,
+}
+
+// Stores the first eight of the bits that wait.
+#[inline(always)]
+fn store_byte(bytes: &mut [u8], queue: BitQueue) -> BitQueue
+    requires eight { 8 ≤ queue.count }
+    requires queue { IsQueue (length bytes.old) queue }
+    ensures queue { IsQueue (length bytes.old) result }
+    ensures count { result.count + 8 ≡ queue.count }
+    ensures place { 8 * result.whole + result.count ≡ 8 * queue.whole + queue.count }
+    ensures text { bits_so_far bytes.new result ≡ bits_so_far bytes.old queue }
+{
+    let count = queue.count - 8;
+    let unit = 1 << count;
+    bytes[queue.whole] = (queue.number / unit) as u8;
+    BitQueue {
+        whole: queue.whole + 1,
+        count,
+        number: queue.number % unit,
+    }
+}
+
+// Puts the last `n` binary digits of a number behind those that wait.
+#[inline(always)]
+fn waiting(queue: BitQueue, number: u64, n: u32) -> BitQueue
+    requires few { queue.count + n < 64 }
+    requires small { number < 2 ^ n }
+    requires waits { queue.number < 2 ^ queue.count }
+    ensures whole { result.whole ≡ queue.whole }
+    ensures count { result.count ≡ queue.count + n }
+    ensures number { result.number < 2 ^ result.count }
+    ensures text { digits_below result.count result.number ≡ digits_below queue.count queue.number ++ digits_below n number }
+{
+    BitQueue {
+        whole: queue.whole,
+        count: queue.count + n,
+        number: queue.number * (1 << n) + number,
+    }
+}
+
+/// Puts the last `n` binary digits of a number into the queue.
+#[inline(always)]
+pub fn put_bits(bytes: &mut [u8], queue: BitQueue, number: u64, n: u32) -> BitQueue
+    requires few { n ≤ 32 }
+    requires small { number < 2 ^ n }
+    requires queue { IsQueue (length bytes.old) queue }
+    requires waits { queue.count < 32 }
+    requires room { 8 * queue.whole + queue.count + n ≤ 8 * length bytes.old }
+    ensures queue { IsQueue (length bytes.old) result }
+    ensures waits { result.count < 32 }
+    ensures place { 8 * result.whole + result.count ≡ 8 * queue.whole + queue.count + n }
+    ensures text { bits_so_far bytes.new result ≡ bits_so_far bytes.old queue ++ digits_below n number }
+{
+    let more = waiting(queue, number, n);
+    if more.count < 32 {
+        return more;
+    }
+    let one = store_byte(bytes, more);
+    let two = store_byte(bytes, one);
+    let three = store_byte(bytes, two);
+    store_byte(bytes, three)
+}
+
+/// Stores all the bits that wait, where these are the last ones of the bytes.
+pub fn store_rest(bytes: &mut [u8], queue: BitQueue)
+    requires queue { IsQueue (length bytes.old) queue }
+    requires all { 8 * queue.whole + queue.count ≡ 8 * length bytes.old }
+    ensures { bits_of bytes.new ≡ bits_so_far bytes.old queue }
+{
+    let mut queue = queue;
+    while queue.count > 0 {
+        queue = store_byte(bytes, queue);
+    }
+}

@@ -1,0 +1,4 @@
+pub mod Asking
+pub mod Stops
+pub mod Reading
+pub mod Taking
