@@ -1,5 +1,7 @@
 -- Bands of 32 bits, and those of 64 bits that take their place.
-use Rattle.planes.specs.Subbands.{AgreeInSizes}
+use Rattle.std.specs.Prelude.{◌≡◌, Bool, true}
+use Rattle.planes.specs.Subbands.{AgreeInSizes, AreZeroBands}
+use Rattle.planes.specs.declared.LateTrio.{LateTrio}
 use Rattle.planes.specs.declared.Trio.{Trio}
 use Rattle.planes.specs.declared.NarrowTrio.{NarrowTrio}
 use Rattle.slice_decoder.specs.Narrow.{AreNarrowBands}
@@ -14,7 +16,23 @@ pub record AllAgree (narrow : NarrowTrio) (wide : Trio) : Type 0 where
 abbrev pub narrow_of : Trio → NarrowTrio
 narrow_of b = record { luma = b.luma; c1 = b.c1; c2 = b.c2 }
 
--- what is kept: those of 32 bits hold no magnitude above 2 ^ 18, and those of 64 have their sizes
-pub record AreKept (narrow : NarrowTrio) (wide : Trio) : Type 0 where
+-- what is seen of those of 64 bits: the bands, and whether they are made
+pub record WideSeen : Type 0 where
+  pub bands : Trio
+  pub is_made : Bool
+
+-- the bands that a memory is for
+abbrev pub late_of : LateTrio → Trio
+late_of b = record { luma = b.luma; c1 = b.c1; c2 = b.c2 }
+
+-- in whose place they are made: as many bands, of no rows and no columns
+pub record AreRowless (late : LateTrio) (made : Trio) : Type 0 where
+  pub luma : AreZeroBands made.luma late.luma.depth 0 0
+  pub c1 : AreZeroBands made.c1 late.c1.depth 0 0
+  pub c2 : AreZeroBands made.c2 late.c2.depth 0 0
+
+-- what is kept: those of 32 bits hold no magnitude above 2 ^ 18, and those of 64 have their sizes, and are made where they serve
+pub record AreKept (narrow : NarrowTrio) (wide : WideSeen) (is_wide : Bool) : Type 0 where
   pub small : AreNarrowBands narrow
-  pub sizes : AllAgree narrow wide
+  pub sizes : AllAgree narrow wide.bands
+  pub made : is_wide ≡ true → wide.is_made ≡ true

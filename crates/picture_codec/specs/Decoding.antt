@@ -23,6 +23,8 @@ use Rattle.slice_decoder.specs.declared.SliceFault.{SliceFault}
 use Rattle.slice_decoder.specs.Slice.{Slice, slice_at, is_small}
 use Rattle.slice_decoder.specs.Decoded.{AllKeepOthers, IsRefused}
 use Rattle.picture_codec.specs.Taking.{holder, Took, TakesSlice}
+use Rattle.picture_codec.specs.declared.workspace.LateWorkspace.{LateWorkspace}
+use Rattle.picture_codec.specs.declared.workspace.NarrowWorkspace.{NarrowWorkspace}
 
 -- ---- what is seen of a decoder
 
@@ -86,6 +88,16 @@ pub record ArePadded (s : Slicing) (size : Size) (plane scratch : Raster ℤ) : 
   pub scratch_columns : scratch.w ≡ padded_length s.depth size.w
   pub scratch_rows : height scratch ≡ padded_length s.depth size.h
 
+-- where room isn't made, there are planes of no rows, in whose place it is
+abbrev pub IsRowless : LateWorkspace → Type 0
+IsRowless w = w.is_made ≡ false → (height w.room.plane ≡ 0) × (height w.room.scratch ≡ 0)
+
+-- the room for a component's synthesis in 64 bits, or the memory for it
+pub record HasLateRoom (s : Slicing) (size : Size) (w : LateWorkspace) : Type 0 where
+  pub rowless : IsRowless w
+  pub made : w.is_made ≡ true → ArePadded s size w.room.plane w.room.scratch
+  pub late : w.is_made ≡ false → ArePadded s size w.late_plane w.late_scratch
+
 -- the room for a component's synthesis in 32 bits: half of its padded size each way, rows of that size, and three more
 pub record HasNarrowRoom (s : Slicing) (size : Size) (plane scratch : Raster ℤ) : Type 0 where
   pub columns : plane.w ≡ padded_length s.depth size.w / 2
@@ -144,12 +156,12 @@ pub record IsSliceRefused (bytes : List ℕ) (fault : SliceFault) (old new : Pic
 
 -- what a decoder keeps: the room for synthesis, and bands that the slices so far were taken into
 pub record IsSound (s : Slicing) (shape : PictureShape) (next : ℕ) (bands : Trio)
-    (luma_plane luma_scratch luma_narrow luma_narrow_scratch colour_plane colour_scratch colour_narrow colour_narrow_scratch : Raster ℤ) : Type 0 where
+    (luma_room colour_room : LateWorkspace) (luma_narrow colour_narrow : NarrowWorkspace) : Type 0 where
   pub taken : AllTaken s shape next bands
-  pub luma : ArePadded s shape.luma luma_plane luma_scratch
-  pub luma_in_32_bits : HasNarrowRoom s shape.luma luma_narrow luma_narrow_scratch
-  pub colour : ArePadded s shape.colour colour_plane colour_scratch
-  pub colour_in_32_bits : HasNarrowRoom s shape.colour colour_narrow colour_narrow_scratch
+  pub luma : HasLateRoom s shape.luma luma_room
+  pub luma_in_32_bits : HasNarrowRoom s shape.luma luma_narrow.plane luma_narrow.scratch
+  pub colour : HasLateRoom s shape.colour colour_room
+  pub colour_in_32_bits : HasNarrowRoom s shape.colour colour_narrow.plane colour_narrow.scratch
 
 -- A decoder that took these slices, in order, since it was made or last restarted.
 pub record HasTaken (slices : List (List ℕ)) (d : PictureDecoderSeen) : Type 0 where

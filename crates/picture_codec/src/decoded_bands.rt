@@ -8,15 +8,16 @@ ghost use Rattle.slice_decoder.specs.Slice.{slice_at};
 ghost use Rattle.slice_decoder.specs.Decoded.{AreReady, AllKeepOthers, IsDecoded, IsRefused};
 ghost use Rattle.slice_decoder.specs.Narrow.{trio_of, AreNarrowBands};
 ghost use Rattle.picture_codec.specs.Pictures as pictures;
-ghost use Rattle.picture_codec.specs.Decoding.{AreTaken, ArePadded, HasNarrowRoom, AreNewBands, stack_of, with_synthesised};
+ghost use Rattle.picture_codec.specs.Decoding.{AreTaken, HasLateRoom, HasNarrowRoom, AreNewBands, stack_of, with_synthesised};
 ghost use Rattle.picture_codec.specs.DecodedBands.{AllAgree, narrow_of};
 
 use crate::picture::Picture;
-use crate::workspace::{NarrowWorkspace, Workspace, narrow_zero_trio, size_of, zero_trio};
+use crate::wide_bands::WideBands;
+use crate::workspace::{LateWorkspace, NarrowWorkspace, narrow_zero_trio, size_of};
 use lifting::synth;
 use planes::{Bands, NarrowBands, NarrowTrio, NoMemory, Trio};
 use quant_factors::Matrix;
-use slice_decoder::{SliceFault, decode_narrow, decode_slice};
+use slice_decoder::{SliceFault, decode_narrow};
 use slice_geometry::{Component, Layout, PictureShape, SliceHead};
 use std::alloc::Global;
 use std::marker::Model;
@@ -32,18 +33,20 @@ const MOST_NARROW: i64 = 262144;
 fn show_in_64_bits(
     params: &TransformParams,
     bands: &Bands,
-    room: &mut Workspace,
+    late: &mut LateWorkspace,
     c: Component,
     picture: &mut Picture,
 )
     requires taken { AreTaken params.now.layout (pictures.size_of (frame_of picture.old.shape) c) (slice_count params.now.layout) bands.now }
-    requires room { ArePadded params.now.layout (pictures.size_of (frame_of picture.old.shape) c) room.old.plane room.old.scratch }
+    requires room { HasLateRoom params.now.layout (pictures.size_of (frame_of picture.old.shape) c) late.old }
     ensures picture { picture.new ≡ with_synthesised params.now.wavelet picture.old c bands.now }
-    ensures room { ArePadded params.now.layout (pictures.size_of (frame_of picture.old.shape) c) room.new.plane room.new.scratch }
+    ensures room { HasLateRoom params.now.layout (pictures.size_of (frame_of picture.old.shape) c) late.new }
     ensures allowed { IsAllowed params.now.layout }
 {
     // The rules of a layout and of a size.
     let _ = (params.layout.depth(), size_of(picture.shape(), c));
+    late.make();
+    let room = &mut late.room;
     synth(params.wavelet, bands, &mut room.plane, &mut room.scratch);
     picture.show(c, &room.plane);
 }
@@ -92,16 +95,6 @@ fn narrow_stack(bands: &NarrowTrio, c: Component) -> &NarrowBands
     }
 }
 
-// Gives the bands of 64 bits the numbers of those of 32.
-fn widen(narrow: &NarrowTrio, wide: &mut Trio)
-    requires { AllAgree narrow.now wide.old }
-    ensures { wide.new ≡ trio_of narrow.now }
-{
-    narrow.luma.widen(&mut wide.luma);
-    narrow.c1.widen(&mut wide.c1);
-    narrow.c2.widen(&mut wide.c2);
-}
-
 // Whether bands of 32 bits may hold all numbers.
 fn are_narrow(wide: &Trio) -> bool
     ensures { result ≡ true → AreNarrowBands (narrow_of wide.now) }
@@ -125,7 +118,7 @@ fn narrow(wide: &Trio, narrow: &mut NarrowTrio)
 #[derive(Drop)]
 pub struct DecodedBands {
     narrow: NarrowTrio,
-    wide: Trio,
+    wide: WideBands,
     is_wide: bool,
     buffer: Vec<i64>,
 }
@@ -138,9 +131,9 @@ impl Model for DecodedBands {
 
     ghost Value = { trio.Trio };
 
-    ghost view = { λ b. if b.is_wide then b.wide else trio_of b.narrow };
+    ghost view = { λ b. if b.is_wide then b.wide.bands else trio_of b.narrow };
 
-    ghost invariant = { λ b. AreKept b.narrow b.wide };
+    ghost invariant = { λ b. AreKept b.narrow b.wide b.is_wide };
 }
 
 impl DecodedBands {
@@ -154,7 +147,7 @@ impl DecodedBands {
     {
         Ok(DecodedBands {
             narrow: narrow_zero_trio(alloc, layout, shape)?,
-            wide: zero_trio(alloc, layout, shape)?,
+            wide: WideBands::new(alloc, layout, shape)?,
             is_wide: false,
             buffer: Vec::from_elem(alloc, 0i64, ROOM)?,
         })
@@ -183,7 +176,7 @@ impl DecodedBands {
         ensures others { AllKeepOthers layout.now shape.now sx sy self.old self.new }
     {
         if self.is_wide {
-            return decode_slice(layout, shape, matrix, sx, sy, bytes, &mut self.wide);
+            return self.wide.decode(layout, shape, matrix, sx, sy, bytes);
         }
         match decode_narrow(
             layout,
@@ -198,9 +191,9 @@ impl DecodedBands {
             Ok(Some(head)) => Ok(head),
             Err(fault) => Err(fault),
             Ok(None) => {
-                widen(&self.narrow, &mut self.wide);
+                self.wide.widen(&self.narrow);
                 self.is_wide = true;
-                decode_slice(layout, shape, matrix, sx, sy, bytes, &mut self.wide)
+                self.wide.decode(layout, shape, matrix, sx, sy, bytes)
             }
         }
     }
@@ -209,8 +202,8 @@ impl DecodedBands {
     pub(crate) fn settle(&mut self)
         ensures { self.new ≡ self.old }
     {
-        if self.is_wide && are_narrow(&self.wide) {
-            narrow(&self.wide, &mut self.narrow);
+        if self.is_wide && are_narrow(self.wide.bands()) {
+            narrow(self.wide.bands(), &mut self.narrow);
             self.is_wide = false;
         }
     }
@@ -220,20 +213,20 @@ impl DecodedBands {
         &self,
         c: Component,
         params: &TransformParams,
-        room: &mut Workspace,
+        room: &mut LateWorkspace,
         narrow_room: &mut NarrowWorkspace,
         picture: &mut Picture,
     )
         requires taken { AreTaken params.now.layout (pictures.size_of (frame_of picture.old.shape) c) (slice_count params.now.layout) (stack_of self.now c) }
-        requires room { ArePadded params.now.layout (pictures.size_of (frame_of picture.old.shape) c) room.old.plane room.old.scratch }
+        requires room { HasLateRoom params.now.layout (pictures.size_of (frame_of picture.old.shape) c) room.old }
         requires narrow_room { HasNarrowRoom params.now.layout (pictures.size_of (frame_of picture.old.shape) c) narrow_room.old.plane narrow_room.old.scratch }
         ensures picture { picture.new ≡ with_synthesised params.now.wavelet picture.old c (stack_of self.now c) }
-        ensures room { ArePadded params.now.layout (pictures.size_of (frame_of picture.old.shape) c) room.new.plane room.new.scratch }
+        ensures room { HasLateRoom params.now.layout (pictures.size_of (frame_of picture.old.shape) c) room.new }
         ensures narrow_room { HasNarrowRoom params.now.layout (pictures.size_of (frame_of picture.old.shape) c) narrow_room.new.plane narrow_room.new.scratch }
         ensures allowed { IsAllowed params.now.layout }
     {
         if self.is_wide {
-            show_in_64_bits(params, wide_stack(&self.wide, c), room, c, picture);
+            show_in_64_bits(params, wide_stack(self.wide.bands(), c), room, c, picture);
         } else {
             let bands = narrow_stack(&self.narrow, c);
             show_in_32_bits(params, bands, narrow_room, c, picture);

@@ -8,7 +8,7 @@ ghost use Rattle.picture_codec.specs.Decoding.{IsNewDecoder, IsTaken, IsSliceRef
 
 use crate::decoded_bands::DecodedBands;
 use crate::picture::Picture;
-use crate::workspace::{NarrowWorkspace, Workspace};
+use crate::workspace::{LateWorkspace, NarrowWorkspace};
 use planes::NoMemory;
 use slice_decoder::SliceFault;
 use slice_geometry::{Component, PictureShape};
@@ -20,14 +20,15 @@ use transform_params::TransformParams;
 /// it refused a slice, and the picture that it finished.
 ///
 /// All memory is taken in `new`: about 12 bytes a sample for the subbands in 32 and in 64 bits, 16 for two planes of each
-/// size, 3 for the room in 32 bits, and 2 for the picture. C1 and C2 share their planes.
+/// size, 3 for the room in 32 bits, and 2 for the picture. C1 and C2 share their planes. What serves 64 bits alone isn't
+/// touched before a slice needs it.
 #[derive(Drop)]
 pub struct PictureDecoder {
     params: TransformParams,
     bands: DecodedBands,
-    luma_room: Workspace,
+    luma_room: LateWorkspace,
     luma_narrow: NarrowWorkspace,
-    colour_room: Workspace,
+    colour_room: LateWorkspace,
     colour_narrow: NarrowWorkspace,
     picture: Picture,
     next: u32,
@@ -51,7 +52,7 @@ impl Model for PictureDecoder {
       picture = if d.finished then Some d.picture.samples else None;
     } };
 
-    ghost invariant = { λ d. IsSound d.params.layout d.picture.shape d.next d.bands d.luma_room.plane d.luma_room.scratch d.luma_narrow.plane d.luma_narrow.scratch d.colour_room.plane d.colour_room.scratch d.colour_narrow.plane d.colour_narrow.scratch };
+    ghost invariant = { λ d. IsSound d.params.layout d.picture.shape d.next d.bands d.luma_room d.colour_room d.luma_narrow d.colour_narrow };
 }
 
 impl PictureDecoder {
@@ -72,9 +73,9 @@ impl PictureDecoder {
         Ok(PictureDecoder {
             params: *params,
             bands: DecodedBands::new(alloc, layout, shape)?,
-            luma_room: Workspace::new(alloc, layout, shape.luma)?,
+            luma_room: LateWorkspace::new(alloc, layout, shape.luma)?,
             luma_narrow: NarrowWorkspace::new(alloc, layout, shape.luma)?,
-            colour_room: Workspace::new(alloc, layout, shape.colour)?,
+            colour_room: LateWorkspace::new(alloc, layout, shape.colour)?,
             colour_narrow: NarrowWorkspace::new(alloc, layout, shape.colour)?,
             picture: Picture::new(alloc, shape)?,
             next: 0,

@@ -8,6 +8,7 @@ mod encoder;
 pub mod laws;
 mod picture;
 mod samples;
+mod wide_bands;
 mod workspace;
 
 pub use decoder::PictureDecoder;

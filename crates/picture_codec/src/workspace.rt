@@ -1,12 +1,18 @@
 //! What the decoder and the encoder of pictures have in common: the room for a component's transform, and its size.
 
-ghost use Rattle.std.specs.Prelude.{◌≡◌, IfOk};
+ghost use Rattle.std.specs.Prelude.{◌≡◌, ◌≤◌, true, IfOk};
 ghost use Rattle.slice_geometry.specs.Shape.{IsSize, IsDepth};
 ghost use Rattle.picture_codec.specs.Pictures as pictures;
 ghost use Rattle.slice_geometry.specs.Frames.{frame_of};
-ghost use Rattle.picture_codec.specs.Decoding.{ArePadded, HasNarrowRoom, AreNewBands};
+ghost use Rattle.picture_codec.specs.Decoding.{ArePadded, HasNarrowRoom, AreNewBands, IsRowless, HasLateRoom};
+ghost use Rattle.planes.specs.Subbands.{AreZeroBands};
+ghost use Rattle.slice_geometry.specs.Slicing.{Slicing};
+ghost use Rattle.slice_geometry.specs.declared.Size.{Size};
 
-use planes::{Bands, NarrowBands, NarrowPlane, NarrowTrio, NoMemory, Plane, Trio};
+use planes::{
+    Bands, LateBands, LatePlane, LateTrio, NarrowBands, NarrowPlane, NarrowTrio, NoMemory, Plane,
+    Trio,
+};
 use slice_geometry::{Component, Layout, PictureShape, Size};
 use std::alloc::Global;
 
@@ -29,6 +35,48 @@ impl Workspace {
             plane: Plane::new(alloc, padded.w, padded.h)?,
             scratch: Plane::new(alloc, padded.w, padded.h)?,
         })
+    }
+}
+
+/// The room for synthesis in 64 bits, which few pictures need: its memory isn't touched before it is made.
+#[derive(Drop)]
+pub(crate) struct LateWorkspace {
+    pub(crate) room: Workspace,
+    pub(crate) late_plane: LatePlane,
+    pub(crate) late_scratch: LatePlane,
+    pub(crate) is_made: bool,
+}
+
+impl LateWorkspace {
+    pub(crate) fn new(alloc: Global, layout: &Layout, size: Size) -> Result<LateWorkspace, NoMemory>
+        requires { IsSize size.w size.h }
+        ensures { IfOk result (HasLateRoom layout.now size) }
+    {
+        // The rules of a layout.
+        let _ = layout.depth();
+        let padded = layout.padded_size(size);
+        Ok(LateWorkspace {
+            room: Workspace {
+                plane: Plane::new(alloc, 0, 0)?,
+                scratch: Plane::new(alloc, 0, 0)?,
+            },
+            late_plane: LatePlane::new(alloc, padded.w, padded.h)?,
+            late_scratch: LatePlane::new(alloc, padded.w, padded.h)?,
+            is_made: false,
+        })
+    }
+
+    /// The room, made if it wasn't.
+    pub(crate) fn make(&mut self)
+        requires { IsRowless self.old }
+        ensures { (s : Slicing) (size : Size) → HasLateRoom s size self.old → ArePadded s size self.new.room.plane self.new.room.scratch × (self.new.is_made ≡ true) }
+    {
+        if self.is_made {
+            return;
+        }
+        self.late_plane.make(&mut self.room.plane);
+        self.late_scratch.make(&mut self.room.scratch);
+        self.is_made = true;
     }
 }
 
@@ -80,6 +128,42 @@ pub(crate) fn zero_trio(
         luma: zero_bands(alloc, layout, shape.luma)?,
         c1: zero_bands(alloc, layout, shape.colour)?,
         c2: zero_bands(alloc, layout, shape.colour)?,
+    })
+}
+
+// Their memory.
+fn late_zero_bands(alloc: Global, layout: &Layout, size: Size) -> Result<LateBands, NoMemory>
+    requires { IsSize size.w size.h }
+    ensures { IfOk result (AreNewBands layout.now size) }
+{
+    let padded = layout.padded_size(size);
+    LateBands::new(alloc, layout.depth(), padded.w, padded.h)
+}
+
+/// The memory of the bands of the three components.
+pub(crate) fn late_zero_trio(
+    alloc: Global,
+    layout: &Layout,
+    shape: &PictureShape,
+) -> Result<LateTrio, NoMemory>
+    ensures { IfOk result (λ bands. AreNewBands layout.now shape.now.luma bands.luma × AreNewBands layout.now shape.now.colour bands.c1 × AreNewBands layout.now shape.now.colour bands.c2) }
+{
+    Ok(LateTrio {
+        luma: late_zero_bands(alloc, layout, shape.luma)?,
+        c1: late_zero_bands(alloc, layout, shape.colour)?,
+        c2: late_zero_bands(alloc, layout, shape.colour)?,
+    })
+}
+
+/// Bands of no rows and no columns, in whose place others are made.
+pub(crate) fn rowless_trio(alloc: Global, depth: u32) -> Result<Trio, NoMemory>
+    requires { depth ≤ 4 }
+    ensures { IfOk result (λ bands. AreZeroBands bands.luma depth 0 0 × AreZeroBands bands.c1 depth 0 0 × AreZeroBands bands.c2 depth 0 0) }
+{
+    Ok(Trio {
+        luma: Bands::new(alloc, depth, 0, 0)?,
+        c1: Bands::new(alloc, depth, 0, 0)?,
+        c2: Bands::new(alloc, depth, 0, 0)?,
     })
 }
 

@@ -9,3 +9,4 @@ pub mod LendingBands
 pub mod LendingNarrow
 pub mod LendingNarrowBands
 pub mod Bounded
+pub mod Late

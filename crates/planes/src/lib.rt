@@ -1,7 +1,7 @@
 //! Planes of signed numbers, and the subbands of a transform as planes. Rows are lent, and never copied.
 #![tactic(auto)]
 
-ghost use Rattle.std.specs.Prelude.{◌≡◌, ◌≢◌, ◌↔◌, ℕ, ◌-◌, ◌<◌, ◌≤◌, min, length, map, replicate, slice_index_or, pos, IfOk, true};
+ghost use Rattle.std.specs.Prelude.{◌≡◌, ◌≢◌, ◌↔◌, ℕ, ◌-◌, ◌<◌, ◌≤◌, min, length, map, replicate, slice_index_or, pos, IfOk, true, []};
 ghost use Rattle.std.specs.Borrow.{sem};
 ghost use Rattle.std.specs.List.{All};
 ghost use Rattle.planes.specs.Raster.{height, row_of, at, with_place, zeros, IsEdgeFilled};
@@ -9,11 +9,13 @@ ghost use Rattle.planes.specs.Lending.{LendsRow};
 ghost use Rattle.planes.specs.Bounded.{IsWithin, IsPlaneWithin};
 
 mod band_set;
+mod late;
 mod narrow;
 mod narrow_bands;
 mod row_store;
 
 pub use band_set::Bands;
+pub use late::{LateBands, LatePlane};
 pub use narrow::{NarrowPlane, NarrowThree};
 pub use narrow_bands::NarrowBands;
 use row_store::Rows;
@@ -89,6 +91,14 @@ pub struct NarrowTrio {
     pub luma: NarrowBands,
     pub c1: NarrowBands,
     pub c2: NarrowBands,
+}
+
+/// The memory of the subbands of the three components.
+#[derive(Drop)]
+pub struct LateTrio {
+    pub luma: LateBands,
+    pub c1: LateBands,
+    pub c2: LateBands,
 }
 
 /// A plane for each of the three components.
@@ -228,6 +238,18 @@ impl Plane {
         ensures b_len { length result.b.now ≡ self.old.w }
     {
         self.rows.rows_three(dst, a, b)
+    }
+
+    // Takes these rows in the place of none.
+    pub(crate) fn take_rows(&mut self, w: u32, rows: &mut Vec<Vec<i64>>)
+        requires width { w ≤ 8208 }
+        requires count { length rows.old.items ≤ 8208 }
+        requires every { All (λ r. length r.items ≡ w) rows.old.items }
+        requires none { height self.old ≡ 0 }
+        ensures value { self.new ≡ record { w = w; rows = map (λ r. r.items) rows.old.items } }
+        ensures left { rows.new.items ≡ [] }
+    {
+        self.rows.take_rows(w, rows);
     }
 
     /// Gives each place beyond the first w columns and h rows the number of the nearest place within them.

@@ -41,7 +41,7 @@ length_turn [] (w ∷ ws) e = absurd (omega (arith, e))
 length_turn (v ∷ vs) [] e = absurd (omega (arith, e))
 length_turn (v ∷ vs) (w ∷ ws) e = omega (arith, length_turn vs ws (omega (arith, e)))
 
-quantised_more : (q : ℕ) (vs : List ℤ) (p : ℕ) (d : ℤ) → p < length vs → quantised q (take (p + 1) vs) ≡ quantised q (take p vs) ++ forward_of (get_or vs p d) q ∷ []
+pub quantised_more : (q : ℕ) (vs : List ℤ) (p : ℕ) (d : ℤ) → p < length vs → quantised q (take (p + 1) vs) ≡ quantised q (take p vs) ++ forward_of (get_or vs p d) q ∷ []
 quantised_more q vs p d lt = ap (quantised q) (take_more vs p d lt) ∙ map-append (λ v. forward_of v q) (take p vs) (get_or vs p d ∷ [])
 
 pub length_quantised : (q : ℕ) (vs : List ℤ) → length (quantised q vs) ≡ length vs

@@ -13,6 +13,7 @@ pub mod PlaceByPlace
 pub mod Listed
 pub mod Gathers
 pub mod SliceBits
+pub mod Filled
 pub mod Again
 pub mod Searching
 pub mod Tried
@@ -27,6 +28,7 @@ pub mod SamePicture
 pub mod CountedBits
 pub mod LowBounds
 pub mod Reaches
+pub mod ReachSums
 pub mod GatheredLists
 pub mod CodeSizes
 pub mod WorkedLowNeeds

@@ -68,7 +68,7 @@ code_rises v w le = elim (cases_eq (unsigned_abs v) 0) [
 
 -- ---- one value in front
 
-with_none : (v : ℤ) (b : ℕ) → unsigned_abs v + b ≡ 0 → with_code v b ≡ 0
+pub with_none : (v : ℤ) (b : ℕ) → unsigned_abs v + b ≡ 0 → with_code v b ≡ 0
 with_none v b none = grind (arith, nat_tests)
 
 pub with_some : (v : ℤ) (b : ℕ) → 1 ≤ unsigned_abs v + b → with_code v b ≡ length (signed_code_of v) + b

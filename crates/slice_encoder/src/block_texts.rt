@@ -36,7 +36,7 @@ fn put_digits(bytes: &mut [u8], block: Block, number: u64, n: u32) -> Block
 }
 
 // Puts the code of a number below 2^37.
-#[inline(never)]
+#[inline(always)]
 fn put_code(bytes: &mut [u8], block: Block, v: u64) -> Block
     requires small { v < 2 ^ 37 }
     requires block { IsBlock (length bytes.old) block }
@@ -53,6 +53,7 @@ fn put_code(bytes: &mut [u8], block: Block, v: u64) -> Block
 }
 
 // Puts the code of a value, of a magnitude of at most 2^36.
+#[inline(always)]
 fn put_long(bytes: &mut [u8], block: Block, v: i64) -> Block
     requires small { unsigned_abs v ≤ MAX_MAGNITUDE }
     requires block { IsBlock (length bytes.old) block }

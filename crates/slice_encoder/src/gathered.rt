@@ -1,23 +1,22 @@
 // The coefficients of a slice in one component, gathered once for all the indices that are tried.
 
-ghost use Rattle.std.specs.Prelude.{◌≡◌, ℕ, ◌+◌, ◌-◌, ◌*◌, ◌^◌, ◌<◌, ◌≤◌, ◌++◌, length, take, slice_index, IfOk, ℤ, pos, unsigned_abs};
+ghost use Rattle.std.specs.Prelude.{◌≡◌, ℕ, ◌+◌, ◌-◌, ◌*◌, ◌^◌, ◌<◌, ◌≤◌, ◌++◌, length, take, slice_index, IfOk, pos, unsigned_abs};
 ghost use Rattle.std.specs.List.{All, flat_map, range_with_len};
 ghost use Rattle.planes.specs.Numbers.{Within};
-ghost use Rattle.bit_codes.specs.Codes.{signed_code_of};
 ghost use Rattle.quant_factors.specs.Factors.{forward_of, signed};
-ghost use Rattle.slice_encoder.specs.CodeLengths.{IsRow};
 ghost use Rattle.planes.specs.Raster.{at};
 ghost use Rattle.slice_geometry.specs.Shape.{IsSize};
 ghost use Rattle.slice_geometry.specs.SliceOrder.{level_rect, level_of, area, place_count};
 ghost use Rattle.slice_encoder.specs.Listing.{rect_values};
-ghost use Rattle.slice_encoder.specs.Gathering.{raw_before, piece_of, quantised, quantised_piece, in_turn, with_code, reach, CanGather, CanGatherAll, AreGathered, gathered_reach, behind_lowest};
+ghost use Rattle.slice_encoder.specs.Gathering.{raw_before, piece_of, quantised, quantised_piece, in_turn, CanGather, CanGatherAll, AreGathered, gathered_reach, behind_lowest};
 ghost use Rattle.slice_encoder.specs.GatheredSlices.{AreAllGathered, gathered_low, CanHoldAll};
 ghost use Rattle.slice_encoder.specs.Jobs.{picture_of};
 ghost use Rattle.slice_encoder.specs.Ready.{AreGiven};
 
 use crate::bounding::Lower;
-use crate::code_lengths::{CodeLengths, length_by};
+use crate::code_lengths::CodeLengths;
 use crate::jobs::SliceJob;
+use crate::reaching::reach_over;
 use crate::room::most_places;
 use crate::trying::{band_numbered, orient_numbered};
 use planes::{Bands, NoMemory, Plane, Rect};
@@ -132,13 +131,13 @@ fn sign_of(v: i64) -> i64
     if v < 0 { -1 } else { 1 }
 }
 
-// The magnitude of a coefficient.
+// The magnitude of a coefficient. That it is below 2^28 is said for the compiler: so quantising it has no branch.
 #[inline(always)]
 fn magnitude_of(v: i64) -> i64
     requires { Within (2 ^ 27) v }
     ensures { result ≡ pos (unsigned_abs v) }
 {
-    v.unsigned_abs() as i64
+    (v.unsigned_abs() % (1 << 28)) as i64
 }
 
 // A coefficient, quantised. Its sign is put on by a product, since a branch on it is guessed wrong half of the time.
@@ -203,39 +202,6 @@ fn quantise_pair_at(first: &[i64], second: &[i64], index: u32, out: &mut [i64], 
 {
     let end = from + 2 * first.len();
     quantise_pair(first, second, index, &mut out[from..end]);
-}
-
-// One value more in front of what codes take, by how many bits its code takes.
-#[inline(always)]
-fn one_more(bits: u64, behind: u64) -> u64
-    requires short { bits ≤ 74 }
-    requires few { behind ≤ 2 ^ 40 }
-    ensures value { (v : ℤ) → bits ≡ length (signed_code_of v) → result ≡ with_code v behind }
-    ensures most { result ≤ behind + 74 }
-{
-    if bits == 1 && behind == 0 {
-        0
-    } else {
-        bits + behind
-    }
-}
-
-// How far the codes of coefficients reach, from the last one to the first.
-fn reach_over(coefficients: &[i64], index: u32, row: &[u8], behind: u64) -> u64
-    requires index { index ≤ 127 }
-    requires row { IsRow index row.now }
-    requires few { length coefficients.now ≤ 2 ^ 31 }
-    requires behind { behind ≤ 2 ^ 39 }
-    requires small { All (Within (2 ^ 27)) coefficients.now }
-    ensures value { result ≡ reach (quantised index coefficients.now) behind }
-    ensures most { result ≤ behind + 74 * length coefficients.now }
-{
-    let mut bits = behind;
-    for passed in 0..coefficients.len() {
-        let v = coefficients[coefficients.len() - 1 - passed];
-        bits = one_more(length_by(row, index, v), bits);
-    }
-    bits
 }
 
 // The bits of codes behind so many values of the lowest subbands.

@@ -18,6 +18,7 @@ pub mod laws;
 mod listing;
 mod needs;
 mod packing;
+mod reaching;
 mod rect_trials;
 mod room;
 mod search;

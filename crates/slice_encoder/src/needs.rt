@@ -1,14 +1,17 @@
 // What values need, by the length of their codes up to the last one that isn't 0.
 
-ghost use Rattle.std.specs.Prelude.{◌≡◌, ◌≢◌, ◌-◌, ◌*◌, ◌^◌, ◌<◌, ◌≤◌, length, pos, slice_index_or, take};
+ghost use Rattle.planes.specs.declared.TheConstants.{MAX_MAGNITUDE};
+ghost use Rattle.std.specs.Prelude.{◌≡◌, ◌≢◌, ◌-◌, ◌*◌, ◌^◌, ◌<◌, ◌≤◌, length, pos, slice_index_or, take, unsigned_abs};
+ghost use Rattle.bit_codes.specs.Codes.{signed_code_of};
 ghost use Rattle.bounded_blocks.specs.Writing.{codes_of, need};
 ghost use Rattle.slice_encoder.specs.TrialLaws.{AreSmall};
 
+use crate::short_texts::short_text;
 use bit_codes::sint_len;
 use bounded_blocks::Need;
 
-// How many values there are up to the last one that isn't 0.
-fn count_to_last(values: &[i64]) -> usize
+/// How many values there are up to the last one that isn't 0.
+pub fn count_to_last(values: &[i64]) -> usize
     requires { AreSmall values.now }
     ensures most { result ≤ length values.now }
     ensures need { need (take result values.now) ≡ need values.now }
@@ -23,6 +26,28 @@ fn count_to_last(values: &[i64]) -> usize
     0
 }
 
+// How long the code of a value is, by counting. This stays out of the loop that looks lengths up.
+#[inline(never)]
+fn counted_length(v: i64) -> u32
+    requires { unsigned_abs v ≤ MAX_MAGNITUDE }
+    ensures { result ≡ length (signed_code_of v) }
+{
+    sint_len(v)
+}
+
+// The same, by a look-up for small values.
+#[inline(always)]
+fn length_of(v: i64) -> u32
+    requires { unsigned_abs v ≤ MAX_MAGNITUDE }
+    ensures { result ≡ length (signed_code_of v) }
+{
+    if -32 < v && v < 32 {
+        u32::from(short_text(v).length)
+    } else {
+        counted_length(v)
+    }
+}
+
 // How long the codes of values are.
 fn total_length(values: &[i64]) -> u64
     requires few { length values.now ≤ 2 ^ 32 }
@@ -32,7 +57,7 @@ fn total_length(values: &[i64]) -> u64
 {
     let mut bits = 0;
     for value in values {
-        bits += u64::from(sint_len(*value));
+        bits += u64::from(length_of(*value));
     }
     bits
 }

@@ -10,6 +10,7 @@ ghost use Rattle.slice_encoder.specs.BitQueues.{bits_so_far, IsBlock};
 
 use crate::bit_queues::{BitQueue, put_bits, store_rest};
 use crate::block_texts::{Block, put_ones, put_values};
+use crate::needs::count_to_last;
 use slice_geometry::length_bits;
 
 // The index, and the length of the luma block in so many bits.
@@ -32,7 +33,7 @@ fn put_head(bytes: &mut [u8], index: u32, m: u32, luma_need: u64) -> BitQueue
     put_bits(bytes, queue, luma_need, m)
 }
 
-// Values into a block of so many bits, which is filled with ones.
+// Values into a block of so many bits, which is filled with ones: these are the codes of the zeros at their end, too.
 fn put_block(bytes: &mut [u8], queue: BitQueue, bits: u64, values: &[i64]) -> BitQueue
     requires inside { IsBlock (length bytes.old) (record { queue = queue; left = bits }) }
     requires small { All (λ v. unsigned_abs v ≤ MAX_MAGNITUDE) values.now }
@@ -40,7 +41,8 @@ fn put_block(bytes: &mut [u8], queue: BitQueue, bits: u64, values: &[i64]) -> Bi
     ensures place { 8 * result.whole + result.count ≡ 8 * queue.whole + queue.count + bits }
     ensures text { bits_so_far bytes.new result ≡ bits_so_far bytes.old queue ++ filled bits (codes_of values.now) }
 {
-    let block = put_values(bytes, Block { queue, left: bits }, values);
+    let count = count_to_last(values);
+    let block = put_values(bytes, Block { queue, left: bits }, &values[..count]);
     put_ones(bytes, block)
 }
 

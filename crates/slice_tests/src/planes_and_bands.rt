@@ -1,6 +1,6 @@
 //! Planes, their rows on loan, and subbands.
 
-use planes::{Bands, Orient, Plane, Three};
+use planes::{Bands, LateBands, LatePlane, Orient, Plane, Three};
 use std::process::Abort;
 use std::test::Fail;
 
@@ -96,5 +96,30 @@ fn a_plane_may_be_empty(rt: HostRuntime) -> Result<(), Fail> {
         let plane = Plane::new(rt.alloc(), w, h)?;
         expect_size(&rt, &plane, w, h);
     }
+    Ok(())
+}
+
+#[test]
+fn late_planes_are_made(rt: HostRuntime) -> Result<(), Fail> {
+    for (w, h) in [(0, 0), (3, 0), (0, 3), (3, 2)] {
+        let mut late = LatePlane::new(rt.alloc(), w, h)?;
+        let mut plane = Plane::new(rt.alloc(), 5, 0)?;
+        late.make(&mut plane);
+        expect_size(&rt, &plane, w, h);
+    }
+    Ok(())
+}
+
+#[test]
+fn late_bands_are_made(rt: HostRuntime) -> Result<(), Fail> {
+    let mut late = LateBands::new(rt.alloc(), 2, 8, 4)?;
+    let mut bands = Bands::new(rt.alloc(), 2, 0, 0)?;
+    late.make(&mut bands);
+    expect_size(&rt, bands.band(0, 0), 2, 1);
+    for orient in 1..4 {
+        expect_size(&rt, bands.band(2, orient), 4, 2);
+    }
+    put(&rt, bands.band_mut(2, Orient::Lh as u32), 1, 3, 9);
+    expect_rows(&rt, bands.band(2, 2), &[[0, 0, 0, 0], [0, 0, 0, 9]]);
     Ok(())
 }

@@ -16,9 +16,9 @@ use Rattle.stream_rows.specs.declared.reason.Reason.{Reason}
 use Rattle.stream_rows.specs.declared.reason.Reason.TheVariants as reasons
 use Rattle.stream_rows.specs.declared.reason.Refusal.{Refusal}
 use Rattle.stream_rows.specs.Units.{Past, nothing_yet, DataUnit, Sequence, Repeated, Picture, Skipped, End, reason_of, unit_rows, after, units}
-use Rattle.stream_rows.specs.Streams.{bytes_between, ends, Entry, total, Units, IsRefusalFrom, limit, IsStream, past_limit, IsFault, WithinLimit, PastLimit, BehindLimit, IsRefusal}
+use Rattle.stream_rows.specs.Streams.{bytes_between, ends, Entry, total, Units, IsStreamFrom, IsRefusalFrom, limit, IsStream, past_limit, IsFault, WithinLimit, PastLimit, BehindLimit, IsRefusal}
 use Rattle.stream_rows.proofs.Steady.{units_laws}
-use Rattle.stream_rows.proofs.StreamLaws.{stands_front, refused_front, last_cut}
+use Rattle.stream_rows.proofs.StreamLaws.{stands_front, refused_front, last_cut, full_front}
 
 abbrev pub IsBytes : List ℕ → Type 0
 IsBytes bytes = AllByRecursion (λ b. b < 256) bytes
@@ -224,6 +224,10 @@ answer_within command plain bytes es fields fault fits le f =
     = front_near limit past_limit units f.left stood.tail few ∙ front in
     (f.left, joined command plain f.left bytes es f.mid (Refuses fault) (command.refused f.left (own_behind plain.step command.start es) fault) stood here refl)
 
+-- what is refused where the bytes before the limit are a stream
+abbrev behind_limit : Fault Reason
+behind_limit = record { place = 8 * limit; reason = reasons.StreamTooLong }
+
 -- past it, by what stands in front of what is near
 answer_far : {W E : Type 0} (command : Command Past Reason DataUnit W E) (plain : IsPlain command) (bytes : List ℕ) (es : List Entry) (left : Past) (mid : Cursor) (fault : Fault Reason) → IsBytes bytes → limit < length bytes
     → Units nothing_yet (cursor_at (take limit bytes) 0) es left mid → ((t : List ℕ) → mid ≡ bytes_at left.place t → left.place + length t ≡ limit → front_by units past_limit true t (unit_at units left t) ≡ Refuses fault)
@@ -235,15 +239,59 @@ answer_far command plain bytes es left mid fault fits lt f g =
     = front_past limit past_limit units left stood.tail more ∙ g (near left stood.tail) stood.at (omega (arith, more, stood.small, length-take (limit - left.place) stood.tail)) in
     (left, joined command plain left bytes es mid (Refuses fault) (command.refused left (own_behind plain.step command.start es) fault) stood here refl)
 
+-- one unit more
+stood_more : {W E : Type 0} {command : Command Past Reason DataUnit W E} {plain : IsPlain command} {z : Past} {own : W} {v : List ℕ} {es : List Entry} {z' : Past} {c' : Cursor} (last : Entry) (size : ℕ) (s : Stood command plain z own v es z' c') → front_within limit past_limit units z' s.tail ≡ Stands size last.unit → size ≤ length s.tail → z'.place + size ≤ limit
+    → (let left = after z' last.unit (take size s.tail) in Stood command plain z own v (es ++ last ∷ []) left (bytes_at left.place (near left (drop size s.tail))))
+stood_more {W} {command = command} {plain = plain} {z = z} {own = own} {v = v} {es = es} {z' = z'} last size s front inside few =
+    let bytes = take size s.tail in
+    let left = after z' last.unit bytes in
+    let place : left.place ≡ z'.place + size = after-place z' last.unit bytes ∙ omega (arith, length-take size s.tail, inside) in
+    let own' = own_behind plain.step own es in
+    record {
+      tail = drop size s.tail;
+      at = refl;
+      fits = fit_drop size s.tail s.fits;
+      total = omega (arith, s.total, place, inside, length-drop size s.tail);
+      small = omega (arith, place, few);
+      same = s.same ∙ ap (before (texts plain.text es)) (one-more command plain z' own' s.tail last.unit size front)
+          ∙ before-before (texts plain.text es) (plain.text last.unit) (answer_from (machine command) (record { past = left; own = plain.step own' last.unit }) (drop size s.tail))
+          ∙ ap (λ l. before l (answer_from (machine command) (record { past = left; own = plain.step own' last.unit }) (drop size s.tail))) (sym (texts_more plain.text es last))
+          ∙ ap (λ (w : W). let b : Between Past W = record { past = left; own = w } in before (texts plain.text (es ++ last ∷ [])) (answer_from (machine command) b (drop size s.tail))) (sym (own_more plain.step own es last));
+    }
+  where
+    texts_more : (text : DataUnit → List ℕ) (es : List Entry) (last : Entry) → texts text (es ++ last ∷ []) ≡ texts text es ++ text last.unit
+    texts_more text [] last = append-nil (text last.unit)
+    texts_more text (e ∷ es) last = ap (λ l. text e.unit ++ l) (texts_more text es last) ∙ sym (append_assoc (text e.unit) (texts text es) (text last.unit))
+
+    own_more : (step : W → DataUnit → W) (own : W) (es : List Entry) (last : Entry) → own_behind step own (es ++ last ∷ []) ≡ step (own_behind step own es) last.unit
+    own_more step own [] last = refl
+    own_more step own (e ∷ es) last = own_more step (step own e.unit) es last
+
+-- The bytes before the limit are a stream, and more follow.
+answer_behind : {W E : Type 0} (command : Command Past Reason DataUnit W E) (plain : IsPlain command) (bytes : List ℕ) (others : List Entry) (last : Entry) → IsBytes bytes → limit < length bytes → IsStreamFrom nothing_yet (cursor_at (take limit bytes) 0) others last
+    → Refuses-behind command plain bytes (others ++ last ∷ []) behind_limit
+unfolding stood_more
+answer_behind command plain bytes others last fits lt f =
+    let stood = units-stood command plain others nothing_yet command.start f.left bytes f.mid (omega arith) fits f.units in
+    let t = near f.left stood.tail in
+    let more : limit - f.left.place < length stood.tail = omega (arith, stood.total, stood.small, lt) in
+    let size : length t ≡ limit - f.left.place = omega (arith, more, length-take (limit - f.left.place) stood.tail) in
+    let front : front_within limit past_limit units f.left stood.tail ≡ Stands (length t) last.unit
+    = front_past limit past_limit units f.left stood.tail more ∙ last_cut f.left t last.fields last.unit f.behind (subst (λ (c : Cursor). Stand (unit_rows f.left) last.fields c last.unit f.behind) stood.at f.end) f.last_one in
+    let all = stood_more last (length t) stood front (omega (arith, size, more)) (omega (arith, size, stood.small)) in
+    let left = after f.left last.unit (take (length t) stood.tail) in
+    let place : left.place ≡ limit = after-place f.left last.unit (take (length t) stood.tail) ∙ omega (arith, size, more, stood.small, length-take (length t) stood.tail) in
+    let here = full_front left (drop (length t) stood.tail) place (omega (arith, size, more, length-drop (length t) stood.tail)) in
+    let own = own_behind plain.step command.start (others ++ last ∷ []) in
+    (left, joined command plain left bytes (others ++ last ∷ []) (bytes_at left.place (near left (drop (length t) stood.tail))) (Refuses behind_limit) (command.refused left own behind_limit) all here refl)
+
 answer_fault : {W E : Type 0} (command : Command Past Reason DataUnit W E) (plain : IsPlain command) (bytes : List ℕ) (es : List Entry) (fault : Fault Reason) → IsBytes bytes → IsFault bytes es fault → Refuses-behind command plain bytes es fault
 answer_fault command plain bytes es fault fits (WithinLimit le fields f) = answer_within command plain bytes es fields fault fits le f
 answer_fault command plain bytes es fault fits (PastLimit lt fields first f e) =
     answer_far command plain bytes es f.left f.mid fault fits lt f.units
     (λ t at total. refused_front f.left t true fields first (subst (λ (c : Cursor). IsRefused reason_of (unit_rows f.left) fields c first) at f.refused) ∙ ap (λ x. Refuses x) (sym e))
-answer_fault command plain bytes es fault fits (BehindLimit lt last f e) =
-    answer_far command plain bytes es f.left f.mid fault fits lt f.units
-    (λ t at total. last_cut f.left t last.fields last.unit f.behind (subst (λ (c : Cursor). Stand (unit_rows f.left) last.fields c last.unit f.behind) at f.end) f.last_one
-    ∙ ap (λ n. Refuses (record { place = 8 * n; reason = reasons.TrailingBytes })) total ∙ ap (λ x. Refuses x) (sym e))
+answer_fault command plain bytes es fault fits (BehindLimit lt others last f is e) =
+    subst (λ (x : Fault Reason). Refuses-behind command plain bytes es x) (sym e) (subst (λ (l : List Entry). Refuses-behind command plain bytes l behind_limit) (sym is) (answer_behind command plain bytes others last fits lt f))
 
 pub answer_refusal : {W E : Type 0} (command : Command Past Reason DataUnit W E) (plain : IsPlain command) (bytes : List ℕ) (refusal : Refusal) → IsBytes bytes → (r : IsRefusal bytes refusal) → Refuses-behind command plain bytes r.units r.fault
 answer_refusal command plain bytes refusal fits r = answer_fault command plain bytes r.units r.fault fits r.is

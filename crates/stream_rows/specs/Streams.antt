@@ -1,5 +1,6 @@
--- Streams and refusals, as relations: a stream is units one after another, of which the last, and only it, is an end of sequence.
-use Rattle.std.specs.Prelude.{◌≡◌, ℕ, zero, suc, ◌+◌, ◌-◌, ◌*◌, ◌/◌, ◌<◌, ◌≤◌, Bool, true, false, List, [], ◌∷◌, length, take, Result, Ok, Err, ◌⊎◌, if◌then◌else◌}
+-- Streams and refusals, as relations. A stream is one or more sequences. A sequence is units of which the first is a
+-- sequence header and the last, and only it, an end of sequence. The stream ends with the last sequence.
+use Rattle.std.specs.Prelude.{◌≡◌, ℕ, zero, suc, ◌+◌, ◌-◌, ◌*◌, ◌/◌, ◌<◌, ◌≤◌, Bool, true, false, List, [], ◌∷◌, ◌++◌, length, take, Result, Ok, Err, ◌⊎◌, if◌then◌else◌}
 use Rattle.vc2_io.specs.declared.TheConstants.{INPUT_LIMIT}
 use Rattle.bit_codes.specs.Bits.{Cursor, bytes_of, cursor_at}
 use Rattle.field_rows.specs.Rows.{Value, Fault, read, and_then, is_nil}
@@ -11,13 +12,14 @@ use Rattle.stream_rows.specs.declared.reason.Refusal.{Refusal}
 use Rattle.sequence_header.specs.declared.parts.HeaderParts.{HeaderParts}
 use Rattle.sequence_header.specs.Coding.{luma_size, colour_size, luma_depth, colour_depth}
 use Rattle.slice_geometry.specs.Frames.{Frame}
-use Rattle.stream_rows.specs.Units.{Past, nothing_yet, DataUnit, Picture, unit_behind, is_truncated, reason_of, unit_rows, after}
+use Rattle.stream_rows.specs.Units.{Past, nothing_yet, DataUnit, unit_behind, is_truncated, reason_of, unit_rows, after}
 
 -- the bytes between two cursors
 abbrev pub bytes_between : Cursor → Cursor → List ℕ
 bytes_between c behind = bytes_of (take (behind.place - c.place) c.rest)
 
--- The stream ends behind this unit: it may, and nothing is left.
+-- The stream ends behind this unit: it is an end of sequence, and nothing is left. Where something is left, another
+-- sequence begins there, and what the units leave forgets the one that has ended.
 abbrev pub ends : DataUnit → Cursor → Bool
 ends unit behind = ends_by (unit_behind unit) (is_nil behind.rest)
 
@@ -78,9 +80,10 @@ pub data IsFault (bytes : List ℕ) (es : List Entry) (fault : Fault Reason) : T
   PastLimit : limit < length bytes → (fields : List Value) → (before : Fault Reason)
       → IsRefusalFrom nothing_yet (cursor_at (take limit bytes) 0) es fields before → fault ≡ past_limit before
       → IsFault bytes es fault
-  -- or a stream, which has bytes behind it
-  BehindLimit : limit < length bytes → (last : Entry) → IsStreamFrom nothing_yet (cursor_at (take limit bytes) 0) es last
-      → fault ≡ record { place = 8 * limit; reason = reasons.TrailingBytes } → IsFault bytes es fault
+  -- or a stream, all of whose units stand, and the next sequence begins behind the limit
+  BehindLimit : limit < length bytes → (others : List Entry) → (last : Entry)
+      → IsStreamFrom nothing_yet (cursor_at (take limit bytes) 0) others last → es ≡ others ++ last ∷ []
+      → fault ≡ record { place = 8 * limit; reason = reasons.StreamTooLong } → IsFault bytes es fault
 
 -- the fault's place in bytes
 abbrev pub refusal_of : Fault Reason → Refusal

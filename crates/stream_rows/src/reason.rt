@@ -18,11 +18,12 @@ pub enum Reason {
     OffsetWrong,
     /// A next offset that leads into the unit's own head.
     OffsetShort,
-    /// A previous offset that isn't the distance to the unit before, on the first unit not 0.
+    /// A previous offset that isn't the distance to the unit before: on the stream's first unit not 0, on the first unit of
+    /// a later sequence neither 0 nor that distance.
     PreviousWrong,
-    /// The first unit isn't a sequence header.
+    /// The first unit of a sequence isn't a sequence header.
     NoSequenceHeader,
-    /// A repeated sequence header that isn't the first one byte for byte.
+    /// A repeated sequence header that isn't the sequence's first one byte for byte.
     HeaderDiffers,
     /// A number in code above 2^32 - 1.
     NumberTooLarge,
@@ -48,11 +49,11 @@ pub enum Reason {
     SignalRefused,
     /// A picture coding mode above 1.
     CodingModeUnknown,
-    /// A picture number that isn't the one after the last picture's, modulo 2^32.
+    /// A picture number that isn't the one after that of the sequence's picture before, modulo 2^32.
     PictureNumberWrong,
-    /// The first picture is a field, and its number is odd.
+    /// The sequence's first picture is a field, and its number is odd.
     FieldNumberOdd,
-    /// The sequence ends after an odd number of fields.
+    /// A sequence ends after an odd number of fields.
     HalfFrame,
     /// A wavelet index other than 1, 3 and 4.
     WaveletRefused(u32),
@@ -68,8 +69,6 @@ pub enum Reason {
     LumaLengthTooLong,
     /// A dequantised value whose magnitude is above 2^36.
     CoefficientTooLarge,
-    /// A byte lies behind the end of the sequence.
-    TrailingBytes,
     /// The first 2^40 bytes aren't the whole input, and what they come to hangs on what follows; or the stream that is
     /// written would be longer than 2^40 bytes.
     StreamTooLong,

@@ -160,7 +160,15 @@ fn pictures_in_turn(rt: HostRuntime) -> Result<(), Fail> {
     expect_row(&rt, rt.alloc(), &IN_TURN)
 }
 
-const THAT_STAND: [(&[&[u8]], &[Item]); 4] = [
+const TWICE: &[Item] = &[
+    Item::Sequence,
+    Item::Picture(0),
+    Item::SequenceEnd,
+    Item::Sequence,
+    Item::Picture(0),
+];
+
+const THAT_STAND: [(&[&[u8]], &[Item]); 7] = [
     (
         &[HEADER, b"BBCD\x10\x00\x00\x00\x00\x00\x00\x00\x11"],
         &[Item::Sequence],
@@ -200,9 +208,39 @@ const THAT_STAND: [(&[&[u8]], &[Item]); 4] = [
             Item::Picture(1),
         ],
     ),
+    (&[HEADER, PICTURE, END, HEADER, PICTURE, END], TWICE),
+    (
+        &[
+            HEADER,
+            PICTURE,
+            END,
+            b"BBCD\x00\x00\x00\x00\x11\x00\x00\x00\x0D\x3F\x27\x42\x4A",
+            PICTURE,
+            END,
+        ],
+        TWICE,
+    ),
+    (
+        &[
+            HEADER,
+            b"BBCD\x10\x00\x00\x00\x00\x00\x00\x00\x11",
+            HEADER,
+            b"BBCD\xC8\x00\x00\x00\x15\x00\x00\x00\x11\x00\x00\x00\x07\x0C\x92\x70\x01",
+            b"BBCD\x00\x00\x00\x00\x11\x00\x00\x00\x15\x3F\x27\x42\x4A",
+            b"BBCD\x10\x00\x00\x00\x00\x00\x00\x00\x11",
+        ],
+        &[
+            Item::Sequence,
+            Item::SequenceEnd,
+            Item::Sequence,
+            Item::Picture(7),
+            Item::Repeated,
+        ],
+    ),
 ];
 
-/// Units that stand: no picture, next offsets of 0, numbers of frames and of fields past 2^32 - 1.
+/// Units that stand: no picture, next offsets of 0, numbers of frames and of fields past 2^32 - 1, and later sequences,
+/// whose first unit points back or not, with any number.
 #[test]
 fn units_that_stand(rt: HostRuntime) -> Result<(), Fail> {
     for (units, items) in &THAT_STAND {

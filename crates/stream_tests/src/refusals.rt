@@ -13,6 +13,8 @@ const SEQUENCE: &[Item] = &[Item::Sequence];
 
 const SHOWN: &[Item] = &[Item::Sequence, Item::Picture(0)];
 
+const ENDED: &[Item] = &[Item::Sequence, Item::Picture(0), Item::SequenceEnd];
+
 /// The units of a stream, what stands of it, and where and why it is refused.
 type Row<'a> = (&'a [&'a [u8]], &'a [Item], u64, Reason);
 
@@ -35,7 +37,7 @@ fn expect_second(rt: &impl Abort, alloc: Global, row: &SecondUnit) -> Result<(),
     )
 }
 
-const HEADS_AND_OFFSETS: [Row<'static>; 20] = [
+const HEADS_AND_OFFSETS: [Row<'static>; 22] = [
     (&[], NOTHING, 0, Reason::Truncated),
     (
         &[b"BBCE\x00\x00\x00\x00\x11\x00\x00\x00\x00\x3F\x27\x42\x4A"],
@@ -136,19 +138,36 @@ const HEADS_AND_OFFSETS: [Row<'static>; 20] = [
     (&[HEADER, HEADER], SEQUENCE, 26, Reason::PreviousWrong),
     (
         &[HEADER, PICTURE, END, b"\x00"],
-        SHOWN,
+        ENDED,
         51,
-        Reason::TrailingBytes,
+        Reason::Truncated,
     ),
     (
-        &[HEADER, PICTURE, END, HEADER, PICTURE, END],
-        SHOWN,
+        &[HEADER, PICTURE, END, b"\x00\x00\x00\x00"],
+        ENDED,
         51,
-        Reason::TrailingBytes,
+        Reason::BadPrefix,
+    ),
+    (
+        &[HEADER, PICTURE, END, PICTURE, END],
+        ENDED,
+        55,
+        Reason::NoSequenceHeader,
+    ),
+    (
+        &[
+            HEADER,
+            PICTURE,
+            END,
+            b"BBCD\x00\x00\x00\x00\x11\x00\x00\x00\x11\x3F\x27\x42\x4A",
+        ],
+        ENDED,
+        60,
+        Reason::PreviousWrong,
     ),
 ];
 
-/// Prefixes, codes, offsets, repeated headers, skipped payloads, and what lies behind the end.
+/// Prefixes, codes, offsets, repeated headers, skipped payloads, and what lies behind an end.
 #[test]
 fn heads_and_offsets(rt: HostRuntime) -> Result<(), Fail> {
     for row in &HEADS_AND_OFFSETS {

@@ -78,7 +78,6 @@ fn expect_shown<S: Source>(rt: &impl Abort, reader: &mut StreamReader, src: &mut
 fn expect_sums(rt: &impl Abort, reader: &StreamReader) {
     let header = reader.header().expect(rt, "a header");
     assert_same(rt, *header.parts(), PARTS);
-    assert_same(rt, reader.pictures(), 1);
     expect_shapes(rt, reader.shapes());
 }
 
@@ -109,10 +108,12 @@ fn behind_a_refusal(rt: HostRuntime) -> Result<(), Fail> {
 fn expect_stopped<S: Source>(rt: &impl Abort, reader: &mut StreamReader, src: &mut S) {
     expect_items(rt, reader, src, &ITEMS);
     assert_same(rt, shown(reader), (true, true, 38, 14));
-    expect_next(rt, reader, src, refused(51, Reason::TrailingBytes));
+    expect_next(rt, reader, src, Ok(Item::SequenceEnd));
+    assert_same(rt, shown(reader), (true, false, 51, 1));
+    expect_next(rt, reader, src, refused(51, Reason::Truncated));
     let (has_header, has_picture, taken, _) = shown(reader);
-    assert_same(rt, (has_header, has_picture, taken), (true, false, 38));
-    assert_same(rt, reader.shapes().len(), 2);
+    assert_same(rt, (has_header, has_picture, taken), (true, false, 51));
+    assert_same(rt, reader.shapes().len(), 3);
 }
 
 /// The first unit alone.

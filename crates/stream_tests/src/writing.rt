@@ -61,7 +61,7 @@ fn write_stream<K: Sink>(
     assert!(rt; header.parts().coding != 1 || first % 2 == 0);
     let shape = header.picture_shape();
     let picture = Picture::new(alloc, &shape)?;
-    let mut writer = match StreamWriter::start(alloc, &header, &params, first, sink) {
+    let mut writer = match StreamWriter::start(alloc, &header, &params, first, None, sink) {
         Ok(started) => started,
         Err(stop) => return Ok(Err(stop)),
     };
@@ -163,7 +163,7 @@ fn a_stop_is_kept(rt: HostRuntime) -> Result<(), Fail> {
     let picture = Picture::new(rt.alloc(), &shape)?;
     let mut sink = MemSink::new(rt.alloc(), 72, 0, &failing(1))?;
     let mut other = MemSink::new(rt.alloc(), 72, 0, &failing(u64::MAX))?;
-    let mut writer = match StreamWriter::start(rt.alloc(), &header, &params, 0, &mut sink) {
+    let mut writer = match StreamWriter::start(rt.alloc(), &header, &params, 0, None, &mut sink) {
         Ok(started) => started,
         Err(_) => {
             assert!(&rt; false);

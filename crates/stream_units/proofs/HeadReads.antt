@@ -44,7 +44,7 @@ next_told old new rest0 rest1 (Ok (turns.Unit item)) n = record {
   place = n.past;
   going = (ap (option_map stop_told) n.going.0, n.going.1);
 }
-next_told old new rest0 rest1 (Ok (turns.Last item)) n = absurd (let clash : Inner ≡ Final n.final.0 = n.final.1 in cc)
+next_told old new rest0 rest1 (Ok (turns.Last item)) n = absurd (let clash : Inner ≡ Final = n.final in cc)
 next_told old new rest0 rest1 (Ok turns.Rest) n = record { rests = n.rests; over = (n.none, n.past, ap (option_map stop_told) n.over.0, n.over.1) }
 next_told old new rest0 rest1 (Err stop) n = (limit_told old.table.place old.held rest0 rest1 stop n.0, n.1, ap (option_map stop_told) n.3, n.4)
 

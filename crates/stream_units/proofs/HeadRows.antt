@@ -24,14 +24,14 @@ use Rattle.stream_rows.specs.declared.reason.Reason.{Reason}
 use Rattle.stream_rows.specs.declared.reason.Reason.TheVariants as reasons
 use Rattle.stream_rows.specs.declared.reason.Refusal.{Refusal}
 use Rattle.stream_rows.specs.Streams.{refusal_of}
-use Rattle.stream_rows.specs.Units.{First, Past, nothing_yet, DataUnit, Sequence, reason_of, header_reason, is_header, is_end_code, has_fields, code_rules, next_rules, unit_head, next_checked, first_payload, payload_rows, body_rows, units}
+use Rattle.stream_rows.specs.Units.{First, Past, nothing_yet, DataUnit, Sequence, reason_of, header_reason, is_header, is_end_code, has_fields, code_rules, previous_rules, begins_later, next_rules, unit_head, next_checked, first_payload, payload_rows, unit_rows, units}
 use Rattle.stream_units.specs.Heads.{coding_of, looking_back, are_fields, passes, code_rules_behind, previous_rules_behind, judged_head, leads_behind, HeadAt, IsFirstUnit}
 use Rattle.stream_rows.proofs.Whole.{header_names}
 
 -- ---- a head
 
 abbrev pub head_reader : Past → Reader Reason
-head_reader z = record { reason_of = reason_of; bad_prefix = reasons.BadPrefix; unsupported = reasons.UnsupportedCode; code_rules = code_rules z; next_rules = next_rules; previous_rules = λ code next previous. (previous == z.previous or_else reasons.PreviousWrong) ∷ [] }
+head_reader z = record { reason_of = reason_of; bad_prefix = reasons.BadPrefix; unsupported = reasons.UnsupportedCode; code_rules = code_rules z; next_rules = next_rules; previous_rules = λ code next previous. previous_rules z previous }
 
 pub thirteen : (bytes : List ℕ) → drop 4 (drop 4 (drop 1 (drop 4 bytes))) ≡ drop 13 bytes
 thirteen bytes = ap (λ l. drop 4 (drop 4 l)) (drop-drop 1 4 bytes) ∙ ap (drop 4) (drop-drop 4 5 bytes) ∙ drop-drop 4 9 bytes
@@ -55,6 +55,9 @@ same_fields (Some first) = refl
 
 same_rules : (z : Past) (code : Code) → first_broken (code_rules z code) ≡ first_broken (code_rules_behind (looking_back z) code)
 same_rules z code = rw (same_header z.first, same_fields z.first) refl
+
+same_previous : (z : Past) (previous : ℕ) → first_broken (previous_rules z previous) ≡ first_broken (previous_rules_behind (looking_back z) previous)
+same_previous z previous = rw (same_header z.first) refl
 
 -- no rule's reason is that of a short field
 code_not_short : (header whole : Bool) → first_broken ((header or_else reasons.NoSequenceHeader) ∷ (whole or_else reasons.HalfFrame) ∷ []) ≡ Some reasons.Truncated → ⊥
@@ -96,11 +99,17 @@ tells_next : (z : Past) (bytes : List ℕ) (behind : Cursor) (code : Code) (next
     → Tells bytes behind (judged (8 * z.place + 32 + 8) (first_broken (next_rules code next)) r) (and_then (passes (z.place + 5) (first_broken (next_rules code next))) (λ checked. s))
 tells_next z bytes behind code next r s h = tells_judged bytes behind (8 * z.place + 32 + 8) (z.place + 5) (first_broken (next_rules code next)) r s (omega arith) (next_not_short _ _) h
 
+tells_previous : (z : Past) (bytes : List ℕ) (behind : Cursor) (previous : ℕ) (r : Result (ParseInfo × Cursor) (Fault Reason)) (s : Result ParseInfo Refusal) → Tells bytes behind r s
+    → Tells bytes behind (judged (8 * z.place + 32 + 8 + 32) (first_broken (previous_rules z previous)) r) (and_then (passes (z.place + 9) (first_broken (previous_rules_behind (looking_back z) previous))) (λ checked. s))
+tells_previous z bytes behind previous r s h =
+    subst (λ (broken : Option Reason). Tells bytes behind (judged (8 * z.place + 32 + 8 + 32) (first_broken (previous_rules z previous)) r) (and_then (passes (z.place + 9) broken) (λ checked. s))) (same_previous z previous)
+    (tells_judged bytes behind (8 * z.place + 32 + 8 + 32) (z.place + 9) (first_broken (previous_rules z previous)) r s (omega arith) (previous_not_short (previous == z.previous || (begins_later z && previous == 0))) h)
+
 tells_info : (z : Past) (bytes : List ℕ) (behind : Cursor) (info : ParseInfo) → 13 ≤ length bytes → Tells bytes behind (told (head_reader z) (8 * z.place) behind (Ok info)) (judged_head (looking_back z) (Ok info))
 tells_info z bytes behind info long =
     tells_code z bytes behind info.code _ _
     (tells_next z bytes behind info.code info.next _ _
-    (tells_judged bytes behind (8 * z.place + 32 + 8 + 32) (z.place + 9) (first_broken (previous_rules_behind (looking_back z) info.previous)) (Ok (info, behind)) (Ok info) (omega arith) (previous_not_short (info.previous == z.previous)) (long, refl)))
+    (tells_previous z bytes behind info.previous (Ok (info, behind)) (Ok info) (long, refl)))
 
 tells_short : (z : Past) (bytes : List ℕ) (behind : Cursor) (fault : InfoFault) → (IsTrue (is_short fault) → length bytes < 13) → Tells bytes behind (told (head_reader z) (8 * z.place) behind (Err fault)) (judged_head (looking_back z) (Err fault))
 tells_short z bytes behind faults.PrefixShort short = tells_fault bytes behind (8 * z.place) z.place reasons.Truncated (omega arith) (λ e. short refl)
@@ -182,11 +191,11 @@ payload_is z next len parts bytes h le =
 -- ---- the first unit
 
 pub first_head_refused : (bytes : List ℕ) (refusal : Refusal) → HeadAt (unit_head nothing_yet) nothing_yet.place bytes (Err refusal) → IsFirstUnit bytes (Err refusal)
-unfolding body_rows
+unfolding unit_rows
 first_head_refused bytes refusal h = (h.0, h.1, then_err reason_of (unit_head nothing_yet) (payload_rows nothing_yet None) (bytes_at 0 bytes) h.0 h.2)
 
 first_then : (bytes : List ℕ) (info : ParseInfo) (total : Result (DataUnit × Cursor) (Fault Reason)) → HeadAt (unit_head nothing_yet) nothing_yet.place bytes (Ok info) → read reason_of (first_payload nothing_yet info.next) (bytes_at 13 (drop 13 bytes)) ≡ total → unit_at units nothing_yet bytes ≡ total
-unfolding body_rows payload_rows
+unfolding unit_rows payload_rows
 first_then bytes info total h e = then_ok reason_of (unit_head nothing_yet) (payload_rows nothing_yet None) (bytes_at 0 bytes) (bytes_at 13 (drop 13 bytes)) info total h.1 e
 
 pub first_payload_refused : (bytes : List ℕ) (info : ParseInfo) (bit : ℕ) (reason : HeaderReason) → HeadAt (unit_head nothing_yet) nothing_yet.place bytes (Ok info) → read header.reason_of header_rows (cursor_at (drop 13 bytes) 0) ≡ Err (record { place = bit; reason = reason })

@@ -22,6 +22,7 @@ pub mod EncodedAnswers
 pub mod WorkedEncoding
 pub mod WrittenShapes
 pub mod WriterCalls
+pub mod DueBytes
 pub mod WrittenSlices
 pub mod EncodedPictures
 pub mod SameShapes

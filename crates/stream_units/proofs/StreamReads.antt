@@ -6,7 +6,8 @@ use Rattle.slice_geometry.specs.declared.unit_list.UnitShape.{UnitShape}
 use Rattle.transform_params.specs.Params.{Params}
 use Rattle.picture_codec.specs.Samples.{PictureSeen, PictureSamples}
 use Rattle.picture_codec.specs.Decoding.{PictureDecoderSeen}
-use Rattle.unit_table.specs.Grammar.{Inner, Final}
+use Rattle.sequence_header.specs.declared.parts.HeaderParts.{HeaderParts}
+use Rattle.unit_table.specs.Grammar.{Final}
 use Rattle.unit_table.specs.Fronts.{Finishes}
 use Rattle.unit_table.specs.Turn.{MeetsFront}
 use Rattle.stream_rows.specs.declared.reason.Reason.{Reason}
@@ -28,28 +29,29 @@ use Rattle.stream_units.specs.StreamStops.{stop_told, StopCause, LimitStops}
 use Rattle.stream_units.specs.Held.{greatest_share, greatest_in}
 use Rattle.stream_units.specs.Turns.{shape_of}
 use Rattle.stream_units.specs.Reader.{StreamReaderSeen, new_reader, item_of, is_end_item, IsPictureOf, TakesItem, NextOver, GreatestOver}
-use Rattle.stream_units.specs.StreamTable.{TableState, IsNew, DecoderBehind, TellsUnit, StopsTable}
+use Rattle.stream_units.specs.StreamTable.{StreamTableSeen, IsNew, DecoderBehind, TellsUnit, StopsTable}
 use Rattle.stream_units.specs.ReaderInside.{picture_in, ShowsOne, seen_by, answer_of, is_shown, IsSound}
 use Rattle.stream_units.proofs.HeldTurns.{few_most, stops_greatest, stops_most}
 
 abbrev Seen : Type 0
-Seen = ReaderSeen TableState Reason
+Seen = ReaderSeen StreamTableSeen Reason
 
 abbrev TurnResult : Type 0
 TurnResult = Result (Turn Item) (TableStop Reason)
 
-abbrev past_of : TableState → Past
+abbrev past_of : StreamTableSeen → Past
 past_of table = table.past
 
 abbrev pub TurnOver : Seen → Seen → Option (List ℕ) → Option (List ℕ) → TurnResult → Type 0
 TurnOver old new rest0 rest1 result = TableNext units reasons.StreamTooLong past_of TellsUnit StopsTable old new rest0 rest1 result
 
 -- no reader keeps a stop or is over
-pub new_is : (table : TableState) → IsNew table → seen_by (reading.new_reader table) false ≡ new_reader
+pub new_is : (table : StreamTableSeen) → IsNew table → seen_by (reading.new_reader table) false ≡ new_reader
 new_is table n =
-    ap (λ (z : Past). let s : StreamReaderSeen = record { past = z; held = []; shapes = table.shapes.units; picture = None; greatest = greatest_in table.decoder; stop = None; ended = false } in s) n.past
-    ∙ ap (λ (l : List UnitShape). let s : StreamReaderSeen = record { past = nothing_yet; held = []; shapes = l; picture = None; greatest = greatest_in table.decoder; stop = None; ended = false } in s) n.shapes
-    ∙ ap (λ (d : Option PictureDecoderSeen). let s : StreamReaderSeen = record { past = nothing_yet; held = []; shapes = []; picture = None; greatest = greatest_in d; stop = None; ended = false } in s) n.decoder
+    ap (λ (z : Past). let s : StreamReaderSeen = record { past = z; header = table.header; held = []; shapes = table.shapes.units; picture = None; greatest = greatest_in table.decoder; stop = None; ended = false } in s) n.past
+    ∙ ap (λ (h : Option HeaderParts). let s : StreamReaderSeen = record { past = nothing_yet; header = h; held = []; shapes = table.shapes.units; picture = None; greatest = greatest_in table.decoder; stop = None; ended = false } in s) n.header
+    ∙ ap (λ (l : List UnitShape). let s : StreamReaderSeen = record { past = nothing_yet; header = None; held = []; shapes = l; picture = None; greatest = greatest_in table.decoder; stop = None; ended = false } in s) n.shapes
+    ∙ ap (λ (d : Option PictureDecoderSeen). let s : StreamReaderSeen = record { past = nothing_yet; header = None; held = []; shapes = []; picture = None; greatest = greatest_in d; stop = None; ended = false } in s) n.decoder
 
 pub none_kept : (stop : Option (TableStop Reason)) → option_map stop_told stop ≡ None → stop ≡ None
 none_kept None e = refl
@@ -66,25 +68,26 @@ limit_told z held rest0 rest1 table_stops.NoMemory n = n
 
 -- ---- the item of a unit
 
-not_end : (unit : DataUnit) → unit_behind unit ≡ Inner → is_end_item (item_of unit) ≡ false
-not_end (Sequence parts) e = refl
-not_end Repeated e = refl
-not_end (Picture parts number params slices) e = refl
-not_end Skipped e = refl
-not_end End e = absurd cc
+not_end : (unit : DataUnit) → is_end_item (item_of unit) ≡ false
+not_end (Sequence parts) = refl
+not_end Repeated = refl
+not_end (Picture parts number params slices) = refl
+not_end Skipped = refl
+not_end End = refl
 
-is_end : (unit : DataUnit) (other : Option Reason) → unit_behind unit ≡ Final other → unit ≡ End
-is_end (Sequence parts) other e = absurd cc
-is_end Repeated other e = absurd cc
-is_end (Picture parts number params slices) other e = absurd cc
-is_end Skipped other e = absurd cc
-is_end End other e = refl
+is_end : (unit : DataUnit) → unit_behind unit ≡ Final → unit ≡ End
+is_end (Sequence parts) e = absurd cc
+is_end Repeated e = absurd cc
+is_end (Picture parts number params slices) e = absurd cc
+is_end Skipped e = absurd cc
+is_end End e = refl
 
 by_item : (old new : StreamReaderSeen) (rest0 rest1 : Option (List ℕ)) (item : Item) → is_end_item item ≡ false → TakesItem old new rest0 rest1 item → NextOver old new rest0 rest1 (Ok item)
 by_item old new rest0 rest1 items.Sequence e t = t
 by_item old new rest0 rest1 items.Repeated e t = t
 by_item old new rest0 rest1 (items.Picture number) e t = t
 by_item old new rest0 rest1 items.Skipped e t = t
+by_item old new rest0 rest1 items.SequenceEnd e t = t
 by_item old new rest0 rest1 items.End e t = absurd cc
 
 -- whether a picture is shown behind a unit
@@ -110,41 +113,40 @@ shown_behind End old new d = tt
 shows_is : (unit : DataUnit) (item : Item) → item ≡ item_of unit → is_shown (Ok item) ≡ shows_unit unit
 shows_is unit item e = ap (λ (x : Item). is_shown (Ok x)) e
 
-end_shows : (unit : DataUnit) (other : Option Reason) → unit_behind unit ≡ Final other → shows_unit unit ≡ false
-end_shows unit other e = ap shows_unit (is_end unit other e)
-
 -- ---- a call
 
 pub next_told : (old new : Seen) (was : Bool) (rest0 rest1 : Option (List ℕ)) (result : TurnResult) → TurnOver old new rest0 rest1 result → NextOver (seen_by old was) (seen_by new (is_shown (answer_of result))) rest0 rest1 (answer_of result)
 next_told old new was rest0 rest1 (Ok (turns.Unit item)) n =
-    by_item (seen_by old was) (seen_by new (is_shown (Ok item))) rest0 rest1 item (ap is_end_item n.tells.is_item ∙ not_end n.unit n.inner) (record {
+    by_item (seen_by old was) (seen_by new (is_shown (Ok item))) rest0 rest1 item (ap is_end_item n.tells.is_item ∙ not_end n.unit) (record {
       unit = n.unit;
       bytes = n.bytes;
       is_item = n.tells.is_item;
       takes = n.takes;
       past = n.past;
+      header = n.tells.header;
       shapes = n.tells.shapes;
       few = n.tells.few;
       picture = subst (λ (b : Bool). IsPictureOf n.unit (picture_in b new.table.decoder)) (sym (shows_is n.unit item n.tells.is_item)) (picture_behind n.unit old.table.decoder new.table.decoder n.tells.decoder);
       going = (ap (option_map stop_told) n.going.0, n.going.1);
     })
 next_told old new was rest0 rest1 (Ok (turns.Last item)) n =
-    let e = is_end n.unit n.final.0 n.final.1 in
-    let i : item ≡ items.End = n.tells.is_item ∙ ap item_of e in
+    let e = is_end n.unit n.final in
+    let t = subst (λ (u : DataUnit). TellsUnit old.table new.table u n.bytes item) e n.tells in
     let m = subst (λ (u : DataUnit). (m : MeetsFront limit past_limit units old.table.past old.held rest0 rest1 (Finishes (length n.bytes) u)) × ((more : List ℕ) → rest1 ≡ Some more → old.held ++ m.read ++ more ≡ n.bytes)) e (n.meets, n.whole) in
-    subst (λ (x : Item). NextOver (seen_by old was) (seen_by new (is_shown (Ok x))) rest0 rest1 (Ok x)) (sym i) (record {
+    record {
       bytes = n.bytes;
       meets = m.0;
       whole = m.1;
       last = n.last;
       past = subst (λ (u : DataUnit). new.table.past ≡ (units).after old.table.past u n.bytes) e n.past;
-      shapes = (subst (λ (u : DataUnit). TellsUnit old.table new.table u n.bytes item) e n.tells).shapes;
+      header = t.header;
+      shapes = t.shapes;
       over = (n.none, refl, ap (option_map stop_told) n.over.0, n.over.1);
-    })
+    }
 next_told old new was rest0 rest1 (Ok turns.Rest) n = absurd (let clash : false ≡ true = n.rests.may in cc)
 next_told old new was rest0 rest1 (Err stop) n = (
   limit_told old.table.past old.held rest0 rest1 stop n.0,
-  record { past = n.1; shapes = n.2.shapes; picture = refl; kept = ap (option_map stop_told) n.3; ended = n.4 },
+  record { past = n.1; header = n.2.header; shapes = n.2.shapes; picture = refl; kept = ap (option_map stop_told) n.3; ended = n.4 },
 )
 
 greatest_unit : (unit : DataUnit) (old new : StreamReaderSeen) (rest0 : Option (List ℕ)) (bytes : List ℕ) (was is : Option PictureDecoderSeen) → DecoderBehind unit was is → old.greatest ≡ greatest_in was → new.greatest ≡ greatest_in is
@@ -163,7 +165,8 @@ greatest_item old new was is rest0 unit bytes item t =
 
 pub greatest_told : (old new : Seen) (was is : Bool) (rest0 rest1 : Option (List ℕ)) (result : TurnResult) → TurnOver old new rest0 rest1 result → GreatestOver (seen_by old was) (seen_by new is) rest0 (answer_of result)
 greatest_told old new was is rest0 rest1 (Ok (turns.Unit item)) n = greatest_item old new was is rest0 n.unit n.bytes item n.tells
-greatest_told old new was is rest0 rest1 (Ok (turns.Last item)) n = greatest_item old new was is rest0 n.unit n.bytes item n.tells
+greatest_told old new was is rest0 rest1 (Ok (turns.Last item)) n =
+    ap greatest_in (subst (λ (u : DataUnit). TellsUnit old.table new.table u n.bytes item) (is_end n.unit n.final) n.tells).decoder
 greatest_told old new was is rest0 rest1 (Ok turns.Rest) n = absurd (let clash : false ≡ true = n.rests.may in cc)
 greatest_told old new was is rest0 rest1 (Err stop) n = stops_greatest old.table.past old.held rest0 old.table.decoder new.table.decoder new.held stop n.2.held
 
@@ -196,19 +199,24 @@ ended_told old new was rest0 rest1 before now result sound e h =
 
 -- ---- what is true of the fields behind it
 
-sound_unit : (old new : Seen) (unit : DataUnit) (bytes : List ℕ) (item : Item) → TellsUnit old.table new.table unit bytes item → new.stop ≡ None → length new.held ≤ 4096 → (new.ended ≡ true → shows_unit unit ≡ false) → IsSound new (is_shown (Ok item))
-sound_unit old new unit bytes item t none few over =
+sound_unit : (old new : Seen) (unit : DataUnit) (bytes : List ℕ) (item : Item) → TellsUnit old.table new.table unit bytes item → new.stop ≡ None → new.ended ≡ false → length new.held ≤ 4096 → IsSound new (is_shown (Ok item))
+sound_unit old new unit bytes item t none going few =
     let s = shows_is unit item t.is_item in
     record {
       shown = subst (λ (b : Bool). ShowsOne b new.table.decoder) (sym s) (shown_behind unit old.table.decoder new.table.decoder t.decoder);
       stopped = λ stop e. absurd (let clash : None ≡ Some stop = sym none ∙ e in cc);
-      over = λ e. s ∙ over e;
+      over = λ e. absurd (let clash : false ≡ true = sym going ∙ e in cc);
       held = few_most new.held (greatest_in new.table.decoder) (omega (arith, few));
     }
 
 sound_next : (old new : Seen) (rest0 rest1 : Option (List ℕ)) (result : TurnResult) → TurnOver old new rest0 rest1 result → (new.stop ≡ None → length new.held ≤ 4096) → IsSound new (is_shown (answer_of result))
-sound_next old new rest0 rest1 (Ok (turns.Unit item)) n few = sound_unit old new n.unit n.bytes item n.tells n.going.0 (few n.going.0) (λ e. absurd (let clash : false ≡ true = sym n.going.1 ∙ e in cc))
-sound_next old new rest0 rest1 (Ok (turns.Last item)) n few = sound_unit old new n.unit n.bytes item n.tells n.over.0 (few n.over.0) (λ e. end_shows n.unit n.final.0 n.final.1)
+sound_next old new rest0 rest1 (Ok (turns.Unit item)) n few = sound_unit old new n.unit n.bytes item n.tells n.going.0 n.going.1 (few n.going.0)
+sound_next old new rest0 rest1 (Ok (turns.Last item)) n few = record {
+  shown = tt;
+  stopped = λ s e. refl;
+  over = λ e. refl;
+  held = few_most new.held (greatest_in new.table.decoder) (omega (arith, few n.over.0));
+}
 sound_next old new rest0 rest1 (Ok turns.Rest) n few = absurd (let clash : false ≡ true = n.rests.may in cc)
 sound_next old new rest0 rest1 (Err stop) n few = record {
   shown = tt;

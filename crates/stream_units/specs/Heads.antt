@@ -17,14 +17,15 @@ use Rattle.stream_rows.specs.Units.{First, Past, nothing_yet, Sequence, reason_o
 use Rattle.stream_rows.specs.Streams.{refusal_of}
 use Rattle.stream_units.specs.HeadUnits.{leads_on}
 
--- the picture coding mode of the first sequence header
+-- the picture coding mode of the sequence's first header
 abbrev pub coding_of : Option First → Option ℕ
 coding_of None = None
 coding_of (Some first) = Some first.parts.coding
 
 -- what a head looks back at
 abbrev pub looking_back : Past → Before
-looking_back z = record { place = z.place; previous = z.previous; coding = coding_of z.first; pictures = z.pictures }
+looking_back z =
+    record { place = z.place; previous = z.previous; later = z.later; coding = coding_of z.first; pictures = z.pictures }
 
 -- The head of the unit at a place, in front of bytes, by its rows: it was read whole, or has its first fault, which is a
 -- short field only where the bytes end inside the head.
@@ -55,7 +56,9 @@ code_rules_behind before code =
     ∷ (not (is_end_code code && are_fields before.coding && before.pictures % 2 == 1) or_else reasons.HalfFrame) ∷ []
 
 abbrev pub previous_rules_behind : Before → ℕ → List (Rule Reason)
-previous_rules_behind before previous = (previous == before.previous or_else reasons.PreviousWrong) ∷ []
+previous_rules_behind before previous =
+    ((previous == before.previous || ((before.later && not (is_some before.coding)) && previous == 0)) or_else reasons.PreviousWrong)
+    ∷ []
 
 -- a field at a place, after the rules on it
 abbrev pub passes : ℕ → Option Reason → Result Unit Refusal

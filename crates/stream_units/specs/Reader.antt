@@ -1,6 +1,7 @@
 -- The reader of a stream, over any source.
 use Rattle.std.specs.Prelude.{◌≡◌, ◌≤◌, ℕ, Bool, true, false, List, [], ◌∷◌, ◌++◌, length, Option, Some, None, Result, Ok, Err}
 use Rattle.std.specs.Io.KnownBytes.{IsAtEnd}
+use Rattle.sequence_header.specs.declared.parts.HeaderParts.{HeaderParts}
 use Rattle.slice_geometry.specs.declared.unit_list.UnitShape.{UnitShape}
 use Rattle.slice_geometry.specs.Frames.{frame_of}
 use Rattle.picture_codec.specs.Samples.{PictureSeen, picture_of}
@@ -16,11 +17,12 @@ use Rattle.stream_units.specs.Turns.{Shows, shape_of}
 use Rattle.stream_units.specs.StreamStops.{LimitStops}
 use Rattle.stream_units.specs.Held.{greatest_of, IsGreatest}
 
--- What is seen of a reader: what the units so far leave, the bytes that it holds, the shapes of the units, the picture of
--- the last one, the greatest share of the last picture unit whose parameters were read, the stop that it keeps, and
--- whether the stream is over.
+-- What is seen of a reader: what the units so far leave, the header that was read last, the bytes that it holds, the shapes
+-- of the units, the picture of the last one, the greatest share of the last picture unit whose parameters were read, the
+-- stop that it keeps, and whether the stream is over.
 pub record StreamReaderSeen : Type 0 where
   pub past : Past
+  pub header : Option HeaderParts
   pub held : List ℕ
   pub shapes : List UnitShape
   pub picture : Option PictureSeen
@@ -30,15 +32,29 @@ pub record StreamReaderSeen : Type 0 where
 
 -- a new reader
 abbrev pub new_reader : StreamReaderSeen
-new_reader = record { past = nothing_yet; held = []; shapes = []; picture = None; greatest = None; stop = None; ended = false }
+new_reader = record {
+  past = nothing_yet;
+  header = None;
+  held = [];
+  shapes = [];
+  picture = None;
+  greatest = None;
+  stop = None;
+  ended = false;
+}
 
--- the item of a unit
+-- the item of a unit behind which something follows
 abbrev pub item_of : DataUnit → Item
 item_of (Sequence parts) = items.Sequence
 item_of Repeated = items.Repeated
 item_of (Picture parts number params slices) = items.Picture number
 item_of Skipped = items.Skipped
-item_of End = items.End
+item_of End = items.SequenceEnd
+
+-- the header that was read last, behind a unit
+abbrev pub header_behind : DataUnit → Option HeaderParts → Option HeaderParts
+header_behind (Sequence parts) before = Some parts
+header_behind other before = before
 
 -- the picture of a unit, if it has one, is shown
 abbrev pub IsPictureOf : DataUnit → Option PictureSeen → Type 0
@@ -61,14 +77,15 @@ pub record Steps (old new : Past) (unit : DataUnit) (bytes : List ℕ) (item : I
   pub is_item : item ≡ item_of unit
   pub decoder : IsDecoderOf unit made
 
--- The unit in front, of the bytes that were held and those that were read, was taken: the others are held, and the reader
--- is behind it.
+-- The unit in front, of the bytes that were held and those that were read, was taken, an end of sequence where a byte
+-- follows it: the others are held, and the reader is behind it.
 pub record TakesItem (old new : StreamReaderSeen) (rest0 rest1 : Option (List ℕ)) (item : Item) : Type 0 where
   pub unit : DataUnit
   pub bytes : List ℕ
   pub is_item : item ≡ item_of unit
   pub takes : TakesUnit limit past_limit units old.past old.held rest0 rest1 unit bytes new.held
   pub past : new.past ≡ after old.past unit bytes
+  pub header : new.header ≡ header_behind unit old.header
   pub shapes : new.shapes ≡ old.shapes ++ shape_of old.past unit bytes ∷ []
   -- each slice has a byte
   pub few : (shape_of old.past unit bytes).slices ≤ length bytes
@@ -82,12 +99,14 @@ pub record TakesEnd (old new : StreamReaderSeen) (rest0 rest1 : Option (List ℕ
   pub whole : (more : List ℕ) → rest1 ≡ Some more → old.held ++ meets.read ++ more ≡ bytes
   pub last : IsAtEnd rest1
   pub past : new.past ≡ after old.past End bytes
+  pub header : new.header ≡ old.header
   pub shapes : new.shapes ≡ old.shapes ++ shape_of old.past End bytes ∷ []
   pub over : (new.held ≡ []) × (new.picture ≡ None) × (new.stop ≡ None) × (new.ended ≡ true)
 
 -- A stop is kept; the units so far are as they were.
 pub record KeepsStop (old new : StreamReaderSeen) (stop : ReadStop) : Type 0 where
   pub past : new.past ≡ old.past
+  pub header : new.header ≡ old.header
   pub shapes : new.shapes ≡ old.shapes
   pub picture : new.picture ≡ None
   pub kept : new.stop ≡ Some stop

@@ -13,7 +13,7 @@ use Rattle.stream_units.specs.declared.stop.Item.{Item}
 use Rattle.stream_units.specs.declared.stop.Item.TheVariants as items
 use Rattle.stream_units.specs.StreamStops.{stop_told}
 use Rattle.stream_units.specs.Reader.{StreamReaderSeen}
-use Rattle.stream_units.specs.StreamTable.{TableState}
+use Rattle.stream_units.specs.StreamTable.{StreamTableSeen}
 use Rattle.stream_units.specs.Held.{held_most, greatest_in}
 
 -- the picture that a decoder finished
@@ -33,9 +33,10 @@ ShowsOne true None = ⊥
 ShowsOne false decoder = Unit {0}
 
 -- what is seen of it, by the reader over its table
-abbrev pub seen_by : ReaderSeen TableState Reason → Bool → StreamReaderSeen
+abbrev pub seen_by : ReaderSeen StreamTableSeen Reason → Bool → StreamReaderSeen
 seen_by r shows = record {
   past = r.table.past;
+  header = r.table.header;
   held = r.held;
   shapes = r.table.shapes.units;
   picture = picture_in shows r.table.decoder;
@@ -44,10 +45,10 @@ seen_by r shows = record {
   ended = r.ended;
 }
 
--- what a turn tells; behind the last unit it is the end again
+-- what a turn tells; with the last unit and behind it, it is the end
 abbrev pub answer_of : Result (Turn Item) (TableStop Reason) → Result Item ReadStop
 answer_of (Ok (turns.Unit item)) = Ok item
-answer_of (Ok (turns.Last item)) = Ok item
+answer_of (Ok (turns.Last item)) = Ok items.End
 answer_of (Ok turns.Rest) = Ok items.End
 answer_of (Err stop) = Err (stop_told stop)
 
@@ -57,7 +58,7 @@ is_shown (Ok (items.Picture number)) = true
 is_shown (Ok other) = false
 is_shown (Err stop) = false
 
-pub record IsSound (r : ReaderSeen TableState Reason) (shows : Bool) : Type 0 where
+pub record IsSound (r : ReaderSeen StreamTableSeen Reason) (shows : Bool) : Type 0 where
   pub shown : ShowsOne shows r.table.decoder
   -- a stopped reader shows no picture, and neither does one at the end
   pub stopped : (stop : TableStop Reason) → r.stop ≡ Some stop → shows ≡ false

@@ -3,7 +3,7 @@ use Rattle.std.specs.Prelude.{◌≡◌, ◌≤◌, ℕ, ◌+◌, ◌%◌, ◌^�
 use Rattle.parse_info.specs.declared.TheConstants.{HEAD_SIZE}
 use Rattle.std.specs.Io.KnownBytes.{Appends}
 use Rattle.vc2_io.specs.Outside.{Rose, GrewShort}
-use Rattle.sequence_header.specs.Bytes.{header_len}
+use Rattle.sequence_header.specs.declared.parts.HeaderParts.{HeaderParts}
 use Rattle.sequence_header.specs.Coding.{luma_depth, colour_depth}
 use Rattle.slice_encoder.specs.TrialLaws.{IsSteepOk}
 use Rattle.slice_geometry.specs.declared.unit_list.UnitShape.{UnitShape}
@@ -14,7 +14,7 @@ use Rattle.transform_params.specs.ParameterFields.{byte_length, unit_length}
 use Rattle.stream_units.specs.declared.write_stop.WriteStop.{WriteStop}
 use Rattle.stream_units.specs.declared.write_stop.WriteStop.TheVariants as stops
 use Rattle.stream_rows.specs.Streams.{limit}
-use Rattle.stream_units.specs.EncodedStream.{Settings, header_unit, picture_unit, end_unit}
+use Rattle.stream_units.specs.EncodedStream.{Settings, begins_at, header_length, header_unit, end_unit, units_with}
 
 -- What is seen of a writer: what it writes under, the units so far by their lengths, whether the stream was ended, and
 -- the stop that it keeps.
@@ -51,6 +51,14 @@ next_place w = total_length w.shapes
 abbrev pub next_previous : StreamWriterSeen → ℕ
 next_previous w = last_length 0 w.shapes
 
+-- the position of the next picture
+abbrev pub next_position : StreamWriterSeen → ℕ
+next_position w = pictures_among w.shapes
+
+-- a new sequence begins with the next picture
+abbrev pub begins_next : StreamWriterSeen → Bool
+begins_next w = begins_at w.settings.group (next_position w)
+
 -- ---- the shapes of units
 
 abbrev pub plain_shape : ℕ → ℕ → UnitShape
@@ -64,10 +72,30 @@ picture_shape p start =
 
 -- a writer that wrote the sequence header
 abbrev pub started : Settings → StreamWriterSeen
-started s = record { settings = s; shapes = plain_shape 0 (HEAD_SIZE + header_len s.parts) ∷ []; ended = false; stop = None }
+started s = record { settings = s; shapes = plain_shape 0 (header_length s.parts) ∷ []; ended = false; stop = None }
+
+-- before a picture's unit, by whether a new sequence begins with it, from a place on: an end and a header
+abbrev pub shapes_before : HeaderParts → Bool → ℕ → List UnitShape
+shapes_before parts begins place = if begins
+    then plain_shape place HEAD_SIZE ∷ plain_shape (place + HEAD_SIZE) (header_length parts) ∷ [] else []
+
+-- their bytes
+abbrev pub bytes_before : HeaderParts → Bool → ℕ
+bytes_before parts begins = if begins then HEAD_SIZE + header_length parts else 0
+
+-- the shapes of the units that are due with a picture
+abbrev pub due_shapes : HeaderParts → Params → Bool → ℕ → List UnitShape
+due_shapes parts p begins place = shapes_before parts begins place ++ picture_shape p (place + bytes_before parts begins) ∷ []
 
 abbrev pub after_picture : StreamWriterSeen → StreamWriterSeen
-after_picture w = record w { shapes = w.shapes ++ picture_shape w.settings.params (next_place w) ∷ [] }
+after_picture w = record w {
+  shapes = w.shapes ++ due_shapes w.settings.parts w.settings.params (begins_next w) (next_place w);
+}
+
+-- the units that are due with the next picture, whose slices are these
+abbrev pub due_units : StreamWriterSeen → List (List ℕ) → List ℕ
+due_units w slices =
+    units_with w.settings.parts w.settings.params (begins_next w) (next_previous w) (next_number w) slices
 
 abbrev pub after_end : StreamWriterSeen → StreamWriterSeen
 after_end w = record w { shapes = w.shapes ++ plain_shape (next_place w) HEAD_SIZE ∷ []; ended = true }
@@ -75,7 +103,7 @@ after_end w = record w { shapes = w.shapes ++ plain_shape (next_place w) HEAD_SI
 abbrev pub stopped : StreamWriterSeen → WriteStop → StreamWriterSeen
 stopped w stop = record w { stop = Some stop }
 
--- a unit was written whole, or a proper front of it went out, or nothing
+-- units were written whole, or a proper front of them went out, or nothing
 abbrev pub Wrote : List ℕ → Option (List ℕ) → Option (List ℕ) → Result (Unit {0}) WriteStop → Type 0
 Wrote unit out0 out1 (Ok x) = Appends out0 out1 unit
 Wrote unit out0 out1 (Err stops.OutFault) = GrewShort out0 out1 unit
@@ -86,9 +114,10 @@ abbrev pub leaves : StreamWriterSeen → StreamWriterSeen → Result (Unit {0}) 
 leaves old next (Ok x) = next
 leaves old next (Err stop) = stopped old stop
 
--- the next picture and the end fit before the limit
+-- the units that are due with the next picture, and the last end, fit before the limit
 abbrev pub HasRoom : StreamWriterSeen → Type 0
-HasRoom w = next_place w + unit_length w.settings.params + HEAD_SIZE ≤ limit
+HasRoom w =
+    next_place w + bytes_before w.settings.parts (begins_next w) + unit_length w.settings.params + HEAD_SIZE ≤ limit
 
 -- why a picture isn't written: without room for it and the end it never is, and with room only a write or memory fails
 abbrev pub PictureStops : StreamWriterSeen → Result (Unit {0}) WriteStop → Type 0
@@ -105,7 +134,7 @@ EndStops other = Unit {0}
 -- How a picture whose slices are these came out, of a writer that keeps no stop.
 pub record WritesPicture (old new : StreamWriterSeen) (slices : List (List ℕ)) (out0 out1 : Option (List ℕ))
     (result : Result (Unit {0}) WriteStop) : Type 0 where
-  pub wrote : Wrote (picture_unit old.settings.params (next_previous old) (next_number old) slices) out0 out1 result
+  pub wrote : Wrote (due_units old slices) out0 out1 result
   pub after : new ≡ leaves old (after_picture old) result
   pub why : PictureStops old result
 
@@ -138,8 +167,7 @@ WriteCause before now (Err other) = now ≡ before
 -- what is written by a call for each of these pictures and then the end
 abbrev pub texts_from : StreamWriterSeen → List (List (List ℕ)) → List ℕ
 texts_from w [] = end_unit (next_previous w)
-texts_from w (slices ∷ pictures) =
-    picture_unit w.settings.params (next_previous w) (next_number w) slices ++ texts_from (after_picture w) pictures
+texts_from w (slices ∷ pictures) = due_units w slices ++ texts_from (after_picture w) pictures
 
 -- each of them has room when its turn comes, as it has where its call answers Ok
 abbrev pub HaveRoom : StreamWriterSeen → List (List (List ℕ)) → Type 0

@@ -4,7 +4,7 @@ use parse_info::Chain;
 use sequence_header::SequenceHeader;
 use std::marker::Model;
 
-/// The first sequence header, with the bytes of its payload.
+/// The first header of a sequence, with the bytes of its payload.
 #[derive(Drop)]
 pub(crate) struct First {
     header: SequenceHeader,
@@ -49,11 +49,12 @@ impl First {
     }
 }
 
-/// What earlier units leave: where the next one begins and the length of the one before, the first sequence header, how
-/// many pictures there were, and the number of the last picture.
+/// What earlier units leave: where the next one begins and the length of the one before, and whether a sequence has ended
+/// before; and of the sequence that isn't over its first header, how many pictures it has so far, and the last one's number.
 #[derive(Drop)]
 pub(crate) struct Earlier {
     chain: Chain,
+    later: bool,
     first: Option<First>,
     pictures: u64,
     last: u32,
@@ -65,13 +66,13 @@ impl Model for Earlier {
 
     ghost Value = { Past };
 
-    ghost view = { λ a. record { place = a.chain.place; previous = a.chain.previous; first = a.first; pictures = a.pictures; last = a.last } };
+    ghost view = { λ a. record { place = a.chain.place; previous = a.chain.previous; later = a.later; first = a.first; pictures = a.pictures; last = a.last } };
 
     ghost invariant = { λ a. a.pictures ≤ a.chain.place };
 }
 
 impl Earlier {
-    ghost use Rattle.std.specs.Prelude.{◌≡◌, ◌≤◌, ◌<◌, ◌+◌, Some, None, IfSome, IsNone, ◌↔◌};
+    ghost use Rattle.std.specs.Prelude.{◌≡◌, ◌≤◌, ◌<◌, ◌+◌, true, Some, None, IfSome, IsNone, ◌↔◌};
     ghost use Rattle.vc2_io.specs.declared.TheConstants.{INPUT_LIMIT};
     ghost use Rattle.stream_rows.specs.Units.{nothing_yet};
 
@@ -81,6 +82,7 @@ impl Earlier {
     {
         Earlier {
             chain: Chain::new(),
+            later: false,
             first: None,
             pictures: 0,
             last: 0,
@@ -102,7 +104,14 @@ impl Earlier {
         self.chain.previous()
     }
 
-    /// The first sequence header, where there was one.
+    /// Whether a sequence has ended before.
+    pub fn later(&self) -> bool
+        ensures { result ≡ self.now.later }
+    {
+        self.later
+    }
+
+    /// The first header of the sequence, where there was one.
     pub fn first(&self) -> Option<&First>
         ensures some { IfSome result (λ first. self.now.first ≡ Some first.now) }
         ensures none { IsNone result ↔ (self.now.first ≡ None) }
@@ -110,14 +119,14 @@ impl Earlier {
         self.first.as_ref()
     }
 
-    /// How many pictures there were.
+    /// How many pictures the sequence has so far.
     pub fn pictures(&self) -> u64
         ensures { result ≡ self.now.pictures }
     {
         self.pictures
     }
 
-    /// The number of the last picture, and 0 before the first.
+    /// The number of the sequence's last picture, and 0 before the first.
     pub fn last(&self) -> u32
         ensures { result ≡ self.now.last }
     {
@@ -132,7 +141,19 @@ impl Earlier {
         self.chain.step(length);
     }
 
-    /// Goes on behind the first sequence header's unit.
+    /// Goes on behind the end of a sequence.
+    pub fn step_end(&mut self, length: u32)
+        requires { self.old.place + length ≤ INPUT_LIMIT }
+        ensures { self.new ≡ record { place = self.old.place + length; previous = length; later = true; first = None; pictures = 0; last = 0 } }
+    {
+        self.later = true;
+        self.first = None;
+        self.pictures = 0;
+        self.last = 0;
+        self.chain.step(length);
+    }
+
+    /// Goes on behind the unit of a sequence's first header.
     pub fn step_first(&mut self, first: First, length: u32)
         requires { self.old.place + length ≤ INPUT_LIMIT }
         ensures { self.new ≡ record self.old { place = self.old.place + length; previous = length; first = Some first } }

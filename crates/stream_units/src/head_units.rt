@@ -144,7 +144,7 @@ impl Table for HeadTable {
 
     ghost stops_otherwise = { λ before now held0 rest0 held refusal stop h. tt };
 
-    ghost stops_behind = { λ before now found unit bytes other held0 rest0 held stop is final few. tt };
+    ghost stops_behind = { λ before now found unit bytes held0 rest0 held stop is final few. tt };
 
     fn place(&self) -> u64 {
         self.place
@@ -154,7 +154,7 @@ impl Table for HeadTable {
         true
     }
 
-    fn behind(&self, _found: &ParseInfo) -> After<Reason> {
+    fn behind(&self, _found: &ParseInfo) -> After {
         After::Inner
     }
 

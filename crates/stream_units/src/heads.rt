@@ -12,12 +12,13 @@ use sequence_header::{HeaderReason, SequenceHeader};
 use stream_rows::{Reason, Refusal};
 use transform_params::TransformReason;
 
-// What a head looks back at: where its unit begins, the length of the unit before, the picture coding mode of the first
-// sequence header, and how many pictures there were.
+// What a head looks back at: where its unit begins, the length of the unit before, whether a sequence has ended before, the
+// picture coding mode of the sequence, and how many pictures it has so far.
 #[derive(Clone, Copy, Debug, PartialEq, Eq)]
 struct Before {
     place: u64,
     previous: u32,
+    later: bool,
     coding: Option<u32>,
     pictures: u64,
 }
@@ -33,6 +34,7 @@ fn look_back(earlier: &Earlier) -> Before
     Before {
         place: earlier.place(),
         previous: earlier.previous(),
+        later: earlier.later(),
         coding,
         pictures: earlier.pictures(),
     }
@@ -156,7 +158,9 @@ fn check_previous(before: Before, previous: u32) -> Result<(), Refusal>
     requires { before.place ≤ INPUT_LIMIT }
     ensures { result ≡ passes (before.place + 9) (first_broken (previous_rules_behind before previous)) }
 {
-    if previous != before.previous {
+    // A later sequence may begin as if it stood alone.
+    let begins_later = before.later && before.coding.is_none();
+    if previous != before.previous && !(begins_later && previous == 0) {
         return Err(Refusal {
             place: before.place + 9,
             reason: Reason::PreviousWrong,

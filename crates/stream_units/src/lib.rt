@@ -1,6 +1,7 @@
 //! Streams: the rows of their units, and the reader that takes them from any source.
 #![tactic(auto)]
 
+mod due_units;
 mod earlier;
 pub mod encoding;
 mod head_reader;

@@ -30,7 +30,7 @@ pub(crate) enum Found {
 }
 
 impl Found {
-    /// The sequence ends with the unit.
+    /// A sequence ends with the unit.
     pub fn is_end(&self) -> bool
         ensures { result ≡ is_end_found self.now }
     {

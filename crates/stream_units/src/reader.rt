@@ -1,7 +1,7 @@
 //! The reader of a stream.
 
 ghost use Rattle.vc2_io.specs.declared.TheConstants.{INPUT_LIMIT};
-ghost use Rattle.std.specs.Prelude.{◌≡◌, ◌≤◌, Ok, Err, Some, None, true, false, length, IfOk, IfSome, IsNone, ◌↔◌, option_map};
+ghost use Rattle.std.specs.Prelude.{◌≡◌, ◌≤◌, Ok, Err, Some, None, true, false, length, IfOk, IfSome, IsNone, ◌↔◌};
 ghost use Rattle.stream_units.specs.StreamStops.{StopCause};
 ghost use Rattle.stream_units.specs.Reader.{NextOver, GreatestOver, new_reader};
 ghost use Rattle.stream_units.specs.Held.{held_most};
@@ -26,7 +26,7 @@ fn answer_of(turn: Result<Turn<Item>, unit_reader::ReadStop<Reason>>) -> Result<
 {
     match turn {
         Ok(Turn::Unit(item)) => Ok(item),
-        Ok(Turn::Last(item)) => Ok(item),
+        Ok(Turn::Last(_)) => Ok(Item::End),
         Ok(Turn::Rest) => Ok(Item::End),
         Err(stop) => Err(stop_told(stop)),
     }
@@ -39,9 +39,9 @@ fn is_shown(answer: &Result<Item, ReadStop>) -> bool
     matches!(answer, Ok(Item::Picture(_)))
 }
 
-/// Reads the units of a stream from any source, one after another. Contracts see what the units so far leave, the bytes
-/// that it holds, the shapes of the units, the picture of the last one, the greatest share of the last picture unit whose
-/// parameters were read, and the stop that it keeps.
+/// Reads the units of a stream from any source, one after another. Contracts see what the units so far leave, the header that
+/// was read last, the bytes that it holds, the shapes of the units, the picture of the last one, the greatest share of the
+/// last picture unit whose parameters were read, and the stop that it keeps.
 #[derive(Drop)]
 pub struct StreamReader {
     reader: Reader<StreamTable>,
@@ -95,16 +95,12 @@ impl StreamReader {
         answer
     }
 
-    /// The sequence header; none before the first `Sequence`.
+    /// The header that was read last; none before the first `Sequence`.
     pub fn header(&self) -> Option<&SequenceHeader>
-        ensures some { IfSome result (λ header. Some header.now ≡ option_map (λ first. first.parts) self.now.past.first) }
-        ensures none { IsNone result ↔ (self.now.past.first ≡ None) }
+        ensures some { IfSome result (λ header. self.now.header ≡ Some header.now) }
+        ensures none { IsNone result ↔ (self.now.header ≡ None) }
     {
-        self.reader
-            .table()
-            .earlier()
-            .first()
-            .map(|first| first.header())
+        self.reader.table().header()
     }
 
     /// The picture of the unit that the last call of `next` answered; none where it didn't answer `Picture`.
@@ -132,13 +128,6 @@ impl StreamReader {
         ensures most { result ≤ INPUT_LIMIT }
     {
         self.reader.table().earlier().place()
-    }
-
-    /// How many pictures the units so far have.
-    pub fn pictures(&self) -> u64
-        ensures { result ≡ self.now.past.pictures }
-    {
-        self.reader.table().earlier().pictures()
     }
 
     /// How many bytes are held.

@@ -5,13 +5,14 @@ ghost use Rattle.std.specs.Prelude.{◌≡◌, ◌+◌, ◌≤◌, ◌<◌, List
 ghost use Rattle.slice_geometry.specs.UnitLengths.{IsUnitAllowed, unit_length};
 ghost use Rattle.stream_rows.specs.Units.{Past, DataUnit};
 ghost use Rattle.stream_units.specs.Turns.{IsFound, shape_of};
-ghost use Rattle.stream_units.specs.Reader.{Steps};
+ghost use Rattle.stream_units.specs.Reader.{Steps, header_behind};
 ghost use Rattle.stream_units.specs.ReaderInside.{Keeps};
 
 use crate::earlier::Earlier;
 use crate::parts::Found;
 use crate::stop::Item;
 use picture_codec::PictureDecoder;
+use sequence_header::SequenceHeader;
 use slice_geometry::UnitShape;
 
 /// The shape of a unit of so many bytes.
@@ -64,9 +65,19 @@ pub(crate) fn step(earlier: &mut Earlier, found: Found, size: u32) -> (Item, Opt
             (Item::Skipped, None)
         }
         Found::End => {
-            earlier.step(size);
-            (Item::End, None)
+            earlier.step_end(size);
+            (Item::SequenceEnd, None)
         }
+    }
+}
+
+/// The header that was read last, behind a unit.
+pub(crate) fn header_behind(found: &Found, before: Option<SequenceHeader>) -> Option<SequenceHeader>
+    ensures { (z : Past) (unit : DataUnit) (bytes : List ℕ) → IsFound z found.now unit bytes → result ≡ header_behind unit before }
+{
+    match found {
+        Found::Sequence(first) => Some(*first.header()),
+        _ => before,
     }
 }
 

@@ -9,10 +9,11 @@ ghost use Rattle.stream_units.specs.StreamTableLaws.{stops_before, stops_otherwi
 
 use crate::earlier::Earlier;
 use crate::parts::Found;
-use crate::steps::{keep, shape_of, step};
+use crate::steps::{header_behind, keep, shape_of, step};
 use crate::stop::Item;
 use crate::units::unit;
 use picture_codec::PictureDecoder;
+use sequence_header::SequenceHeader;
 use slice_geometry::UnitShapes;
 use std::alloc::Global;
 use std::marker::Model;
@@ -42,23 +43,24 @@ impl Model for StreamUnit {
     ghost view = { λ a. End };
 }
 
-/// What the units of a stream so far leave, their shapes, and the decoder of the last picture unit whose parameters were
-/// read.
+/// What the units of a stream so far leave, the header that was read last, their shapes, and the decoder of the last picture
+/// unit whose parameters were read.
 #[derive(Drop)]
 pub(crate) struct StreamTable {
     alloc: Global,
     earlier: Earlier,
+    header: Option<SequenceHeader>,
     shapes: UnitShapes,
     decoder: Option<PictureDecoder>,
 }
 
 impl Model for StreamTable {
     ghost use Rattle.std.specs.Prelude.{◌≡◌};
-    ghost use Rattle.stream_units.specs.StreamTable.{TableState};
+    ghost use Rattle.stream_units.specs.StreamTable.{StreamTableSeen};
 
-    ghost Value = { TableState };
+    ghost Value = { StreamTableSeen };
 
-    ghost view = { λ a. record { past = a.earlier; shapes = a.shapes; decoder = a.decoder } };
+    ghost view = { λ a. record { past = a.earlier; header = a.header; shapes = a.shapes; decoder = a.decoder } };
 
     ghost invariant = { λ a. a.shapes.total ≡ a.earlier.place };
 }
@@ -74,6 +76,7 @@ impl StreamTable {
         StreamTable {
             alloc,
             earlier: Earlier::new(),
+            header: None,
             shapes: UnitShapes::new(alloc),
             decoder: None,
         }
@@ -84,6 +87,14 @@ impl StreamTable {
         ensures { result.now ≡ self.now.past }
     {
         &self.earlier
+    }
+
+    /// The header that was read last.
+    pub fn header(&self) -> Option<&SequenceHeader>
+        ensures some { IfSome result (λ header. self.now.header ≡ Some header.now) }
+        ensures none { IsNone result ↔ (self.now.header ≡ None) }
+    {
+        self.header.as_ref()
     }
 
     /// The units so far, by their lengths.
@@ -154,9 +165,9 @@ impl Table for StreamTable {
         false
     }
 
-    fn behind(&self, found: &Found) -> After<Reason> {
+    fn behind(&self, found: &Found) -> After {
         if found.is_end() {
-            return After::Final(Reason::TrailingBytes);
+            return After::Final;
         }
         After::Inner
     }
@@ -178,6 +189,7 @@ impl Table for StreamTable {
         let size = size as u32;
         self.shapes
             .push(shape_of(&found, self.earlier.place(), size));
+        self.header = header_behind(&found, self.header);
         let (item, made) = step(&mut self.earlier, found, size);
         keep(&mut self.decoder, made);
         item

@@ -5,12 +5,12 @@ ghost use Rattle.transform_params.specs.Views.{params_of};
 ghost use Rattle.sequence_header.specs.Coding.{IsShapeOf};
 ghost use Rattle.picture_codec.specs.Encoding.{slices_of};
 ghost use Rattle.stream_rows.specs.Streams.{frame_under};
+ghost use Rattle.stream_units.specs.EncodedStream.{begins_at, IsGroup};
 ghost use Rattle.stream_units.specs.Writer.{total_length, Starts, WritesPicture, WritesEnd, WriteCause};
 
+use crate::due_units::DueUnits;
 use crate::write_stop::WriteStop;
-use crate::written_units::{
-    end_unit, picture_shape, plain_shape, write_header_unit, write_picture_unit,
-};
+use crate::written_units::{end_unit, plain_shape};
 use parse_info::Chain;
 use picture_codec::{EncoderFault, Picture, PictureEncoder};
 use sequence_header::SequenceHeader;
@@ -20,53 +20,58 @@ use std::marker::Model;
 use transform_params::TransformParams;
 use vc2_io::{INPUT_LIMIT, Sink, write_whole};
 
-// The first unit has at most this many bytes.
-const FIRST_UNIT: usize = 13 + 237;
+// A new sequence begins before the picture at this position.
+fn begins_at(group: Option<u32>, position: u64) -> bool
+    ensures { result ≡ begins_at group position }
+{
+    match group {
+        None | Some(0) => false,
+        Some(group) => position > 0 && position % u64::from(group) == 0,
+    }
+}
 
 /// Writes a stream to any sink. Contracts see what it is written under, the units so far by their lengths, whether it was
 /// ended, and the stop that is kept.
 #[derive(Drop)]
 pub struct StreamWriter {
-    header: SequenceHeader,
-    params: TransformParams,
-    encoder: PictureEncoder,
+    due: DueUnits,
     first: u32,
+    group: Option<u32>,
     chain: Chain,
+    // The next picture's.
     number: u32,
+    position: u64,
     shapes: UnitShapes,
-    buffer: Vec<u8>,
     stop: Option<WriteStop>,
     ended: bool,
 }
 
 impl Model for StreamWriter {
-    ghost use Rattle.std.specs.Prelude.{◌≡◌, length};
-    ghost use Rattle.transform_params.specs.Views.{params_of};
-    ghost use Rattle.transform_params.specs.ParameterFields.{unit_length};
-    ghost use Rattle.stream_rows.specs.Streams.{frame_under};
     ghost use Rattle.stream_units.specs.Writer.{StreamWriterSeen};
-    ghost use Rattle.stream_units.specs.WriterInside.{IsSound, Encodes};
+    ghost use Rattle.stream_units.specs.WriterInside.{IsSound};
 
     ghost Value = { StreamWriterSeen };
 
-    ghost view = { λ w. record { settings = record { parts = w.header; params = params_of w.params; first = w.first }; shapes = w.shapes.units; ended = w.ended; stop = w.stop } };
+    ghost view = { λ w. record { settings = record { parts = w.due.parts; params = w.due.params; first = w.first; group = w.group }; shapes = w.shapes.units; ended = w.ended; stop = w.stop } };
 
-    ghost invariant = { λ w. IsSound w.first w.chain w.number w.shapes w.stop w.ended × (length w.buffer.items ≡ unit_length (params_of w.params)) × Encodes w.header (params_of w.params) w.encoder };
+    ghost invariant = { λ w. IsSound w.first w.chain w.number w.position w.shapes w.stop w.ended };
 }
 
 impl StreamWriter {
-    /// Writes the sequence header unit. Where pictures are fields, the number of the first one is even. The pictures will
-    /// have these parameters. `MatrixTooSteep` comes exactly where an entry of the quantisation matrix is too great for the
-    /// header's depths.
+    /// Writes the sequence header unit. Where pictures are fields, the number of the first one is even, and so is the group.
+    /// The pictures will have these parameters, and a new sequence begins behind every group of them. `MatrixTooSteep` comes
+    /// exactly where an entry of the quantisation matrix is too great for the header's depths.
     pub fn start<K: Sink>(
         alloc: Global,
         header: &SequenceHeader,
         params: &TransformParams,
         first: u32,
+        group: Option<u32>,
         sink: &mut K,
     ) -> Result<StreamWriter, WriteStop>
         requires even { header.now.coding ≡ 1 → first % 2 ≡ 0 }
-        ensures starts { Starts (record { parts = header.now; params = params_of params.now; first = first }) (K.written sink.old) (K.written sink.new) result }
+        requires group { IsGroup header.now.coding group }
+        ensures starts { Starts (record { parts = header.now; params = params_of params.now; first = first; group = group }) (K.written sink.old) (K.written sink.new) result }
         ensures cause { WriteCause (K.faults sink.old) (K.faults sink.new) result }
     {
         let encoder = match PictureEncoder::new(alloc, &header.picture_shape(), params) {
@@ -74,41 +79,38 @@ impl StreamWriter {
             Err(EncoderFault::MatrixTooSteep) => return Err(WriteStop::MatrixTooSteep),
             Err(EncoderFault::NoMemory) => return Err(WriteStop::NoMemory),
         };
+        let due = match DueUnits::new(alloc, header, params, encoder) {
+            Ok(made) => made,
+            Err(_) => return Err(WriteStop::NoMemory),
+        };
         let mut shapes = UnitShapes::new(alloc);
         if shapes.reserve(1).is_err() {
             return Err(WriteStop::NoMemory);
         }
-        let buffer = match Vec::from_elem(alloc, 0u8, params.unit_len() as usize) {
-            Ok(made) => made,
-            Err(_) => return Err(WriteStop::NoMemory),
-        };
-        let size = 13 + header.byte_len();
-        let mut first_unit = [0; FIRST_UNIT];
-        let unit = &mut first_unit[..size];
-        write_header_unit(header, unit);
-        match write_whole(sink, unit) {
+        match write_whole(sink, due.header_unit()) {
             Ok(()) => {}
             Err(_) => return Err(WriteStop::OutFault),
         }
-        shapes.push(plain_shape(0, size as u64));
+        let size = due.header_len();
+        shapes.push(plain_shape(0, u64::from(size)));
         let mut chain = Chain::new();
-        chain.step(size as u32);
+        chain.step(size);
         Ok(StreamWriter {
-            header: *header,
-            params: *params,
-            encoder,
+            due,
             first,
+            group,
             chain,
             number: first,
+            position: 0,
             shapes,
-            buffer,
             stop: None,
             ended: false,
         })
     }
 
-    /// Writes the unit of a picture of the header's shape, whose number is the next one. Where the unit and the end don't
-    /// fit into 2^40 bytes or memory is wanting, nothing is written.
+    /// Writes the unit of a picture of the header's shape, whose number is the next one; where a new sequence begins with it,
+    /// behind an end and a header. Where these units and the last end don't fit into 2^40 bytes or memory is wanting, nothing
+    /// is written.
     pub fn picture<K: Sink>(&mut self, picture: &Picture, sink: &mut K) -> Result<(), WriteStop>
         requires open { self.old.ended ≡ false }
         requires shape { IsShapeOf picture.now.shape self.old.settings.parts }
@@ -119,38 +121,32 @@ impl StreamWriter {
         if let Some(stop) = self.stop {
             return Err(stop);
         }
-        let size = self.params.unit_len();
-        if self.chain.place() + u64::from(size) + 13 > INPUT_LIMIT {
+        let begins = begins_at(self.group, self.position);
+        let room = self.due.len_before(begins) + u64::from(self.due.picture_len()) + 13;
+        if self.chain.place() + room > INPUT_LIMIT {
             self.stop = Some(WriteStop::StreamTooLong);
             return Err(WriteStop::StreamTooLong);
         }
-        if self.shapes.reserve(1).is_err() {
+        if self.shapes.reserve(3).is_err() {
             self.stop = Some(WriteStop::NoMemory);
             return Err(WriteStop::NoMemory);
         }
-        let unit = self.buffer.as_mut_slice();
-        write_picture_unit(
-            &mut self.encoder,
-            picture,
-            self.chain.previous(),
-            self.number,
-            unit,
-        );
-        match write_whole(sink, unit) {
+        self.due
+            .put(picture, begins, self.chain.previous(), self.number);
+        match write_whole(sink, self.due.due()) {
             Ok(()) => {}
             Err(_) => {
                 self.stop = Some(WriteStop::OutFault);
                 return Err(WriteStop::OutFault);
             }
         }
-        let shape = picture_shape(&self.params, self.chain.place());
-        self.shapes.push(shape);
-        self.chain.step(size);
+        self.due.step(begins, &mut self.shapes, &mut self.chain);
         self.number = self.number.wrapping_add(1);
+        self.position += 1;
         Ok(())
     }
 
-    /// Writes the end of the sequence. There is room for it. Only `shapes` may be called behind it.
+    /// Writes the end of the last sequence. There is room for it. Only `shapes` may be called behind it.
     pub fn end<K: Sink>(&mut self, sink: &mut K) -> Result<(), WriteStop>
         requires { self.old.ended ≡ false }
         ensures end { self.old.stop ≡ None → WritesEnd self.old self.new (K.written sink.old) (K.written sink.new) result }

@@ -16,8 +16,18 @@ use vc2_io::{INPUT_LIMIT, Source, fill};
 /// How the input goes on at a unit.
 pub(crate) enum Taken<F> {
     Unit(F),
+    /// A unit that ends at the limit, and the byte past it is held.
+    Before(F),
     Last(F),
     Rest,
+}
+
+// What lies behind a unit that may be the last.
+enum Left {
+    Nothing,
+    More,
+    // A byte past the limit, and none before it.
+    Past,
 }
 
 // Says whether a byte lies past the limit, where nothing more comes before it.
@@ -110,28 +120,25 @@ fn whole<T: Table, S: Source>(
     }
 }
 
-// Sees that nothing lies behind the last unit, which ends at a place.
-fn last<T: Units, S: Source>(
-    window: &mut Window,
-    src: &mut S,
-    place: u64,
-    reason: T::Reason,
-) -> Result<(), ReadStop<T::Reason>>
-    requires place { place + length window.old.held + window.old.room ≡ INPUT_LIMIT }
+// Sees what lies behind a unit that was read and may be the last.
+fn last<T: Units, S: Source>(window: &mut Window, src: &mut S) -> Result<Left, ReadStop<T::Reason>>
     requires few { length window.old.held ≤ READ_SIZE }
     ensures few { length window.new.held ≤ READ_SIZE }
-    ensures last { (z : T.Past) → LastOver T.grammar T.beyond z place reason window.old (S.rest src.old) (S.rest src.new) window.new result }
+    ensures last { (z : T.Past) → LastOver T.grammar T.beyond z window.old (S.rest src.old) (S.rest src.new) window.new result }
     ensures cause { StopCause (S.faults src.old) (S.faults src.new) result }
 {
     match window.hold(src, 1) {
-        Ok(true) => return Err(refused(place, reason)),
+        Ok(true) => return Ok(Left::More),
         Ok(false) => {}
         Err(halt) => return Err(stop_of(halt)),
     }
-    match past_limit(window, src) {
-        Ok(false) => Ok(()),
-        Ok(true) => Err(refused(place, reason)),
-        Err(stop) => Err(stop),
+    if window.room() > 0 {
+        return Ok(Left::Nothing);
+    }
+    match window.read_past(src) {
+        Ok(true) => Ok(Left::Past),
+        Ok(false) => Ok(Left::Nothing),
+        Err(halt) => Err(stop_of(halt)),
     }
 }
 
@@ -156,13 +163,14 @@ pub(crate) fn take<T: Table, S: Source>(
         Ok(found) => found,
         Err(stop) => return Err(stop),
     };
-    let reason = match table.behind(&found) {
+    match table.behind(&found) {
         After::Inner => return Ok(Taken::Unit(found)),
-        After::Final(reason) => reason,
-    };
-    let place = INPUT_LIMIT - window.room() - window.len() as u64;
-    match last::<T, S>(window, src, place, reason) {
-        Ok(()) => Ok(Taken::Last(found)),
+        After::Final => {}
+    }
+    match last::<T, S>(window, src) {
+        Ok(Left::More) => Ok(Taken::Unit(found)),
+        Ok(Left::Past) => Ok(Taken::Before(found)),
+        Ok(Left::Nothing) => Ok(Taken::Last(found)),
         Err(stop) => {
             drop(found);
             Err(stop)

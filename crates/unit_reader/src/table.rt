@@ -17,11 +17,11 @@ use vc2_io::Source;
 
 /// What may come behind a unit.
 #[derive(Clone, Copy, Debug, PartialEq, Eq, Drop)]
-pub enum After<R> {
-    /// Anything.
+pub enum After {
+    /// Another unit.
     Inner,
-    /// Nothing, and the input ends with the unit; a byte behind it is refused.
-    Final(R),
+    /// Another unit, or nothing: then the input ends with it.
+    Final,
 }
 
 /// Units of a grammar and the reasons of their refusals.
@@ -83,7 +83,7 @@ pub trait Table: Units + Drop {
         ensures { result ≡ (Self.grammar).rests (Self.past self.now) };
 
     /// What may come behind a unit that was found.
-    fn behind(&self, found: &Self::Found) -> After<Self::Reason>
+    fn behind(&self, found: &Self::Found) -> After
         ensures { (before : Self) (unit : Self.Made) (bytes : List ℕ) → is_found before self.now found.now unit bytes → (Self.grammar).behind unit ≡ behind_of result };
 
     /// Takes the rows of the unit in front of the bytes that are held and then the source's, of an input that ends where
@@ -117,6 +117,6 @@ pub trait Table: Units + Drop {
     ghost stops_otherwise: { (before now : Self) (held0 : List ℕ) (rest0 : Option (List ℕ)) (held : List ℕ) (refusal : Refusal Self.Reason) (stop : ReadStop Self.Reason) → stopped before now held0 rest0 held (stops.Refused refusal) → stopped before now held0 rest0 held stop };
 
     /// It stops behind its rows.
-    ghost stops_behind: { (before now : Self) (found : Self.Found) (unit : Self.Made) (bytes : List ℕ) (other : Option Self.Reason) (held0 : List ℕ) (rest0 : Option (List ℕ)) (held : List ℕ) (stop : ReadStop Self.Reason)
-        → is_found before now found unit bytes → (Self.Units.grammar).behind unit ≡ Final other → length held ≤ READ_SIZE → stopped before now held0 rest0 held stop };
+    ghost stops_behind: { (before now : Self) (found : Self.Found) (unit : Self.Made) (bytes : List ℕ) (held0 : List ℕ) (rest0 : Option (List ℕ)) (held : List ℕ) (stop : ReadStop Self.Reason)
+        → is_found before now found unit bytes → (Self.Units.grammar).behind unit ≡ Final → length held ≤ READ_SIZE → stopped before now held0 rest0 held stop };
 }

@@ -1,5 +1,5 @@
 -- `check` with the schedule of what was encoded runs.
-use Rattle.std.proofs.Common.{◌≡◌, ℕ, zero, suc, ◌+◌, ◌-◌, ◌*◌, ◌%◌, ◌^◌, ◌<◌, ◌≤◌, List, [], ◌∷◌, ◌++◌, length, map, refl, sym, ap, subst, ◌∙◌, arith, lit≤}
+use Rattle.std.proofs.Common.{◌≡◌, ℕ, zero, suc, ◌+◌, ◌-◌, ◌*◌, ◌%◌, ◌^◌, ◌<◌, ◌≤◌, List, [], ◌∷◌, ◌++◌, length, map, Bool, true, false, refl, sym, ap, subst, ◌∙◌, arith, lit≤, append_assoc}
 use Rattle.std.specs.Prelude.{min, Result}
 use Rattle.std.specs.List.{AllByRecursion}
 use Rattle.std.proofs.lemmas.List.{length-append, length-map}
@@ -7,12 +7,12 @@ use Rattle.slice_geometry.specs.declared.Size.{Size}
 use Rattle.slice_geometry.specs.declared.PictureShape.{PictureShape}
 use Rattle.slice_geometry.specs.Frames.{Frame, frame_of}
 use Rattle.slice_geometry.specs.declared.unit_list.UnitShape.{UnitShape}
+use Rattle.slice_geometry.specs.UnitLengths as lengths
 use Rattle.slice_geometry.specs.UnitLengths.{IsUnitAllowed, StandInTurn}
 use Rattle.slice_geometry.specs.Slicing.{slice_count, total_bytes}
 use Rattle.slice_geometry.proofs.UnitLemmas.{in_turn-push}
 use Rattle.sequence_header.specs.declared.parts.HeaderParts.{HeaderParts}
 use Rattle.sequence_header.specs.Coding.{IsShapeOf}
-use Rattle.sequence_header.proofs.Bounds.{header_short}
 use Rattle.transform_params.specs.Params.{Params}
 use Rattle.transform_params.specs.ParameterFields.{unit_length, IsLawful}
 use Rattle.transform_params.proofs.Bounds.{unit_small}
@@ -35,19 +35,21 @@ use Rattle.stream_rows.specs.Units.{Past, nothing_yet, DataUnit, Sequence, Pictu
 use Rattle.stream_rows.specs.Streams.{Entry, total, limit, frame_under}
 use Rattle.stream_units.specs.StreamPictures.{pictures_of}
 use Rattle.stream_units.specs.Turns.{shape_of}
-use Rattle.stream_units.specs.EncodedStream.{Settings, header_unit, picture_unit, end_unit, number_after, units_behind, pictures_under, units_of, IsSliced}
-use Rattle.stream_units.specs.Writer.{plain_shape, picture_shape}
+use Rattle.stream_units.specs.EncodedStream.{Settings, begins_at, header_length, header_unit, picture_unit, end_unit, number_after, units_with, units_behind, found_before, pictures_under, units_of, AreLawful, IsSliced}
+use Rattle.stream_units.specs.Writer.{plain_shape, picture_shape, bytes_before, due_shapes}
+use Rattle.stream_units.proofs.WriterCalls.{length-with}
 use Rattle.stream_units.proofs.WrittenShapes.{plain_length, picture_length}
-use Rattle.stream_units.proofs.EncodedUnits.{length-header_unit, length-picture_unit, length-end_unit, moves_header_unit, moves_picture_unit, moves_end_unit}
-use Rattle.stream_units.proofs.EncodedStreams.{Going, picture_code, end_code, going_on, going_first, encoded_fits, encoded_stream, encoded_pictures}
-use Rattle.stream_units.proofs.EncodedAnswers.{one_unit, last_unit}
+use Rattle.stream_units.proofs.EncodedUnits.{length-header_unit, length-picture_unit, length-end_unit}
+use Rattle.stream_units.proofs.EncodedStreams.{Going, going_start, header_small, encoded_fits, encoded_stream, encoded_pictures}
+use Rattle.unit_table.specs.Fronts.{Between, Command}
+use Rattle.stream_rows.specs.declared.reason.Reason.{Reason}
 use Rattle.stream_rows.proofs.Answering.{machine}
 use Rattle.stream_units.proofs.EncodedPictures.{all_sliced}
 use Rattle.stream_units.proofs.SameShapes.{frame_is, steep_for}
 use Rattle.vc2_words.specs.Settings.{Asked}
 use Rattle.vc2_cli.specs.declared.status.Ending.{Ending}
 use Rattle.vc2_cli.specs.declared.status.Ending.TheVariants.{Scheduled}
-use Rattle.vc2_cli.specs.Decode.{last_line}
+use Rattle.vc2_cli.specs.Decode.{pictures_in, slices_in, last_line}
 use Rattle.vc2_cli.specs.Scheduled.{Replayed, nothing_replayed, shapes_in, outcome_of, replaying, replay_machine}
 use Rattle.vc2_words.specs.declared.keys.WordFault.{WordFault}
 use Rattle.vc2_words.specs.Commands.{AskedCommand}
@@ -55,13 +57,14 @@ use Rattle.vc2_cli.specs.Reply.{reply_of, command_reply}
 use Rattle.vc2_cli.specs.ScheduleWords.{HasWords}
 use Rattle.vc2_cli.proofs.ScheduleWords.{line_is_read}
 use Rattle.vc2_cli.specs.StreamReplies as streams
-use Rattle.vc2_cli.specs.StreamReplies.{pictures_in}
 use Rattle.vc2_cli.specs.WholePictures.{raw_input, stream_of, decoded_of, plan_for, stream_length}
 use Rattle.vc2_cli.specs.EncodeReply.{MayBeWritten, AreSettings, replayed_reply, TheScheduleRuns, decoded_reply, AreDecoded}
 use Rattle.vc2_cli.specs.Texts.{decoded_line}
 use Rattle.vc2_cli.proofs.StreamReplies.{is_decoded}
 use Rattle.vc2_cli.proofs.EncodeReplies.{header_shape, header_has}
-use Rattle.vc2_cli.specs.Encode.{written_under, first_length, stream_place, shapes_at, ended_plan}
+use Rattle.vc2_cli.specs.Encode.{written_under, stream_place, place_due, shapes_at, ended_plan}
+use Rattle.vc2_cli.proofs.Behind.{place_first, place_next}
+use Rattle.vc2_cli.proofs.EncodedWalk.{behind_unit, behind_header, behind_picture, behind_due, front_first, front_due, front_last, going_due}
 
 -- ---- the units stand one after another
 
@@ -77,100 +80,161 @@ module _ (s : Asked) (f : IsLawful s.params) where
   plain_allowed : (place size : ℕ) → IsUnitAllowed (plain_shape place size)
   plain_allowed place size = record { some = lit≤ tt; byte = lit≤ tt; count = lit≤ tt; share = lit≤ tt }
 
-  pub next_place : (first n size : ℕ) → (first + n * size) + size ≡ first + suc n * size
-  next_place first n size = grind arith
+  -- with the units that are due with a picture
+  due_in_turn : (begins : Bool) (list : List UnitShape) (place : ℕ) → StandInTurn 0 list place → StandInTurn 0 (list ++ due_shapes s.parts s.params begins place) (place + bytes_before s.parts begins + unit_length s.params)
+  due_in_turn false list place there =
+      let u = picture_shape s.params (place + 0) in
+      subst (λ (k : ℕ). StandInTurn 0 (list ++ u ∷ []) k) (omega (arith, picture_length s.params (place + 0))) (in_turn-push 0 list place u there (omega arith) (picture_allowed (place + 0)))
+  due_in_turn true list place there =
+      let h = header_length s.parts in
+      let a = plain_shape place 13 in
+      let b = plain_shape (place + 13) h in
+      let c = picture_shape s.params (place + bytes_before s.parts true) in
+      let ends : place + lengths.unit_length a ≡ place + 13 = ap (λ (k : ℕ). place + k) (plain_length place 13) in
+      let one = subst (λ (k : ℕ). StandInTurn 0 (list ++ a ∷ []) k) ends (in_turn-push 0 list place a there refl (plain_allowed place 13)) in
+      let two = in_turn-push 0 (list ++ a ∷ []) (place + 13) b one refl (plain_allowed (place + 13) h) in
+      let begins : place + bytes_before s.parts true ≡ place + 13 + lengths.unit_length b = omega (arith, plain_length (place + 13) h) in
+      let three = in_turn-push 0 ((list ++ a ∷ []) ++ b ∷ []) (place + 13 + lengths.unit_length b) c two begins (picture_allowed (place + bytes_before s.parts true)) in
+      let all : ((list ++ a ∷ []) ++ b ∷ []) ++ c ∷ [] ≡ list ++ a ∷ b ∷ c ∷ [] = append_assoc (list ++ a ∷ []) (b ∷ []) (c ∷ []) ∙ append_assoc list (a ∷ []) (b ∷ c ∷ []) in
+      subst (λ (l : List UnitShape). StandInTurn 0 l (place + bytes_before s.parts true + unit_length s.params)) all
+      (subst (λ (k : ℕ). StandInTurn 0 (((list ++ a ∷ []) ++ b ∷ []) ++ c ∷ []) k) (omega (arith, begins, picture_length s.params (place + bytes_before s.parts true))) three)
 
   in_turn : (n : ℕ) → StandInTurn 0 (shapes_at s n) (stream_place s n)
-  in_turn zero = (refl, plain_allowed 0 (first_length s), omega (arith, plain_length 0 (first_length s)))
-  in_turn (suc n) = subst (λ (k : ℕ). StandInTurn 0 (shapes_at s (suc n)) k)
-      (ap (λ (k : ℕ). stream_place s n + k) (picture_length s.params (stream_place s n)) ∙ next_place (first_length s) n (unit_length s.params))
-      (in_turn-push 0 (shapes_at s n) (stream_place s n) (picture_shape s.params (stream_place s n)) (in_turn n) refl (picture_allowed (stream_place s n)))
+  in_turn zero = (refl, plain_allowed 0 (header_length s.parts), omega (arith, plain_length 0 (header_length s.parts)))
+  in_turn (suc n) = subst (λ (k : ℕ). StandInTurn 0 (shapes_at s (suc n)) k) (sym (place_next s n)) (due_in_turn (begins_at s.group n) (shapes_at s n) (stream_place s n) (in_turn n))
 
   all_in_turn : (n : ℕ) → StandInTurn 0 (shapes_at s n ++ plain_shape (stream_place s n) 13 ∷ []) (stream_place s n + 13)
   all_in_turn n = subst (λ (k : ℕ). StandInTurn 0 (shapes_at s n ++ plain_shape (stream_place s n) 13 ∷ []) (stream_place s n + k)) (plain_length (stream_place s n) 13)
       (in_turn-push 0 (shapes_at s n) (stream_place s n) (plain_shape (stream_place s n) 13) (in_turn n) refl (plain_allowed (stream_place s n) 13))
 
+  -- the bytes of the units behind n pictures
+  pub units_length : (pictures : List (List (List ℕ))) (previous number n m : ℕ) → m ≡ n + length pictures → AllByRecursion (IsSliced s.parts s.params) pictures → stream_place s n + length (units_behind (written_under s) n previous number pictures) ≡ stream_place s m + 13
+  units_length [] previous number n m e sliced = let here : n ≡ m = omega (arith, e) in ap (λ (k : ℕ). stream_place s k + 13) here
+  units_length (slices ∷ pictures) previous number n m e sliced =
+      let due = units_with s.parts s.params (begins_at s.group n) previous number slices in
+      let next : suc n ≡ n + 1 = omega arith in
+      let rest = units_behind (written_under s) (n + 1) (unit_length s.params) (number_after number) pictures in
+      let long = length-with s.parts s.params (begins_at s.group n) previous number slices f sliced.0 in
+      let more = units_length pictures (unit_length s.params) (number_after number) (n + 1) m (omega (arith, e)) sliced.1 in
+      let place : stream_place s (n + 1) ≡ place_due s n = ap (stream_place s) (sym next) ∙ place_next s n in
+      omega (arith, length-append due rest, long, place, more)
+
 -- ---- the walk of `check` over what was written
 
-module _ (s : Asked) (schedule : Schedule) (f : IsLawful s.params) where
+module _ (s : Asked) (schedule : Schedule) (f : AreLawful (written_under s)) where
   abbrev ending : ℕ → ℕ → Ending
   ending m slices = Scheduled m slices (stream_place s m + 13) (outcome_of schedule (shapes_at s m ++ plain_shape (stream_place s m) 13 ∷ []) (stream_place s m + 13))
 
   -- a picture's unit by its bytes
-  picture_is : (z : Past) (parts : HeaderParts) (number : ℕ) (slices : List (List ℕ)) (unit : List ℕ) (place : ℕ) → z.place ≡ place → length unit ≡ unit_length s.params → shape_of z (Picture parts number s.params slices) unit ≡ picture_shape s.params place
-  picture_is z parts number slices unit place at long =
+  picture_is : (z : Past) (number : ℕ) (slices : List (List ℕ)) (unit : List ℕ) (place : ℕ) → z.place ≡ place → length unit ≡ unit_length s.params → shape_of z (Picture s.parts number s.params slices) unit ≡ picture_shape s.params place
+  picture_is z number slices unit place at long =
       ap (λ (k : ℕ). let u : UnitShape = record { start = k; head = length unit - total_bytes s.params.slicing; slices = slice_count s.params.slicing; a = s.params.slicing.a; b = s.params.slicing.b } in u) at
       ∙ ap (λ (k : ℕ). let u : UnitShape = record { start = place; head = k; slices = slice_count s.params.slicing; a = s.params.slicing.a; b = s.params.slicing.b } in u) (omega (arith, long))
 
-  -- a command behind n pictures
-  pub record Stands (n : ℕ) (z : Past) (own : Replayed) : Type 0 where
-    pub place : z.place ≡ stream_place s n
-    pub pictures : z.pictures ≡ n
-    pub of : own.schedule ≡ schedule
-    pub slices : own.slices ≡ n * slice_count s.params.slicing
-    pub shapes : own.shapes ≡ shapes_at s n
+  abbrev plain : Replayed → ℕ → ℕ → List UnitShape
+  plain own place size = own.shapes ++ plain_shape place size ∷ []
+
+  -- the command behind n pictures and units of these shapes, which end at this place
+  pub record Stands (n place : ℕ) (list : List UnitShape) (b : Between Past Replayed) : Type 0 where
+    pub at : b.past.place ≡ place
+    pub of : b.own.schedule ≡ schedule
+    pub pictures : b.own.pictures ≡ n
+    pub slices : b.own.slices ≡ n * slice_count s.params.slicing
+    pub shapes : b.own.shapes ≡ list
 
   counted : (n size : ℕ) → n * size + size ≡ suc n * size
   counted n size = grind arith
 
-  stands_on : (n : ℕ) (z : Past) (own : Replayed) (parts : HeaderParts) (number : ℕ) (slices : List (List ℕ)) (unit : List ℕ) → length unit ≡ unit_length s.params → Stands n z own
-      → Stands (suc n) (after z (Picture parts number s.params slices) unit) ((replaying schedule).next z own (Picture parts number s.params slices) unit)
-  stands_on n z own parts number slices unit long b = record {
-    place = ap (λ (k : ℕ). k + length unit) b.place ∙ ap (λ (k : ℕ). stream_place s n + k) long ∙ next_place s f (first_length s) n (unit_length s.params);
-    pictures = omega (arith, b.pictures);
-    of = b.of;
-    slices = ap (λ (k : ℕ). k + slice_count s.params.slicing) b.slices ∙ counted n (slice_count s.params.slicing);
-    shapes = ap (λ (u : UnitShape). own.shapes ++ u ∷ []) (picture_is z parts number slices unit (stream_place s n) b.place long) ∙ ap (λ (l : List UnitShape). l ++ picture_shape s.params (stream_place s n) ∷ []) b.shapes;
+  abbrev command : Command Past Reason DataUnit Replayed Ending
+  command = replaying schedule
+
+  abbrev quiet : (z : Past) (own : Replayed) (unit : DataUnit) (bytes : List ℕ) → command.text z own unit bytes ≡ []
+  quiet z own unit bytes = refl
+
+  stands_plain : (n place size : ℕ) (list : List UnitShape) (b : Between Past Replayed) (unit : DataUnit) (bytes : List ℕ) → length bytes ≡ size → (after b.past unit bytes).place ≡ b.past.place + length bytes → pictures_in unit ≡ 0 → slices_in unit ≡ 0 → shape_of b.past unit bytes ≡ plain_shape b.past.place (length bytes)
+      → Stands n place list b → Stands n (place + size) (list ++ plain_shape place size ∷ []) (behind_unit command quiet (written_under s) f b unit bytes)
+  stands_plain n place size list b unit bytes long at none no_slices shape st = record {
+    at = omega (arith, at, st.at, long);
+    of = st.of;
+    pictures = omega (arith, none, st.pictures);
+    slices = omega (arith, no_slices, st.slices);
+    shapes = ap (λ (u : UnitShape). b.own.shapes ++ u ∷ []) shape ∙ ap (λ (k : ℕ). plain b.own k (length bytes)) st.at ∙ ap (λ (k : ℕ). plain b.own place k) long ∙ ap (λ (l : List UnitShape). l ++ plain_shape place size ∷ []) st.shapes;
   }
 
-  finished_is : (n : ℕ) (z : Past) (own : Replayed) (unit : List ℕ) → length unit ≡ 13 → Stands n z own → (replaying schedule).finished z own End unit ≡ ending n (n * slice_count s.params.slicing)
-  finished_is n z own unit long b =
-      let place : z.place + length unit ≡ stream_place s n + 13 = omega (arith, b.place, long) in
-      let units : own.shapes ++ shape_of z End unit ∷ [] ≡ shapes_at s n ++ plain_shape (stream_place s n) 13 ∷ [] =
-      ap (λ (k : ℕ). own.shapes ++ plain_shape k (length unit) ∷ []) b.place ∙ ap (λ (k : ℕ). own.shapes ++ plain_shape (stream_place s n) k ∷ []) long ∙ ap (λ (l : List UnitShape). l ++ plain_shape (stream_place s n) 13 ∷ []) b.shapes in
-      ap (λ (k : ℕ). Scheduled k own.slices (z.place + length unit) (outcome_of own.schedule (own.shapes ++ shape_of z End unit ∷ []) (z.place + length unit))) b.pictures
-      ∙ ap (λ (k : ℕ). Scheduled n k (z.place + length unit) (outcome_of own.schedule (own.shapes ++ shape_of z End unit ∷ []) (z.place + length unit))) b.slices
-      ∙ ap (λ (k : ℕ). Scheduled n (n * slice_count s.params.slicing) k (outcome_of own.schedule (own.shapes ++ shape_of z End unit ∷ []) k)) place
-      ∙ ap (λ (c : Schedule). Scheduled n (n * slice_count s.params.slicing) (stream_place s n + 13) (outcome_of c (own.shapes ++ shape_of z End unit ∷ []) (stream_place s n + 13))) b.of
-      ∙ ap (λ (l : List UnitShape). Scheduled n (n * slice_count s.params.slicing) (stream_place s n + 13) (outcome_of schedule l (stream_place s n + 13))) units
+  stands_picture : (n place place' previous number : ℕ) (list : List UnitShape) (b : Between Past Replayed) (slices : List (List ℕ)) → place' ≡ place → IsSliced s.parts s.params slices → Stands n place list b
+      → Stands (suc n) (place + unit_length s.params) (list ++ picture_shape s.params place' ∷ []) (behind_picture command quiet (written_under s) f b previous number slices)
+  stands_picture n place place' previous number list b slices same sliced st =
+      let unit = picture_unit s.params previous number slices in
+      let long = length-picture_unit s.parts s.params previous number slices f.params sliced in
+      record {
+        at = omega (arith, st.at, long);
+        of = st.of;
+        pictures = omega (arith, st.pictures);
+        slices = ap (λ (k : ℕ). k + slice_count s.params.slicing) st.slices ∙ counted n (slice_count s.params.slicing);
+        shapes = ap (λ (u : UnitShape). b.own.shapes ++ u ∷ []) (picture_is b.past number slices unit place' (st.at ∙ sym same) long) ∙ ap (λ (l : List UnitShape). l ++ picture_shape s.params place' ∷ []) st.shapes;
+      }
+
+  stands_due : (begins : Bool) (n place previous number : ℕ) (list : List UnitShape) (b : Between Past Replayed) (slices : List (List ℕ)) → IsSliced s.parts s.params slices → Stands n place list b
+      → Stands (suc n) (place + bytes_before s.parts begins + unit_length s.params) (list ++ due_shapes s.parts s.params begins place) (behind_due command quiet (written_under s) f begins b previous number slices)
+  stands_due false n place previous number list b slices sliced st =
+      let none : place + 0 ≡ place = omega arith in
+      let here = stands_picture n place (place + 0) previous number list b slices none sliced st in
+      record { at = omega (arith, here.at); of = here.of; pictures = here.pictures; slices = here.slices; shapes = here.shapes }
+  stands_due true n place previous number list b slices sliced st =
+      let h = header_length s.parts in
+      let header = header_unit s.parts in
+      let end = end_unit previous in
+      let a = plain_shape place 13 in
+      let d = plain_shape (place + 13) h in
+      let c = picture_shape s.params (place + bytes_before s.parts true) in
+      let one = stands_plain n place 13 list b End end (length-end_unit previous) refl refl refl refl st in
+      let two = stands_plain n (place + 13) h (list ++ a ∷ []) (behind_unit command quiet (written_under s) f b End end) (Sequence s.parts) header (length-header_unit s.parts) refl refl refl refl one in
+      let all : ((list ++ a ∷ []) ++ d ∷ []) ++ c ∷ [] ≡ list ++ a ∷ d ∷ c ∷ [] = append_assoc (list ++ a ∷ []) (d ∷ []) (c ∷ []) ∙ append_assoc list (a ∷ []) (d ∷ c ∷ []) in
+      let here = stands_picture n (place + 13 + h) (place + bytes_before s.parts true) h number ((list ++ a ∷ []) ++ d ∷ []) (behind_header command quiet (written_under s) f b previous) slices (omega arith) sliced two in
+      record { at = omega (arith, here.at); of = here.of; pictures = here.pictures; slices = here.slices; shapes = here.shapes ∙ all }
+
+  abbrev StandsAt : ℕ → Between Past Replayed → Type 0
+  StandsAt n b = Stands n (stream_place s n) (shapes_at s n) b
+
+  stands_next : (n previous number : ℕ) (b : Between Past Replayed) (slices : List (List ℕ)) → IsSliced s.parts s.params slices → StandsAt n b → StandsAt (suc n) (behind_due command quiet (written_under s) f (begins_at s.group n) b previous number slices)
+  stands_next n previous number b slices sliced st =
+      subst (λ (k : ℕ). Stands (suc n) k (shapes_at s (suc n)) (behind_due command quiet (written_under s) f (begins_at s.group n) b previous number slices)) (sym (place_next s n))
+      (stands_due (begins_at s.group n) n (stream_place s n) previous number (shapes_at s n) b slices sliced st)
+
+  finished_is : (n previous : ℕ) (b : Between Past Replayed) → StandsAt n b → command.finished b.past b.own End (end_unit previous) ≡ ending n (n * slice_count s.params.slicing)
+  finished_is n previous b st =
+      let unit = end_unit previous in
+      let place : b.past.place + length unit ≡ stream_place s n + 13 = omega (arith, st.at, length-end_unit previous) in
+      let list : b.own.shapes ++ shape_of b.past End unit ∷ [] ≡ shapes_at s n ++ plain_shape (stream_place s n) 13 ∷ [] =
+      ap (λ (k : ℕ). plain b.own k 13) st.at ∙ ap (λ (l : List UnitShape). l ++ plain_shape (stream_place s n) 13 ∷ []) st.shapes in
+      ap (λ (k : ℕ). Scheduled k b.own.slices (b.past.place + length unit) (outcome_of b.own.schedule (b.own.shapes ++ shape_of b.past End unit ∷ []) (b.past.place + length unit))) st.pictures
+      ∙ ap (λ (k : ℕ). Scheduled n k (b.past.place + length unit) (outcome_of b.own.schedule (b.own.shapes ++ shape_of b.past End unit ∷ []) (b.past.place + length unit))) st.slices
+      ∙ ap (λ (k : ℕ). Scheduled n (n * slice_count s.params.slicing) k (outcome_of b.own.schedule (b.own.shapes ++ shape_of b.past End unit ∷ []) k)) place
+      ∙ ap (λ (c : Schedule). Scheduled n (n * slice_count s.params.slicing) (stream_place s n + 13) (outcome_of c (b.own.shapes ++ shape_of b.past End unit ∷ []) (stream_place s n + 13))) st.of
+      ∙ ap (λ (l : List UnitShape). Scheduled n (n * slice_count s.params.slicing) (stream_place s n + 13) (outcome_of schedule l (stream_place s n + 13))) list
 
   abbrev answer : ℕ → Answer Ending
   answer m = record { ending = ending m (m * slice_count s.params.slicing); text = []; last = last_line (ending m (m * slice_count s.params.slicing)) }
 
-  at_most : (n m size : ℕ) → n ≤ m → n * size ≤ m * size
-  at_most n m size le = grind arith
-
-  -- the bytes of the units behind n pictures
-  pub units_length : (pictures : List (List (List ℕ))) (parts : HeaderParts) (previous number n m : ℕ) → m ≡ n + length pictures → AllByRecursion (IsSliced parts s.params) pictures → stream_place s n + length (units_behind s.params previous number pictures) ≡ stream_place s m + 13
-  units_length [] parts previous number n m e sliced = ap (λ (k : ℕ). stream_place s k + length (end_unit previous)) (omega (arith, e)) ∙ ap (λ (k : ℕ). stream_place s m + k) (length-end_unit previous)
-  units_length (slices ∷ pictures) parts previous number n m e sliced =
-      let unit = picture_unit s.params previous number slices in
-      let rest = units_behind s.params (unit_length s.params) (number_after number) pictures in
-      let more = units_length pictures parts (unit_length s.params) (number_after number) (suc n) m (omega (arith, e)) sliced.1 in
-      omega (arith, length-append unit rest, length-picture_unit parts s.params previous number slices f sliced.0, next_place s f (first_length s) n (unit_length s.params), more)
-
-  pub walked : (pictures : List (List (List ℕ))) (parts : HeaderParts) (z : Past) (own : Replayed) (n m previous number : ℕ) → previous < 2 ^ 32 → number < 2 ^ 32 → (g : Going parts z previous number) → AllByRecursion (IsSliced parts s.params) pictures
-      → (parts.coding ≡ 1 → m % 2 ≡ 0) → m ≡ n + length pictures → stream_place s m + 13 ≤ limit → Stands n z own
-      → answer_from (machine (replaying schedule)) (record { past = z; own = own }) (units_behind s.params previous number pictures) ≡ answer m
-  walked [] parts z own n m previous number short fits g sliced even e within b =
-      let here : n ≡ m = omega (arith, e) in
-      let long : length (end_unit previous) ≡ 13 = length-end_unit previous in
-      last_unit (replaying schedule) z own (end_unit previous)
-      (moves_end_unit z g.first previous g.there g.true_one short (end_code z g.first g.there (λ c. omega (arith, b.pictures, e, even (ap (λ (q : HeaderParts). q.coding) (sym g.of) ∙ c))))) (omega (arith, b.place, long, subst (λ (k : ℕ). stream_place s k + 13 ≤ limit) (sym here) within))
-      ∙ ap (λ (x : Ending). let a : Answer Ending = record { ending = x; text = []; last = last_line x } in a) (finished_is n z own (end_unit previous) long b)
-      ∙ ap answer here
-  walked (slices ∷ pictures) parts z own n m previous number short fits g sliced even e within b =
-      let few = unit_small s.params f in
-      let here : IsSliced g.first.parts s.params slices = subst (λ q. IsSliced q s.params slices) (sym g.of) sliced.0 in
-      let moves = moves_picture_unit z g.first s.params previous number slices g.there f here g.true_one short fits few (picture_code z g.first g.there) g.holds in
-      let unit = picture_unit s.params previous number slices in
-      let rest = units_behind s.params (unit_length s.params) (number_after number) pictures in
-      let long : length unit ≡ unit_length s.params = length-picture_unit parts s.params previous number slices f sliced.0 in
-      let all = units_length (slices ∷ pictures) parts previous number n m e sliced in
-      one_unit (replaying schedule) z own (Picture g.first.parts number s.params slices) unit rest moves refl (omega (arith, b.place, all, within))
-      ∙ ap (before [])
-      (walked pictures parts (after z (Picture g.first.parts number s.params slices) unit) ((replaying schedule).next z own (Picture g.first.parts number s.params slices) unit) (suc n) m (unit_length s.params) (number_after number) few (omega arith)
-      (going_on parts s.params z previous number slices f sliced.0 g g) sliced.1 even (omega (arith, e)) within (stands_on n z own g.first.parts number slices unit long b))
+  pub walked : (pictures : List (List (List ℕ))) (b : Between Past Replayed) (n m previous number : ℕ) → previous < 2 ^ 32 → number < 2 ^ 32 → Going s.parts b.past previous number n → AllByRecursion (IsSliced s.parts s.params) pictures
+      → (s.parts.coding ≡ 1 → m % 2 ≡ 0) → m ≡ n + length pictures → stream_place s m + 13 ≤ limit → StandsAt n b
+      → answer_from (machine command) b (units_behind (written_under s) n previous number pictures) ≡ answer m
+  walked [] b n m previous number short fits g sliced even e within st =
+      let here : m ≡ n = omega (arith, e) in
+      let room : stream_place s n + 13 ≤ limit = subst (λ (k : ℕ). stream_place s k + 13 ≤ limit) here within in
+      front_last command quiet (written_under s) f b previous number n short g (λ c. subst (λ (k : ℕ). k % 2 ≡ 0) here (even c)) (omega (arith, st.at, room))
+      ∙ ap (λ (x : Ending). let a : Answer Ending = record { ending = x; text = []; last = last_line x } in a) (finished_is n previous b st)
+      ∙ ap answer (sym here)
+  walked (slices ∷ pictures) b n m previous number short fits g sliced even e within st =
+      let begins = begins_at s.group n in
+      let few = unit_small s.params f.params in
+      let next : suc n ≡ n + 1 = omega arith in
+      let rest = units_behind (written_under s) (n + 1) (unit_length s.params) (number_after number) pictures in
+      let all = units_length s f.params (slices ∷ pictures) previous number n m e sliced in
+      front_due command quiet (written_under s) f slices sliced.0 number n fits begins b previous rest refl short g (omega (arith, st.at, all, within))
+      ∙ walked pictures (behind_due command quiet (written_under s) f begins b previous number slices) (n + 1) m (unit_length s.params) (number_after number) few (omega arith)
+      (going_due command quiet (written_under s) f slices sliced.0 number n fits begins b previous refl g) sliced.1 even (omega (arith, e)) within
+      (subst (λ (k : ℕ). StandsAt k (behind_due command quiet (written_under s) f begins b previous number slices)) next (stands_next n previous number b slices sliced.0 st))
 
 -- ---- the least schedule runs
 
@@ -218,32 +282,30 @@ module _ (s : Asked) (pictures : List PictureSamples) (settings : AreSettings s)
   pub length_is : length (stream_of s pictures) ≡ stream_length s pictures
   length_is =
       let unit = header_unit s.parts in
-      let rest = units_behind s.params (first_length s) s.first (map (slices_of (frame_under s.parts) s.params) pictures) in
-      let all = units_length s (plan_for s pictures) settings.lawful.params (map (slices_of (frame_under s.parts) s.params) pictures) s.parts (first_length s) s.first 0 (length pictures) (omega (arith, many)) sliced in
-      omega (arith, length-append unit rest, length-header_unit s.parts, all)
+      let rest = units_behind (written_under s) 0 (header_length s.parts) s.first (map (slices_of (frame_under s.parts) s.params) pictures) in
+      let all = units_length s settings.lawful.params (map (slices_of (frame_under s.parts) s.params) pictures) (header_length s.parts) s.first 0 (length pictures) (omega (arith, many)) sliced in
+      omega (arith, length-append unit rest, length-header_unit s.parts, place_first s, all)
 
   replayed : reply_of [] (answer_to (replay_machine (plan_for s pictures)) (stream_of s pictures)) ≡ replayed_reply s pictures
   replayed =
       let schedule = plan_for s pictures in
       let unit = header_unit s.parts in
-      let rest = units_behind s.params (first_length s) s.first (map (slices_of (frame_under s.parts) s.params) pictures) in
-      let z : Past = after nothing_yet (Sequence s.parts) unit in
-      let own : Replayed = (replaying schedule).next nothing_yet (nothing_replayed schedule) (Sequence s.parts) unit in
-      let f = settings.lawful.params in
-      let long : length unit ≡ first_length s = length-header_unit s.parts in
-      let small : first_length s < 2 ^ 32 = omega (arith, header_short s.parts settings.lawful.header) in
-      let at_start : Stands s schedule f 0 z own = record {
-        place = omega (arith, long);
-        pictures = refl;
+      let rest = units_behind (written_under s) 0 (header_length s.parts) s.first (map (slices_of (frame_under s.parts) s.params) pictures) in
+      let f = settings.lawful in
+      let command = replaying schedule in
+      let first : Between Past Replayed = record { past = after nothing_yet (Sequence s.parts) unit; own = command.next nothing_yet (nothing_replayed schedule) (Sequence s.parts) unit } in
+      let long : length unit ≡ header_length s.parts = length-header_unit s.parts in
+      let at_start : Stands s schedule f 0 (stream_place s 0) (shapes_at s 0) first = record {
+        at = omega (arith, long, place_first s);
         of = refl;
+        pictures = refl;
         slices = omega arith;
         shapes = ap (λ (k : ℕ). plain_shape 0 k ∷ []) long;
       } in
-      let walk = walked s schedule f (map (slices_of (frame_under s.parts) s.params) pictures) s.parts z own 0 (length pictures) (first_length s) s.first small settings.lawful.first (going_first (written_under s) settings.lawful) sliced may.even (omega (arith, many)) may.stream at_start in
+      let walk = walked s schedule f (map (slices_of (frame_under s.parts) s.params) pictures) first 0 (length pictures) (header_length s.parts) s.first (header_small (written_under s) f) f.first (going_start (written_under s) f) sliced may.even (omega (arith, many)) may.stream at_start in
       ap (λ (a : Answer Ending). reply_of [] (before [] a))
-      (one_unit (replaying schedule) nothing_yet (nothing_replayed schedule) (Sequence s.parts) unit rest (moves_header_unit s.parts settings.lawful.header small) refl (omega (arith, length_is, may.stream))
-      ∙ ap (before []) walk)
-      ∙ ap (λ (o : Outcome). let e : Ending = Scheduled (length pictures) (length pictures * slice_count s.params.slicing) (stream_place s (length pictures) + 13) o in reply_of [] (record { ending = e; text = []; last = last_line e })) (plan_runs s (length pictures) f settings.rate)
+      (front_first command (λ z own unit bytes. refl) (written_under s) f (nothing_replayed schedule) rest (omega (arith, length_is, may.stream)) ∙ walk)
+      ∙ ap (λ (o : Outcome). let e : Ending = Scheduled (length pictures) (length pictures * slice_count s.params.slicing) (stream_place s (length pictures) + 13) o in reply_of [] (record { ending = e; text = []; last = last_line e })) (plan_runs s (length pictures) f.params settings.rate)
 
 -- its numbers are such that words can have
 held_low : (total came gone : ℕ) → min total came - gone ≤ total
@@ -276,23 +338,27 @@ decoded_texts : (f : Frame) (p : Params) (pictures : List PictureSamples)
 decoded_texts f p [] = refl
 decoded_texts f p (x ∷ pictures) = ap (λ (l : List ℕ). raw_text f (picture_of f p (slices_of f p x)) ++ l) (decoded_texts f p pictures)
 
-counted_pictures : (es : List Entry) (parts : HeaderParts) (p : Params) (number : ℕ) (found : List (List (List ℕ))) → map (λ (e : Entry). e.unit) es ≡ pictures_under parts p number found → total pictures_in es ≡ length found
-counted_pictures [] parts p number [] e = refl
-counted_pictures [] parts p number (slices ∷ found) e = absurd cc
-counted_pictures (x ∷ es) parts p number [] e = absurd cc
-counted_pictures (x ∷ es) parts p number (slices ∷ found) e =
-    let both : (x.unit ∷ map (λ (e : Entry). e.unit) es) ≡ (Picture parts number p slices ∷ pictures_under parts p (number_after number) found) = e in
-    let head : x.unit ≡ Picture parts number p slices = cc in
-    let tail : map (λ (e : Entry). e.unit) es ≡ pictures_under parts p (number_after number) found = cc in
-    omega (arith, ap (λ (u : DataUnit). pictures_in u) head, counted_pictures es parts p (number_after number) found tail)
+-- the pictures among these units
+abbrev picture_count : List DataUnit → ℕ
+picture_count [] = 0
+picture_count (unit ∷ others) = pictures_in unit + picture_count others
 
-count_all : (es : List Entry) (s : Settings) (found : List (List (List ℕ))) → map (λ (e : Entry). e.unit) es ≡ units_of s found → total pictures_in es ≡ length found
-count_all [] s found e = absurd cc
-count_all (x ∷ es) s found e =
-    let both : (x.unit ∷ map (λ (e : Entry). e.unit) es) ≡ (Sequence s.parts ∷ pictures_under s.parts s.params s.first found) = e in
-    let head : x.unit ≡ Sequence s.parts = cc in
-    let tail : map (λ (e : Entry). e.unit) es ≡ pictures_under s.parts s.params s.first found = cc in
-    omega (arith, ap (λ (u : DataUnit). pictures_in u) head, counted_pictures es s.parts s.params s.first found tail)
+count_found : (es : List Entry) → total pictures_in es ≡ picture_count (map (λ (e : Entry). e.unit) es)
+count_found [] = refl
+count_found (x ∷ es) = ap (λ (k : ℕ). pictures_in x.unit + k) (count_found es)
+
+none_before : (parts : HeaderParts) (begins : Bool) (found : List DataUnit) → picture_count (found_before parts begins ++ found) ≡ picture_count found
+none_before parts true found = omega arith
+none_before parts false found = refl
+
+count_under : (w : Settings) (position number : ℕ) (found : List (List (List ℕ))) → picture_count (pictures_under w position number found) ≡ length found
+count_under w position number [] = refl
+count_under w position number (slices ∷ found) =
+    none_before w.parts (begins_at w.group position) (Picture w.parts number w.params slices ∷ pictures_under w (position + 1) (number_after number) found)
+    ∙ ap (λ (k : ℕ). 1 + k) (count_under w (position + 1) (number_after number) found) ∙ omega arith
+
+count_all : (es : List Entry) (w : Settings) (found : List (List (List ℕ))) → map (λ (e : Entry). e.unit) es ≡ units_of w found → total pictures_in es ≡ length found
+count_all es w found e = count_found es ∙ ap picture_count e ∙ omega (arith, count_under w 0 w.first found)
 
 pub are_decoded : (s : Asked) (pictures : List PictureSamples) → AreDecoded s pictures
 are_decoded s pictures settings may =

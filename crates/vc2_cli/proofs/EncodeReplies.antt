@@ -2,7 +2,6 @@
 use Rattle.std.proofs.Common.{◌≡◌, ℕ, suc, ◌+◌, ◌*◌, ◌%◌, ◌^◌, ◌<◌, ◌≤◌, cond, eqb, Bool, true, false, List, [], ◌∷◌, ◌++◌, length, map, drop, refl, sym, ap, subst, ◌∙◌, arith, append_assoc, ne_eqb, eqb-true}
 use Rattle.std.specs.Prelude.{◌&&◌}
 use Rattle.std.specs.List.{AllByRecursion}
-use Rattle.std.proofs.lemmas.Bool.{le-leb}
 use Rattle.std.proofs.lemmas.List.{length-append}
 use Rattle.std.proofs.Math.Seq.{drop-append_seam}
 use Rattle.sequence_header.specs.declared.parts.HeaderParts.{HeaderParts}
@@ -23,17 +22,19 @@ use Rattle.vc2_run.specs.Walk.{Answer, Ends, Whole, answer_from, answer_to, afte
 use Rattle.vc2_run.proofs.Walks.{answer_step}
 use Rattle.stream_rows.specs.declared.reason.Reason.TheVariants.{StreamTooLong}
 use Rattle.stream_rows.specs.Streams.{limit, frame_under}
-use Rattle.stream_units.specs.EncodedStream.{header_unit, picture_unit, end_unit, number_after, units_behind}
+use Rattle.stream_units.specs.EncodedStream.{begins_at, header_length, header_unit, end_unit, number_after, units_with, units_behind}
+use Rattle.stream_units.proofs.WrittenShapes.{plain_length}
 use Rattle.stream_units.proofs.SameShapes.{frame_is}
 use Rattle.channel_schedule.specs.declared.schedule.Schedule.{Schedule}
 use Rattle.vc2_words.specs.Settings.{Asked}
 use Rattle.vc2_cli.specs.declared.status.Ending.{Ending}
 use Rattle.vc2_cli.specs.declared.status.Ending.TheVariants.{Encoded}
-use Rattle.vc2_cli.specs.Encode.{raw_size, raw_place, first_length, stream_place, previous_at, number_at, has_room, is_half, refused_at, shapes_at, ended_plan, closing, step_by, encode_machine}
+use Rattle.vc2_cli.specs.Encode.{written_under, raw_size, raw_place, stream_place, previous_at, number_at, units_at, has_room, is_half, refused_at, shapes_at, ended_plan, closing, step_by, encode_machine}
 use Rattle.vc2_cli.specs.WholePictures.{raw_input, stream_of}
 use Rattle.vc2_cli.specs.EncodeReply.{MayBeWritten, encoded_reply, AreEncoded}
 use Rattle.vc2_cli.specs.Reply.{reply_of}
 use Rattle.vc2_cli.proofs.Encoding.{encode_laws}
+use Rattle.vc2_cli.proofs.Behind.{previous_next, number_next, room_before}
 
 -- a picture has a byte
 pub some_raw : (shape : PictureShape) → 0 < raw_length (frame_of shape)
@@ -84,7 +85,7 @@ module _ (s : Asked) (q : Passes s.parts) where
   -- what is written of the pictures from picture n on
   abbrev pub texts : ℕ → List PictureSamples → List ℕ
   texts n [] = []
-  texts n (p ∷ ps) = picture_unit s.params (previous_at s n) (number_at s n) (slices_of (frame_under s.parts) s.params p) ++ texts (suc n) ps
+  texts n (p ∷ ps) = units_at s n (slices_of (frame_under s.parts) s.params p) ++ texts (suc n) ps
 
   abbrev answer : ℕ → ℕ → List PictureSamples → Answer Ending
   answer n m ps = record { ending = Encoded (ended_plan s (shapes_at s m) (stream_place s m)); text = texts n ps; last = end_unit (previous_at s m) }
@@ -92,12 +93,6 @@ module _ (s : Asked) (q : Passes s.parts) where
   -- behind the picture n
   next_place : (n size : ℕ) → n * size + size ≡ suc n * size
   next_place n size = grind arith
-
-  at_most : (n m size : ℕ) → n ≤ m → n * size ≤ m * size
-  at_most n m size le = grind arith
-
-  room : (n m : ℕ) → suc n ≤ m → stream_place s m + 13 ≤ limit → has_room s n ≡ true
-  room n m le fits = le-leb (stream_place s n + unit_length s.params + 13) limit (omega (arith, fits, at_most (suc n) m (unit_length s.params) le, next_place n (unit_length s.params)))
 
   closed : (half : Bool) (place previous : ℕ) (schedule : Schedule) (next : ℕ → ℕ → Answer Ending) → half ≡ false → after_step (closing half place previous schedule) next ≡ record { ending = Encoded schedule; text = []; last = end_unit previous }
   closed true place previous schedule next e = absurd cc
@@ -121,31 +116,34 @@ module _ (s : Asked) (q : Passes s.parts) where
       let text = raw_text g p in
       let rest = raw_texts g ps in
       let go_on = λ (size left : ℕ). answer_from (encode_machine s) left (drop size (text ++ rest)) in
-      let unit = picture_unit s.params (previous_at s n) (number_at s n) (slices_of g s.params p) in
+      let unit = units_at s n (slices_of g s.params p) in
       let long : length text ≡ raw_size s = length_raw g p each.0 in
       let both : length (text ++ rest) ≡ length text + length rest = length-append text rest in
       let dropped : drop (raw_size s) (text ++ rest) ≡ rest = ap (λ (k : ℕ). drop k (text ++ rest)) (sym long) ∙ drop-append_seam text rest in
       let next : n + 1 ≡ suc n = omega arith in
       answer_step (encode_machine s) (encode_laws s (some_size s q)) n (text ++ rest)
       ∙ ap (λ (front : RawFront). after_step (step_by s n front) go_on) (picture_back g p each.0 few fewer (raw_place s n) rest (omega (arith, inside, both, long)))
-      ∙ with_room (has_room s n) (raw_size s) unit (n + 1) (refused_at (raw_place s n) StreamTooLong) go_on (room n m (omega (arith, e)) fits)
+      ∙ with_room (has_room s n) (raw_size s) unit (n + 1) (refused_at (raw_place s n) StreamTooLong) go_on (room_before s n m (omega (arith, e)) fits)
       ∙ ap (before unit)
       (ap (answer_from (encode_machine s) (n + 1)) dropped
       ∙ ap (λ (k : ℕ). answer_from (encode_machine s) k rest) next
       ∙ answered (suc n) m ps (omega (arith, e)) each.1 whole (omega (arith, inside, both, long, next_place n (raw_size s))) fits)
 
   -- what is written is the units behind the first
-  pub after_number : (n : ℕ) → number_after (number_at s n) ≡ number_at s (suc n)
-  after_number n = omega arith
-
-  pub units_are : (n m : ℕ) (ps : List PictureSamples) → m ≡ n + length ps
-      → texts n ps ++ end_unit (previous_at s m) ≡ units_behind s.params (previous_at s n) (number_at s n) (map (slices_of (frame_under s.parts) s.params) ps)
-  units_are n m [] e = ap (λ (k : ℕ). end_unit (previous_at s k)) (omega (arith, e))
-  units_are n m (p ∷ ps) e =
-      let unit = picture_unit s.params (previous_at s n) (number_at s n) (slices_of (frame_under s.parts) s.params p) in
-      append_assoc unit (texts (suc n) ps) (end_unit (previous_at s m))
-      ∙ ap (λ (l : List ℕ). unit ++ l) (units_are (suc n) m ps (omega (arith, e)))
-      ∙ ap (λ (k : ℕ). unit ++ units_behind s.params (unit_length s.params) k (map (slices_of (frame_under s.parts) s.params) ps)) (sym (after_number n))
+  pub units_are : (n m previous : ℕ) (ps : List PictureSamples) → m ≡ n + length ps → previous_at s n ≡ previous
+      → texts n ps ++ end_unit (previous_at s m) ≡ units_behind (written_under s) n previous (number_at s n) (map (slices_of (frame_under s.parts) s.params) ps)
+  units_are n m previous [] e is = let here : m ≡ n = omega (arith, e) in ap (λ (k : ℕ). end_unit (previous_at s k)) here ∙ ap end_unit is
+  units_are n m previous (p ∷ ps) e is =
+      let slices = slices_of (frame_under s.parts) s.params p in
+      let others = map (slices_of (frame_under s.parts) s.params) ps in
+      let rest = texts (suc n) ps ++ end_unit (previous_at s m) in
+      let unit = units_with s.parts s.params (begins_at s.group n) previous (number_at s n) slices in
+      let next : suc n ≡ n + 1 = omega arith in
+      append_assoc (units_at s n slices) (texts (suc n) ps) (end_unit (previous_at s m))
+      ∙ ap (λ (k : ℕ). units_with s.parts s.params (begins_at s.group n) k (number_at s n) slices ++ rest) is
+      ∙ ap (λ (l : List ℕ). unit ++ l) (units_are (suc n) m (unit_length s.params) ps (omega (arith, e)) (previous_next s n))
+      ∙ ap (λ (k : ℕ). unit ++ units_behind (written_under s) (suc n) (unit_length s.params) k others) (sym (number_next s n))
+      ∙ ap (λ (k : ℕ). unit ++ units_behind (written_under s) k (unit_length s.params) (number_after (number_at s n)) others) next
 
   whole_frames : (coding n : ℕ) → (coding ≡ 1 → n % 2 ≡ 0) → is_half coding n ≡ false
   whole_frames coding n even = by (eqb coding 1) refl
@@ -157,8 +155,8 @@ module _ (s : Asked) (q : Passes s.parts) where
   pub out_is : (pictures : List PictureSamples) → s.first < 2 ^ 32 → (header_unit s.parts ++ texts 0 pictures) ++ end_unit (previous_at s (length pictures)) ≡ stream_of s pictures
   out_is pictures fits =
       append_assoc (header_unit s.parts) (texts 0 pictures) (end_unit (previous_at s (length pictures)))
-      ∙ ap (λ (l : List ℕ). header_unit s.parts ++ l) (units_are 0 (length pictures) pictures (omega arith))
-      ∙ ap (λ (k : ℕ). header_unit s.parts ++ units_behind s.params (first_length s) k (map (slices_of (frame_under s.parts) s.params) pictures)) (omega (arith, fits))
+      ∙ ap (λ (l : List ℕ). header_unit s.parts ++ l) (units_are 0 (length pictures) (header_length s.parts) pictures (omega arith) (plain_length 0 (header_length s.parts)))
+      ∙ ap (λ (k : ℕ). header_unit s.parts ++ units_behind (written_under s) 0 (header_length s.parts) k (map (slices_of (frame_under s.parts) s.params) pictures)) (omega (arith, fits))
 
   pub encoded_all : (pictures : List PictureSamples) → s.first < 2 ^ 32 → MayBeWritten s pictures → reply_of [] (answer_to (encode_machine s) (raw_input s pictures)) ≡ encoded_reply s pictures
   encoded_all pictures fits m =

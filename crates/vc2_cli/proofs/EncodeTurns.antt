@@ -1,6 +1,5 @@
 -- The turns of the loop of `encode`.
-use Rattle.std.proofs.Common.{◌≡◌, ℕ, suc, ◌+◌, ◌*◌, ◌%◌, ◌^◌, ◌<◌, ◌≤◌, cond, Bool, true, false, List, [], ◌∷◌, ◌++◌, length, Option, Some, Result, Ok, Err, refl, sym, ap, subst, ◌∙◌, arith, append-nil}
-use Rattle.std.proofs.lemmas.Bool.{le-leb, leb-true}
+use Rattle.std.proofs.Common.{◌≡◌, ℕ, ◌+◌, ◌*◌, ◌^◌, ◌<◌, ◌≤◌, cond, Bool, true, false, List, [], ◌++◌, length, Option, Some, Result, Ok, Err, refl, sym, ap, subst, ◌∙◌, arith, append-nil}
 use Rattle.std.proofs.lemmas.List.{length-append}
 use Rattle.std.specs.Io.KnownBytes.{Appends, IsAtEnd}
 use Rattle.vc2_io.specs.Outside.{Rose, GrewShort}
@@ -13,7 +12,6 @@ use Rattle.channel_schedule.specs.declared.schedule.Schedule.{Schedule}
 use Rattle.channel_schedule.specs.Plans.{plan_of}
 use Rattle.vc2_cli.specs.Scheduled.{shapes_in}
 use Rattle.vc2_words.specs.Settings.{Asked}
-use Rattle.transform_params.specs.ParameterFields.{unit_length}
 use Rattle.slice_geometry.specs.Frames.{Frame, frame_of}
 use Rattle.picture_codec.specs.Samples.{PictureSamples}
 use Rattle.picture_codec.specs.Encoding.{slices_of}
@@ -33,56 +31,34 @@ use Rattle.stream_rows.specs.declared.reason.Reason.TheVariants as reasons
 use Rattle.stream_units.specs.declared.write_stop.WriteStop.{WriteStop}
 use Rattle.stream_units.specs.declared.write_stop.WriteStop.TheVariants as stops
 use Rattle.stream_rows.specs.Streams.{limit, frame_under}
-use Rattle.stream_units.specs.EncodedStream.{Settings, header_unit, picture_unit, end_unit}
-use Rattle.stream_units.specs.Writer.{StreamWriterSeen, total_length, next_place, next_previous, next_number, plain_shape, picture_shape, started, after_picture, after_end, HasRoom, WritesPicture, WriteCause, Starts, IsSteepUnder}
-use Rattle.stream_units.proofs.WrittenShapes.{total_push, pictures_push, last_push, plain_length, picture_length, one_more}
+use Rattle.stream_units.specs.EncodedStream.{header_unit, end_unit}
+use Rattle.stream_units.specs.Writer.{StreamWriterSeen, total_length, next_place, next_previous, due_units, plain_shape, started, after_end, WritesPicture, WriteCause, Starts, IsSteepUnder}
+use Rattle.stream_units.proofs.WrittenShapes.{total_push, plain_length}
 use Rattle.vc2_cli.specs.declared.status.Ending.{Ending}
 use Rattle.vc2_cli.specs.declared.status.Ending.TheVariants.{Encoded}
 use Rattle.vc2_cli.specs.Running.{IsDone, Runs, Closes}
-use Rattle.vc2_cli.specs.Encode.{written_under, raw_size, raw_place, first_length, stream_place, previous_at, number_at, has_room, is_half, refused_at, shapes_at, ended_plan, closing, step_by, encode_machine, ClosesBy, told_of_fault, told_of_stop}
+use Rattle.vc2_cli.specs.Encode.{written_under, raw_size, raw_place, stream_place, previous_at, units_at, has_room, is_half, refused_at, shapes_at, ended_plan, closing, step_by, encode_machine, ClosesBy, told_of_fault, told_of_stop}
 use Rattle.vc2_cli.specs.EncodeTurn.{IsBehind, HasRead, Goes}
+use Rattle.vc2_cli.proofs.Behind.{behind_next, due_is, room_is, no_room_is}
 use Rattle.vc2_cli.proofs.Encoding.{encode_laws, none_short, none_due}
 use Rattle.vc2_cli.proofs.Exits.{takes_none, cause_then}
 
--- ---- the writer behind n pictures
+-- ---- one picture more
+-- the units that are due with the next picture
+abbrev pub units_of_next : Asked → ℕ → PictureSamples → List ℕ
+units_of_next e n p = units_at e n (slices_of (frame_under e.parts) e.params p)
+
+-- those that the writer writes
+abbrev pub units_of : StreamWriterSeen → PictureSamples → List ℕ
+units_of w p = due_units w (slices_of (frame_under w.settings.parts) w.settings.params p)
+
+pub units_are : (e : Asked) (n : ℕ) (w : StreamWriterSeen) (p : PictureSamples) → 1 ≤ slice_count e.params.slicing → IsBehind e n w → units_of w p ≡ units_of_next e n p
+units_are e n w p some is =
+    ap (λ (x : StreamWriterSeen). due_units w (slices_of (frame_under x.settings.parts) x.settings.params p)) is ∙ due_is e some n w (slices_of (frame_under e.parts) e.params p) is
 
 -- what the input's end comes to
 abbrev pub closes_at : Asked → ℕ → Step ℕ Ending
 closes_at e n = closing (is_half e.parts.coding n) (raw_place e n) (previous_at e n) (ended_plan e (shapes_at e n) (stream_place e n))
-
-pub behind_first : (e : Asked) (w : StreamWriterSeen) → w ≡ started (written_under e) → IsBehind e 0 w
-behind_first e w new = subst (IsBehind e 0) (sym new) (record {
-  settings = refl;
-  unended = refl;
-  going = refl;
-  shapes = refl;
-  place = omega (arith, plain_length 0 (first_length e));
-  previous = plain_length 0 (first_length e);
-  pictures = refl;
-})
-
-behind_after : (e : Asked) (n : ℕ) (w : StreamWriterSeen) → 1 ≤ slice_count e.params.slicing → IsBehind e n w → IsBehind e (suc n) (after_picture w)
-behind_after e n w some b =
-    let u = picture_shape w.settings.params (next_place w) in
-    let long = picture_length w.settings.params (next_place w) in
-    let same = ap (λ (s : Settings). unit_length s.params) b.settings in
-    record {
-      settings = b.settings;
-      unended = b.unended;
-      going = b.going;
-      shapes = ap (λ (l : List UnitShape). l ++ u ∷ []) b.shapes ∙ ap (λ (s : Settings). shapes_at e n ++ picture_shape s.params (next_place w) ∷ []) b.settings ∙ ap (λ (k : ℕ). shapes_at e n ++ picture_shape e.params k ∷ []) b.place;
-      place = total_push w.shapes u ∙ ap (λ (k : ℕ). next_place w + k) (long ∙ same) ∙ ap (λ (k : ℕ). k + unit_length e.params) b.place ∙ one_unit (first_length e) n (unit_length e.params);
-      previous = last_push 0 w.shapes u ∙ long ∙ same;
-      pictures = omega (arith, pictures_push w.shapes u, one_more u.slices (subst (λ (s : Settings). 1 ≤ slice_count s.params.slicing) (sym b.settings) some), b.pictures);
-    }
-  where
-    one_unit : (first n unit : ℕ) → (first + n * unit) + unit ≡ first + suc n * unit
-    one_unit first n unit = grind arith
-
-pub behind_next : (e : Asked) (n : ℕ) (w w' : StreamWriterSeen) → 1 ≤ slice_count e.params.slicing → IsBehind e n w → w' ≡ after_picture w → IsBehind e (n + 1) w'
-behind_next e n w w' some b after =
-    let one : suc n ≡ n + 1 = omega arith in
-    subst (λ (k : ℕ). IsBehind e k w') one (subst (IsBehind e (suc n)) (sym after) (behind_after e n w some b))
 
 -- the plan is of the units alone
 pub planned : (list : UnitShapesSeen) (rate : Rate) (idle : ℕ) (units : List UnitShape) (total : ℕ) → list.units ≡ units → list.total ≡ total → plan_of list rate idle ≡ plan_of (shapes_in units total) rate idle
@@ -96,33 +72,6 @@ with_end w = total_push w.shapes (plain_shape (next_place w) 13) ∙ ap (λ (k :
 pub closes_ended : (half : Bool) (place previous : ℕ) (schedule told : Schedule) (out0 out1 : Option (List ℕ)) → half ≡ false → told ≡ schedule → Appends out0 out1 (end_unit previous) → ClosesBy (closing half place previous schedule) out0 out1 (Ok (Encoded told))
 closes_ended true place previous schedule told out0 out1 none same wrote = absurd cc
 closes_ended false place previous schedule told out0 out1 none same wrote = (ap (λ (x : Schedule). Encoded x) same, wrote)
-
--- the unit of the next picture
-abbrev pub unit_at : Asked → ℕ → PictureSamples → List ℕ
-unit_at e n p = picture_unit e.params (previous_at e n) (number_at e n) (slices_of (frame_under e.parts) e.params p)
-
--- the unit that the writer writes
-abbrev pub unit_of : StreamWriterSeen → PictureSamples → List ℕ
-unit_of w p = picture_unit w.settings.params (next_previous w) (next_number w) (slices_of (frame_under w.settings.parts) w.settings.params p)
-
-pub unit_is : (e : Asked) (n : ℕ) (w : StreamWriterSeen) (p : PictureSamples) → IsBehind e n w → unit_of w p ≡ unit_at e n p
-unit_is e n w p b =
-    ap (λ (k : ℕ). picture_unit w.settings.params k (next_number w) (slices_of (frame_under w.settings.parts) w.settings.params p)) b.previous
-    ∙ ap (λ (k : ℕ). picture_unit w.settings.params (previous_at e n) ((w.settings.first + k) % 2 ^ 32) (slices_of (frame_under w.settings.parts) w.settings.params p)) b.pictures
-    ∙ ap (λ (s : Settings). picture_unit s.params (previous_at e n) ((s.first + n) % 2 ^ 32) (slices_of (frame_under s.parts) s.params p)) b.settings
-
-pub with_place : (e : Asked) (n : ℕ) (w : StreamWriterSeen) → IsBehind e n w → next_place w + unit_length w.settings.params + 13 ≡ stream_place e n + unit_length e.params + 13
-with_place e n w b = ap (λ (k : ℕ). k + unit_length w.settings.params + 13) b.place ∙ ap (λ (s : Settings). stream_place e n + unit_length s.params + 13) b.settings
-
-room_is : (e : Asked) (n : ℕ) (w : StreamWriterSeen) → IsBehind e n w → HasRoom w → has_room e n ≡ true
-room_is e n w b room = le-leb (stream_place e n + unit_length e.params + 13) limit (subst (λ (k : ℕ). k ≤ limit) (with_place e n w b) room)
-
-no_room_is : (e : Asked) (n : ℕ) (w : StreamWriterSeen) → IsBehind e n w → (HasRoom w → ⊥) → has_room e n ≡ false
-no_room_is e n w b none = by (has_room e n) refl
-  where
-    by : (room : Bool) → has_room e n ≡ room → room ≡ false
-    by false t = refl
-    by true t = absurd (none (subst (λ (k : ℕ). k ≤ limit) (sym (with_place e n w b)) (leb-true (stream_place e n + unit_length e.params + 13) limit t)))
 
 -- ---- the loop
 
@@ -162,7 +111,7 @@ goes_first e rest out0 out1 r w some frame at unrefused start wrote =
     let none : 0 ≡ raw_place e 0 = no_bytes (raw_size e) in
     record {
       reader = record { frame = frame; place = at ∙ none; unrefused = unrefused };
-      writer = behind_first e w start;
+      writer = start;
       taken = [];
       total = none;
       most = omega (arith, none);
@@ -185,14 +134,14 @@ module _ (e : Asked) (n : ℕ) (rest0 rest1 out0 out1 : Option (List ℕ)) (read
   most_taken rest2 p result r = (goes.taken ++ r.taken, omega (arith, length-append goes.taken r.taken, goes.total, r.limit), Consumes-then rest0 rest1 rest2 goes.taken r.taken goes.took r.took)
 
   module _ (rest2 : Option (List ℕ)) (p : PictureSamples) (r : ReadsFront (frame_under e.parts) (raw_place e n) rest1 rest2 p (Ok steps.Picture)) where
-    step_shown : (more : List ℕ) → has_room e n ≡ true → (encode_machine e).step n (r.taken ++ more) ≡ Whole (length r.taken) (unit_at e n p) (n + 1)
+    step_shown : (more : List ℕ) → has_room e n ≡ true → (encode_machine e).step n (r.taken ++ more) ≡ Whole (length r.taken) (units_of_next e n p) (n + 1)
     step_shown more room =
         ap (step_by e n) (r.front.2 more)
         ∙ whole (has_room e n) room
       where
-        whole : (room : Bool) → room ≡ true → cond room (Whole (raw_size e) (unit_at e n p) (n + 1)) (Ends (refused_at (raw_place e n) reasons.StreamTooLong) []) ≡ Whole (length r.taken) (unit_at e n p) (n + 1)
+        whole : (room : Bool) → room ≡ true → cond room (Whole (raw_size e) (units_of_next e n p) (n + 1)) (Ends (refused_at (raw_place e n) reasons.StreamTooLong) []) ≡ Whole (length r.taken) (units_of_next e n p) (n + 1)
         whole false t = absurd cc
-        whole true t = ap (λ (k : ℕ). Whole k (unit_at e n p) (n + 1)) (sym r.front.0)
+        whole true t = ap (λ (k : ℕ). Whole k (units_of_next e n p) (n + 1)) (sym r.front.0)
 
     some_taken : 0 < length r.taken
     some_taken = omega (arith, some, r.front.0)
@@ -200,39 +149,39 @@ module _ (e : Asked) (n : ℕ) (rest0 rest1 out0 out1 : Option (List ℕ)) (read
     pub goes_more : (out2 : Option (List ℕ)) (reader' : RawReaderSeen) (w' : StreamWriterSeen) → 1 ≤ slice_count e.params.slicing → reader' ≡ reader_after reader (Ok steps.Picture)
         → WritesPicture w w' (slices_of (frame_under w.settings.parts) w.settings.params p) out1 out2 (Ok tt) → Goes e (n + 1) rest0 rest2 out0 out2 reader' w'
     goes_more out2 reader' w' slices after wrote =
-        let text : Appends out1 out2 (unit_at e n p) = subst (λ (l : List ℕ). Appends out1 out2 l) (unit_is e n w p goes.writer) wrote.wrote in
-        let room = room_is e n w goes.writer wrote.why in
+        let text : Appends out1 out2 (units_of_next e n p) = subst (λ (l : List ℕ). Appends out1 out2 l) (units_are e n w p slices goes.writer) wrote.wrote in
+        let room = room_is e slices n w goes.writer wrote.why in
         record {
           reader = subst (HasRead e (n + 1)) (sym after) (record {
             frame = goes.reader.frame;
             place = ap (λ (k : ℕ). k + raw_length (frame_of reader.shape)) goes.reader.place ∙ ap (λ (f : Frame). raw_place e n + raw_length f) goes.reader.frame ∙ next_place_is n (raw_size e);
             unrefused = goes.reader.unrefused;
           });
-          writer = behind_next e n w w' slices goes.writer wrote.after;
+          writer = behind_next e slices n w w' goes.writer wrote.after;
           taken = goes.taken ++ r.taken;
           total = length-append goes.taken r.taken ∙ ap (λ (k : ℕ). k + length r.taken) goes.total ∙ ap (λ (k : ℕ). raw_place e n + k) r.front.0 ∙ next_place_is n (raw_size e);
           most = subst (λ (k : ℕ). k ≤ 2 ^ 40) (next_place_is n (raw_size e)) r.front.1;
           took = Consumes-then rest0 rest1 rest2 goes.taken r.taken goes.took r.took;
-          holds = holds_more laws rest2 out2 r.taken r.taken [] (unit_at e n p) (n + 1) goes.holds r.took (sym (append-nil r.taken)) some_taken (λ more fits. step_shown more room) text;
+          holds = holds_more laws rest2 out2 r.taken r.taken [] (units_of_next e n p) (n + 1) goes.holds r.took (sym (append-nil r.taken)) some_taken (λ more fits. step_shown more room) text;
         }
       where
         next_place_is : (n size : ℕ) → n * size + size ≡ (n + 1) * size
         next_place_is n size = grind arith
 
-    -- its unit was not written
-    pub runs_stopped : (out2 : Option (List ℕ)) (w' : StreamWriterSeen) (place src0 src1 src2 to0 to1 to2 : ℕ) (stop : WriteStop) → place ≡ reader.place → src1 ≡ src0 → src2 ≡ src1 → to1 ≡ to0
+    -- its units were not written
+    pub runs_stopped : (out2 : Option (List ℕ)) (w' : StreamWriterSeen) (place src0 src1 src2 to0 to1 to2 : ℕ) (stop : WriteStop) → 1 ≤ slice_count e.params.slicing → place ≡ reader.place → src1 ≡ src0 → src2 ≡ src1 → to1 ≡ to0
         → WritesPicture w w' (slices_of (frame_under w.settings.parts) w.settings.params p) out1 out2 (Err stop) → WriteCause {X = Unit {0}} to1 to2 (Err stop)
         → Runs (encode_machine e) IsDone (record { was = rest0; is = rest2; faults_were = src0; faults_are = src2 }) (record { was = out0; is = out2; faults_were = to0; faults_are = to2 }) (told_of_stop place stop)
-    runs_stopped out2 w' place src0 src1 src2 to0 to1 to2 stops.OutFault at steady read steady_out wrote why =
-        let short : GrewShort out1 out2 (unit_at e n p) = subst (λ (l : List ℕ). GrewShort out1 out2 l) (unit_is e n w p goes.writer) wrote.wrote in
+    runs_stopped out2 w' place src0 src1 src2 to0 to1 to2 stops.OutFault slices at steady read steady_out wrote why =
+        let short : GrewShort out1 out2 (units_of_next e n p) = subst (λ (l : List ℕ). GrewShort out1 out2 l) (units_are e n w p slices goes.writer) wrote.wrote in
         record {
-          ran = holds_out_fault laws rest2 out2 r.taken r.taken [] (unit_at e n p) (n + 1) goes.holds r.took (sym (append-nil r.taken)) some_taken (λ more fits. step_shown more (room_is e n w goes.writer wrote.why)) (none_due e n r.taken r.most) short;
+          ran = holds_out_fault laws rest2 out2 r.taken r.taken [] (units_of_next e n p) (n + 1) goes.holds r.took (sym (append-nil r.taken)) some_taken (λ more fits. step_shown more (room_is e slices n w goes.writer wrote.why)) (none_due e n r.taken r.most) short;
           limit = most_taken rest2 p (Ok steps.Picture) r;
           cause = (read ∙ steady, subst (λ (k : ℕ). k ≤ to2) steady_out why.0, subst (λ (k : ℕ). Rose k to2) steady_out why.1);
           end = λ ending e done. absurd cc;
         }
-    runs_stopped out2 w' place src0 src1 src2 to0 to1 to2 stops.StreamTooLong at steady read steady_out wrote why =
-        let none = no_room_is e n w goes.writer wrote.why in
+    runs_stopped out2 w' place src0 src1 src2 to0 to1 to2 stops.StreamTooLong slices at steady read steady_out wrote why =
+        let none = no_room_is e slices n w goes.writer wrote.why in
         let here : place ≡ raw_place e n = at ∙ goes.reader.place in
         record {
           ran = holds_ended laws rest2 out2 r.taken [] (refused_at place reasons.StreamTooLong) goes.holds r.took
@@ -243,11 +192,11 @@ module _ (e : Asked) (n : ℕ) (rest0 rest1 out0 out1 : Option (List ℕ)) (read
           end = λ ending e done. refused_done (told_of_stop place stops.StreamTooLong) place reasons.StreamTooLong ending refl e done;
         }
       where
-        too_long : (room : Bool) → room ≡ false → cond room (Whole (raw_size e) (unit_at e n p) (n + 1)) (Ends (refused_at (raw_place e n) reasons.StreamTooLong) []) ≡ Ends (refused_at (raw_place e n) reasons.StreamTooLong) []
+        too_long : (room : Bool) → room ≡ false → cond room (Whole (raw_size e) (units_of_next e n p) (n + 1)) (Ends (refused_at (raw_place e n) reasons.StreamTooLong) []) ≡ Ends (refused_at (raw_place e n) reasons.StreamTooLong) []
         too_long true t = absurd cc
         too_long false t = refl
-    runs_stopped out2 w' place src0 src1 src2 to0 to1 to2 stops.MatrixTooSteep at steady read steady_out wrote why = absurd wrote.why
-    runs_stopped out2 w' place src0 src1 src2 to0 to1 to2 stops.NoMemory at steady read steady_out wrote why = record {
+    runs_stopped out2 w' place src0 src1 src2 to0 to1 to2 stops.MatrixTooSteep slices at steady read steady_out wrote why = absurd wrote.why
+    runs_stopped out2 w' place src0 src1 src2 to0 to1 to2 stops.NoMemory slices at steady read steady_out wrote why = record {
       ran = subst (λ (o : Option (List ℕ)). Ran (encode_machine e) rest0 rest2 out0 o (Err halts.NoMemory)) (sym wrote.wrote) (holds_no_memory laws rest2 r.taken goes.holds r.took (none_due e n r.taken r.most));
       limit = most_taken rest2 p (Ok steps.Picture) r;
       cause = (read ∙ steady, why ∙ steady_out);
@@ -301,9 +250,7 @@ module _ (e : Asked) (n : ℕ) (rest0 rest1 out0 out1 : Option (List ℕ)) (read
     closes_here pictures place count at =
         ap (λ (k : ℕ). closing (is_half e.parts.coding k) place (next_previous w) (ended_plan e w.shapes (next_place w))) count
         ∙ ap (λ (k : ℕ). closing (is_half e.parts.coding n) k (next_previous w) (ended_plan e w.shapes (next_place w))) (at ∙ goes.reader.place)
-        ∙ ap (λ (k : ℕ). closing (is_half e.parts.coding n) (raw_place e n) k (ended_plan e w.shapes (next_place w))) goes.writer.previous
-        ∙ ap (λ (l : List UnitShape). closing (is_half e.parts.coding n) (raw_place e n) (previous_at e n) (ended_plan e l (next_place w))) goes.writer.shapes
-        ∙ ap (λ (k : ℕ). closing (is_half e.parts.coding n) (raw_place e n) (previous_at e n) (ended_plan e (shapes_at e n) k)) goes.writer.place
+        ∙ ap (λ (x : StreamWriterSeen). closing (is_half e.parts.coding n) (raw_place e n) (next_previous x) (ended_plan e x.shapes (next_place x))) goes.writer
 
     pub runs_closed : (out2 : Option (List ℕ)) (pictures place src0 src1 src2 to0 to1 to2 : ℕ) (result : Result Ending Halt) → pictures ≡ n → place ≡ reader.place → src1 ≡ src0 → src2 ≡ src1 → to1 ≡ to0
         → ClosesBy (closing (is_half e.parts.coding pictures) place (next_previous w) (ended_plan e w.shapes (next_place w))) out1 out2 result → HaltHasCause 0 0 to1 to2 result

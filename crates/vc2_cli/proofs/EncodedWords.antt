@@ -1,5 +1,5 @@
 -- What words that ask for `encode` come to.
-use Rattle.std.proofs.Common.{◌≡◌, ◌∙◌, ℕ, List, Result, ap}
+use Rattle.std.proofs.Common.{◌∙◌, ℕ, List, Result, ap}
 use Rattle.picture_codec.specs.Samples.{PictureSamples}
 use Rattle.vc2_words.specs.declared.keys.WordFault.{WordFault}
 use Rattle.vc2_words.specs.Commands.{AskedCommand, encode, asked_by}

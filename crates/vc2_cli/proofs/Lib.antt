@@ -10,6 +10,8 @@ pub mod EncodeTurns
 pub mod EncodeReplies
 pub mod EncodeChecked
 pub mod ScheduleWords
+pub mod Behind
+pub mod EncodedWalk
 pub mod Chaining
 pub mod StreamReplies
 pub mod Exits

@@ -1,10 +1,8 @@
 -- What a run comes to, by what its command settles.
-use Rattle.std.proofs.Common.{◌≡◌, ◌+◌, ℕ, List, Some, IfSome, Result}
+use Rattle.std.proofs.Common.{◌≡◌, ◌+◌, ℕ, List, IfSome}
 use Rattle.std.specs.Prelude.{IfErr}
 use Rattle.vc2_io.specs.declared.TheConstants.{INPUT_LIMIT}
 use Rattle.vc2_run.specs.Ran.{TakesAtMost}
-use Rattle.vc2_words.specs.declared.keys.WordFault.{WordFault}
-use Rattle.vc2_words.specs.Commands.{AskedCommand}
 use Rattle.vc2_cli.specs.declared.status.Status.{Status}
 use Rattle.vc2_cli.specs.Change.{Change, IsSteady}
 use Rattle.vc2_cli.specs.Words.{words_ask}
@@ -13,7 +11,6 @@ use Rattle.vc2_cli.specs.Soon.{StopsSoon, IfUnits}
 use Rattle.vc2_cli.specs.Reply.{command_reply, HasCauses, AnswersUsage, AnswersTrial, IfTrial, IfHeader}
 use Rattle.vc2_cli.specs.Program.{Ran}
 use Rattle.vc2_cli.proofs.Parts.{AllSettled, told_status, told_texts, told_done, told_read_fault, told_out_fault, told_no_memory, told_note_fault}
-use Rattle.vc2_cli.proofs.SoonTold.{units_by}
 
 pub ran_by : (words : List (List ℕ)) (src out note : Change) (told : Status)
     → AllSettled (words_ask words) src.was src.is out.was out.is note.was note.is told

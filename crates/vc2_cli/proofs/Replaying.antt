@@ -1,12 +1,10 @@
 -- What `check` with a schedule makes of a unit that was read.
-use Rattle.std.proofs.Common.{◌≡◌, ℕ, ◌+◌, List, [], ◌∷◌, ◌++◌, length, Option, refl, ap, ◌∙◌}
+use Rattle.std.proofs.Common.{◌≡◌, ℕ, ◌+◌, List, [], ◌∷◌, ◌++◌, length, ap, ◌∙◌, refl}
 use Rattle.vc2_run.specs.Walk.{IsMachine}
 use Rattle.slice_geometry.specs.declared.unit_list.UnitShape.{UnitShape}
 use Rattle.slice_geometry.specs.UnitLengths.{UnitShapesSeen}
-use Rattle.unit_table.specs.Grammar.{Final}
 use Rattle.unit_table.proofs.FrontLaws.{machine_laws}
-use Rattle.stream_rows.specs.declared.reason.Reason.{Reason}
-use Rattle.stream_rows.specs.Units.{Past, nothing_yet, DataUnit, Sequence, Repeated, Picture, Skipped, End, after, units}
+use Rattle.stream_rows.specs.Units.{Past, nothing_yet, DataUnit, units}
 use Rattle.stream_rows.specs.Streams.{limit, past_limit}
 use Rattle.stream_units.specs.Turns.{shape_of}
 use Rattle.stream_units.specs.Reader.{StreamReaderSeen}
@@ -17,38 +15,15 @@ use Rattle.channel_schedule.specs.declared.schedule.Outcome.{Outcome}
 use Rattle.channel_schedule.specs.Courses.{course_of, count_in, IsOutcome}
 use Rattle.channel_schedule.proofs.Unique.{one_outcome}
 use Rattle.vc2_cli.specs.declared.status.Ending.TheVariants.{Scheduled}
-use Rattle.vc2_cli.specs.Decode.{slices_in}
 use Rattle.vc2_cli.proofs.Soon.{IsOpenMachine, opens_machine}
 use Rattle.vc2_cli.specs.Telling.{TellsUnit}
-use Rattle.vc2_cli.specs.Scheduled.{Replayed, outcome_of, replaying, replaying_any, replay_machine}
+use Rattle.vc2_cli.specs.Scheduled.{outcome_of, replaying, replaying_any, replay_machine}
 
 pub replay_laws : (schedule : Schedule) → IsMachine (replay_machine schedule)
 replay_laws schedule = machine_laws limit past_limit units nothing_yet (replaying schedule) units_laws
 
 pub replay_opens : (schedule : Schedule) → IsOpenMachine (replay_machine schedule)
 replay_opens schedule = opens_machine units units_laws (λ reason. refl) nothing_yet (replaying schedule) (record { finished = λ z w unit bytes. tt; rested = λ z w. tt; refused = λ z w fault short. short })
-
-pub slices_are : (z : Past) (unit : DataUnit) (bytes : List ℕ) → (shape_of z unit bytes).slices ≡ slices_in unit
-slices_are z (Sequence parts) bytes = refl
-slices_are z Repeated bytes = refl
-slices_are z (Picture parts number params slices) bytes = refl
-slices_are z Skipped bytes = refl
-slices_are z End bytes = refl
-
--- what a unit leaves to the command
-pub replayed_more : (schedule : Schedule) (slices slices' : ℕ) (old new : StreamReaderSeen) (z : Past) (unit : DataUnit) (bytes : List ℕ) → TellsUnit old new z unit bytes → slices' ≡ slices + (shape_of z unit bytes).slices
-    → (let own : Replayed = record { schedule = schedule; slices = slices'; shapes = new.shapes } in own) ≡ replaying_any.next z (record { schedule = schedule; slices = slices; shapes = old.shapes }) unit bytes
-replayed_more schedule slices slices' old new z unit bytes t sum =
-    ap (λ n. let own : Replayed = record { schedule = schedule; slices = n; shapes = new.shapes } in own) (sum ∙ ap (λ n. slices + n) (slices_are z unit bytes))
-    ∙ ap (λ l. let own : Replayed = record { schedule = schedule; slices = slices + slices_in unit; shapes = l } in own) t.shapes
-
--- the last unit has no picture
-last_pictures : (z : Past) (unit : DataUnit) (bytes : List ℕ) (other : Option Reason) → units.behind unit ≡ Final other → (after z unit bytes).pictures ≡ z.pictures
-last_pictures z (Sequence parts) bytes other final = absurd cc
-last_pictures z Repeated bytes other final = absurd cc
-last_pictures z (Picture parts number params slices) bytes other final = absurd cc
-last_pictures z Skipped bytes other final = absurd cc
-last_pictures z End bytes other final = refl
 
 -- the outcome, as a value
 outcome_is : (shapes : UnitShapesSeen) (units : List UnitShape) (total : ℕ) (schedule : Schedule) (outcome : Outcome) → shapes.units ≡ units → shapes.total ≡ total
@@ -59,15 +34,13 @@ outcome_is shapes units total schedule outcome same_units same_total is =
     ∙ ap (λ (t : ℕ). outcome_of schedule units t) same_total
 
 -- the ending of a stream
-pub ending_is : (schedule : Schedule) (slices pictures taken : ℕ) (outcome : Outcome) (old new : StreamReaderSeen) (shapes : UnitShapesSeen) (z : Past) (unit : DataUnit) (bytes : List ℕ) (other : Option Reason) → TellsUnit old new z unit bytes → units.behind unit ≡ Final other
-    → pictures ≡ new.past.pictures → taken ≡ new.past.place → shapes.units ≡ new.shapes → shapes.total ≡ new.past.place
+pub ending_is : (schedule : Schedule) (slices pictures taken : ℕ) (outcome : Outcome) (old new : StreamReaderSeen) (shapes : UnitShapesSeen) (z : Past) (unit : DataUnit) (bytes : List ℕ) → TellsUnit old new z unit bytes
+    → taken ≡ new.past.place → shapes.units ≡ new.shapes → shapes.total ≡ new.past.place
     → IsOutcome (course_of shapes schedule.rate schedule.idle schedule.delay) schedule.size (count_in shapes) outcome
-    → Scheduled pictures slices taken outcome ≡ replaying_any.finished z (record { schedule = schedule; slices = slices; shapes = old.shapes }) unit bytes
-ending_is schedule slices pictures taken outcome old new shapes z unit bytes other t final is_pictures is_taken is_units is_total is =
+    → Scheduled pictures slices taken outcome ≡ replaying_any.finished z (record { schedule = schedule; pictures = pictures; slices = slices; shapes = old.shapes }) unit bytes
+ending_is schedule slices pictures taken outcome old new shapes z unit bytes t is_taken is_units is_total is =
     let place : new.past.place ≡ z.place + length bytes = ap (λ (p : Past). p.place) t.past ∙ after-place z unit bytes in
-    let same_pictures : pictures ≡ z.pictures = is_pictures ∙ ap (λ (p : Past). p.pictures) t.past ∙ last_pictures z unit bytes other final in
     let all = old.shapes ++ shape_of z unit bytes ∷ [] in
     let same_outcome : outcome ≡ outcome_of schedule all (z.place + length bytes) = outcome_is shapes all (z.place + length bytes) schedule outcome (is_units ∙ t.shapes) (is_total ∙ place) is in
-    ap (λ n. Scheduled n slices taken outcome) same_pictures
-    ∙ ap (λ n. Scheduled z.pictures slices n outcome) (is_taken ∙ place)
-    ∙ ap (λ o. Scheduled z.pictures slices (z.place + length bytes) o) same_outcome
+    ap (λ n. Scheduled pictures slices n outcome) (is_taken ∙ place)
+    ∙ ap (λ o. Scheduled pictures slices (z.place + length bytes) o) same_outcome

@@ -1,5 +1,5 @@
 -- How soon a command over units is over behind a refusal.
-use Rattle.std.proofs.Common.{◌≡◌, ℕ, zero, suc, ◌-◌, ◌≤◌, ◌<◌, Bool, true, false, not, ◌&&◌, cond, ltb, List, [], ◌∷◌, ◌++◌, length, take, drop, Option, Some, None, Result, Ok, Err, refl, sym, ap, subst, ◌∙◌, arith, ◌⊎◌, inl, inr, ⊎_elim, append_assoc}
+use Rattle.std.proofs.Common.{◌≡◌, ℕ, zero, suc, ◌-◌, ◌≤◌, ◌<◌, Bool, true, false, not, ◌&&◌, cond, ltb, List, [], ◌∷◌, ◌++◌, length, take, drop, Option, Result, Ok, Err, refl, sym, ap, subst, ◌∙◌, arith, ◌⊎◌, inl, inr, ⊎_elim, append_assoc}
 use Rattle.std.proofs.lemmas.Bool.{cases_lt}
 use Rattle.std.proofs.lemmas.List.{length-append, length-take, length-drop, take-append-le, take-append-drop, drop-append-le, drop_all}
 use Rattle.std.proofs.Math.Seq.{take-append-add}
@@ -139,11 +139,10 @@ IsOpenFront other = Unit {0}
 waits_by : {Z U : Type 0} (g : Grammar Z Reason U) → ((reason : Reason) → g.is_short reason ≡ is_truncated reason) → (bytes : List ℕ) (r : Result (U × Cursor) (Fault Reason)) → is_settled_by g r ≡ false → IsOpenFront (front_by g past_limit false bytes r)
 waits_by g short bytes (Ok x) h = by (g.behind x.0) (is_nil x.1.rest) h
   where
-    by : (b : Behind Reason) (empty : Bool) → not (ends_by b empty) ≡ false → IsOpenFront (front_behind b (empty && true) (size_to bytes x.1) x.1.place x.0)
+    by : (b : Behind) (empty : Bool) → not (ends_by b empty) ≡ false → IsOpenFront (front_behind b (empty && true) (size_to bytes x.1) x.0)
     by Inner empty h = tt
-    by (Final other) true h = tt
-    by (Final None) false h = tt
-    by (Final (Some reason)) false h = absurd cc
+    by Final true h = tt
+    by Final false h = tt
 waits_by g short bytes (Err fault) h = sym (short fault.reason) ∙ was (g.is_short fault.reason) h
   where
     was : (b : Bool) → not b ≡ false → b ≡ true
@@ -169,11 +168,10 @@ waits_nothing g laws z = record { waits = waits_row g laws (g.rows z) (laws.some
 
 -- ---- a refusal that is not of a short field is the same whatever follows
 
-behind_same : {U : Type 0} (b : Behind Reason) (rest tail : List Bool) (cut : Bool) (size size' place : ℕ) (unit : U) (fault : Fault Reason) → front_behind b (is_nil rest && true) size place unit ≡ Refuses fault → front_behind b (is_nil (rest ++ tail) && not cut) size' place unit ≡ Refuses fault
-behind_same Inner rest tail cut size size' place unit fault h = absurd cc
-behind_same (Final other) [] tail cut size size' place unit fault h = absurd cc
-behind_same (Final None) (b ∷ rest) tail cut size size' place unit fault h = absurd cc
-behind_same (Final (Some reason)) (b ∷ rest) tail cut size size' place unit fault h = h
+behind_same : {U : Type 0} (b : Behind) (rest tail : List Bool) (cut : Bool) (size size' : ℕ) (unit : U) (fault : Fault Reason) → front_behind b (is_nil rest && true) size unit ≡ Refuses fault → front_behind b (is_nil (rest ++ tail) && not cut) size' unit ≡ Refuses fault
+behind_same Inner rest tail cut size size' unit fault h = absurd cc
+behind_same Final [] tail cut size size' unit fault h = absurd cc
+behind_same Final (b ∷ rest) tail cut size size' unit fault h = absurd cc
 
 past_same : (fault : Fault Reason) (cut : Bool) → is_truncated fault.reason ≡ false → cond cut (past_limit fault) fault ≡ fault
 past_same fault true h = rw h refl
@@ -186,7 +184,7 @@ refused_by : {Z U : Type 0} (g : Grammar Z Reason U) → IsGrammar g → ((reaso
     → front_by g past_limit false bytes r ≡ Refuses fault → front_by g past_limit cut (bytes ++ tail) (unit_at g z (bytes ++ tail)) ≡ Refuses fault
 refused_by g laws short z bytes tail cut fault (Ok x) e other h =
     ap (front_by g past_limit cut (bytes ++ tail)) (unit-more g laws z bytes tail x.0 x.1 e)
-    ∙ behind_same (g.behind x.0) x.1.rest (bits_of tail) cut (size_to bytes x.1) (size_to (bytes ++ tail) (with_more x.1 (bits_of tail))) x.1.place x.0 fault h
+    ∙ behind_same (g.behind x.0) x.1.rest (bits_of tail) cut (size_to bytes x.1) (size_to (bytes ++ tail) (with_more x.1 (bits_of tail))) x.0 fault h
 refused_by {U = U} g laws short z bytes tail cut fault (Err found) e other h =
     let is : (let a : Front Reason U = Refuses found in a) ≡ Refuses fault = h in
     let same : found ≡ fault = cc in

@@ -1,16 +1,16 @@
 -- A sink with room for one stream: it never fails, and what a writer stops for is want of memory.
-use Rattle.std.proofs.Common.{◌≡◌, ℕ, zero, suc, ◌+◌, ◌-◌, ◌^◌, ◌<◌, ◌≤◌, eqb, Bool, true, false, List, [], ◌∷◌, ◌++◌, length, take, Some, Result, Ok, Err, refl, sym, ap, subst, ◌∙◌, arith}
-use Rattle.std.specs.Prelude.{not, ◌&&◌, ◌||◌, is_err}
+use Rattle.std.proofs.Common.{◌≡◌, ℕ, zero, suc, ◌+◌, ◌-◌, ◌^◌, ◌<◌, ◌≤◌, eqb, Bool, true, false, List, [], ◌∷◌, ◌++◌, length, take, Result, Ok, Err, refl, sym, ap, subst, ◌∙◌, arith}
+use Rattle.std.specs.Prelude.{not, ◌&&◌, is_err}
 use Rattle.std.proofs.Math.Dec.{T, eqb→eq}
 use Rattle.std.proofs.lemmas.Bool.Decides.{nat_tests}
 use Rattle.std.specs.Io.KnownBytes.{Appends}
-use Rattle.std.proofs.lemmas.List.{length-append, length-take}
-use Rattle.vc2_io.specs.Outside.{Rose, GrewShort, next_count}
-use Rattle.vc2_io.specs.Memory.{MemSinkSeen, is_named, fails_write, write_len, after_write}
+use Rattle.std.proofs.lemmas.List.{length-append}
+use Rattle.vc2_io.specs.Outside.{Rose, GrewShort}
+use Rattle.vc2_io.specs.Memory.{MemSinkSeen, is_named, fails_write, after_write}
 use Rattle.vc2_io.proofs.Short.{IsProperPrefix-shorter}
 use Rattle.vc2_io.specs.declared.outside.Failed.{Failed}
-use Rattle.stream_units.specs.EncodedStream.{Settings, header_unit, picture_unit, end_unit}
-use Rattle.stream_units.specs.Writer.{StreamWriterSeen, next_previous, next_number, HasRoom, WritesPicture, WritesEnd, WriteCause, Starts, IsSteepUnder}
+use Rattle.stream_units.specs.EncodedStream.{Settings, header_unit, end_unit}
+use Rattle.stream_units.specs.Writer.{StreamWriterSeen, next_previous, due_units, HasRoom, WritesPicture, WritesEnd, WriteCause, Starts, IsSteepUnder}
 use Rattle.stream_units.specs.declared.write_stop.WriteStop.{WriteStop}
 use Rattle.stream_units.specs.declared.write_stop.WriteStop.TheVariants as stops
 use Rattle.vc2_cli.specs.TrialTurn.{FailsWhenFull, told_of_sink, IsWant}
@@ -59,8 +59,8 @@ start_stop settings s s' stops.StreamTooLong flat full full' starts why fits = a
 start_stop settings s s' stops.NoMemory flat full full' starts why fits = tt
 
 pub picture_stop : (w w' : StreamWriterSeen) (slices : List (List ℕ)) (s s' : MemSinkSeen) (stop : WriteStop) → HasRoom w → FailsWhenFull s → FailsWhenFull s' → WritesPicture w w' slices (told_of_sink s) (told_of_sink s') (Err stop) → WriteCause {X = Unit {0}} s.failures s'.failures (Err stop)
-    → length s.bytes + length (picture_unit w.settings.params (next_previous w) (next_number w) slices) ≤ s.room → IsWant stop
-picture_stop w w' slices s s' stops.OutFault room full full' wrote why fits = absurd (never_short s s' (picture_unit w.settings.params (next_previous w) (next_number w) slices) full full' wrote.wrote fits why.1)
+    → length s.bytes + length (due_units w slices) ≤ s.room → IsWant stop
+picture_stop w w' slices s s' stops.OutFault room full full' wrote why fits = absurd (never_short s s' (due_units w slices) full full' wrote.wrote fits why.1)
 picture_stop w w' slices s s' stops.MatrixTooSteep room full full' wrote why fits = absurd wrote.why
 picture_stop w w' slices s s' stops.StreamTooLong room full full' wrote why fits = absurd (wrote.why room)
 picture_stop w w' slices s s' stops.NoMemory room full full' wrote why fits = tt

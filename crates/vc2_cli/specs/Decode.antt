@@ -22,17 +22,26 @@ unit_text (Picture parts number params slices) = raw_text (frame_under parts) (p
 unit_text Skipped = []
 unit_text End = []
 
--- `decode`: each picture's raw text, and at the end the number of pictures and of bytes
-abbrev pub decoding : Command Past Reason DataUnit Unit Ending
+-- the pictures of a unit
+abbrev pub pictures_in : DataUnit → ℕ
+pictures_in (Picture parts number params slices) = 1
+pictures_in (Sequence parts) = 0
+pictures_in Repeated = 0
+pictures_in Skipped = 0
+pictures_in End = 0
+
+-- `decode`, which counts the pictures of all sequences: each picture's raw text, and at the end the number of pictures and of
+-- bytes
+abbrev pub decoding : Command Past Reason DataUnit ℕ Ending
 decoding = record {
   opening = [];
-  start = tt;
-  next = λ z own unit bytes. tt;
-  text = λ z own unit bytes. unit_text unit;
-  finished = λ z own unit bytes. Decoded z.pictures (z.place + length bytes);
-  rested = λ z own. Done;
-  refused = λ z own fault. Refused (refusal_of fault);
-  last = λ z own ending. [];
+  start = 0;
+  next = λ z pictures unit bytes. pictures + pictures_in unit;
+  text = λ z pictures unit bytes. unit_text unit;
+  finished = λ z pictures unit bytes. Decoded pictures (z.place + length bytes);
+  rested = λ z pictures. Done;
+  refused = λ z pictures fault. Refused (refusal_of fault);
+  last = λ z pictures ending. [];
   endless = Done;
 }
 
@@ -50,24 +59,36 @@ slices_in Repeated = 0
 slices_in Skipped = 0
 slices_in End = 0
 
--- `check`, which counts the slices: nothing before the end, and there the number of pictures, slices and bytes
-abbrev pub checking : Command Past Reason DataUnit ℕ Ending
+-- the pictures and the slices of units
+pub record Counts : Type 0 where
+  pub pictures : ℕ
+  pub slices : ℕ
+
+abbrev pub nothing_counted : Counts
+nothing_counted = record { pictures = 0; slices = 0 }
+
+abbrev pub counted : Counts → DataUnit → Counts
+counted own unit = record { pictures = own.pictures + pictures_in unit; slices = own.slices + slices_in unit }
+
+-- `check`, which counts the pictures and slices of all sequences: nothing before the end, and there their numbers and that of
+-- bytes
+abbrev pub checking : Command Past Reason DataUnit Counts Ending
 checking = record {
   opening = [];
-  start = 0;
-  next = λ z slices unit bytes. slices + slices_in unit;
-  text = λ z slices unit bytes. [];
-  finished = λ z slices unit bytes. Accepted z.pictures slices (z.place + length bytes);
-  rested = λ z slices. Done;
-  refused = λ z slices fault. Refused (refusal_of fault);
-  last = λ z slices ending. last_line ending;
+  start = nothing_counted;
+  next = λ z own unit bytes. counted own unit;
+  text = λ z own unit bytes. [];
+  finished = λ z own unit bytes. Accepted own.pictures own.slices (z.place + length bytes);
+  rested = λ z own. Done;
+  refused = λ z own fault. Refused (refusal_of fault);
+  last = λ z own ending. last_line ending;
   endless = Done;
 }
 
-abbrev pub decode_machine : Machine (Between Past Unit) Ending
+abbrev pub decode_machine : Machine (Between Past ℕ) Ending
 decode_machine = machine_of limit past_limit units nothing_yet decoding
 
-abbrev pub check_machine : Machine (Between Past ℕ) Ending
+abbrev pub check_machine : Machine (Between Past Counts) Ending
 check_machine = machine_of limit past_limit units nothing_yet checking
 
 -- ---- for the code
@@ -76,6 +97,11 @@ check_machine = machine_of limit past_limit units nothing_yet checking
 abbrev pub shown_text : Option PictureSeen → List ℕ
 shown_text None = []
 shown_text (Some seen) = raw_text (frame_of seen.shape) seen.samples
+
+-- the pictures that are shown
+abbrev pub shown_count : Option PictureSeen → ℕ
+shown_count None = 0
+shown_count (Some seen) = 1
 
 -- so many slices has the last of these units
 abbrev pub IsLastCount : List UnitShape → ℕ → Type 0

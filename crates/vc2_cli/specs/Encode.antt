@@ -1,7 +1,7 @@
--- The command `encode`: a unit of its input is a raw picture, whose text is the picture's unit.
+-- The command `encode`: a unit of its input is a raw picture, whose text is the picture's unit, behind an end and a header
+-- where a new sequence begins with it.
 use Rattle.std.specs.Prelude.{ℕ, zero, suc, ◌+◌, ◌*◌, ◌%◌, ◌^◌, ◌==◌, ◌&&◌, nat_le, Bool, List, [], ◌∷◌, ◌++◌, Option, Result, Ok, Err, if◌then◌else◌}
 use Rattle.parse_info.specs.declared.TheConstants.{HEAD_SIZE}
-use Rattle.sequence_header.specs.Bytes.{header_len}
 use Rattle.transform_params.specs.ParameterFields.{unit_length}
 use Rattle.picture_codec.specs.Encoding.{slices_of}
 use Rattle.raw_video.specs.RawParse.{raw_length, RawFront, Shown, Over, LargeAt, CutAt, TooLong, raw_front}
@@ -13,8 +13,8 @@ use Rattle.vc2_run.specs.declared.Halt.TheVariants as halts
 use Rattle.stream_rows.specs.declared.reason.Reason.{Reason}
 use Rattle.stream_rows.specs.declared.reason.Reason.TheVariants.{HalfFrame, StreamTooLong, SampleTooLarge, RawTruncated}
 use Rattle.stream_rows.specs.Streams.{limit, frame_under}
-use Rattle.stream_units.specs.EncodedStream.{Settings, header_unit, picture_unit, end_unit}
-use Rattle.stream_units.specs.Writer.{plain_shape, picture_shape}
+use Rattle.stream_units.specs.EncodedStream.{Settings, begins_at, header_length, header_unit, end_unit, units_with}
+use Rattle.stream_units.specs.Writer.{total_length, last_length, bytes_before, due_shapes, plain_shape}
 use Rattle.slice_geometry.specs.declared.unit_list.UnitShape.{UnitShape}
 use Rattle.channel_schedule.specs.declared.schedule.Schedule.{Schedule}
 use Rattle.channel_schedule.specs.Plans.{plan_of}
@@ -28,7 +28,7 @@ use Rattle.vc2_cli.specs.Scheduled.{shapes_in}
 
 -- what the stream is written under
 abbrev pub written_under : Asked → Settings
-written_under s = record { parts = s.parts; params = s.params; first = s.first }
+written_under s = record { parts = s.parts; params = s.params; first = s.first; group = s.group }
 
 -- ---- behind n pictures
 
@@ -40,30 +40,35 @@ raw_size s = raw_length (frame_under s.parts)
 abbrev pub raw_place : Asked → ℕ → ℕ
 raw_place s n = n * raw_size s
 
-abbrev pub first_length : Asked → ℕ
-first_length s = HEAD_SIZE + header_len s.parts
+-- the units of the stream, by their lengths
+abbrev pub shapes_at : Asked → ℕ → List UnitShape
+shapes_at s zero = plain_shape 0 (header_length s.parts) ∷ []
+shapes_at s (suc n) =
+    shapes_at s n ++ due_shapes s.parts s.params (begins_at s.group n) (total_length (shapes_at s n))
 
 -- the bytes of the stream
 abbrev pub stream_place : Asked → ℕ → ℕ
-stream_place s n = first_length s + n * unit_length s.params
+stream_place s n = total_length (shapes_at s n)
 
 -- the length of the last unit
 abbrev pub previous_at : Asked → ℕ → ℕ
-previous_at s zero = first_length s
-previous_at s (suc n) = unit_length s.params
+previous_at s n = last_length 0 (shapes_at s n)
 
 -- the next picture's number
 abbrev pub number_at : Asked → ℕ → ℕ
 number_at s n = (s.first + n) % 2 ^ 32
 
--- the next picture's unit and the end fit before the limit
-abbrev pub has_room : Asked → ℕ → Bool
-has_room s n = nat_le (stream_place s n + unit_length s.params + HEAD_SIZE) limit
+-- the units that are due with the next picture, whose slices are these
+abbrev pub units_at : Asked → ℕ → List (List ℕ) → List ℕ
+units_at s n slices = units_with s.parts s.params (begins_at s.group n) (previous_at s n) (number_at s n) slices
 
--- the units of the stream, by their lengths
-abbrev pub shapes_at : Asked → ℕ → List UnitShape
-shapes_at s zero = plain_shape 0 (first_length s) ∷ []
-shapes_at s (suc n) = shapes_at s n ++ picture_shape s.params (stream_place s n) ∷ []
+-- the bytes of the stream behind these units
+abbrev pub place_due : Asked → ℕ → ℕ
+place_due s n = stream_place s n + bytes_before s.parts (begins_at s.group n) + unit_length s.params
+
+-- they and the last end fit before the limit
+abbrev pub has_room : Asked → ℕ → Bool
+has_room s n = nat_le (place_due s n + HEAD_SIZE) limit
 
 -- the least schedule of units that end at this place and the end unit behind them
 abbrev pub ended_plan : Asked → List UnitShape → ℕ → Schedule
@@ -86,8 +91,7 @@ closing half place previous schedule =
 -- A picture is read whole before the stream's length is asked. Half a frame is asked at the input's end.
 abbrev pub step_by : Asked → ℕ → RawFront → Step ℕ Ending
 step_by s n (Shown p) =
-    if has_room s n then Whole (raw_size s) (picture_unit s.params (previous_at s n) (number_at s n)
-    (slices_of (frame_under s.parts) s.params p)) (n + 1)
+    if has_room s n then Whole (raw_size s) (units_at s n (slices_of (frame_under s.parts) s.params p)) (n + 1)
     else Ends (refused_at (raw_place s n) StreamTooLong) []
 step_by s n Over =
     closing (is_half s.parts.coding n) (raw_place s n) (previous_at s n) (ended_plan s (shapes_at s n) (stream_place s n))

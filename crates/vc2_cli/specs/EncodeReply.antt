@@ -1,19 +1,16 @@
 -- What `encode` replies to whole pictures, and `decode` to what it wrote.
-use Rattle.std.specs.Prelude.{◌≡◌, ◌≤◌, ◌%◌, ◌^◌, ◌+◌, ℕ, List, [], length, map, Ok, ◌*◌, ◌<◌}
+use Rattle.std.specs.Prelude.{◌≡◌, ◌≤◌, ◌%◌, ◌^◌, ◌+◌, ℕ, List, [], length, Ok, ◌*◌, ◌<◌}
 use Rattle.parse_info.specs.declared.TheConstants.{HEAD_SIZE}
 use Rattle.vc2_io.specs.declared.TheConstants.{INPUT_LIMIT}
 use Rattle.std.specs.List.{AllByRecursion}
 use Rattle.slice_geometry.specs.Slicing.{slice_count}
-use Rattle.picture_codec.specs.Samples.{PictureSamples, picture_of}
-use Rattle.picture_codec.specs.Encoding.{slices_of}
-use Rattle.raw_video.specs.RawParse.{IsOfFrame, raw_texts}
+use Rattle.picture_codec.specs.Samples.{PictureSamples}
+use Rattle.raw_video.specs.RawParse.{IsOfFrame}
 use Rattle.stream_rows.specs.Streams.{limit, frame_under}
-use Rattle.channel_schedule.specs.declared.schedule.Schedule.{Schedule}
 use Rattle.channel_schedule.specs.declared.schedule.Outcome.TheVariants.{Runs}
 use Rattle.channel_schedule.specs.Rates.{IsRate}
 use Rattle.stream_units.specs.EncodedStream.{AreLawful}
 use Rattle.stream_units.specs.Writer.{IsSteepUnder}
-use Rattle.stream_units.specs.EncodedPictures.{encoded_pictures}
 use Rattle.vc2_words.specs.Settings.{Asked}
 use Rattle.vc2_words.specs.Commands.{decode, encode}
 use Rattle.vc2_cli.specs.declared.status.Status.TheVariants as status

@@ -7,18 +7,15 @@ use Rattle.raw_video.specs.Reading.{RawReaderSeen}
 use Rattle.vc2_run.specs.Window.{Holds}
 use Rattle.stream_rows.specs.Streams.{frame_under}
 use Rattle.vc2_words.specs.Settings.{Asked}
-use Rattle.stream_units.specs.Writer.{StreamWriterSeen, next_place, next_previous, pictures_among}
-use Rattle.vc2_cli.specs.Encode.{written_under, raw_place, stream_place, previous_at, shapes_at, encode_machine}
+use Rattle.stream_units.specs.Writer.{StreamWriterSeen}
+use Rattle.vc2_cli.specs.Encode.{written_under, raw_place, shapes_at, encode_machine}
 
 -- the writer behind n pictures
-pub record IsBehind (s : Asked) (n : ℕ) (w : StreamWriterSeen) : Type 0 where
-  pub settings : w.settings ≡ written_under s
-  pub unended : w.ended ≡ false
-  pub going : w.stop ≡ None
-  pub shapes : w.shapes ≡ shapes_at s n
-  pub place : next_place w ≡ stream_place s n
-  pub previous : next_previous w ≡ previous_at s n
-  pub pictures : pictures_among w.shapes ≡ n
+abbrev pub behind : Asked → ℕ → StreamWriterSeen
+behind s n = record { settings = written_under s; shapes = shapes_at s n; ended = false; stop = None }
+
+abbrev pub IsBehind : Asked → ℕ → StreamWriterSeen → Type 0
+IsBehind s n w = w ≡ behind s n
 
 -- the reader behind n pictures
 pub record HasRead (s : Asked) (n : ℕ) (r : RawReaderSeen) : Type 0 where

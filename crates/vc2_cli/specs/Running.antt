@@ -51,7 +51,7 @@ pub record TakesLast {Z U I : Type 0} (g : Grammar Z Reason U) (Tells : Z → U 
   pub meets : MeetsFront limit past_limit g old.past old.held rest0 rest1 (Finishes (length bytes) unit)
   pub whole : (more : List ℕ) → rest1 ≡ Some more → old.held ++ meets.read ++ more ≡ bytes
   pub last : IsAtEnd rest1
-  pub final : (other : Option Reason) × (g.behind unit ≡ Final other)
+  pub final : g.behind unit ≡ Final
 
 abbrev pub NextOver : {Z U I : Type 0} → Grammar Z Reason U → (Z → U → List ℕ → I → Type 0) → Type 0 → ReaderSeen Z
     → ReaderSeen Z → Option (List ℕ) → Option (List ℕ) → Result (Turn I) ReadStop → Type 0

@@ -11,18 +11,19 @@ use Rattle.stream_units.specs.Turns.{shape_of}
 use Rattle.channel_schedule.specs.declared.schedule.Schedule.{Schedule}
 use Rattle.channel_schedule.specs.declared.schedule.Outcome.{Outcome}
 use Rattle.channel_schedule.specs.Courses.{course_of, count_in, outcome_from}
-use Rattle.vc2_cli.specs.Decode.{slices_in, last_line}
+use Rattle.vc2_cli.specs.Decode.{pictures_in, slices_in, last_line}
 use Rattle.vc2_cli.specs.declared.status.Ending.{Ending}
 use Rattle.vc2_cli.specs.declared.status.Ending.TheVariants.{Done, Scheduled, Refused}
 
--- the schedule that is asked for, and of the units so far the number of slices and the shapes
+-- the schedule that is asked for, and of the units so far the numbers of pictures and slices and the shapes
 pub record Replayed : Type 0 where
   pub schedule : Schedule
+  pub pictures : ℕ
   pub slices : ℕ
   pub shapes : List UnitShape
 
 abbrev pub nothing_replayed : Schedule → Replayed
-nothing_replayed schedule = record { schedule = schedule; slices = 0; shapes = [] }
+nothing_replayed schedule = record { schedule = schedule; pictures = 0; slices = 0; shapes = [] }
 
 abbrev pub shapes_in : List UnitShape → ℕ → UnitShapesSeen
 shapes_in units total = record { units = units; total = total; spare = 0 }
@@ -38,11 +39,12 @@ replaying schedule = record {
   start = nothing_replayed schedule;
   next = λ z own unit bytes. record {
     schedule = own.schedule;
+    pictures = own.pictures + pictures_in unit;
     slices = own.slices + slices_in unit;
     shapes = own.shapes ++ shape_of z unit bytes ∷ [];
   };
   text = λ z own unit bytes. [];
-  finished = λ z own unit bytes. Scheduled z.pictures own.slices (z.place + length bytes)
+  finished = λ z own unit bytes. Scheduled own.pictures own.slices (z.place + length bytes)
       (outcome_of own.schedule (own.shapes ++ shape_of z unit bytes ∷ []) (z.place + length bytes));
   rested = λ z own. Done;
   refused = λ z own fault. Refused (refusal_of fault);

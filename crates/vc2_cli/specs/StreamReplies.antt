@@ -5,13 +5,12 @@ use Rattle.slice_geometry.specs.Frames.{Frame}
 use Rattle.picture_codec.specs.Samples.{PictureSamples}
 use Rattle.raw_video.specs.RawText.{raw_text}
 use Rattle.stream_rows.specs.declared.reason.Refusal.{Refusal}
-use Rattle.stream_rows.specs.Units.{DataUnit, Sequence, Repeated, Picture, Skipped, End}
 use Rattle.stream_rows.specs.Streams.{Entry, total, IsStream, IsRefusal}
 use Rattle.stream_units.specs.StreamPictures.{pictures_of}
 use Rattle.vc2_words.specs.Commands.{decode, check}
 use Rattle.vc2_cli.specs.declared.status.Status.TheVariants as status
 use Rattle.vc2_cli.specs.Texts.{refusal_line, decoded_line, accepted_line}
-use Rattle.vc2_cli.specs.Decode.{slices_in}
+use Rattle.vc2_cli.specs.Decode.{pictures_in, slices_in}
 use Rattle.vc2_cli.specs.Reply.{Reply, command_reply}
 
 -- numbers below 256
@@ -25,13 +24,6 @@ raw_texts pictures = flat_map (λ picture. raw_text picture.0 picture.1) picture
 -- that of the pictures of these units
 abbrev pub pictures_text : List Entry → List ℕ
 pictures_text units = raw_texts (pictures_of (map (λ entry. entry.unit) units))
-
-abbrev pub pictures_in : DataUnit → ℕ
-pictures_in (Picture parts number params slices) = 1
-pictures_in (Sequence parts) = 0
-pictures_in Repeated = 0
-pictures_in Skipped = 0
-pictures_in End = 0
 
 -- a stream of these units and the last one: all their pictures, and how many pictures and bytes there were
 abbrev pub decoded_reply : List ℕ → List Entry → Reply

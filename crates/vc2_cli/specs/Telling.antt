@@ -3,12 +3,14 @@ use Rattle.std.specs.Prelude.{◌≡◌, ◌≤◌, ℕ, List, [], ◌∷◌, �
 use Rattle.stream_rows.specs.Units.{Past, DataUnit, after}
 use Rattle.stream_units.specs.Turns.{shape_of}
 use Rattle.stream_units.specs.Reader.{StreamReaderSeen, IsPictureOf}
+use Rattle.vc2_cli.specs.Decode.{pictures_in}
 
--- the new reader is behind a unit of these bytes, and shows its picture; each of its slices has a byte
+-- the new reader is behind a unit of these bytes, and shows its picture; a picture and each of its slices have a byte
 pub record TellsUnit (old new : StreamReaderSeen) (z : Past) (unit : DataUnit) (bytes : List ℕ) : Type 0 where
   pub past : new.past ≡ after z unit bytes
   pub picture : IsPictureOf unit new.picture
   pub shapes : new.shapes ≡ old.shapes ++ shape_of z unit bytes ∷ []
+  pub byte : pictures_in unit ≤ length bytes
   pub few : (shape_of z unit bytes).slices ≤ length bytes
 
 -- it shows the same units

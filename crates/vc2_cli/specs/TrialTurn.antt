@@ -1,5 +1,5 @@
 -- The two halves of a trial between two pictures, and the sink between them.
-use Rattle.std.specs.Prelude.{◌≡◌, ◌≤◌, ◌<◌, ℕ, zero, suc, ◌+◌, ◌-◌, ◌^◌, List, [], ◌∷◌, ◌++◌, length, map, Option, Some, Result, Ok, Err}
+use Rattle.std.specs.Prelude.{◌≡◌, ◌<◌, ℕ, suc, ◌-◌, ◌^◌, List, [], ◌∷◌, ◌++◌, length, map, Option, Some, Result, Ok, Err}
 use Rattle.std.specs.List.{range_with_len}
 use Rattle.vc2_io.specs.Memory.{MemSinkSeen}
 use Rattle.slice_geometry.specs.Frames.{Frame, frame_of}
@@ -9,7 +9,7 @@ use Rattle.trial_video.specs.Video.{TrialVideoSeen, video_picture}
 use Rattle.vc2_run.specs.declared.Halt.{Halt}
 use Rattle.vc2_run.specs.declared.Halt.TheVariants.{NoMemory}
 use Rattle.stream_rows.specs.Streams.{frame_under}
-use Rattle.stream_units.specs.EncodedStream.{picture_unit, end_unit}
+use Rattle.stream_units.specs.EncodedStream.{end_unit}
 use Rattle.stream_units.specs.Writer.{StreamWriterSeen}
 use Rattle.stream_units.specs.declared.write_stop.WriteStop.{WriteStop}
 use Rattle.stream_units.specs.declared.write_stop.WriteStop.TheVariants as stops
@@ -17,7 +17,7 @@ use Rattle.vc2_words.specs.declared.words.TrialPart.{TrialPart}
 use Rattle.vc2_words.specs.Settings.{Asked}
 use Rattle.vc2_cli.specs.declared.status.Ending.{Ending}
 use Rattle.vc2_cli.specs.declared.status.Ending.TheVariants.{Compared}
-use Rattle.vc2_cli.specs.Encode.{previous_at, number_at}
+use Rattle.vc2_cli.specs.Encode.{previous_at, units_at}
 use Rattle.vc2_cli.specs.EncodeTurn.{IsBehind}
 use Rattle.vc2_cli.specs.WholePictures.{stream_of}
 use Rattle.vc2_cli.specs.Trial.{Comparison, trial_pictures}
@@ -43,8 +43,7 @@ IsWant other = ⊥
 -- the units of these pictures, from picture n on, and the end
 abbrev pub units_from : Asked → ℕ → List PictureSamples → List ℕ
 units_from s n [] = end_unit (previous_at s n)
-units_from s n (p ∷ pictures) = picture_unit s.params (previous_at s n) (number_at s n)
-    (slices_of (frame_under s.parts) s.params p) ++ units_from s (suc n) pictures
+units_from s n (p ∷ pictures) = units_at s n (slices_of (frame_under s.parts) s.params p) ++ units_from s (suc n) pictures
 
 -- the pictures of the video from picture n on, so many of them
 abbrev pub pictures_from : Frame → ℕ → ℕ → ℕ → List PictureSamples

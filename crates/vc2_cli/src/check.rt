@@ -1,12 +1,12 @@
 // The command `check`.
 ghost use Rattle.vc2_io.specs.declared.TheConstants.{READ_SIZE};
-ghost use Rattle.std.specs.Prelude.{ℕ, ◌≤◌};
+ghost use Rattle.std.specs.Prelude.{◌≡◌, ◌≤◌};
 ghost use Rattle.vc2_run.specs.Ran.{HaltHasCause};
 ghost use Rattle.vc2_cli.specs.declared.status.Ending.TheVariants as ending;
 ghost use Rattle.vc2_cli.specs.Change.{change};
 ghost use Rattle.vc2_cli.specs.Running.{IsDone, Runs, Closes};
 ghost use Rattle.vc2_cli.specs.Soon.{Soon};
-ghost use Rattle.vc2_cli.specs.Decode.{checking, check_machine, last_line, IsLastCount};
+ghost use Rattle.vc2_cli.specs.Decode.{Counts, nothing_counted, checking, check_machine, last_line, shown_count, IsLastCount};
 
 use crate::running::{UnitCommand, run_units};
 use crate::status::Ending;
@@ -41,6 +41,16 @@ fn accept<K: Sink>(
     }
 }
 
+// How many pictures the reader shows.
+pub(crate) fn shown_count(reader: &StreamReader) -> u64
+    ensures { result ≡ shown_count reader.now.picture }
+{
+    match reader.picture() {
+        Some(_) => 1,
+        None => 0,
+    }
+}
+
 // The number of slices of the last unit.
 pub(crate) fn last_count(reader: &StreamReader) -> u32
     ensures { IsLastCount reader.now.shapes result }
@@ -52,23 +62,24 @@ pub(crate) fn last_count(reader: &StreamReader) -> u32
     }
 }
 
-/// The slices of a stream so far.
+/// The pictures and the slices of a stream so far.
 #[derive(Drop)]
 struct Checking {
     alloc: Global,
+    pictures: u64,
     slices: u64,
 }
 
 impl UnitCommand<StreamReader> for Checking {
-    ghost Own = { ℕ };
+    ghost Own = { Counts };
 
     ghost command = { checking };
 
-    ghost own = { λ c r. c.slices };
+    ghost own = { λ c r. record { pictures = c.pictures; slices = c.slices } };
 
-    ghost start = { λ c. 0 };
+    ghost start = { λ c. nothing_counted };
 
-    ghost keeps = { λ c r. c.slices ≤ r.past.place };
+    ghost keeps = { λ c r. (c.pictures ≤ r.past.place) × (c.slices ≤ r.past.place) };
 
     ghost is_done = { IsDone };
 
@@ -86,6 +97,7 @@ impl UnitCommand<StreamReader> for Checking {
         _item: Item,
         _out: &mut K,
     ) -> Result<(), Halt> {
+        self.pictures += shown_count(reader);
         self.slices += u64::from(last_count(reader));
         Ok(())
     }
@@ -96,13 +108,7 @@ impl UnitCommand<StreamReader> for Checking {
         _item: Item,
         out: &mut K,
     ) -> Result<Ending, Halt> {
-        accept(
-            self.alloc,
-            out,
-            reader.pictures(),
-            self.slices,
-            reader.taken(),
-        )
+        accept(self.alloc, out, self.pictures, self.slices, reader.taken())
     }
 
     fn rest<K: Sink>(&mut self, _reader: &StreamReader, _out: &mut K) -> Result<Ending, Halt> {
@@ -130,7 +136,11 @@ pub(crate) fn check<S: Source, K: Sink>(
 {
     match StreamReader::new(alloc) {
         Ok(mut reader) => {
-            let mut command = Checking { alloc, slices: 0 };
+            let mut command = Checking {
+                alloc,
+                pictures: 0,
+                slices: 0,
+            };
             let result = run_units(&mut reader, &mut command, src, out);
             drop(reader);
             result

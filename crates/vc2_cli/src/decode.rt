@@ -1,6 +1,6 @@
 // The command `decode`.
 ghost use Rattle.vc2_io.specs.declared.TheConstants.{READ_SIZE};
-ghost use Rattle.std.specs.Prelude.{OnOk, OnErr};
+ghost use Rattle.std.specs.Prelude.{ℕ, ◌≤◌, OnOk, OnErr};
 ghost use Rattle.std.specs.Io.KnownBytes.{Appends};
 ghost use Rattle.vc2_io.specs.Outside.{HasCause, GrewShort};
 ghost use Rattle.vc2_cli.specs.Change.{change};
@@ -8,6 +8,7 @@ ghost use Rattle.vc2_cli.specs.Running.{IsDone, Runs};
 ghost use Rattle.vc2_cli.specs.Soon.{Soon};
 ghost use Rattle.vc2_cli.specs.Decode.{decoding, decode_machine, shown_text};
 
+use crate::check::shown_count;
 use crate::running::{UnitCommand, run_units};
 use crate::status::Ending;
 use raw_video::write_picture;
@@ -28,20 +29,22 @@ fn write_shown<K: Sink>(out: &mut K, reader: &StreamReader) -> Result<(), Failed
     }
 }
 
-/// The pictures of a stream.
+/// How many pictures there were.
 #[derive(Drop)]
-struct PictureDecoderSeen {}
+struct Decoding {
+    pictures: u64,
+}
 
-impl UnitCommand<StreamReader> for PictureDecoderSeen {
-    ghost Own = { Unit {0} };
+impl UnitCommand<StreamReader> for Decoding {
+    ghost Own = { ℕ };
 
     ghost command = { decoding };
 
-    ghost own = { λ c r. tt };
+    ghost own = { λ c r. c.pictures };
 
-    ghost start = { λ c. tt };
+    ghost start = { λ c. 0 };
 
-    ghost keeps = { λ c r. Unit {0} };
+    ghost keeps = { λ c r. c.pictures ≤ r.past.place };
 
     ghost is_done = { IsDone };
 
@@ -60,9 +63,11 @@ impl UnitCommand<StreamReader> for PictureDecoderSeen {
         out: &mut K,
     ) -> Result<(), Halt> {
         match write_shown(out, reader) {
-            Ok(()) => Ok(()),
-            Err(_) => Err(Halt::OutFault),
+            Ok(()) => {}
+            Err(_) => return Err(Halt::OutFault),
         }
+        self.pictures += shown_count(reader);
+        Ok(())
     }
 
     fn finish<K: Sink>(
@@ -72,7 +77,7 @@ impl UnitCommand<StreamReader> for PictureDecoderSeen {
         _out: &mut K,
     ) -> Result<Ending, Halt> {
         Ok(Ending::Decoded {
-            pictures: reader.pictures(),
+            pictures: self.pictures,
             bytes: reader.taken(),
         })
     }
@@ -102,7 +107,7 @@ pub(crate) fn decode<S: Source, K: Sink>(
 {
     match StreamReader::new(alloc) {
         Ok(mut reader) => {
-            let mut command = PictureDecoderSeen {};
+            let mut command = Decoding { pictures: 0 };
             let result = run_units(&mut reader, &mut command, src, out);
             drop(reader);
             result

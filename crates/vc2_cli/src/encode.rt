@@ -150,6 +150,7 @@ pub(crate) fn encode<S: Source, K: Sink>(
         &settings.header,
         &settings.params,
         settings.first,
+        settings.group,
         out,
     );
     match started {

@@ -108,7 +108,7 @@ pub(crate) trait UnitCommand<R: UnitReader>: Drop {
 
     /// Ends behind the last unit, behind which the reader is.
     fn finish<K: Sink>(&mut self, reader: &R, item: R::Item, out: &mut K) -> Result<Ending, Halt>
-        ensures wrote { (before : R) (z : R.Past) (unit : R.Made) (bytes : List ℕ) (other : Option Reason) → R.tells before reader.now z unit bytes item → keeps self.old before → (R.grammar).behind unit ≡ Final other → let ending = (command).finished z (own self.old before) unit bytes in
+        ensures wrote { (before : R) (z : R.Past) (unit : R.Made) (bytes : List ℕ) → R.tells before reader.now z unit bytes item → keeps self.old before → (R.grammar).behind unit ≡ Final → let ending = (command).finished z (own self.old before) unit bytes in
             Closes ending ((command).last z (own self.old before) ending) (K.written out.old) (K.written out.new) result }
         ensures cause { HaltHasCause 0 0 (K.faults out.old) (K.faults out.new) result };
 

@@ -10,7 +10,7 @@ ghost use Rattle.vc2_cli.specs.Soon.{Soon};
 ghost use Rattle.vc2_cli.specs.Decode.{last_line};
 ghost use Rattle.vc2_cli.specs.Scheduled.{Replayed, nothing_replayed, replaying_any, replay_machine};
 
-use crate::check::last_count;
+use crate::check::{last_count, shown_count};
 use crate::running::{UnitCommand, run_units};
 use crate::status::Ending;
 use crate::texts::replayed_text;
@@ -47,11 +47,12 @@ fn accept<K: Sink>(
     }
 }
 
-/// The slices of a stream so far, and the schedule.
+/// The pictures and the slices of a stream so far, and the schedule.
 #[derive(Drop)]
 struct Replaying {
     alloc: Global,
     schedule: Schedule,
+    pictures: u64,
     slices: u64,
     ghost lawful: { IsSchedule schedule },
 }
@@ -61,11 +62,11 @@ impl UnitCommand<StreamReader> for Replaying {
 
     ghost command = { replaying_any };
 
-    ghost own = { λ c r. record { schedule = c.schedule; slices = c.slices; shapes = r.shapes } };
+    ghost own = { λ c r. record { schedule = c.schedule; pictures = c.pictures; slices = c.slices; shapes = r.shapes } };
 
     ghost start = { λ c. nothing_replayed c.schedule };
 
-    ghost keeps = { λ c r. c.slices ≤ r.past.place };
+    ghost keeps = { λ c r. (c.pictures ≤ r.past.place) × (c.slices ≤ r.past.place) };
 
     ghost is_done = { IsDone };
 
@@ -83,6 +84,7 @@ impl UnitCommand<StreamReader> for Replaying {
         _item: Item,
         _out: &mut K,
     ) -> Result<(), Halt> {
+        self.pictures += shown_count(reader);
         self.slices += u64::from(last_count(reader));
         Ok(())
     }
@@ -97,7 +99,7 @@ impl UnitCommand<StreamReader> for Replaying {
         accept(
             self.alloc,
             out,
-            reader.pictures(),
+            self.pictures,
             self.slices,
             reader.taken(),
             outcome,
@@ -135,6 +137,7 @@ pub(crate) fn check_schedule<S: Source, K: Sink>(
             let mut command = Replaying {
                 alloc,
                 schedule,
+                pictures: 0,
                 slices: 0,
             };
             let result = run_units(&mut reader, &mut command, src, out);

@@ -27,7 +27,7 @@ use stream_units::{StreamWriter, WriteStop};
 use trial_video::TrialVideo;
 use vc2_io::{NoMemory, Sink, write_whole};
 use vc2_run::Halt;
-use vc2_words::{Settings, TrialPart};
+use vc2_words::{Settings, TrialPart, later_sequences};
 
 /// What a trial finds: the bytes of its stream, the least schedule with which that runs, and the greatest difference.
 #[derive(Clone, Copy, Debug, PartialEq, Eq)]
@@ -39,12 +39,12 @@ struct Found {
 
 // The bytes of a stream of so many pictures.
 fn stream_len(settings: &Settings, pictures: u32) -> usize
-    requires { stream_length (shown settings.now).parts (shown settings.now).params pictures ≤ 2 ^ 28 }
-    ensures { result ≡ stream_length (shown settings.now).parts (shown settings.now).params pictures }
+    requires { stream_length (shown settings.now).parts (shown settings.now).params (shown settings.now).group pictures ≤ 2 ^ 28 }
+    ensures { result ≡ stream_length (shown settings.now).parts (shown settings.now).params (shown settings.now).group pictures }
 {
-    let first = 13 + settings.header.byte_len();
-    let units = pictures as usize * settings.params.unit_len() as usize;
-    first + units + 13
+    let sequences = 1 + later_sequences(settings.group, pictures) as usize;
+    let ends = sequences * (13 + settings.header.byte_len() + 13);
+    ends + pictures as usize * settings.params.unit_len() as usize
 }
 
 // A writer that has room for all stops for want of memory alone.
@@ -114,7 +114,7 @@ fn encode_video(
     requires lawful { IsTrial (shown settings.now) part }
     requires flat { IsSteepUnder (written_under (shown settings.now)) }
     requires empty { sink.old.bytes ≡ [] }
-    requires room { sink.old.room ≡ stream_length (shown settings.now).parts (shown settings.now).params part.pictures }
+    requires room { sink.old.room ≡ stream_length (shown settings.now).parts (shown settings.now).params (shown settings.now).group part.pictures }
     ensures plan { IfOk result (λ schedule. schedule ≡ plan_for (shown settings.now) (trial_pictures (shown settings.now) part)) }
     ensures stream { IfOk result (λ schedule. sink.new.bytes ≡ stream_of (shown settings.now) (trial_pictures (shown settings.now) part)) }
 {
@@ -130,6 +130,7 @@ fn encode_video(
         &settings.header,
         &settings.params,
         settings.first,
+        settings.group,
         sink,
     );
     sink.steady();

@@ -1,5 +1,5 @@
 -- Each number of a header that words ask for is one that its field holds.
-use Rattle.std.proofs.Common.{◌≡◌, ℕ, ◌≤◌, ◌<◌, ◌^◌, Bool, true, false, List, Option, Some, None, length, refl, arith}
+use Rattle.std.proofs.Common.{ℕ, ◌≤◌, Bool, true, false, List, Option, Some, None, length, arith}
 use Rattle.std.specs.Prelude.{◌==◌, slice_index, if◌then◌else◌}
 use Rattle.field_rows.specs.Given.{AreOfKind}
 use Rattle.sequence_header.specs.declared.parts.RateField.{RateField}

@@ -1,9 +1,9 @@
 -- Settings that break no rule are lawful: their header passes, and so do their parameters.
-use Rattle.std.proofs.Common.{◌≡◌, ℕ, ◌+◌, ◌*◌, ◌≤◌, ◌<◌, ◌^◌, true, List, [], ◌∷◌, Some, None, Ok, Err, refl, sym, ◌∙◌, subst, ◌%◌, arith}
+use Rattle.std.proofs.Common.{◌≡◌, ℕ, ◌+◌, ◌*◌, ◌≤◌, ◌<◌, ◌^◌, true, List, [], ◌∷◌, Some, None, Ok, Err, refl, sym, ◌∙◌, subst, ◌%◌, arith, ap}
 use Rattle.std.specs.Prelude.{Option, Result, ◌==◌, slice_index}
 use Rattle.std.specs.List.{AllByRecursion}
 use Rattle.std.proofs.lemmas.Bool.{leb-true, eqb-true, eq-eqb}
-use Rattle.field_rows.specs.Rows.{first_broken}
+use Rattle.field_rows.specs.Rows.{Rule, first_broken}
 use Rattle.sequence_header.specs.Checking.{Passes}
 use Rattle.slice_geometry.specs.Slicing.{Slicing, slice_count, AreSlicesAllowed, IsShareAllowed}
 use Rattle.transform_params.specs.Params.{Params}
@@ -14,22 +14,22 @@ use Rattle.channel_schedule.specs.Rates.{IsRate}
 use Rattle.std.proofs.Math.Nat.{mul-le-mul_left}
 use Rattle.vc2_words.specs.declared.keys.Key.TheVariants as of_key
 use Rattle.vc2_words.specs.declared.keys.Rule as settings
-use Rattle.vc2_words.specs.Forms.{cut_at, slash}
+use Rattle.vc2_words.specs.Forms.{greatest, cut_at, slash, number_in, number_from}
 use Rattle.vc2_words.specs.Operands.{Table, value_of, and_then, operands_of}
 use Rattle.vc2_words.specs.Plain.{IsPlain, IsPlainFor}
-use Rattle.vc2_words.specs.Lawful.{AreLawful, IsAskedSchedule, IsTrial}
+use Rattle.vc2_words.specs.Lawful.{AreLawful, IsGroup, IsAskedSchedule, IsTrial}
 use Rattle.vc2_words.specs.declared.keys.Name.{Name}
 use Rattle.vc2_words.specs.declared.keys.Name.TheVariants as names
 use Rattle.vc2_words.specs.declared.keys.WordFault.{WordFault}
 use Rattle.vc2_words.specs.Keys.{name_of}
 use Rattle.vc2_words.specs.Commands.{AskedCommand, check, encode, trial, unless_broken, schedule_from, schedule_of, command_of, part_of, named, asked_by}
-use Rattle.vc2_words.proofs.Plainness.{IsWhole, plain_of, whole_of, pair_is, none_some, some_same}
+use Rattle.vc2_words.proofs.Plainness.{IsWhole, plain_of, whole_of, pair_is, single_is, range_is, none_some, some_same}
 use Rattle.vc2_words.specs.Read.{IsRead, IsValue}
 use Rattle.vc2_words.proofs.Small.{AreSmall, given_small, number_small}
 use Rattle.vc2_words.proofs.HeaderNumbers.{parts_lawful}
 use Rattle.vc2_words.proofs.Trials.{seed_low, pictures_of}
 use Rattle.transform_params.proofs.Bounds.{unit_small}
-use Rattle.vc2_words.specs.Settings.{number_of, number_at, entries_of, parts_of, params_of, slicing_of, are_slices, is_share, number_rules, trial_rules, broken_rule, or_first, is_even_with, asked_of, rate_or, rate_given, buffer_given}
+use Rattle.vc2_words.specs.Settings.{number_of, number_at, entries_of, parts_of, params_of, slicing_of, are_slices, is_share, number_rules, trial_rules, broken_rule, or_first, is_even_with, are_paired, group_of, asked_of, rate_or, rate_given, buffer_given}
 use Rattle.vc2_words.proofs.Lawful.{range_of, and_both, passes}
 use Rattle.vc2_words.proofs.Rules.{all_hold, slices_hold, share_holds, count_holds}
 
@@ -58,36 +58,46 @@ share_allowed s good =
     let two = and_both _ _ one.1 in
     record { some = leb-true 1 s.b one.0; byte = leb-true s.b s.a two.0; total = leb-true _ (2 ^ 28) two.1 }
 
+-- the pictures of a sequence that these operands ask for
+abbrev group_in : Table → Option ℕ
+group_in given = group_of (value_of given of_key.Group)
+
 none_before : (a b : Option settings.Rule) → or_first a b ≡ None → a ≡ None
 none_before None b e = refl
 none_before (Some rule) b e = e
 
-numbers_hold : (given : Table) (pictures : Option ℕ) → broken_rule given pictures ≡ None → first_broken (number_rules (parts_of given) (params_of given) (number_at given of_key.First 0) pictures) ≡ None
-numbers_hold given pictures none = none_before (first_broken (number_rules (parts_of given) (params_of given) (number_at given of_key.First 0) pictures)) (first_broken (trial_rules (parts_of given) (params_of given) pictures)) none
+abbrev numbers_of : Table → Option ℕ → List (Rule settings.Rule)
+numbers_of given pictures = number_rules (parts_of given) (params_of given) (number_at given of_key.First 0) (group_in given) pictures
+
+abbrev trials_of : Table → Option ℕ → List (Rule settings.Rule)
+trials_of given pictures = trial_rules (parts_of given) (params_of given) (group_in given) pictures
+
+numbers_hold : (given : Table) (pictures : Option ℕ) → broken_rule given pictures ≡ None → first_broken (numbers_of given pictures) ≡ None
+numbers_hold given pictures none = none_before (first_broken (numbers_of given pictures)) (first_broken (trials_of given pictures)) none
 
 pub params_lawful : (given : Table) (pictures : Option ℕ) → IsRead given → broken_rule given pictures ≡ None → IsLawful (params_of given)
 params_lawful given pictures read none =
     let first = number_at given of_key.First 0 in
     let held = numbers_hold given pictures none in
-    let all = all_hold (number_rules (parts_of given) (params_of given) first pictures) held in
+    let all = all_hold (numbers_of given pictures) held in
     let a = number_small given of_key.Bytes 0 read in
     let b = number_small given of_key.Bytes 1 read in
     record {
       allowed = record {
         depth = leb-true (slicing_of given).depth 4 all.1.1.1.0;
-        slices = slices_allowed (slicing_of given) (slices_hold (parts_of given) (params_of given) first pictures held);
-        share = share_allowed (slicing_of given) (share_holds (parts_of given) (params_of given) first pictures held);
+        slices = slices_allowed (slicing_of given) (slices_hold (parts_of given) (params_of given) first (group_in given) pictures held);
+        share = share_allowed (slicing_of given) (share_holds (parts_of given) (params_of given) first (group_in given) pictures held);
       };
       a = omega (arith, a);
       b = omega (arith, b);
       deep = refl;
-      count = count_holds (parts_of given) (params_of given) first pictures held;
+      count = count_holds (parts_of given) (params_of given) first (group_in given) pictures held;
       small = entries_low given read;
     }
 
 pub header_passes : (given : Table) (pictures : Option ℕ) → IsPlain (parts_of given) → broken_rule given pictures ≡ None → Passes (parts_of given)
 header_passes given pictures plain none =
-    let all = all_hold (number_rules (parts_of given) (params_of given) (number_at given of_key.First 0) pictures) (numbers_hold given pictures none) in
+    let all = all_hold (numbers_of given pictures) (numbers_hold given pictures none) in
     passes (parts_of given) plain all.0 all.1.0 all.1.1.0
 
 -- ---- the rate
@@ -123,11 +133,20 @@ even_with coding n good one =
     let is : (coding == 1) ≡ true = eq-eqb coding 1 one in
     eqb-true (n % 2) 0 (rw is at good)
 
+group_lawful : (coding : ℕ) (v : Option (List ℕ)) → ((ns : List ℕ) → v ≡ Some ns → IsValue of_key.Group ns) → are_paired coding (group_of v) ≡ true → IsGroup coding (group_of v)
+group_lawful coding None read even = tt
+group_lawful coding (Some ns) read even =
+    let value = read ns refl in
+    let one = single_is (number_from 1 value.text) ns value.reads in
+    let range = range_is 1 greatest (number_in value.text) one.0 one.1 in
+    let is : slice_index ns 0 ≡ one.0 = ap (λ (l : List ℕ). slice_index l 0) one.2 in
+    (omega (arith, is, range.0), omega (arith, is, range.1), even_with coding (slice_index ns 0) even)
+
 lawful : (given : Table) (pictures : Option ℕ) → IsRead given → IsPlain (parts_of given) → broken_rule given pictures ≡ None → AreLawful (asked_of given)
 lawful given pictures read plain none =
     let first = number_at given of_key.First 0 in
     let low = number_small given of_key.First 0 read in
-    let all = all_hold (number_rules (parts_of given) (params_of given) first pictures) (numbers_hold given pictures none) in
+    let all = all_hold (numbers_of given pictures) (numbers_hold given pictures none) in
     let params = params_lawful given pictures read none in
     let idle = number_at given of_key.Idle 0 in
     let few : idle ≤ 2 ^ 20 = number_small given of_key.Idle 0 read in
@@ -140,6 +159,7 @@ lawful given pictures read plain none =
       rate = rate.rate;
       bytes = rate.bytes;
       slots = rate.slots;
+      group = group_lawful (parts_of given).coding (value_of given of_key.Group) (λ ns is. read.read of_key.Group ns is) all.1.1.1.1.1.1.1.1.1.0;
       idle = few;
     }
 
@@ -151,10 +171,9 @@ none_behind (Some rule) b e = none_some (sym e)
 
 trial_lawful : (given : Table) → IsWhole names.Trial given → IsPlain (parts_of given) → broken_rule given (Some (number_at given of_key.Pictures 0)) ≡ None → IsTrial (asked_of given) (part_of given)
 trial_lawful given whole plain none =
-    let first = number_at given of_key.First 0 in
     let pictures = number_at given of_key.Pictures 0 in
-    let numbers = all_hold (number_rules (parts_of given) (params_of given) first (Some pictures)) (numbers_hold given (Some pictures) none) in
-    let trials = all_hold (trial_rules (parts_of given) (params_of given) (Some pictures)) (none_behind (first_broken (number_rules (parts_of given) (params_of given) first (Some pictures))) (first_broken (trial_rules (parts_of given) (params_of given) (Some pictures))) none) in
+    let numbers = all_hold (numbers_of given (Some pictures)) (numbers_hold given (Some pictures) none) in
+    let trials = all_hold (trials_of given (Some pictures)) (none_behind (first_broken (numbers_of given (Some pictures))) (first_broken (trials_of given (Some pictures))) none) in
     let range = pictures_of given whole in
     record {
       settings = lawful given (Some pictures) whole.read plain none;

@@ -88,6 +88,7 @@ value_small of_key.Delay text ns e = range_up_to 0 (2 ^ 72) text ns e
 value_small of_key.Buffer text ns e = range_up_to 0 (2 ^ 40) text ns e
 value_small of_key.Seed text ns e = range_small 0 65535 text ns (omega arith) e
 value_small of_key.Pictures text ns e = range_small 1 1000 text ns (omega arith) e
+value_small of_key.Group text ns e = range_small 1 greatest text ns (omega arith) e
 value_small of_key.Idle text ns e = range_up_to 0 (2 ^ 20) text ns e
 
 index_up_to : (bound : ℕ) (ns : List ℕ) (i : ℕ) → AreUpTo bound ns → slice_index ns i ≤ bound
@@ -119,7 +120,7 @@ value_fit key text ns e = λ i. index_up_to (bound_of key) ns i (value_small key
 
 pub nothing_fit : IsFit nothing
 nothing_fit = record {
-  fits = λ key ns i e. none_some (sym (get_or-replicate 18 (place_of key) None None (in_table key)) ∙ e);
+  fits = λ key ns i e. none_some (sym (get_or-replicate 19 (place_of key) None None (in_table key)) ∙ e);
   many = refl;
 }
 

@@ -1,11 +1,16 @@
 -- Settings that a stream can be written with.
-use Rattle.std.specs.Prelude.{◌≡◌, ◌≤◌, ◌<◌, ◌^◌, ◌%◌}
+use Rattle.std.specs.Prelude.{◌≡◌, ◌≤◌, ◌<◌, ◌^◌, ◌%◌, ℕ, Option, None, Some}
 use Rattle.sequence_header.specs.Checking as checking
 use Rattle.transform_params.specs.ParameterFields.{IsLawful}
 use Rattle.channel_schedule.specs.declared.schedule.Schedule.{Schedule}
 use Rattle.channel_schedule.specs.Rates.{IsRate, IsSchedule}
 use Rattle.vc2_words.specs.declared.words.TrialPart.{TrialPart}
 use Rattle.vc2_words.specs.Settings.{Asked, stream_length}
+
+-- A group has a picture, and where pictures are fields it has whole frames.
+abbrev pub IsGroup : ℕ → Option ℕ → Type 0
+IsGroup coding None = Unit {0}
+IsGroup coding (Some group) = (1 ≤ group) × (group < 2 ^ 32) × (coding ≡ 1 → group % 2 ≡ 0)
 
 -- The header and the parameters break no rule, and each number is one that its field holds.
 pub record AreLawful (s : Asked) : Type 0 where
@@ -16,6 +21,7 @@ pub record AreLawful (s : Asked) : Type 0 where
   pub rate : IsRate s.rate
   pub bytes : s.rate.num < 2 ^ 32
   pub slots : s.rate.den < 2 ^ 32
+  pub group : IsGroup s.parts.coding s.group
   pub idle : s.idle ≤ 2 ^ 20
 
 -- A schedule, with at most so many idle slots.
@@ -30,4 +36,4 @@ pub record IsTrial (s : Asked) (part : TrialPart) : Type 0 where
   pub some : 1 ≤ part.pictures
   pub few : part.pictures ≤ 1000
   pub even : s.parts.coding ≡ 1 → part.pictures % 2 ≡ 0
-  pub short : stream_length s.parts s.params part.pictures ≤ 2 ^ 28
+  pub short : stream_length s.parts s.params s.group part.pictures ≤ 2 ^ 28

@@ -1,5 +1,5 @@
 -- Which fault of the operands is told, as a relation; and that their order does not matter.
-use Rattle.std.specs.Prelude.{◌≡◌, ℕ, ◌+◌, List, ◌∷◌, ◌++◌, length, Result, Ok, Err}
+use Rattle.std.specs.Prelude.{◌≡◌, ℕ, ◌+◌, List, ◌∷◌, ◌++◌, length, Ok, Err}
 use Rattle.vc2_words.specs.declared.keys.Name.{Name}
 use Rattle.vc2_words.specs.declared.keys.WordFault.{WordFault}
 use Rattle.vc2_words.specs.Operands.{Table, nothing, operand, operands_from}

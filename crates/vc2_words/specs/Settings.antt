@@ -1,5 +1,5 @@
 -- The settings that operands ask for, and the rules on them.
-use Rattle.std.specs.Prelude.{ℕ, ◌+◌, ◌*◌, ◌^◌, ◌%◌, ◌==◌, ◌&&◌, ◌||◌, not, nat_le, Bool, true, List, [], ◌∷◌, length, slice_index, Option, Some, None, if◌then◌else◌}
+use Rattle.std.specs.Prelude.{ℕ, zero, suc, ◌+◌, ◌-◌, ◌*◌, ◌/◌, ◌^◌, ◌%◌, ◌==◌, ◌&&◌, ◌||◌, not, nat_le, Bool, true, List, [], ◌∷◌, length, slice_index, Option, Some, None, if◌then◌else◌}
 use Rattle.std.specs.Int.{is_in_range}
 use Rattle.field_rows.specs.Rows.{Rule, ◌or_else◌, first_broken}
 use Rattle.sequence_header.specs.declared.parts.HeaderParts.{HeaderParts}
@@ -128,21 +128,29 @@ is_share s = nat_le 1 s.b && (nat_le s.b s.a && nat_le (total_bytes s) (2 ^ 28))
 abbrev pub is_even_with : ℕ → ℕ → Bool
 is_even_with coding n = not (coding == 1) || n % 2 == 0
 
+-- a number that may be left out is even where pictures are fields
 abbrev pub are_paired : ℕ → Option ℕ → Bool
 are_paired coding None = true
-are_paired coding (Some pictures) = is_even_with coding pictures
+are_paired coding (Some n) = is_even_with coding n
 
--- the bytes of a stream of so many pictures: the sequence header unit, a unit for each picture, and the end unit
-abbrev pub stream_length : HeaderParts → Params → ℕ → ℕ
-stream_length parts params pictures = 13 + header_len parts + pictures * unit_length params + 13
+-- how many sequences begin behind the first one: one before each picture whose position is a positive multiple of the group
+abbrev pub later_sequences : Option ℕ → ℕ → ℕ
+later_sequences None pictures = 0
+later_sequences (Some zero) pictures = 0
+later_sequences (Some (suc n)) pictures = (pictures - 1) / suc n
 
-abbrev pub is_short : HeaderParts → Params → Option ℕ → Bool
-is_short parts params None = true
-is_short parts params (Some pictures) = nat_le (stream_length parts params pictures) (2 ^ 28)
+-- the bytes of a stream of so many pictures: a header unit and an end unit for each sequence, and a unit for each picture
+abbrev pub stream_length : HeaderParts → Params → Option ℕ → ℕ → ℕ
+stream_length parts params group pictures =
+    (1 + later_sequences group pictures) * (13 + header_len parts + 13) + pictures * unit_length params
+
+abbrev pub is_short : HeaderParts → Params → Option ℕ → Option ℕ → Bool
+is_short parts params group None = true
+is_short parts params group (Some pictures) = nat_le (stream_length parts params group pictures) (2 ^ 28)
 
 -- the rules on the numbers
-abbrev pub number_rules : HeaderParts → Params → ℕ → Option ℕ → List (Rule settings.Rule)
-number_rules parts params first pictures =
+abbrev pub number_rules : HeaderParts → Params → ℕ → Option ℕ → Option ℕ → List (Rule settings.Rule)
+number_rules parts params first group pictures =
     (is_size parts or_else broken.Size)
     ∷ (is_divided parts or_else broken.Divide)
     ∷ (is_signal parts.signal or_else broken.Signal)
@@ -151,28 +159,36 @@ number_rules parts params first pictures =
     ∷ (is_share params.slicing or_else broken.Share)
     ∷ ((length params.matrix.entries == 1 + 3 * params.slicing.depth) or_else broken.MatrixCount)
     ∷ (is_even_with parts.coding first or_else broken.FirstOdd)
-    ∷ (are_paired parts.coding pictures or_else broken.FieldCount) ∷ []
+    ∷ (are_paired parts.coding pictures or_else broken.FieldCount)
+    ∷ (are_paired parts.coding group or_else broken.GroupOdd) ∷ []
 
 -- and on a trial's length
-abbrev pub trial_rules : HeaderParts → Params → Option ℕ → List (Rule settings.Rule)
-trial_rules parts params pictures = (is_short parts params pictures or_else broken.TrialSize) ∷ []
+abbrev pub trial_rules : HeaderParts → Params → Option ℕ → Option ℕ → List (Rule settings.Rule)
+trial_rules parts params group pictures = (is_short parts params group pictures or_else broken.TrialSize) ∷ []
 
 abbrev pub or_first : Option settings.Rule → Option settings.Rule → Option settings.Rule
 or_first None later = later
 or_first (Some rule) later = Some rule
 
+-- the pictures of a sequence, where they are given
+abbrev pub group_of : Option (List ℕ) → Option ℕ
+group_of None = None
+group_of (Some ns) = Some (slice_index ns 0)
+
 -- the first rule that these operands break
 abbrev pub broken_rule : Table → Option ℕ → Option settings.Rule
 broken_rule given pictures =
-    or_first (first_broken (number_rules (parts_of given) (params_of given) (number_at given of_key.First 0) pictures))
-    (first_broken (trial_rules (parts_of given) (params_of given) pictures))
+    let group = group_of (value_of given of_key.Group) in
+    or_first (first_broken (number_rules (parts_of given) (params_of given) (number_at given of_key.First 0) group pictures))
+    (first_broken (trial_rules (parts_of given) (params_of given) group pictures))
 
--- what is asked of a stream
+-- what is asked of a stream; a new sequence begins behind every so many pictures
 pub record Asked : Type 0 where
   pub parts : HeaderParts
   pub params : Params
   pub first : ℕ
   pub rate : Rate
+  pub group : Option ℕ
   pub idle : ℕ
 
 abbrev pub rate_given : Option (List ℕ) → Option Rate
@@ -198,5 +214,6 @@ asked_of given = record {
   params = params_of given;
   first = number_at given of_key.First 0;
   rate = rate_of (params_of given) (number_at given of_key.Idle 0) (value_of given of_key.Rate);
+  group = group_of (value_of given of_key.Group);
   idle = number_at given of_key.Idle 0;
 }

@@ -9,9 +9,9 @@ ghost use Rattle.vc2_words.specs.Lawful.{AreLawful, IsAskedSchedule, IsTrial};
 ghost use Rattle.vc2_words.specs.Order.{FirstFaultIsTold, OrderIsFree};
 
 /// The settings that words ask for are lawful: their header and parameters pass the rules, each number is one that its field
-/// holds, the first picture's number is even with field coding, the rate is one of 32 bit numbers, and at most 2^20 slots are
-/// idle behind a picture. A trial has 1 to 1000 pictures, with field coding an even number of them, and their stream has at
-/// most 2^28 bytes.
+/// holds, the first picture's number is even with field coding, the rate is one of 32 bit numbers, a sequence has a picture
+/// and with field coding an even number of them, and at most 2^20 slots are idle behind a picture. A trial has 1 to 1000
+/// pictures, with field coding an even number of them, and their stream has at most 2^28 bytes.
 pub fn settings_are_lawful()
     ensures encode { (words : List (List ℕ)) (s : Asked) → asked_by words ≡ Ok (encode s) → AreLawful s }
     ensures trial { (words : List (List ℕ)) (s : Asked) (part : TrialPart) → asked_by words ≡ Ok (trial s part) → IsTrial s part }

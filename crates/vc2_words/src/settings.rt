@@ -32,6 +32,8 @@ pub struct Settings {
     /// The number of the first picture.
     pub first: u32,
     pub rate: Rate,
+    /// A new sequence begins behind every so many pictures.
+    pub group: Option<u32>,
     /// The slots behind each picture in which no slice is taken.
     pub idle: u32,
 }
@@ -257,12 +259,22 @@ fn is_even_with(coding: u32, n: u32) -> bool
     coding != 1 || n % 2 == 0
 }
 
-fn are_paired(coding: u32, pictures: Option<u32>) -> bool
-    ensures { result ≡ asked.are_paired coding pictures }
+fn are_paired(coding: u32, number: Option<u32>) -> bool
+    ensures { result ≡ asked.are_paired coding number }
 {
-    match pictures {
+    match number {
         None => true,
-        Some(pictures) => is_even_with(coding, pictures),
+        Some(n) => is_even_with(coding, n),
+    }
+}
+
+/// The pictures of a sequence, where they are given.
+fn group_of(given: &Given) -> Option<u32>
+    ensures { result ≡ asked.group_of (value_of given.now.values of_key.Group) }
+{
+    match given.get(Key::Group) {
+        None => None,
+        Some(_) => Some(number(given, Key::Group, 0)),
     }
 }
 
@@ -271,9 +283,10 @@ fn broken_number(
     given: &Given,
     parts: &HeaderParts,
     first: u32,
+    group: Option<u32>,
     pictures: Option<u32>,
 ) -> Option<Rule>
-    ensures { result ≡ first_broken (number_rules parts.now (params_of given.now.values) first pictures) }
+    ensures { result ≡ first_broken (number_rules parts.now (params_of given.now.values) first group pictures) }
 {
     let depth = number(given, Key::Depth, 0);
     if !is_size(parts) {
@@ -294,6 +307,8 @@ fn broken_number(
         Some(Rule::FirstOdd)
     } else if !are_paired(parts.coding, pictures) {
         Some(Rule::FieldCount)
+    } else if !are_paired(parts.coding, group) {
+        Some(Rule::GroupOdd)
     } else {
         None
     }
@@ -316,15 +331,32 @@ fn params_of(given: &Given) -> TransformParams
     }
 }
 
+/// How many sequences begin behind the first one.
+pub fn later_sequences(group: Option<u32>, pictures: u32) -> u32
+    ensures { result ≡ asked.later_sequences group pictures }
+{
+    match group {
+        None | Some(0) => 0,
+        Some(group) => pictures.saturating_sub(1) / group,
+    }
+}
+
 /// Whether a trial's stream isn't too long.
-fn is_short(header: &SequenceHeader, params: &TransformParams, pictures: Option<u32>) -> bool
-    ensures { result ≡ asked.is_short header.now (views.params_of params.now) pictures }
+fn is_short(
+    header: &SequenceHeader,
+    params: &TransformParams,
+    group: Option<u32>,
+    pictures: Option<u32>,
+) -> bool
+    ensures { result ≡ asked.is_short header.now (views.params_of params.now) group pictures }
 {
     match pictures {
         None => true,
         Some(pictures) => {
-            let first = 13 + header.byte_len() as u64;
-            first + u64::from(pictures) * u64::from(params.unit_len()) + 13 <= 1 << 28
+            // Pictures and the bytes of a unit are numbers of 32 bits, so the sum may take more than 64.
+            let sequences = 1 + u128::from(later_sequences(group, pictures));
+            let ends = sequences * (13 + header.byte_len() as u128 + 13);
+            ends + u128::from(pictures) * u128::from(params.unit_len()) <= 1 << 28
         }
     }
 }
@@ -336,12 +368,13 @@ pub fn settings_of(given: &Given, pictures: Option<u32>) -> Result<Settings, Rul
 {
     let parts = parts_of(given);
     let first = number(given, Key::First, 0);
-    match broken_number(given, &parts, first, pictures) {
+    let group = group_of(given);
+    match broken_number(given, &parts, first, group, pictures) {
         Some(rule) => Err(rule),
         None => {
             let header = header_of(parts);
             let params = params_of(given);
-            if is_short(&header, &params, pictures) {
+            if is_short(&header, &params, group, pictures) {
                 let idle = idle_of(given);
                 let rate = rate_of(given, &params, idle);
                 Ok(Settings {
@@ -349,6 +382,7 @@ pub fn settings_of(given: &Given, pictures: Option<u32>) -> Result<Settings, Rul
                     params,
                     first,
                     rate,
+                    group,
                     idle,
                 })
             } else {

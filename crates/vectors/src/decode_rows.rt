@@ -160,15 +160,15 @@ const REFUSED: [Row<'static>; 7] = [
         note: "refused at 26: PreviousWrong\n",
     },
     Row {
-        name: "a byte after the sequence, one sequence only",
+        name: "a byte after a sequence",
         words: &["decode"],
         input: "424243440000000011000000003f27424a42424344c80000001500000011000000000c9270014242434410000000000000001500",
         status: Status::Refused(Refusal {
             place: 51,
-            reason: Reason::TrailingBytes,
+            reason: Reason::Truncated,
         }),
         out: Output::Digits("808080"),
-        note: "refused at 51: TrailingBytes\n",
+        note: "refused at 51: Truncated\n",
     },
 ];
 

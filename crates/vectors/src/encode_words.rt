@@ -91,7 +91,7 @@ fn check_all_bad(rt: &impl Abort, alloc: Global, operands: &[&str]) -> Result<()
     Ok(())
 }
 
-const EMPTY: [&str; 13] = [
+const EMPTY: [&str; 14] = [
     "size=",
     "sampling=",
     "fps=",
@@ -105,6 +105,7 @@ const EMPTY: [&str; 13] = [
     "fields=",
     "first=",
     "rate=",
+    "group=",
 ];
 
 #[test]
@@ -113,7 +114,7 @@ fn empty_values_are_refused(rt: HostRuntime) -> Result<(), Fail> {
 }
 
 // A zero in front, and a sign in front.
-const IN_FRONT: [&str; 26] = [
+const IN_FRONT: [&str; 28] = [
     "size=01x1",
     "size=1x+1",
     "sampling=0444",
@@ -140,6 +141,8 @@ const IN_FRONT: [&str; 26] = [
     "first=+1",
     "rate=021/1",
     "rate=21/+1",
+    "group=01",
+    "group=+1",
 ];
 
 #[test]
@@ -148,7 +151,7 @@ fn nothing_stands_in_front_of_a_number(rt: HostRuntime) -> Result<(), Fail> {
 }
 
 // Values that are outside their bounds or have another form.
-const OUTSIDE: [&str; 27] = [
+const OUTSIDE: [&str; 30] = [
     "size=1",
     "size=1x1x1",
     "size=1X1",
@@ -174,6 +177,9 @@ const OUTSIDE: [&str; 27] = [
     "first=4294967296",
     "rate=0/1",
     "rate=21/0",
+    "group=0",
+    "group=4294967296",
+    "group=1/1",
     "idle=1048577",
     "idle=-1",
 ];
@@ -235,7 +241,7 @@ fn other_keys_are_refused(rt: HostRuntime) -> Result<(), Fail> {
 }
 
 // Settings that break one rule, and some that break a later one too.
-const BROKEN: [(&[&str], Rule); 34] = [
+const BROKEN: [(&[&str], Rule); 37] = [
     (&["size=0x1"], Rule::Size),
     (&["size=1x0"], Rule::Size),
     (&["size=8193x1"], Rule::Size),
@@ -276,6 +282,15 @@ const BROKEN: [(&[&str], Rule); 34] = [
         &["fields=yes", "size=1x2", "first=1", "matrix=88"],
         Rule::FirstOdd,
     ),
+    (
+        &["fields=yes", "size=1x2", "first=1", "group=1"],
+        Rule::FirstOdd,
+    ),
+    (&["fields=yes", "size=1x2", "group=3"], Rule::GroupOdd),
+    (
+        &["fields=yes", "size=1x2", "group=1", "matrix=88"],
+        Rule::GroupOdd,
+    ),
 ];
 
 // The name of a rule, as the program prints it.
@@ -290,6 +305,7 @@ fn name_of(rule: Rule) -> &'static str {
         Rule::MatrixCount => "MatrixCount",
         Rule::FirstOdd => "FirstOdd",
         Rule::FieldCount => "FieldCount",
+        Rule::GroupOdd => "GroupOdd",
         Rule::TrialSize => "TrialSize",
         Rule::MatrixTooSteep => "MatrixTooSteep",
     }

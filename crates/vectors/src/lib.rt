@@ -38,6 +38,8 @@ mod runs;
 #[cfg(test)]
 mod schedule_rows;
 #[cfg(test)]
+mod sequence_rows;
+#[cfg(test)]
 mod stream_bytes;
 #[cfg(test)]
 mod streams;

@@ -98,10 +98,10 @@ const TABLE: [Refused<'static>; 23] = [
     Refused {
         word: "decode",
         input: "424243440000000011000000003f27424a42424344c80000001500000011000000000c9270014242434410000000000000001500000000",
-        reads: 52,
+        reads: 55,
         refusal: Refusal {
             place: 51,
-            reason: Reason::TrailingBytes,
+            reason: Reason::BadPrefix,
         },
     },
     Refused {

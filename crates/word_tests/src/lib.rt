@@ -2,6 +2,8 @@
 #![tactic(auto)]
 
 #[cfg(test)]
+mod group_words;
+#[cfg(test)]
 mod idle_words;
 #[cfg(test)]
 mod settings_words;

@@ -317,7 +317,7 @@ fn read_base(
 pub(crate) const NOTHING: Instead<'static> = [(0, "size=2x2"), (0, "size=2x2")];
 
 /// What is other, what stands behind, and the rule that is broken, if one is.
-type Case<'a> = (Instead<'a>, &'a [&'a str], Option<Rule>);
+pub(crate) type Case<'a> = (Instead<'a>, &'a [&'a str], Option<Rule>);
 
 /// One rule is broken, or the bound of one is met.
 const RULES: [Case<'static>; 41] = [
@@ -515,7 +515,8 @@ fn broken(rt: &impl Abort, read: Result<Command, WordFault>) -> Option<Rule> {
     }
 }
 
-fn expect_rules(rt: &impl Abort, alloc: Global, cases: &[Case<'_>]) -> Result<(), Fail> {
+/// Asserts which rule of each case is told.
+pub(crate) fn expect_rules(rt: &impl Abort, alloc: Global, cases: &[Case<'_>]) -> Result<(), Fail> {
     for (instead, more, want) in cases {
         let found = broken(rt, read_base(rt, alloc, *instead, more)?);
         assert_eq!(rt; found, *want, "at {instead:?}");

@@ -15,7 +15,7 @@ synth-requires-clause-sizes c =
     let size : Size = size_of (frame_of c.args.picture.now.shape) c.args.c in
     let same : c.size_of.result ≡ size = c.size_of.ensures.value ∙ ap (λ (sh : PictureShape). size_of (frame_of sh) c.args.c) c.shape.ensures in
     let is : IsSize size.w size.h = subst (λ (z : Size). IsSize z.w z.h) same c.size_of.ensures.allowed in
-    sizes.agree s size c.args.bands.now c.args.room.now.plane c.args.room.now.scratch (slice_count s) c.requires.taken refl c.depth.ensures.allowed.slices c.depth.ensures.allowed.depth is c.requires.room
+    sizes.agree s size c.args.bands.now c.make.new.self.room.plane c.make.new.self.room.scratch (slice_count s) c.requires.taken refl c.depth.ensures.allowed.slices c.depth.ensures.allowed.depth is (c.make.ensures s size c.requires.room).0
 
 pub synth-requires-clause-small : goal.synth-requires-clause-small
 synth-requires-clause-small c =
@@ -23,7 +23,7 @@ synth-requires-clause-small c =
     let size : Size = size_of (frame_of c.args.picture.now.shape) c.args.c in
     let same : c.size_of.result ≡ size = c.size_of.ensures.value ∙ ap (λ (sh : PictureShape). size_of (frame_of sh) c.args.c) c.shape.ensures in
     let is : IsSize size.w size.h = subst (λ (z : Size). IsSize z.w z.h) same c.size_of.ensures.allowed in
-    sizes.small s size c.args.bands.now c.args.room.now.plane c.args.room.now.scratch (slice_count s) c.requires.taken refl c.depth.ensures.allowed.slices c.depth.ensures.allowed.depth is c.requires.room
+    sizes.small s size c.args.bands.now c.make.new.self.room.plane c.make.new.self.room.scratch (slice_count s) c.requires.taken refl c.depth.ensures.allowed.slices c.depth.ensures.allowed.depth is (c.make.ensures s size c.requires.room).0
 
 pub returns-clause-picture : goal.returns-clause-picture
 returns-clause-picture c =
@@ -34,5 +34,5 @@ returns-clause-picture c =
     let is : IsSize size.w size.h = subst (λ (z : Size). IsSize z.w z.h) same c.size_of.ensures.allowed in
     let with_rows : SamplesSeen → PictureSeen = λ rows. record p { samples = with_component p.samples c.args.c rows } in
     c.show.ensures
-    ∙ ap with_rows (sizes.shown_is s size c.args.bands.now c.args.room.now.plane c.args.room.now.scratch (slice_count s) c.requires.taken refl c.depth.ensures.allowed.slices c.depth.ensures.allowed.depth is c.requires.room
+    ∙ ap with_rows (sizes.shown_is s size c.args.bands.now c.make.new.self.room.plane c.make.new.self.room.scratch (slice_count s) c.requires.taken refl c.depth.ensures.allowed.slices c.depth.ensures.allowed.depth is (c.make.ensures s size c.requires.room).0
     c.args.params.now.wavelet (bits_of p c.args.c) c.synth.new.plane c.synth.ensures.whole)

@@ -1,15 +1,9 @@
-use Rattle.std.proofs.Common.{◌≡◌, ◌∙◌, ℕ, List, sym, ap, subst}
-use Rattle.slice_geometry.specs.Frames.{Frame, frame_of}
-use Rattle.trial_video.specs.Video.{TrialVideoSeen}
-use Rattle.stream_rows.specs.Streams.{frame_under}
+use Rattle.std.proofs.Common.{◌≡◌, ◌∙◌}
 use Rattle.stream_units.proofs.SameShapes.{frame_is}
 use Rattle.vc2_words.specs.Settings.{Asked}
 use Rattle.vc2_words.specs.Shown.{shown}
-use Rattle.vc2_cli.specs.declared.status.Ending.{Ending}
-use Rattle.vc2_cli.specs.declared.status.Ending.TheVariants.{Compared}
-use Rattle.vc2_cli.specs.WholePictures.{stream_of}
-use Rattle.vc2_cli.specs.Trial.{Comparison, comparing, nothing_compared, trial_pictures, trial_worst}
-use Rattle.vc2_cli.specs.TrialTurn.{comparison_of, IsCompared}
+use Rattle.vc2_cli.specs.Trial.{nothing_compared, trial_worst}
+use Rattle.vc2_cli.specs.TrialTurn.{comparison_of}
 use Rattle.vc2_cli.proofs.TrialCompared.{begins_as, compared_here, is_compared}
 use Rattle.vc2_cli.proofs.comparing.compare_video.Goals as goal
 

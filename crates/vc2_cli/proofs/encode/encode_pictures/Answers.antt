@@ -64,7 +64,7 @@ returns-in-Err-picture g c = λ rest out0 some slices first.
     subst (λ (x : Result Ending Halt). Runs (encode_machine e) IsDone (record { was = rest; is = r2; faults_were = faults c.args.src.now; faults_are = faults c.next.new.src })
     (record { was = out0; is = o2; faults_were = out_faults c.args.out.now; faults_are = out_faults c.picture.new.sink }) x) (sym c.without_unit.ensures)
     (runs_stopped e l.turn rest r1 out0 o1 l.reader l.writer some go r2 p front o2 c.picture.new.self c.place-place.result (faults c.args.src.now) (faults l.src) (faults c.next.new.src)
-    (out_faults c.args.out.now) (out_faults l.out) (out_faults c.picture.new.sink) c.in-Err-picture.stop c.place-place.ensures.value i.steady c.in-Ok-Picture.ensures.cause i.steady_out (c.in-Err-picture.ensures.picture i.going) (c.in-Err-picture.ensures.cause i.going))
+    (out_faults c.args.out.now) (out_faults l.out) (out_faults c.picture.new.sink) c.in-Err-picture.stop slices c.place-place.ensures.value i.steady c.in-Ok-Picture.ensures.cause i.steady_out (c.in-Err-picture.ensures.picture i.going) (c.in-Err-picture.ensures.cause i.going))
 
 pub loop-turn-preserved : goal.loop-turn-preserved
 loop-turn-preserved g c =

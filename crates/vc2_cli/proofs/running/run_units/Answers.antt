@@ -181,7 +181,7 @@ returns-in-Last-clause-runs g c =
     let o2 = written c.finish.new.out in
     let tells = n.tells in
     record {
-      ran = ran_finished laws first cmd r0 o0 o1 o2 w c.finish.result i.holds n (c.finish.ensures.wrote l.reader z n.unit n.bytes n.final.0 tells i.keeps n.final.1);
+      ran = ran_finished laws first cmd r0 o0 o1 o2 w c.finish.result i.holds n (c.finish.ensures.wrote l.reader z n.unit n.bytes tells i.keeps n.final);
       limit = most;
       cause = cause_then (g.S.Source.faults c.args.src.now) (g.S.Source.faults c.next_turn.new.src) (g.K.Sink.faults c.args.out.now) (g.K.Sink.faults c.loop-turn.out) (g.K.Sink.faults c.finish.new.out) c.finish.result steady i.steady_out c.finish.ensures.cause;
       end = λ ending e done. n.last;
@@ -430,7 +430,7 @@ returns-in-Last-clause-soon g c =
     let a = c.in-Ok-next_turn.ensures.next i.goes.no_stop i.goes.no_end in
     let n = subst (λ t. NextOver G (g.R.UnitReader.tells l.reader c.next_turn.new.self) (g.R.UnitReader.stays l.reader c.next_turn.new.self) old new r1 r2 (Ok t)) c.in-Last.is a in
     turned_soon (g.R.UnitReader.tells l.reader c.next_turn.new.self) (g.R.UnitReader.stays l.reader c.next_turn.new.self) old new r0 r1 r2 (Ok c.in-Ok-next_turn.turn) laws g.R.UnitReader.short first cmd opens c.finish.result i.goes.most i.unrefused a
-    (closes_no_read _ _ (written l.out) (written c.finish.new.out) c.finish.result (c.finish.ensures.wrote l.reader old.past n.unit n.bytes n.final.0 n.tells i.keeps n.final.1))
+    (closes_no_read _ _ (written l.out) (written c.finish.new.out) c.finish.result (c.finish.ensures.wrote l.reader old.past n.unit n.bytes n.tells i.keeps n.final))
 
 pub returns-in-Rest-clause-soon : goal.returns-in-Rest-clause-soon
 returns-in-Rest-clause-soon g c =

@@ -1,12 +1,12 @@
-use Rattle.std.proofs.Common.{◌≡◌, ◌∙◌, ◌+◌, ◌≤◌, ℕ, List, length, ap, arith}
+use Rattle.std.proofs.Common.{◌≡◌, ◌∙◌, ℕ, List, length, ap, arith}
 use Rattle.slice_geometry.specs.Frames.{frame_of}
 use Rattle.trial_video.specs.Video.{TrialVideoSeen}
-use Rattle.stream_units.specs.EncodedStream.{header_unit}
+use Rattle.stream_units.specs.EncodedStream.{header_length, header_unit}
 use Rattle.stream_units.proofs.SameShapes.{frame_is}
 use Rattle.stream_units.proofs.EncodedUnits.{length-header_unit}
 use Rattle.vc2_words.specs.Settings.{Asked}
 use Rattle.vc2_words.specs.Shown.{shown}
-use Rattle.vc2_cli.specs.Encode.{written_under, first_length}
+use Rattle.vc2_cli.specs.Encode.{written_under}
 use Rattle.vc2_cli.proofs.StreamSinks.{start_stop}
 use Rattle.vc2_cli.proofs.TrialWritten.{begins}
 use Rattle.vc2_cli.proofs.trial.encode_video.Goals as goal
@@ -24,6 +24,6 @@ pub want_of-requires : goal.want_of-requires
 want_of-requires c =
     let a = c.args in
     let s : Asked = shown a.settings.now in
-    let long : length (header_unit s.parts) ≡ first_length s = length-header_unit s.parts in
+    let long : length (header_unit s.parts) ≡ header_length s.parts = length-header_unit s.parts in
     let none : length a.sink.now.bytes ≡ 0 = ap (λ (l : List ℕ). length l) c.requires.empty in
     start_stop (written_under s) a.sink.now c.start-started.new.sink c.in-Err-started.stop c.requires.flat c.steady.ensures c.steady-2.ensures c.in-Err-started.ensures.starts c.in-Err-started.ensures.cause (omega (arith, long, none, c.requires.room))

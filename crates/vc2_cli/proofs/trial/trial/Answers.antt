@@ -1,4 +1,4 @@
-use Rattle.std.proofs.Common.{◌≡◌, ◌∙◌, List, ℕ, subst}
+use Rattle.std.proofs.Common.{◌≡◌}
 use Rattle.vc2_io.proofs.Short.{GrewShort-along}
 use Rattle.vc2_words.specs.Shown.{shown}
 use Rattle.vc2_cli.specs.Trial.{trial_text}

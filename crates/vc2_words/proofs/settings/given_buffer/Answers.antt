@@ -1,4 +1,4 @@
-use Rattle.std.proofs.Common.{◌≡◌, ◌≤◌, ◌∙◌, ◌^◌, sym, arith}
+use Rattle.std.proofs.Common.{◌≤◌, ◌∙◌, ◌^◌, sym, arith}
 use Rattle.std.specs.Prelude.{slice_index}
 use Rattle.vc2_words.specs.declared.keys.Key.TheVariants as of_key
 use Rattle.vc2_words.proofs.settings.given_buffer.Goals as goal

@@ -1,6 +1,4 @@
-use Rattle.std.proofs.Common.{◌≡◌, ◌≤◌, ◌∙◌, sym, arith}
-use Rattle.std.specs.Prelude.{slice_index}
-use Rattle.vc2_words.specs.Forms.{greatest}
+use Rattle.std.proofs.Common.{◌∙◌, sym, arith}
 use Rattle.vc2_words.proofs.settings.number.Goals as goal
 
 pub unreachable-requires : goal.unreachable-requires

@@ -1,8 +1,8 @@
-use Rattle.std.proofs.Common.{◌≡◌, sym, subst, ◌∙◌}
+use Rattle.std.proofs.Common.{◌≡◌, sym, ap, subst, ◌∙◌}
 use Rattle.planes.specs.declared.Trio.{Trio}
 use Rattle.slice_decoder.specs.Decoded.{AreReady, AllKeepOthers}
 use Rattle.slice_decoder.specs.Narrow.{trio_of}
-use Rattle.picture_codec.specs.DecodedBands.{AllAgree}
+use Rattle.picture_codec.specs.DecodedBands.{AllAgree, WideSeen}
 use Rattle.picture_codec.proofs.DecodedBands.{wide_serve, narrow_serve, all_ready_after, all_keep_both, narrow_agree, wide_agree, copies_agree}
 use Rattle.picture_codec.proofs.decoded_bands.DecodedBands.decode.Goals as goal
 
@@ -13,12 +13,13 @@ invariant_of-self c =
     let sx = c.args.sx in
     let sy = c.args.sy in
     let narrow = c.self.inside.narrow in
-    let wide = c.self.inside.wide in
+    let wide = c.self.inside.wide.bands in
     let seen : c.args.self.now ≡ wide = sym c.self.view_is ∙ wide_serve c.self.inside.is_wide wide narrow c.if-self.true in
     let ready = subst (λ (b : Trio). AreReady s shape sx sy b) seen c.requires.ready in
     record {
       small = c.self.invariant.small;
-      sizes = wide_agree s shape sx sy narrow wide c.decode_slice.new.bands c.decode_slice.ensures.others ready c.self.invariant.sizes;
+      sizes = wide_agree s shape sx sy narrow wide c.decode.new.self.bands c.decode.ensures.others ready c.self.invariant.sizes;
+      made = λ serve. c.decode.ensures.made;
     }
 
 pub invariant_of-self-in-Ok-Some : goal.invariant_of-self-in-Ok-Some
@@ -28,13 +29,14 @@ invariant_of-self-in-Ok-Some c =
     let sx = c.args.sx in
     let sy = c.args.sy in
     let narrow = c.self.inside.narrow in
-    let wide = c.self.inside.wide in
+    let wide = c.self.inside.wide.bands in
     let new = c.decode_narrow.new.bands in
     let seen : c.args.self.now ≡ trio_of narrow = sym c.self.view_is ∙ narrow_serve c.self.inside.is_wide wide narrow c.if-self.false in
     let ready = subst (λ (b : Trio). AreReady s shape sx sy b) seen c.requires.ready in
     record {
       small = c.in-Ok-Some.ensures.narrow;
       sizes = narrow_agree s shape sx sy narrow new wide c.in-Ok-Some.ensures.others ready c.self.invariant.sizes;
+      made = c.self.invariant.made;
     }
 
 pub invariant_of-self-in-Err : goal.invariant_of-self-in-Err
@@ -44,13 +46,14 @@ invariant_of-self-in-Err c =
     let sx = c.args.sx in
     let sy = c.args.sy in
     let narrow = c.self.inside.narrow in
-    let wide = c.self.inside.wide in
+    let wide = c.self.inside.wide.bands in
     let new = c.decode_narrow.new.bands in
     let seen : c.args.self.now ≡ trio_of narrow = sym c.self.view_is ∙ narrow_serve c.self.inside.is_wide wide narrow c.if-self.false in
     let ready = subst (λ (b : Trio). AreReady s shape sx sy b) seen c.requires.ready in
     record {
       small = c.in-Err.ensures.narrow;
       sizes = narrow_agree s shape sx sy narrow new wide c.in-Err.ensures.others ready c.self.invariant.sizes;
+      made = c.self.invariant.made;
     }
 
 pub widen-requires : goal.widen-requires
@@ -60,24 +63,24 @@ widen-requires c =
     let sx = c.args.sx in
     let sy = c.args.sy in
     let narrow = c.self.inside.narrow in
-    let wide = c.self.inside.wide in
+    let wide = c.self.inside.wide.bands in
     let new = c.decode_narrow.new.bands in
     let seen : c.args.self.now ≡ trio_of narrow = sym c.self.view_is ∙ narrow_serve c.self.inside.is_wide wide narrow c.if-self.false in
     let ready = subst (λ (b : Trio). AreReady s shape sx sy b) seen c.requires.ready in
     narrow_agree s shape sx sy narrow new wide c.in-Ok-None.ensures.others ready c.self.invariant.sizes
 
-pub decode_slice-requires-in-Ok-None-clause-ready : goal.decode_slice-requires-in-Ok-None-clause-ready
-decode_slice-requires-in-Ok-None-clause-ready c =
+pub decode-requires-in-Ok-None-clause-ready : goal.decode-requires-in-Ok-None-clause-ready
+decode-requires-in-Ok-None-clause-ready c =
     let s = c.args.layout.now in
     let shape = c.args.shape.now in
     let sx = c.args.sx in
     let sy = c.args.sy in
     let narrow = c.self.inside.narrow in
-    let wide = c.self.inside.wide in
+    let wide = c.self.inside.wide.bands in
     let new = c.decode_narrow.new.bands in
     let seen : c.args.self.now ≡ trio_of narrow = sym c.self.view_is ∙ narrow_serve c.self.inside.is_wide wide narrow c.if-self.false in
     let ready = subst (λ (b : Trio). AreReady s shape sx sy b) seen c.requires.ready in
-    subst (λ (b : Trio). AreReady s shape sx sy b) (sym c.widen.ensures) (all_ready_after s shape sx sy (trio_of narrow) (trio_of new) c.in-Ok-None.ensures.others ready)
+    subst (λ (b : Trio). AreReady s shape sx sy b) (sym (ap (λ (w : WideSeen). w.bands) c.widen.ensures)) (all_ready_after s shape sx sy (trio_of narrow) (trio_of new) c.in-Ok-None.ensures.others ready)
 
 pub invariant_of-self-in-Ok-None : goal.invariant_of-self-in-Ok-None
 invariant_of-self-in-Ok-None c =
@@ -86,16 +89,17 @@ invariant_of-self-in-Ok-None c =
     let sx = c.args.sx in
     let sy = c.args.sy in
     let narrow = c.self.inside.narrow in
-    let wide = c.self.inside.wide in
+    let wide = c.self.inside.wide.bands in
     let new = c.decode_narrow.new.bands in
     let seen : c.args.self.now ≡ trio_of narrow = sym c.self.view_is ∙ narrow_serve c.self.inside.is_wide wide narrow c.if-self.false in
     let ready = subst (λ (b : Trio). AreReady s shape sx sy b) seen c.requires.ready in
-    let copied = c.widen.new.wide in
-    let ready_copied = subst (λ (b : Trio). AreReady s shape sx sy b) (sym c.widen.ensures) (all_ready_after s shape sx sy (trio_of narrow) (trio_of new) c.in-Ok-None.ensures.others ready) in
-    let agree = subst (λ (b : Trio). AllAgree new b) (sym c.widen.ensures) (copies_agree new) in
+    let copied = c.widen.new.self.bands in
+    let ready_copied = subst (λ (b : Trio). AreReady s shape sx sy b) (sym (ap (λ (w : WideSeen). w.bands) c.widen.ensures)) (all_ready_after s shape sx sy (trio_of narrow) (trio_of new) c.in-Ok-None.ensures.others ready) in
+    let agree = subst (λ (b : Trio). AllAgree new b) (sym (ap (λ (w : WideSeen). w.bands) c.widen.ensures)) (copies_agree new) in
     record {
       small = c.in-Ok-None.ensures.narrow;
-      sizes = wide_agree s shape sx sy new copied c.decode_slice-in-Ok-None.new.bands c.decode_slice-in-Ok-None.ensures.others ready_copied agree;
+      sizes = wide_agree s shape sx sy new copied c.decode-in-Ok-None.new.self.bands c.decode-in-Ok-None.ensures.others ready_copied agree;
+      made = λ serve. c.decode-in-Ok-None.ensures.made;
     }
 
 pub returns-in-Ok-None-clause-others : goal.returns-in-Ok-None-clause-others
@@ -105,9 +109,9 @@ returns-in-Ok-None-clause-others c =
     let sx = c.args.sx in
     let sy = c.args.sy in
     let narrow = c.self.inside.narrow in
-    let wide = c.self.inside.wide in
+    let wide = c.self.inside.wide.bands in
     let new = c.decode_narrow.new.bands in
     let seen : c.args.self.now ≡ trio_of narrow = sym c.self.view_is ∙ narrow_serve c.self.inside.is_wide wide narrow c.if-self.false in
-    let last = c.decode_slice-in-Ok-None.new.bands in
-    let keeps = subst (λ (b : Trio). AllKeepOthers s shape sx sy b last) c.widen.ensures c.decode_slice-in-Ok-None.ensures.others in
+    let last = c.decode-in-Ok-None.new.self.bands in
+    let keeps = subst (λ (b : Trio). AllKeepOthers s shape sx sy b last) (ap (λ (w : WideSeen). w.bands) c.widen.ensures) c.decode-in-Ok-None.ensures.others in
     subst (λ (b : Trio). AllKeepOthers s shape sx sy b last) (sym seen) (all_keep_both s shape sx sy (trio_of narrow) (trio_of new) last c.in-Ok-None.ensures.others keeps)

@@ -11,9 +11,9 @@ invariant_of-result c =
     let colour_w = padded_length s.depth shape.colour.w in
     let colour_h = padded_length s.depth shape.colour.h in
     let narrow = c.in_ok-narrow_zero_trio.field-0 in
-    let wide = c.in_ok-zero_trio.field-0 in
+    let wide = c.in_ok-new.field-0.bands in
     let narrow_zero = c.in_ok-narrow_zero_trio.ensures in
-    let wide_zero = c.in_ok-zero_trio.ensures in
+    let wide_zero = c.in_ok-new.ensures.zero in
     record {
       small = record {
         luma = zeros_within narrow.luma s.depth luma_w luma_h narrow_zero.0;
@@ -25,4 +25,5 @@ invariant_of-result c =
         c1 = zeros_agree narrow.c1 wide.c1 s.depth colour_w colour_h narrow_zero.1 wide_zero.1;
         c2 = zeros_agree narrow.c2 wide.c2 s.depth colour_w colour_h narrow_zero.2 wide_zero.2;
       };
+      made = λ serve. absurd cc;
     }

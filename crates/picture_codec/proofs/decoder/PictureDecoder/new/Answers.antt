@@ -10,7 +10,7 @@ invariant_of-result c =
     let shape = c.args.shape.now in
     let bands = c.in_ok-new.field-0 in
     let same_shape : c.in_ok-new-6.field-0.shape ≡ shape = ap (λ p. p.shape) c.in_ok-new-6.ensures in
-    subst (λ (sh : PictureShape). IsSound s sh 0 bands c.in_ok-new-2.field-0.plane c.in_ok-new-2.field-0.scratch c.in_ok-new-3.field-0.plane c.in_ok-new-3.field-0.scratch c.in_ok-new-4.field-0.plane c.in_ok-new-4.field-0.scratch c.in_ok-new-5.field-0.plane c.in_ok-new-5.field-0.scratch) (sym same_shape)
+    subst (λ (sh : PictureShape). IsSound s sh 0 bands c.in_ok-new-2.field-0 c.in_ok-new-4.field-0 c.in_ok-new-3.field-0 c.in_ok-new-5.field-0) (sym same_shape)
     (record {
       taken = record {
         luma = taken_none s shape.luma bands.luma c.in_ok-new.ensures.0;

@@ -1,7 +1,7 @@
-use Rattle.std.proofs.Common.{Some, refl, sym, arith}
-use Rattle.stream_rows.specs.declared.reason.Reason.TheVariants.{TrailingBytes}
+use Rattle.std.proofs.Common.{refl, sym, arith}
 use Rattle.stream_rows.specs.Units.{End}
 use Rattle.stream_units.proofs.Judges.{ends_by, takes_by}
+use Rattle.vc2_cli.proofs.Decoding.{pictures_few}
 use Rattle.vc2_cli.proofs.readers.StreamReaderUnitReader.next_turn.Goals as goal
 
 pub returns-then-is_end-clause-next : goal.returns-then-is_end-clause-next
@@ -11,11 +11,11 @@ returns-then-is_end-clause-next g c = λ no_stop going.
     record {
       unit = End;
       bytes = n.bytes;
-      tells = record { past = n.past; picture = n.over.1; shapes = n.shapes; few = omega arith };
+      tells = record { past = n.past; picture = n.over.1; shapes = n.shapes; byte = omega arith; few = omega arith };
       meets = n.meets;
       whole = n.whole;
       last = n.last;
-      final = (Some TrailingBytes, refl);
+      final = refl;
     }
 
 pub returns-clause-next : goal.returns-clause-next
@@ -25,7 +25,7 @@ returns-clause-next g c = λ no_stop going.
     record {
       unit = n.unit;
       bytes = n.bytes;
-      tells = record { past = n.past; picture = n.picture; shapes = n.shapes; few = n.few };
+      tells = record { past = n.past; picture = n.picture; shapes = n.shapes; byte = omega (arith, pictures_few n.unit, n.takes.some); few = n.few };
       takes = n.takes;
       past = n.past;
       going = n.going;

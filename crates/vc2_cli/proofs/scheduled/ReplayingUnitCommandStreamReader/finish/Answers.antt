@@ -6,9 +6,9 @@ use Rattle.vc2_cli.proofs.Replaying.{ending_is}
 use Rattle.vc2_cli.proofs.scheduled.ReplayingUnitCommandStreamReader.finish.Goals as goal
 
 pub returns-clause-wrote : goal.returns-clause-wrote
-returns-clause-wrote g c = λ before z unit bytes other t few final.
+returns-clause-wrote g c = λ before z unit bytes t few final.
     let written = g.K.Sink.written in
     let s = c.args.self.now in
     subst (λ (e : Ending). Closes e (last_line e) (written c.args.out.now) (written c.accept.new.out) c.accept.result)
-    (ending_is s.schedule s.slices c.pictures.result c.taken.result c.replay-outcome.result before c.args.reader.now c.shapes.result.now z unit bytes other t final c.pictures.ensures c.taken.ensures.value c.shapes.ensures.units c.shapes.ensures.total c.replay-outcome.ensures)
+    (ending_is s.schedule s.slices s.pictures c.taken.result c.replay-outcome.result before c.args.reader.now c.shapes.result.now z unit bytes t c.taken.ensures.value c.shapes.ensures.units c.shapes.ensures.total c.replay-outcome.ensures)
     c.accept.ensures.wrote

@@ -1,0 +1,153 @@
+//! The memory of planes and bands that may never be needed: it is taken at once, and touched only when they are made.
+
+ghost use Rattle.std.specs.Prelude.{◌≡◌, ℕ, ◌+◌, ◌*◌, ◌/◌, ◌%◌, ◌^◌, ◌<◌, ◌≤◌, length, map, replicate, slice_index_or, pos, IfOk, [], vec_capacity};
+ghost use Rattle.std.specs.List.{All};
+ghost use Rattle.planes.specs.Raster.{height, zeros};
+ghost use Rattle.planes.specs.Subbands.{no_band, subband_length, AreZeroBands};
+ghost use Rattle.planes.specs.Late.{IsUntouched};
+
+use crate::band_set::band_length;
+use crate::{Bands, NoMemory, Plane};
+use std::alloc::Global;
+use std::marker::Model;
+
+/// The memory of a plane of zeros. Contracts see that plane.
+#[derive(Drop)]
+pub struct LatePlane {
+    w: u32,
+    rows: Vec<Vec<i64>>,
+}
+
+impl Model for LatePlane {
+    ghost use Rattle.std.specs.Prelude.{ℤ, length};
+    ghost use Rattle.planes.specs.Raster.{Raster, zeros};
+    ghost use Rattle.planes.specs.Late.{IsUntouched};
+
+    ghost Value = { Raster ℤ };
+
+    ghost view = { λ p. zeros p.w (length p.rows.items) };
+
+    ghost invariant = { λ p. IsUntouched p.w p.rows.items };
+}
+
+// Rows with room for w numbers each, and none in them.
+fn roomy_rows(alloc: Global, w: usize, h: usize) -> Result<Vec<Vec<i64>>, NoMemory>
+    ensures every { IfOk result (λ rows. All (λ r. (r.items ≡ []) × (w ≤ vec_capacity r)) rows.items) }
+    ensures count { IfOk result (λ rows. length rows.items ≡ h) }
+{
+    let mut rows = Vec::with_capacity(alloc, h)?;
+    for _y in 0..h {
+        rows.push(Vec::with_capacity(alloc, w)?)?;
+    }
+    Ok(rows)
+}
+
+// Puts w zeros into a row that has room for them.
+fn touch(row: &mut Vec<i64>, w: usize)
+    requires none { row.old.items ≡ [] }
+    requires room { w ≤ vec_capacity row.old }
+    ensures { row.new.items ≡ replicate w (pos 0) }
+{
+    match row.resize(w, 0) {
+        Ok(()) => {}
+        Err(_) => unreachable!(),
+    }
+}
+
+// Does so in each row.
+fn touch_all(rows: &mut Vec<Vec<i64>>, w: usize)
+    requires { All (λ r. (r.items ≡ []) × (w ≤ vec_capacity r)) rows.old.items }
+    ensures zero { map (λ r. r.items) rows.new.items ≡ replicate (length rows.old.items) (replicate w (pos 0)) }
+    ensures every { All (λ r. length r.items ≡ w) rows.new.items }
+    ensures count { length rows.new.items ≡ length rows.old.items }
+{
+    for y in 0..rows.len() {
+        touch(&mut rows[y], w);
+    }
+}
+
+impl LatePlane {
+    /// The memory of a plane of w by h zeros, both at most 8208.
+    pub fn new(alloc: Global, w: u32, h: u32) -> Result<LatePlane, NoMemory>
+        requires w_fits { w ≤ 8208 }
+        requires h_fits { h ≤ 8208 }
+        ensures { IfOk result (λ p. p ≡ zeros w h) }
+    {
+        let rows = roomy_rows(alloc, w as usize, h as usize)?;
+        Ok(LatePlane { w, rows })
+    }
+
+    /// Makes the plane, in the place of one without rows. No memory is left then.
+    pub fn make(&mut self, plane: &mut Plane)
+        requires { height plane.old ≡ 0 }
+        ensures { plane.new ≡ self.old }
+    {
+        touch_all(&mut self.rows, self.w as usize);
+        plane.take_rows(self.w, &mut self.rows);
+    }
+}
+
+/// The memory of the subbands of one component, all zero. Contracts see those bands.
+#[derive(Drop)]
+pub struct LateBands {
+    depth: u32,
+    planes: Vec<LatePlane>,
+}
+
+impl Model for LateBands {
+    ghost use Rattle.std.specs.Prelude.{◌≡◌, ◌+◌, ◌*◌, ◌≤◌, length};
+    ghost use Rattle.planes.specs.Subbands.{BandStack};
+
+    ghost Value = { BandStack };
+
+    ghost view = { λ b. record { depth = b.depth; bands = b.planes.items } };
+
+    ghost invariant = { λ b. (length b.planes.items ≡ 3 * b.depth + 1) × (b.depth ≤ 4) };
+}
+
+// The memory of the bands, in the order of their places.
+fn late_planes(alloc: Global, depth: u32, w: u32, h: u32) -> Result<Vec<LatePlane>, NoMemory>
+    requires depth { depth ≤ 4 }
+    requires w_fits { w ≤ 8208 }
+    requires h_fits { h ≤ 8208 }
+    ensures count { IfOk result (λ planes. length planes.items ≡ 3 * depth + 1) }
+    ensures zero { IfOk result (λ planes. (k : ℕ) → k < 3 * depth + 1 → slice_index_or planes.items k no_band ≡ zeros (subband_length depth ((k + 2) / 3) w) (subband_length depth ((k + 2) / 3) h)) }
+{
+    let mut planes = Vec::with_capacity(alloc, (3 * depth + 1) as usize)?;
+    for k in 0..3 * depth + 1 {
+        let level = (k + 2) / 3;
+        let plane = LatePlane::new(
+            alloc,
+            band_length(depth, level, w),
+            band_length(depth, level, h),
+        )?;
+        planes.push(plane)?;
+    }
+    Ok(planes)
+}
+
+impl LateBands {
+    /// The memory of the bands of a component of this padded size; the sizes are as `Bands::new` asks them.
+    pub fn new(alloc: Global, depth: u32, w: u32, h: u32) -> Result<LateBands, NoMemory>
+        requires depth { depth ≤ 4 }
+        requires w_fits { w ≤ 8208 }
+        requires h_fits { h ≤ 8208 }
+        requires w_whole { w % 2 ^ depth ≡ 0 }
+        requires h_whole { h % 2 ^ depth ≡ 0 }
+        ensures { IfOk result (λ b. AreZeroBands b depth w h) }
+    {
+        let planes = late_planes(alloc, depth, w, h)?;
+        Ok(LateBands { depth, planes })
+    }
+
+    /// Makes the bands, in the place of those of a component of no rows and no columns. No memory is left then.
+    pub fn make(&mut self, bands: &mut Bands)
+        requires { AreZeroBands bands.old self.old.depth 0 0 }
+        ensures { bands.new ≡ self.old }
+    {
+        let _ = (self.depth, bands.depth());
+        for k in 0..self.planes.len() {
+            self.planes[k].make(&mut bands.planes[k]);
+        }
+    }
+}
