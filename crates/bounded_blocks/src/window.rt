@@ -1,6 +1,6 @@
 //! Bits of a block at hand, from a word of 64 bits.
 //!
-//! A window is loaded from eight bytes, and look-ups take its top bits until fewer than eight are known. Past a block's
+//! A window is loaded from eight bytes, and look-ups take its top bits until fewer than they need are known. Past a block's
 //! end it has ones, so that the last codes of a block are looked up as all others are.
 
 ghost use Rattle.std.specs.Prelude.{◌≡◌, ℕ, ◌+◌, ◌-◌, ◌*◌, ◌^◌, ◌<◌, ◌≤◌, List, true, length, take, slice_index_or};
@@ -104,17 +104,18 @@ fn bits_at(bytes: &[u8], place: u64, end: u64) -> u64
     }
 }
 
-/// A window at the same place that shows eight bits at least. A place past the end is cut to the end.
+/// A window at the same place that shows so many bits at least. A place past the end is cut to the end.
 #[inline(always)]
-pub(crate) fn showing_eight(bytes: &[u8], window: Window, end: u64) -> Window
+pub(crate) fn showing(least: u32, bytes: &[u8], window: Window, end: u64) -> Window
+    requires few { least ≤ 57 }
     requires room { length bytes.now ≤ 2 ^ 40 }
     requires inside { end ≤ 8 * length bytes.now }
     requires at { IsAt bytes.now end window }
     ensures at { IsAt bytes.now end result }
-    ensures eight { 8 ≤ result.shown }
+    ensures enough { least ≤ result.shown }
     ensures same { block_of bytes.now result.place end ≡ block_of bytes.now window.place end }
 {
-    if window.shown >= 8 {
+    if window.shown >= least {
         return window;
     }
     let place = window.place.min(end);
@@ -140,7 +141,7 @@ pub(crate) fn codes_at(window: Window) -> ShortCodes
 /// The window some bits on, of those that it shows.
 #[inline(always)]
 pub(crate) fn behind(window: Window, length: u8) -> Window
-    requires few { length ≤ 8 }
+    requires few { length ≤ 57 }
     requires shown { length ≤ window.shown }
     requires room { window.place < 2 ^ 50 }
     ensures place { result.place ≡ window.place + length }

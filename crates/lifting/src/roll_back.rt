@@ -67,7 +67,7 @@ fn finish_two(scratch: &mut Plane, y: u32, w: u32, h: u32, wavelet: Wavelet)
     requires low { h ≤ 4104 }
     requires fits { 2 * w ≤ scratch.old.w }
     requires high { 2 * h ≤ height scratch.old }
-    requires small { (j : ℕ) → 2 * y - 1 ≤ j → j ≤ 2 * y + 2 → j < 2 * h → LineWithin (2 * w) (2 ^ 58) (at scratch.old (j % 4)) }
+    requires small { (j : ℕ) → 2 * y - 1 ≤ j → j ≤ 2 * y + 2 → j < 2 * h → LineWithin (2 * w) (2 ^ 28) (at scratch.old (j % 4)) }
     ensures same_width { scratch.new.w ≡ scratch.old.w }
     ensures same_height { height scratch.new ≡ height scratch.old }
     ensures odd { (x : ℕ) → x < 2 * w → at scratch.new ((2 * y + 1) % 4) x

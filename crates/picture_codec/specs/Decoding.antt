@@ -24,7 +24,8 @@ use Rattle.slice_decoder.specs.Slice.{Slice, slice_at, is_small}
 use Rattle.slice_decoder.specs.Decoded.{AllKeepOthers, IsRefused}
 use Rattle.picture_codec.specs.Taking.{holder, Took, TakesSlice}
 use Rattle.picture_codec.specs.declared.workspace.LateWorkspace.{LateWorkspace}
-use Rattle.picture_codec.specs.declared.workspace.NarrowWorkspace.{NarrowWorkspace}
+use Rattle.picture_codec.specs.declared.workspace.SynthesisRoom.{SynthesisRoom}
+use Rattle.picture_codec.specs.declared.workspace.SynthesisRooms.{SynthesisRooms}
 
 -- ---- what is seen of a decoder
 
@@ -105,6 +106,10 @@ pub record HasNarrowRoom (s : Slicing) (size : Size) (plane scratch : Raster ℤ
   pub scratch_columns : scratch.w ≡ padded_length s.depth size.w
   pub scratch_rows : height scratch ≡ padded_length s.depth size.h / 2 + 3
 
+-- both
+abbrev pub HasSynthesisRoom : Slicing → Size → SynthesisRoom → Type 0
+HasSynthesisRoom s size room = HasLateRoom s size room.late × HasNarrowRoom s size room.narrow.plane room.narrow.scratch
+
 -- ---- its calls
 
 -- the place of the next slice
@@ -155,13 +160,10 @@ pub record IsSliceRefused (bytes : List ℕ) (fault : SliceFault) (old new : Pic
   pub others : AllKeepOthers old.params.slicing old.shape (column_of old) (row_of_slices old) old.bands new.bands
 
 -- what a decoder keeps: the room for synthesis, and bands that the slices so far were taken into
-pub record IsSound (s : Slicing) (shape : PictureShape) (next : ℕ) (bands : Trio)
-    (luma_room colour_room : LateWorkspace) (luma_narrow colour_narrow : NarrowWorkspace) : Type 0 where
+pub record IsSound (s : Slicing) (shape : PictureShape) (next : ℕ) (bands : Trio) (rooms : SynthesisRooms) : Type 0 where
   pub taken : AllTaken s shape next bands
-  pub luma : HasLateRoom s shape.luma luma_room
-  pub luma_in_32_bits : HasNarrowRoom s shape.luma luma_narrow.plane luma_narrow.scratch
-  pub colour : HasLateRoom s shape.colour colour_room
-  pub colour_in_32_bits : HasNarrowRoom s shape.colour colour_narrow.plane colour_narrow.scratch
+  pub luma : HasSynthesisRoom s shape.luma rooms.luma
+  pub colour : HasSynthesisRoom s shape.colour rooms.colour
 
 -- A decoder that took these slices, in order, since it was made or last restarted.
 pub record HasTaken (slices : List (List ℕ)) (d : PictureDecoderSeen) : Type 0 where

@@ -1,6 +1,6 @@
 -- What an encoder keeps from picture to picture, and what it finds of one.
 use Rattle.std.specs.Prelude.{◌≡◌, ℕ, ◌<◌, length, ℤ}
-use Rattle.planes.specs.declared.Trio.{Trio}
+use Rattle.planes.specs.declared.NarrowTrio.{NarrowTrio}
 use Rattle.planes.specs.declared.ThreePlanes.{ThreePlanes}
 use Rattle.planes.specs.Numbers.{Within}
 use Rattle.planes.specs.Raster.{Raster, height, row_of, at}
@@ -32,7 +32,7 @@ abbrev pub IsLowest : Slicing → Size → Raster ℤ → Type 0
 IsLowest s size p = let band = band_size s.depth 0 size in (p.w ≡ band.w) × (height p ≡ band.h)
 
 -- what stays from picture to picture
-pub record IsReadyToEncode (s : Slicing) (shape : PictureShape) (bands : Trio) (kept : ThreePlanes)
+pub record IsReadyToEncode (s : Slicing) (shape : PictureShape) (bands : NarrowTrio) (kept : ThreePlanes)
     (luma_plane luma_scratch colour_plane colour_scratch : Raster ℤ) : Type 0 where
   pub luma : HaveBandSizes s shape.luma bands.luma
   pub c1 : HaveBandSizes s shape.colour bands.c1
@@ -52,7 +52,7 @@ pub record HoldComponent (p : Params) (size : Size) (d : ℕ) (s : SamplesSeen) 
   pub small : (level orient y x : ℕ) → BandExists p.slicing.depth level orient
       → Within (most_coefficient p.slicing.depth d) (at (band_of b level orient) y x)
 
-pub record HoldPicture (p : Params) (shape : PictureShape) (s : PictureSamples) (bands : Trio) : Type 0 where
+pub record HoldPicture (p : Params) (shape : PictureShape) (s : PictureSamples) (bands : NarrowTrio) : Type 0 where
   pub luma : HoldComponent p shape.luma shape.luma_depth s.luma bands.luma
   pub c1 : HoldComponent p shape.colour shape.colour_depth s.c1 bands.c1
   pub c2 : HoldComponent p shape.colour shape.colour_depth s.c2 bands.c2

@@ -14,6 +14,7 @@ ghost use Rattle.picture_codec.specs.DecodedBands.{AllAgree, narrow_of};
 use crate::picture::Picture;
 use crate::wide_bands::WideBands;
 use crate::workspace::{LateWorkspace, NarrowWorkspace, narrow_zero_trio, size_of};
+use bounded_blocks::{CodeTable, SPARE};
 use lifting::synth;
 use planes::{Bands, NarrowBands, NarrowTrio, NoMemory, Trio};
 use quant_factors::Matrix;
@@ -23,8 +24,8 @@ use std::alloc::Global;
 use std::marker::Model;
 use transform_params::TransformParams;
 
-// How many values of a block are read into bands of 32 bits.
-const ROOM: usize = 16384;
+// The most values of a block that are read into bands of 32 bits.
+const MOST_VALUES: usize = 1 << 20;
 
 // The greatest magnitude in bands of 32 bits.
 const MOST_NARROW: i64 = 262144;
@@ -95,6 +96,16 @@ fn narrow_stack(bands: &NarrowTrio, c: Component) -> &NarrowBands
     }
 }
 
+// How many values there is room for: those of about the greatest block of a picture's slices, and the places behind them
+// that reading takes. A block of more is read into bands of 64 bits.
+fn room_of(layout: &Layout, shape: &PictureShape) -> usize {
+    let depth = layout.depth();
+    let across = shape.luma.w / layout.slices_x() + (2 << depth);
+    let down = shape.luma.h / layout.slices_y() + (2 << depth);
+    let values = across as usize * down as usize;
+    (2 * values).min(MOST_VALUES) + SPARE
+}
+
 // Whether bands of 32 bits may hold all numbers.
 fn are_narrow(wide: &Trio) -> bool
     ensures { result ≡ true → AreNarrowBands (narrow_of wide.now) }
@@ -120,7 +131,8 @@ pub struct DecodedBands {
     narrow: NarrowTrio,
     wide: WideBands,
     is_wide: bool,
-    buffer: Vec<i64>,
+    codes: CodeTable,
+    buffer: Vec<i32>,
 }
 
 impl Model for DecodedBands {
@@ -149,7 +161,8 @@ impl DecodedBands {
             narrow: narrow_zero_trio(alloc, layout, shape)?,
             wide: WideBands::new(alloc, layout, shape)?,
             is_wide: false,
-            buffer: Vec::from_elem(alloc, 0i64, ROOM)?,
+            codes: CodeTable::new(alloc)?,
+            buffer: Vec::from_elem(alloc, 0i32, room_of(layout, shape))?,
         })
     }
 
@@ -185,6 +198,7 @@ impl DecodedBands {
             sx,
             sy,
             bytes,
+            &self.codes,
             &mut self.narrow,
             &mut self.buffer,
         ) {

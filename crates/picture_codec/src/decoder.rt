@@ -8,7 +8,7 @@ ghost use Rattle.picture_codec.specs.Decoding.{IsNewDecoder, IsTaken, IsSliceRef
 
 use crate::decoded_bands::DecodedBands;
 use crate::picture::Picture;
-use crate::workspace::{LateWorkspace, NarrowWorkspace};
+use crate::workspace::SynthesisRooms;
 use planes::NoMemory;
 use slice_decoder::SliceFault;
 use slice_geometry::{Component, PictureShape};
@@ -26,10 +26,7 @@ use transform_params::TransformParams;
 pub struct PictureDecoder {
     params: TransformParams,
     bands: DecodedBands,
-    luma_room: LateWorkspace,
-    luma_narrow: NarrowWorkspace,
-    colour_room: LateWorkspace,
-    colour_narrow: NarrowWorkspace,
+    rooms: SynthesisRooms,
     picture: Picture,
     next: u32,
     refused: bool,
@@ -52,7 +49,7 @@ impl Model for PictureDecoder {
       picture = if d.finished then Some d.picture.samples else None;
     } };
 
-    ghost invariant = { λ d. IsSound d.params.layout d.picture.shape d.next d.bands d.luma_room d.colour_room d.luma_narrow d.colour_narrow };
+    ghost invariant = { λ d. IsSound d.params.layout d.picture.shape d.next d.bands d.rooms };
 }
 
 impl PictureDecoder {
@@ -70,14 +67,12 @@ impl PictureDecoder {
         ensures { IfOk result (IsNewDecoder shape.now (params_of params.now)) }
     {
         let layout = &params.layout;
+        let rooms = SynthesisRooms::new(alloc, layout, shape)?;
         Ok(PictureDecoder {
             params: *params,
-            bands: DecodedBands::new(alloc, layout, shape)?,
-            luma_room: LateWorkspace::new(alloc, layout, shape.luma)?,
-            luma_narrow: NarrowWorkspace::new(alloc, layout, shape.luma)?,
-            colour_room: LateWorkspace::new(alloc, layout, shape.colour)?,
-            colour_narrow: NarrowWorkspace::new(alloc, layout, shape.colour)?,
             picture: Picture::new(alloc, shape)?,
+            bands: DecodedBands::new(alloc, layout, shape)?,
+            rooms,
             next: 0,
             refused: false,
             finished: false,
@@ -145,22 +140,22 @@ impl PictureDecoder {
         self.bands.show(
             Component::Luma,
             &params,
-            &mut self.luma_room,
-            &mut self.luma_narrow,
+            &mut self.rooms.luma.late,
+            &mut self.rooms.luma.narrow,
             &mut self.picture,
         );
         self.bands.show(
             Component::C1,
             &params,
-            &mut self.colour_room,
-            &mut self.colour_narrow,
+            &mut self.rooms.colour.late,
+            &mut self.rooms.colour.narrow,
             &mut self.picture,
         );
         self.bands.show(
             Component::C2,
             &params,
-            &mut self.colour_room,
-            &mut self.colour_narrow,
+            &mut self.rooms.colour.late,
+            &mut self.rooms.colour.narrow,
             &mut self.picture,
         );
         self.finished = true;

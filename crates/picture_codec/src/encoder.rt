@@ -6,7 +6,7 @@ ghost use Rattle.std.specs.Int.{w32, to_be_bytes};
 ghost use Rattle.planes.specs.Raster.{height, at};
 ghost use Rattle.slice_geometry.specs.Shape.{IsSize, IsDepth};
 ghost use Rattle.slice_geometry.specs.Slicing.{total_bytes};
-ghost use Rattle.slice_encoder.specs.Ready.{coded_picture, AreGiven};
+ghost use Rattle.slice_encoder.specs.Ready.{narrow_picture, AreGiven};
 ghost use Rattle.slice_encoder.specs.Tries.{KeptHaveSizes};
 ghost use Rattle.slice_encoder.specs.Chosen.{written_slices};
 ghost use Rattle.transform_params.specs.Views.{params_of};
@@ -15,15 +15,16 @@ ghost use Rattle.slice_geometry.specs.Frames.{frame_of};
 ghost use Rattle.picture_codec.specs.Samples.{shown};
 ghost use Rattle.picture_codec.specs.Decoding.{ArePadded};
 ghost use Rattle.picture_codec.specs.Pictures as pictures;
-ghost use Rattle.picture_codec.specs.Encoding.{centred, slices_of, picture_bytes, IsSteepFor};
+ghost use Rattle.picture_codec.specs.Encoding.{slices_of, picture_bytes, IsSteepFor};
 ghost use Rattle.picture_codec.specs.EncoderInside.{IsWhole, AreWhole, HaveBandSizes, IsLowest, IsReadyToEncode, HoldComponent, HoldPicture};
 
+use crate::centring::centre;
 use crate::picture::Picture;
-use crate::samples::half_range;
-use crate::workspace::{Workspace, depth_of, size_of, zero_trio};
-use lifting::analyse;
-use planes::{Bands, NoMemory, Plane, ThreePlanes, Trio};
+use crate::workspace::{AnalysisWorkspace, depth_of, narrow_zero_trio, size_of};
+use lifting::analyse_narrow;
+use planes::{NarrowBands, NarrowPlane, NarrowTrio, NoMemory, Plane, ThreePlanes};
 use quant_factors::Matrix;
+use slice_decoder::read_ahead;
 use slice_encoder::{SliceEncoder, steep_ok};
 use slice_geometry::{Component, Layout, PictureShape, Size};
 use std::alloc::Global;
@@ -38,41 +39,8 @@ pub enum EncoderFault {
     NoMemory,
 }
 
-// A row of samples, counted from the middle of their range. What lies behind them in the row stays.
-fn put_row(row: &mut [i64], samples: &[u16], half: i64)
-    requires len { length samples.now ≤ length row.old }
-    requires some { pos 1 ≤ℤ half }
-    requires most { half ≤ℤ pos 32768 }
-    ensures same_length { length row.new ≡ length row.old }
-    ensures row { (x : ℕ) → x < length samples.now → slice_index_or row.new x (pos 0) ≡ pos (slice_index_or samples.now x 0) -ℤ half }
-{
-    for x in 0..samples.len() {
-        row[x] = i64::from(samples[x]) - half;
-    }
-}
-
-// The samples of a component, counted from the middle of their range, and padded.
-fn centre(samples: &[u16], size: Size, depth: u32, plane: &mut Plane)
-    requires size { IsSize size.w size.h }
-    requires depth { IsDepth depth }
-    requires count { length samples.now ≡ size.h * size.w }
-    requires across { size.w ≤ plane.old.w }
-    requires down { size.h ≤ height plane.old }
-    ensures same_width { plane.new.w ≡ plane.old.w }
-    ensures same_height { height plane.new ≡ height plane.old }
-    ensures values { (y x : ℕ) → y < height plane.new → x < plane.new.w → at plane.new y x ≡ centred depth size (record { w = size.w; h = size.h; cells = samples.now }) y x }
-{
-    let half = half_range(depth);
-    for y in 0..size.h {
-        let start = (y * size.w) as usize;
-        let end = start + size.w as usize;
-        put_row(plane.row_mut(y), &samples[start..end], half);
-    }
-    plane.fill_edges(size.w, size.h);
-}
-
 // Says of a plane that its rows are as long as it is wide.
-fn is_whole(plane: &Plane)
+fn is_whole(plane: &NarrowPlane)
     ensures { IsWhole plane.now }
 {
     for y in 0..plane.h() {
@@ -81,7 +49,7 @@ fn is_whole(plane: &Plane)
 }
 
 // The same of all bands.
-fn are_whole(bands: &Bands)
+fn are_whole(bands: &NarrowBands)
     ensures { AreWhole bands.now }
 {
     for k in 0..3 * bands.depth() + 1 {
@@ -96,8 +64,8 @@ fn analyse_component(
     params: &TransformParams,
     picture: &Picture,
     c: Component,
-    room: &mut Workspace,
-    bands: &mut Bands,
+    room: &mut AnalysisWorkspace,
+    bands: &mut NarrowBands,
 )
     requires room { ArePadded params.now.layout (pictures.size_of (frame_of picture.now.shape) c) room.old.plane room.old.scratch }
     requires bands { HaveBandSizes params.now.layout (pictures.size_of (frame_of picture.now.shape) c) bands.old }
@@ -114,7 +82,7 @@ fn analyse_component(
         depth,
         &mut room.plane,
     );
-    analyse(params.wavelet, &mut room.plane, &mut room.scratch, bands);
+    analyse_narrow(params.wavelet, &mut room.plane, &mut room.scratch, bands);
     are_whole(bands);
 }
 
@@ -131,50 +99,49 @@ fn kept_plane(alloc: Global, layout: &Layout, size: Size) -> Result<Plane, NoMem
 // before it.
 fn encode_slices(
     params: &TransformParams,
+    shape: &PictureShape,
     slices: &mut SliceEncoder,
-    bands: &Trio,
+    bands: &NarrowTrio,
     kept: &mut ThreePlanes,
+    ahead: &mut [i32],
     bytes: &mut [u8],
 )
     requires layout { slices.old.slicing ≡ params.now.layout }
     requires steep { IsSteepFor slices.old.shape (params_of params.now) }
-    requires given { AreGiven (coded_picture params.now.layout slices.old.shape params.now.matrix bands.now) }
-    requires kept { KeptHaveSizes (coded_picture params.now.layout slices.old.shape params.now.matrix bands.now) kept.old }
+    requires given { AreGiven (narrow_picture params.now.layout slices.old.shape params.now.matrix bands.now) }
+    requires kept { KeptHaveSizes (narrow_picture params.now.layout slices.old.shape params.now.matrix bands.now) kept.old }
     requires room { length bytes.old ≡ total_bytes params.now.layout }
     ensures same { slices.new ≡ slices.old }
-    ensures kept { KeptHaveSizes (coded_picture params.now.layout slices.old.shape params.now.matrix bands.now) kept.new }
-    ensures slices { bytes.new ≡ concat (written_slices (coded_picture params.now.layout slices.old.shape params.now.matrix bands.now)) }
+    ensures kept { KeptHaveSizes (narrow_picture params.now.layout slices.old.shape params.now.matrix bands.now) kept.new }
+    ensures slices { bytes.new ≡ concat (written_slices (narrow_picture params.now.layout slices.old.shape params.now.matrix bands.now)) }
 {
     let layout = &params.layout;
     let across = layout.slices_x();
     let mut place = 0usize;
     for n in 0..layout.count() {
         let end = place + layout.share(n) as usize;
-        slices.encode_slice(
-            &params.matrix,
-            n % across,
-            n / across,
-            bands,
-            kept,
-            &mut bytes[place..end],
-        );
+        let (sx, sy) = (n % across, n / across);
+        read_ahead(bands, layout, shape, sx, sy, ahead);
+        slices.encode_slice_narrow(&params.matrix, sx, sy, bands, kept, &mut bytes[place..end]);
         place = end;
     }
 }
 
 /// Writes pictures of one shape with one set of parameters. Contracts see these two.
 ///
-/// All memory is taken in `new`: about 8 bytes a sample for the subbands, 16 for two planes of each size, and little for
+/// All memory is taken in `new`: about 4 bytes a sample for the subbands, 8 for two planes of each size, and little for
 /// the lowest subbands as a decoder restores them.
 #[derive(Drop)]
 pub struct PictureEncoder {
     params: TransformParams,
     shape: PictureShape,
     slices: SliceEncoder,
-    bands: Trio,
+    bands: NarrowTrio,
     kept: ThreePlanes,
-    luma_room: Workspace,
-    colour_room: Workspace,
+    luma_room: AnalysisWorkspace,
+    colour_room: AnalysisWorkspace,
+    // What reading ahead comes to, which nobody needs.
+    ahead: [i32; 1],
 }
 
 impl Model for PictureEncoder {
@@ -206,6 +173,20 @@ fn kept_planes(
     })
 }
 
+// The planes of luma, and those of C1 and C2, which share theirs.
+fn workspaces(
+    alloc: Global,
+    layout: &Layout,
+    shape: &PictureShape,
+) -> Result<(AnalysisWorkspace, AnalysisWorkspace), NoMemory>
+    ensures { IfOk result (λ rooms. ArePadded layout.now shape.now.luma rooms.0.plane rooms.0.scratch × ArePadded layout.now shape.now.colour rooms.1.plane rooms.1.scratch) }
+{
+    Ok((
+        AnalysisWorkspace::new(alloc, layout, shape.luma)?,
+        AnalysisWorkspace::new(alloc, layout, shape.colour)?,
+    ))
+}
+
 // Whether every slice of a picture of this shape can be written by the matrix.
 fn is_steep_ok(shape: &PictureShape, params: &TransformParams) -> bool
     ensures { (result ≡ true) ↔ IsSteepFor shape.now (params_of params.now) }
@@ -235,14 +216,16 @@ impl PictureEncoder {
         ensures { IfOk result (λ e. e ≡ record { shape = shape.now; params = params_of params.now }) }
     {
         let layout = &params.layout;
+        let (luma_room, colour_room) = workspaces(alloc, layout, shape)?;
         Ok(PictureEncoder {
             params: *params,
             shape: *shape,
-            slices: SliceEncoder::new(alloc, layout, shape)?,
-            bands: zero_trio(alloc, layout, shape)?,
+            luma_room,
+            colour_room,
             kept: kept_planes(alloc, layout, shape)?,
-            luma_room: Workspace::new(alloc, layout, shape.luma)?,
-            colour_room: Workspace::new(alloc, layout, shape.colour)?,
+            bands: narrow_zero_trio(alloc, layout, shape)?,
+            ahead: [0],
+            slices: SliceEncoder::new(alloc, layout, shape)?,
         })
     }
 
@@ -299,9 +282,11 @@ impl PictureEncoder {
         put_front(&params, number, front);
         encode_slices(
             &params,
+            &self.shape,
             &mut self.slices,
             &self.bands,
             &mut self.kept,
+            &mut self.ahead,
             slices,
         );
     }

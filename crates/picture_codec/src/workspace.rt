@@ -4,7 +4,7 @@ ghost use Rattle.std.specs.Prelude.{◌≡◌, ◌≤◌, true, IfOk};
 ghost use Rattle.slice_geometry.specs.Shape.{IsSize, IsDepth};
 ghost use Rattle.picture_codec.specs.Pictures as pictures;
 ghost use Rattle.slice_geometry.specs.Frames.{frame_of};
-ghost use Rattle.picture_codec.specs.Decoding.{ArePadded, HasNarrowRoom, AreNewBands, IsRowless, HasLateRoom};
+ghost use Rattle.picture_codec.specs.Decoding.{ArePadded, HasNarrowRoom, AreNewBands, IsRowless, HasLateRoom, HasSynthesisRoom};
 ghost use Rattle.planes.specs.Subbands.{AreZeroBands};
 ghost use Rattle.slice_geometry.specs.Slicing.{Slicing};
 ghost use Rattle.slice_geometry.specs.declared.Size.{Size};
@@ -16,26 +16,11 @@ use planes::{
 use slice_geometry::{Component, Layout, PictureShape, Size};
 use std::alloc::Global;
 
-/// The plane that is transformed, and a scratch beside it.
+/// The plane that is transformed in 64 bits, and a scratch beside it.
 #[derive(Drop)]
 pub(crate) struct Workspace {
     pub(crate) plane: Plane,
     pub(crate) scratch: Plane,
-}
-
-impl Workspace {
-    pub(crate) fn new(alloc: Global, layout: &Layout, size: Size) -> Result<Workspace, NoMemory>
-        requires { IsSize size.w size.h }
-        ensures { IfOk result (λ w. ArePadded layout.now size w.plane w.scratch) }
-    {
-        // The rules of a layout.
-        let _ = layout.depth();
-        let padded = layout.padded_size(size);
-        Ok(Workspace {
-            plane: Plane::new(alloc, padded.w, padded.h)?,
-            scratch: Plane::new(alloc, padded.w, padded.h)?,
-        })
-    }
 }
 
 /// The room for synthesis in 64 bits, which few pictures need: its memory isn't touched before it is made.
@@ -80,6 +65,32 @@ impl LateWorkspace {
     }
 }
 
+/// The room for analysis: the plane that is analysed, and a scratch beside it.
+#[derive(Drop)]
+pub(crate) struct AnalysisWorkspace {
+    pub(crate) plane: NarrowPlane,
+    pub(crate) scratch: NarrowPlane,
+}
+
+impl AnalysisWorkspace {
+    pub(crate) fn new(
+        alloc: Global,
+        layout: &Layout,
+        size: Size,
+    ) -> Result<AnalysisWorkspace, NoMemory>
+        requires { IsSize size.w size.h }
+        ensures { IfOk result (λ w. ArePadded layout.now size w.plane w.scratch) }
+    {
+        // The rules of a layout.
+        let _ = layout.depth();
+        let padded = layout.padded_size(size);
+        Ok(AnalysisWorkspace {
+            plane: NarrowPlane::new(alloc, padded.w, padded.h)?,
+            scratch: NarrowPlane::new(alloc, padded.w, padded.h)?,
+        })
+    }
+}
+
 /// The room for synthesis in 32 bits: a plane for the levels below the last, and a scratch for their rows and for three of
 /// the last, which goes straight into the samples.
 #[derive(Drop)]
@@ -107,31 +118,48 @@ impl NarrowWorkspace {
     }
 }
 
-// The bands of a component, all zero.
-fn zero_bands(alloc: Global, layout: &Layout, size: Size) -> Result<Bands, NoMemory>
-    requires { IsSize size.w size.h }
-    ensures { IfOk result (AreNewBands layout.now size) }
-{
-    let padded = layout.padded_size(size);
-    Bands::new(alloc, layout.depth(), padded.w, padded.h)
+/// The room for synthesis of a component: in 64 bits and in 32.
+#[derive(Drop)]
+pub(crate) struct SynthesisRoom {
+    pub(crate) late: LateWorkspace,
+    pub(crate) narrow: NarrowWorkspace,
 }
 
-/// The bands of the three components, all zero.
-pub(crate) fn zero_trio(
-    alloc: Global,
-    layout: &Layout,
-    shape: &PictureShape,
-) -> Result<Trio, NoMemory>
-    ensures { IfOk result (λ bands. AreNewBands layout.now shape.now.luma bands.luma × AreNewBands layout.now shape.now.colour bands.c1 × AreNewBands layout.now shape.now.colour bands.c2) }
-{
-    Ok(Trio {
-        luma: zero_bands(alloc, layout, shape.luma)?,
-        c1: zero_bands(alloc, layout, shape.colour)?,
-        c2: zero_bands(alloc, layout, shape.colour)?,
-    })
+impl SynthesisRoom {
+    pub(crate) fn new(alloc: Global, layout: &Layout, size: Size) -> Result<SynthesisRoom, NoMemory>
+        requires { IsSize size.w size.h }
+        ensures { IfOk result (HasSynthesisRoom layout.now size) }
+    {
+        Ok(SynthesisRoom {
+            late: LateWorkspace::new(alloc, layout, size)?,
+            narrow: NarrowWorkspace::new(alloc, layout, size)?,
+        })
+    }
 }
 
-// Their memory.
+/// The same of luma, and of C1 and C2, which share theirs.
+#[derive(Drop)]
+pub(crate) struct SynthesisRooms {
+    pub(crate) luma: SynthesisRoom,
+    pub(crate) colour: SynthesisRoom,
+}
+
+impl SynthesisRooms {
+    pub(crate) fn new(
+        alloc: Global,
+        layout: &Layout,
+        shape: &PictureShape,
+    ) -> Result<SynthesisRooms, NoMemory>
+        ensures { IfOk result (λ r. HasSynthesisRoom layout.now shape.now.luma r.luma × HasSynthesisRoom layout.now shape.now.colour r.colour) }
+    {
+        Ok(SynthesisRooms {
+            luma: SynthesisRoom::new(alloc, layout, shape.luma)?,
+            colour: SynthesisRoom::new(alloc, layout, shape.colour)?,
+        })
+    }
+}
+
+// The memory of the bands of a component.
 fn late_zero_bands(alloc: Global, layout: &Layout, size: Size) -> Result<LateBands, NoMemory>
     requires { IsSize size.w size.h }
     ensures { IfOk result (AreNewBands layout.now size) }
@@ -167,7 +195,7 @@ pub(crate) fn rowless_trio(alloc: Global, depth: u32) -> Result<Trio, NoMemory>
     })
 }
 
-// The same in 32 bits.
+// The bands of a component in 32 bits, all zero.
 fn narrow_zero_bands(alloc: Global, layout: &Layout, size: Size) -> Result<NarrowBands, NoMemory>
     requires { IsSize size.w size.h }
     ensures { IfOk result (AreNewBands layout.now size) }

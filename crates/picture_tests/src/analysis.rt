@@ -38,7 +38,7 @@ fn is_of_samples(plane: &Plane) -> bool
 }
 
 // Whether `analyse` may be called.
-fn can_analyse(bands: &Bands, plane: &Plane, scratch: &Plane) -> bool
+pub(crate) fn can_analyse(bands: &Bands, plane: &Plane, scratch: &Plane) -> bool
     ensures sizes { result ≡ true → AgreeInSize bands.now plane.now scratch.now }
     ensures small { result ≡ true → GridWithin (height plane.now) plane.now.w (2 ^ 15) (at plane.now) }
 {

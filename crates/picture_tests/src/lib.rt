@@ -16,3 +16,5 @@ mod raw_pictures;
 mod raw_reading;
 #[cfg(test)]
 mod synthesis;
+#[cfg(test)]
+mod widths;

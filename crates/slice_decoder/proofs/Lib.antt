@@ -8,5 +8,6 @@ pub mod Decodes
 pub mod Ready
 pub mod NarrowBands
 pub mod LevelLemmas
+pub mod LevelHalves
 pub mod Restores
 pub mod Placed

@@ -1,6 +1,6 @@
 -- Bands of numbers of 32 bits: they stay narrow, and what stays where restoring stops.
-use Rattle.std.proofs.Common.{◌≡◌, ℕ, zero, suc, ◌+◌, ◌*◌, ◌^◌, ◌<◌, ◌≤◌, List, Bool, true, false, length, get_or, drop, ℤ, pos, ◌+ℤ◌, to_z, of_z, w32, w64, refl, sym, ap, subst, ◌∙◌, inl, inr, arith}
-use Rattle.std.specs.Prelude.{◌↔◌, ◌&&◌}
+use Rattle.std.proofs.Common.{◌≡◌, ℕ, zero, suc, ◌+◌, ◌*◌, ◌^◌, ◌<◌, ◌≤◌, List, [], ◌∷◌, Bool, true, false, length, get_or, drop, ℤ, pos, ◌+ℤ◌, unsigned_abs, to_z, of_z, w32, refl, sym, ap, subst, ◌∙◌, inl, inr, arith}
+use Rattle.std.specs.Prelude.{◌&&◌}
 use Rattle.std.proofs.lemmas.Int.{ints}
 use Rattle.std.proofs.lemmas.Bool.{cases_lt, cases_eq}
 use Rattle.std.proofs.lemmas.List.{get_or-drop, get_or_past}
@@ -17,13 +17,13 @@ use Rattle.slice_geometry.specs.declared.Size.{Size}
 use Rattle.slice_geometry.specs.Slicing.{Slicing}
 use Rattle.slice_geometry.specs.SliceOrder.{level_rect, place_number, number_in, level_of, numbered}
 use Rattle.slice_geometry.proofs.NumberedBands.{numbered-same, numbered-other}
-use Rattle.slice_decoder.specs.declared.narrow.Fit.{Fit}
-use Rattle.slice_decoder.specs.declared.narrow.Fit.TheVariants.{Narrow, Wide, TooLarge}
 use Rattle.slice_decoder.specs.Slice.{are_small}
 use Rattle.slice_decoder.specs.Dealing.{dealt, HoldsRect, KeepsOutside}
 use Rattle.slice_decoder.specs.Levels.{places_in, BandsTake}
 use Rattle.slice_decoder.specs.Components.{Part, rect_of, quantisers_before, BandsHold, BandsKeep}
 use Rattle.slice_decoder.specs.Narrow.{NeedMore, LowestKeeps, StopsSlice, Answers, BothAnswer, block_values}
+use Rattle.slice_decoder.specs.Restored.{StayWithin}
+use Rattle.slice_decoder.proofs.Dealt.{are_small-all}
 use Rattle.slice_decoder.proofs.Whole.{place-holds}
 use Rattle.slice_decoder.proofs.Ready.{at-zeros}
 
@@ -35,42 +35,52 @@ zero_narrow v is =
     subst IsNarrow (sym is) zero_is
 
 -- a narrow number in 32 bits
-pub in-32-bits : (r v : ℤ) → r ≡ to_z w64 (of_z w64 v) → IsNarrow v → to_z w32 (of_z w32 r) ≡ v
-in-32-bits r v is narrow =
-    let kept : to_z w64 (of_z w64 v) ≡ v = omega (arith, ints, narrow.low, narrow.high) in
-    let short : to_z w32 (of_z w32 v) ≡ v = omega (arith, ints, narrow.low, narrow.high) in
-    ap (λ z. to_z w32 (of_z w32 z)) (is ∙ kept) ∙ short
+pub in-32-bits : (v : ℤ) → IsNarrow v → to_z w32 (of_z w32 v) ≡ v
+in-32-bits v narrow = omega (arith, ints, narrow.low, narrow.high)
+
+-- four numbers that are those of a function
+pub four-at : (f : ℕ → ℤ) (a b d e : ℤ) (k : ℕ) → k < 4 → a ≡ f 0 → b ≡ f 1 → d ≡ f 2 → e ≡ f 3 → get_or (a ∷ b ∷ d ∷ e ∷ []) k (pos 0) ≡ f k
+four-at f a b d e zero lt a_is b_is d_is e_is = a_is
+four-at f a b d e (suc zero) lt a_is b_is d_is e_is = b_is
+four-at f a b d e (suc (suc zero)) lt a_is b_is d_is e_is = d_is
+four-at f a b d e (suc (suc (suc zero))) lt a_is b_is d_is e_is = e_is
+four-at f a b d e (suc (suc (suc (suc k)))) lt a_is b_is d_is e_is = absurd (omega arith)
+
+within-narrow : (v : ℤ) → unsigned_abs v ≤ 2 ^ 18 → IsNarrow v
+within-narrow v le = record { low = omega (arith, ints, le); high = omega (arith, ints, le) }
+
+narrow-within : (v : ℤ) → IsNarrow v → unsigned_abs v ≤ 2 ^ 18
+narrow-within v narrow = omega (arith, ints, narrow.low, narrow.high)
 
 -- past the last value stands 0
-pub all-narrow : (values : List ℤ) → ((k : ℕ) → k < length values → IsNarrow (get_or values k (pos 0))) → (k : ℕ) → IsNarrow (get_or values k (pos 0))
-all-narrow values each k = elim (cases_lt k (length values)) as (λ _. IsNarrow (get_or values k (pos 0))) [
-  | inl lt ↦ each k lt
-  | inr past ↦ zero_narrow (get_or values k (pos 0)) (get_or_past values k (pos 0) past)
+pub all-narrow : (values dealt_values : List ℤ) (n : ℕ) (answer : Bool) → answer ≡ true → length values ≡ n
+    → ((k : ℕ) → k < n → get_or values k (pos 0) ≡ get_or dealt_values k (pos 0))
+    → StayWithin (2 ^ 18) answer (λ k. get_or dealt_values k (pos 0)) 0 n → (k : ℕ) → IsNarrow (get_or values k (pos 0))
+all-narrow values dealt_values n answer good long same stay k = elim (cases_lt k n) as (λ _. IsNarrow (get_or values k (pos 0))) [
+  | inl lt ↦ subst IsNarrow (sym (same k lt)) (within-narrow (get_or dealt_values k (pos 0)) (stay.yes good k (omega arith) lt))
+  | inr past ↦ zero_narrow (get_or values k (pos 0)) (get_or_past values k (pos 0) (omega (arith, past, long)))
 ]
 
-pub needs-more : (room : ℕ) (values dealt_values : List ℤ) (answer : Bool) → ((k : ℕ) → k < length values → get_or values k (pos 0) ≡ get_or dealt_values k (pos 0))
-    → ((answer ≡ true) ↔ ((k : ℕ) → k < length values → IsNarrow (get_or values k (pos 0)))) → answer ≡ false → NeedMore room dealt_values
-needs-more room values dealt_values answer same is refused =
-    inr (λ all.
-    let narrow = is.1 (λ k lt. subst IsNarrow (sym (same k lt)) (all k)) in
-    absurd cc)
+pub all-small : (values : List ℤ) (n : ℕ) (answer : Bool) → answer ≡ true → n ≡ length values → StayWithin (2 ^ 18) answer (λ k. get_or values k (pos 0)) 0 n
+    → are_small values ≡ true
+all-small values n answer good is stay = are_small-all values (λ k lt. omega (arith, stay.yes good k (omega arith) (omega (arith, lt, is))))
+
+pub needs-more : (room n : ℕ) (values : List ℤ) (answer : Bool) → answer ≡ false → StayWithin (2 ^ 18) answer (λ k. get_or values k (pos 0)) 0 n
+    → NeedMore room values
+needs-more room n values answer refused stay = inr (λ all. stay.no refused (λ k low lt. narrow-within (get_or values k (pos 0)) (all k)))
 
 -- ---- two blocks
 
 -- what an answer says of the colour block, behind a luma block whose values fit
-pub both-answer : (room : ℕ) (luma colour : Part) (luma_block colour_block : List Bool) (old new : Trio) (fit : Fit)
+pub both-answer : (room : ℕ) (luma colour : Part) (luma_block colour_block : List Bool) (old new : Trio) (fit : Bool)
     → are_small (block_values 1 luma luma_block) ≡ true → BandsHold 1 0 luma (3 * luma.slicing.depth + 1) luma_block old.luma new.luma
     → Answers room (block_values 2 colour colour_block) (BandsHold 2 0 colour (3 * colour.slicing.depth + 1) colour_block old.c1 new.c1 × BandsHold 2 1 colour (3 * colour.slicing.depth + 1) colour_block old.c2 new.c2) fit
     → BothAnswer room luma colour luma_block colour_block old new fit
-both-answer room luma colour luma_block colour_block old new Narrow small held answer = (small, answer.0, held, answer.1.0, answer.1.1)
-both-answer room luma colour luma_block colour_block old new Wide small held answer = inr answer
-both-answer room luma colour luma_block colour_block old new TooLarge small held answer = ap (λ b. b && are_small (block_values 2 colour colour_block)) small ∙ answer
+both-answer room luma colour luma_block colour_block old new true small held answer = (small, answer.0, held, answer.1.0, answer.1.1)
+both-answer room luma colour luma_block colour_block old new false small held answer = inr answer
 
 pub both-true : (lumas colours : List ℤ) → are_small lumas ≡ true → are_small colours ≡ true → true ≡ (are_small lumas && are_small colours)
 both-true lumas colours one two = sym (ap (λ b. b && are_small colours) one ∙ two)
-
-pub too-large : (lumas colours : List ℤ) → are_small lumas ≡ false → (are_small lumas && are_small colours) ≡ false
-too-large lumas colours large = ap (λ b. b && are_small colours) large
 
 -- ---- they are narrow at first
 

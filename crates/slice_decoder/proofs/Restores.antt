@@ -1,24 +1,23 @@
 -- Values of a block, restored place by place.
 use Rattle.std.proofs.Common.{◌≡◌, ℕ, zero, suc, ◌+◌, ◌-◌, ◌*◌, ◌^◌, ◌<◌, ◌≤◌, Bool, true, false, List, [], ◌∷◌, ◌++◌, length, map, replicate, get_or, take, drop, ℤ, pos, unsigned_abs, append_assoc, refl, sym, ap, subst, ◌∙◌, inl, inr, arith}
-use Rattle.std.specs.Prelude.{nat_le, nat_lt}
 use Rattle.std.specs.List.{AllByRecursion}
 use Rattle.std.proofs.Math.Nat.{mul-le-mul_left, mul-le-mul_right}
-use Rattle.std.proofs.lemmas.List.{get_or-map, length-map, length-replicate, get_or_append_left, get_or-append-add, get_or-append_right, get_or-replicate, get_or-take, get_or-drop, length-take-le, length-drop}
+use Rattle.std.proofs.lemmas.List.{get_or-map, length-map, length-replicate, get_or_append_left, get_or-append-add, get_or-append_right, get_or-replicate, get_or-take, get_or-drop, get_or_past, length-take, length-take-le, length-drop}
 use Rattle.bounded_blocks.specs.Reading.{value_at, values}
-use Rattle.bounded_blocks.specs.Parts.{IsSmall, HasHuge}
+use Rattle.bounded_blocks.specs.Parts.{IsSmall, AreWithin, HasHuge}
 use Rattle.quant_factors.specs.Factors.{factor_of, offset_of, restored_of, inverse_of}
-use Rattle.quant_factors.proofs.Tables.{factors_rise, factor_least, factor_most, offset_most}
+use Rattle.quant_factors.proofs.Tables.{factors_rise, factor_least, offset_most}
 use Rattle.quant_factors.proofs.QuantLemmas.{restored-zero, restored-some, abs-inverse, magnitude_kept}
-use Rattle.slice_geometry.specs.SliceOrder.{area}
+use Rattle.planes.specs.declared.Rect.{Rect}
+use Rattle.slice_geometry.specs.SliceOrder.{area, place_count, level_of}
 use Rattle.slice_decoder.specs.Slice.{are_small}
 use Rattle.slice_decoder.specs.Dealing.{dealt}
 use Rattle.slice_decoder.specs.Components.{Part, rect_of, index_of, quantisers_of, quantisers_before}
-use Rattle.slice_decoder.specs.Restored.{restored_at, AllSmall, StaySmall}
-use Rattle.slice_decoder.proofs.Dealt.{and-left, and-right, le_tested, length-dealt, are_small-at, are_small-all}
+use Rattle.slice_decoder.specs.Restored.{restored_at, AllWithin, StayWithin, AreLow}
+use Rattle.slice_decoder.proofs.Dealt.{length-dealt, are_small-at, are_small-all}
 use Rattle.std.proofs.lemmas.Bool.{cases_lt}
-use Rattle.std.proofs.lemmas.Bool.Decides.{nat_tests}
-use Rattle.slice_decoder.specs.Levels.{places_in}
-use Rattle.slice_decoder.proofs.LevelLemmas.{length-places}
+use Rattle.slice_decoder.specs.Levels.{AreRects, no_rect, places_in}
+use Rattle.slice_decoder.proofs.LevelLemmas.{length-places, places_all, rect_of_level, room_here, next_from}
 use Rattle.slice_decoder.proofs.Stacks.{quantisers-more, quantisers-split, quantisers_rest}
 
 -- ---- one value
@@ -30,49 +29,40 @@ rise_by i (suc m) le =
     let next : i + suc m ≡ i + m + 1 = omega arith in
     omega (arith, rise_by i m (omega arith), factors_rise (i + m) (omega arith), ap factor_of next)
 
-pub lt_tested : (m n : ℕ) → nat_lt m n ≡ true → m < n
-lt_tested m n h = grind (arith, nat_tests)
-
--- what is safe at an index is safe at those below it
-pub safe_below : (m all limit i q : ℕ) → m ≤ all → all < limit → i ≤ q → q ≤ 127 → limit * factor_of q ≤ 2 ^ 30 → (m + 1) * factor_of i ≤ 2 ^ 30
-safe_below m all limit i q le safe below most low =
+-- what is low at an index is low at those below it
+pub low_below : (m all i q : ℕ) → m ≤ all → i ≤ q → q ≤ 127 → (all + 1) * factor_of q ≤ 2 ^ 20 → (m + 1) * factor_of i ≤ 2 ^ 20
+low_below m all i q le down most low =
     let whole : i + (q - i) ≡ q = omega arith in
     let rises : factor_of i ≤ factor_of q = omega (arith, rise_by i (q - i) (omega arith), ap factor_of whole) in
-    let one : (m + 1) * factor_of i ≤ limit * factor_of i = mul-le-mul_right (factor_of i) (omega arith) in
-    let two : limit * factor_of i ≤ limit * factor_of q = mul-le-mul_left limit rises in
+    let one : (m + 1) * factor_of i ≤ (all + 1) * factor_of i = mul-le-mul_right (factor_of i) (omega arith) in
+    let two : (all + 1) * factor_of i ≤ (all + 1) * factor_of q = mul-le-mul_left (all + 1) rises in
     omega (arith, one, two, low)
 
-pub low_product : (m i : ℕ) → (m + 1) * factor_of i ≤ 2 ^ 30 → m * factor_of i ≤ 2 ^ 30
-low_product m i low =
-    let fewer : m * factor_of i ≤ (m + 1) * factor_of i = mul-le-mul_right (factor_of i) (omega arith) in
-    omega (arith, fewer, low)
-
-pub low_factor : (m i : ℕ) → (m + 1) * factor_of i ≤ 2 ^ 30 → factor_of i ≤ 2 ^ 30
+pub low_factor : (m i : ℕ) → (m + 1) * factor_of i ≤ 2 ^ 20 → factor_of i ≤ 2 ^ 20
 low_factor m i low =
     let once : 1 * factor_of i ≤ (m + 1) * factor_of i = mul-le-mul_right (factor_of i) (omega arith) in
     omega (arith, once, low)
 
-pub low_offset : (m i : ℕ) → i ≤ 127 → (m + 1) * factor_of i ≤ 2 ^ 30 → offset_of i ≤ 2 ^ 29
+pub low_offset : (m i : ℕ) → i ≤ 127 → (m + 1) * factor_of i ≤ 2 ^ 20 → offset_of i ≤ 2 ^ 20
 low_offset m i le low = omega (arith, low_factor m i low, offset_most i (omega arith))
 
-pub low_magnitude : (m i : ℕ) → i ≤ 127 → (m + 1) * factor_of i ≤ 2 ^ 30 → m < 2 ^ 28
-low_magnitude m i le low =
-    let four : (m + 1) * 4 ≤ (m + 1) * factor_of i = mul-le-mul_left (m + 1) (factor_least i (omega arith)) in
-    omega (arith, four, low)
+pub low_product : (m i : ℕ) → (m + 1) * factor_of i ≤ 2 ^ 20 → m * factor_of i + factor_of i ≤ 2 ^ 20
+low_product m i low = omega (arith, low)
 
-small_restored : (m i : ℕ) → i ≤ 127 → m * factor_of i ≤ 2 ^ 37 → restored_of m i ≤ 2 ^ 36
-small_restored zero i le low = omega (arith, restored-zero i)
-small_restored (suc m) i le low = omega (arith, restored-some (suc m) i (omega arith), low, offset_most i (omega arith), factor_most i (omega arith))
+low_narrow : (m i : ℕ) → i ≤ 127 → m * factor_of i + factor_of i ≤ 2 ^ 20 → restored_of m i ≤ 2 ^ 18
+low_narrow zero i le low = omega (arith, restored-zero i)
+low_narrow (suc m) i le low = omega (arith, restored-some (suc m) i (omega arith), low, offset_most i (omega arith), factor_least i (omega arith))
 
-pub low_restored : (q : ℤ) (i : ℕ) → i ≤ 127 → (unsigned_abs q + 1) * factor_of i ≤ 2 ^ 30 → unsigned_abs (inverse_of q i) ≤ 2 ^ 36
-low_restored q i le low = omega (arith, abs-inverse q i, small_restored (unsigned_abs q) i le (omega (arith, low_product (unsigned_abs q) i low)))
+pub low_restored : (q : ℤ) (i : ℕ) → i ≤ 127 → (unsigned_abs q + 1) * factor_of i ≤ 2 ^ 20 → unsigned_abs (inverse_of q i) ≤ 2 ^ 18
+low_restored q i le low = omega (arith, abs-inverse q i, low_narrow (unsigned_abs q) i le (low_product (unsigned_abs q) i low))
 
 -- ---- a band
 
-pub low-stay : (f : ℕ → ℤ) (from to : ℕ) → AllSmall f from to → StaySmall true f from to
-low-stay f from to all = record { yes = λ e. all; no = λ e. absurd cc }
+pub all-stay : (most : ℕ) (f : ℕ → ℤ) (from to : ℕ) → AllWithin most f from to → StayWithin most true f from to
+all-stay most f from to all = record { yes = λ e. all; no = λ e. absurd cc }
 
-pub map-stay : (vs : List ℤ) (q : ℕ) (answer : Bool) → answer ≡ are_small (map (λ v. inverse_of v q) vs) → StaySmall answer (λ k. inverse_of (get_or vs k (pos 0)) q) 0 (length vs)
+pub map-stay : (vs : List ℤ) (q : ℕ) (answer : Bool) → answer ≡ are_small (map (λ v. inverse_of v q) vs)
+    → StayWithin (2 ^ 36) answer (λ k. inverse_of (get_or vs k (pos 0)) q) 0 (length vs)
 map-stay vs q answer is = record {
   yes = λ e k low lt. subst (λ (v : ℤ). unsigned_abs v ≤ 2 ^ 36) (get_or-map (λ v. inverse_of v q) vs k (pos 0) (pos 0) lt) (are_small-at (map (λ v. inverse_of v q) vs) k (sym is ∙ e));
   no = λ e all. absurd (let f : false ≡ true =
@@ -93,17 +83,18 @@ mid_at vs from to k low lt =
     let whole : from + (k - from) ≡ k = omega arith in
     get_or-take (to - from) (drop from vs) (k - from) (pos 0) (omega arith) ∙ get_or-drop from vs (k - from) (pos 0) ∙ ap (λ n. get_or vs n (pos 0)) whole
 
-pub part-stay : (vs : List ℤ) (from to q : ℕ) (answer : Bool) → from ≤ to → to ≤ length vs
-    → StaySmall answer (λ k. inverse_of (get_or (take (to - from) (drop from vs)) k (pos 0)) q) 0 (length (take (to - from) (drop from vs)))
-    → StaySmall answer (λ k. inverse_of (get_or vs k (pos 0)) q) from to
-part-stay vs from to q answer order inside stay =
+pub part-stay : (most : ℕ) (vs : List ℤ) (from to q : ℕ) (answer : Bool) → from ≤ to → to ≤ length vs
+    → StayWithin most answer (λ k. inverse_of (get_or (take (to - from) (drop from vs)) k (pos 0)) q) 0 (length (take (to - from) (drop from vs)))
+    → StayWithin most answer (λ k. inverse_of (get_or vs k (pos 0)) q) from to
+part-stay most vs from to q answer order inside stay =
     let long = mid_length vs from to order inside in
     record {
-      yes = λ e k low lt. subst (λ (v : ℤ). unsigned_abs (inverse_of v q) ≤ 2 ^ 36) (mid_at vs from to k low lt) (stay.yes e (k - from) (omega arith) (omega (arith, long)));
+      yes = λ e k low lt. subst (λ (v : ℤ). unsigned_abs (inverse_of v q) ≤ most) (mid_at vs from to k low lt)
+          (stay.yes e (k - from) (omega arith) (omega (arith, long)));
       no = λ e all. stay.no e (λ k low lt.
           let below : k < to - from = omega (arith, lt, long) in
           let same : get_or (take (to - from) (drop from vs)) k (pos 0) ≡ get_or vs (from + k) (pos 0) = get_or-take (to - from) (drop from vs) k (pos 0) below ∙ get_or-drop from vs k (pos 0) in
-          subst (λ (v : ℤ). unsigned_abs (inverse_of v q) ≤ 2 ^ 36) (sym same) (all (from + k) (omega arith) (omega arith)));
+          subst (λ (v : ℤ). unsigned_abs (inverse_of v q) ≤ most) (sym same) (all (from + k) (omega arith) (omega arith)));
     }
 
 -- a place of a part that was written
@@ -145,18 +136,44 @@ restored_here each p k total from n index j vs now lt from_is n_is index_is low 
     let its : get_or (quantisers_before each p total) j 0 ≡ index_of p k = ap (λ m. get_or (quantisers_before each p total) m 0) (sym at) ∙ quantiser_at each p k total (j - from) lt inside in
     ap (λ v. inverse_of v index) same ∙ ap (inverse_of (get_or vs j (pos 0))) (index_is ∙ sym its)
 
+-- What a loop over a slice's bands meets at band k: its values are those from one place on, in a list of so many.
+pub record BandMeets (each : ℕ) (p : Part) (k from n index count : ℕ) : Type 0 where
+  pub room : from + each * n ≤ count
+  pub next : from + each * n ≡ each * places_in p.slicing p.size p.sx p.sy (k + 1)
+  pub same : (vs now : List ℤ) (j : ℕ) → from ≤ j → j < from + each * n → get_or now j (pos 0) ≡ get_or vs j (pos 0)
+      → inverse_of (get_or now j (pos 0)) index ≡ restored_at vs (quantisers_before each p (3 * p.slicing.depth + 1)) j
+
+pub band-meets : (each : ℕ) (p : Part) (rects : List Rect) (k level from n index count : ℕ) → AreRects p.slicing p.size p.sx p.sy rects
+    → k < 3 * p.slicing.depth + 1 → level ≡ level_of k → n ≡ area (get_or rects level no_rect) → index ≡ index_of p k
+    → from ≡ each * places_in p.slicing p.size p.sx p.sy k → count ≡ each * place_count p.slicing p.size p.sx p.sy
+    → BandMeets each p k from n index count
+band-meets each p rects k level from n index count are below level_is area_is index_is from_is count_is =
+    let n_is : n ≡ area (rect_of p k) = area_is ∙ ap area (rect_of_level p.slicing p.size p.sx p.sy rects k level are level_is below) in
+    record {
+      room = room_here each p.slicing p.size p.sx p.sy k from n count from_is n_is count_is below;
+      next = next_from each p.slicing p.size p.sx p.sy k from n from_is n_is;
+      same = λ vs now j low lt here. restored_here each p k (3 * p.slicing.depth + 1) from n index j vs now below from_is n_is index_is low lt here;
+    }
+
 -- a band that does not stay small is one of the slice
-pub part-not : (f g : ℕ → ℤ) (from to n : ℕ) (answer : Bool) → answer ≡ false → to ≤ n → ((j : ℕ) → from ≤ j → j < to → g j ≡ f j) → StaySmall answer g from to → StaySmall false f 0 n
-part-not f g from to n answer is le same stay = record {
+pub part-not : (most : ℕ) (f g : ℕ → ℤ) (from to n : ℕ) (answer : Bool) → answer ≡ false → to ≤ n → ((j : ℕ) → from ≤ j → j < to → g j ≡ f j)
+    → StayWithin most answer g from to → StayWithin most false f 0 n
+part-not most f g from to n answer is le same stay = record {
   yes = λ e. absurd cc;
-  no = λ e all. stay.no is (λ j low lt. subst (λ (v : ℤ). unsigned_abs v ≤ 2 ^ 36) (sym (same j low lt)) (all j (omega arith) (omega arith)));
+  no = λ e all. stay.no is (λ j low lt. subst (λ (v : ℤ). unsigned_abs v ≤ most) (sym (same j low lt)) (all j (omega arith) (omega arith)));
 }
 
-pub part-more : (f g : ℕ → ℤ) (from to : ℕ) (answer : Bool) → answer ≡ true → ((j : ℕ) → from ≤ j → j < to → g j ≡ f j) → AllSmall f 0 from → StaySmall answer g from to → AllSmall f 0 to
-part-more f g from to answer is same before stay j low lt = elim (cases_lt j from) [
+pub part-more : (most : ℕ) (f g : ℕ → ℤ) (from to : ℕ) (answer : Bool) → answer ≡ true → ((j : ℕ) → from ≤ j → j < to → g j ≡ f j) → AllWithin most f 0 from
+    → StayWithin most answer g from to → AllWithin most f 0 to
+part-more most f g from to answer is same before stay j low lt = elim (cases_lt j from) [
   | inl old ↦ before j low old
-  | inr new ↦ subst (λ (v : ℤ). unsigned_abs v ≤ 2 ^ 36) (same j new lt) (stay.yes is j new lt)
+  | inr new ↦ subst (λ (v : ℤ). unsigned_abs v ≤ most) (same j new lt) (stay.yes is j new lt)
 ]
+
+-- as many values as quantisers
+pub count_is : (each : ℕ) (p : Part) (n : ℕ) → n ≡ each * place_count p.slicing p.size p.sx p.sy
+    → n ≡ length (quantisers_before each p (3 * p.slicing.depth + 1))
+count_is each p n is = is ∙ ap (λ m. each * m) (sym (places_all p.slicing p.size p.sx p.sy)) ∙ sym (length-places each p (3 * p.slicing.depth + 1))
 
 -- what is dealt is restored
 pub dealt-at : (block : List Bool) (qs : List ℕ) (n j : ℕ) → n ≡ length qs → j < n → restored_at (values n block) qs j ≡ get_or (dealt block qs) j (pos 0)
@@ -176,18 +193,22 @@ replicate-low : (n q : ℕ) → q ≤ 127 → AllByRecursion IsIndex (replicate 
 replicate-low zero q le = tt
 replicate-low (suc n) q le = (le, replicate-low n q le)
 
-quantisers-low : (each : ℕ) (p : Part) (k : ℕ) → p.qindex ≤ 127 → AllByRecursion IsIndex (quantisers_before each p k)
+pub quantisers-low : (each : ℕ) (p : Part) (k : ℕ) → p.qindex ≤ 127 → AllByRecursion IsIndex (quantisers_before each p k)
 unfolding quantisers_before
 quantisers-low each p zero le = tt
 quantisers-low each p (suc k) le = append-low (quantisers_before each p k) (quantisers_of each p k) (quantisers-low each p k le) (replicate-low (each * area (rect_of p k)) (index_of p k) (omega arith))
 
--- where all that is restored is small, so is what was read
+-- where all that is restored is within a bound, so is what was read
+pub within-read : (most : ℕ) (block : List Bool) (qs : List ℕ) → AllByRecursion IsIndex qs
+    → ((k : ℕ) → k < length qs → unsigned_abs (get_or (dealt block qs) k (pos 0)) ≤ most) → AreWithin most (values (length qs) block)
+within-read most block [] low all = tt
+within-read most block (q ∷ qs) low all = (
+  omega (arith, magnitude_kept (value_at block).0 q low.0, all 0 (omega arith)),
+  within-read most (value_at block).1 qs low.1 (λ k lt. all (suc k) (omega arith)),
+)
+
 small-read : (block : List Bool) (qs : List ℕ) → AllByRecursion IsIndex qs → are_small (dealt block qs) ≡ true → AllByRecursion IsSmall (values (length qs) block)
-small-read block [] low small = tt
-small-read block (q ∷ qs) low small =
-    let v : ℤ = (value_at block).0 in
-    let here : nat_le (unsigned_abs (inverse_of v q)) (2 ^ 36) ≡ true = and-left _ (are_small (dealt (value_at block).1 qs)) small in
-    (omega (arith, magnitude_kept v q low.0, le_tested _ _ here), small-read (value_at block).1 qs low.1 (and-right (nat_le (unsigned_abs (inverse_of v q)) (2 ^ 36)) _ small))
+small-read block qs low small = within-read (2 ^ 36) block qs low (λ k lt. are_small-at (dealt block qs) k small)
 
 bool_false : (b : Bool) → (b ≡ true → ⊥) → false ≡ b
 bool_false true not = absurd (not refl)
@@ -199,7 +220,8 @@ huge-dealt each p n total block le is huge =
     (λ small. huge (subst (λ (k : ℕ). AllByRecursion IsSmall (values k block)) (sym is) (small-read block (quantisers_before each p total) (quantisers-low each p total le) small)))
 
 -- the answer on values that were read is that on what the block deals
-pub stay-dealt : (block : List Bool) (qs : List ℕ) (vs : List ℤ) (n : ℕ) (answer : Bool) → n ≡ length qs → values n block ≡ vs → StaySmall answer (restored_at vs qs) 0 n → answer ≡ are_small (dealt block qs)
+pub stay-dealt : (block : List Bool) (qs : List ℕ) (vs : List ℤ) (n : ℕ) (answer : Bool) → n ≡ length qs → values n block ≡ vs
+    → StayWithin (2 ^ 36) answer (restored_at vs qs) 0 n → answer ≡ are_small (dealt block qs)
 stay-dealt block qs vs n true is read stay =
     sym (are_small-all (dealt block qs)
     (λ k lt. let inside : k < n = omega (arith, lt, is, length-dealt block qs) in
@@ -207,3 +229,40 @@ stay-dealt block qs vs n true is read stay =
 stay-dealt block qs vs n false is read stay =
     bool_false (are_small (dealt block qs))
     (λ small. stay.no refl (λ k low inside. subst (λ (v : ℤ). unsigned_abs v ≤ 2 ^ 36) (sym (ap (λ (xs : List ℤ). restored_at xs qs k) (sym read) ∙ dealt-at block qs n k is inside)) (are_small-at (dealt block qs) k small)))
+
+-- ---- in 32 bits
+
+-- a number of those that are within a bound, and the 0 past the last
+pub within-at : (most : ℕ) (vs : List ℤ) (k : ℕ) → AreWithin most vs → unsigned_abs (get_or vs k (pos 0)) ≤ most
+within-at most [] k all = omega arith
+within-at most (v ∷ vs) zero all = all.0
+within-at most (v ∷ vs) (suc k) all = within-at most vs k all.1
+
+pub stay-same : (most : ℕ) (answer : Bool) (f g : ℕ → ℤ) (n : ℕ) → ((k : ℕ) → k < n → f k ≡ g k) → StayWithin most answer f 0 n → StayWithin most answer g 0 n
+stay-same most answer f g n same stay = record {
+  yes = λ e k low lt. subst (λ (v : ℤ). unsigned_abs v ≤ most) (same k lt) (stay.yes e k low lt);
+  no = λ e all. stay.no e (λ k low lt. subst (λ (v : ℤ). unsigned_abs v ≤ most) (sym (same k lt)) (all k low lt));
+}
+
+-- what is low from a place on is low in a part that begins there
+pub low-part : (vs : List ℤ) (from to index : ℕ) → AreLow from vs index → AreLow 0 (take (to - from) (drop from vs)) index
+low-part vs from to index low k le = elim (cases_lt k (to - from)) [
+  | inl lt ↦ subst (λ (v : ℤ). (unsigned_abs v + 1) * factor_of index ≤ 2 ^ 20)
+      (sym (get_or-take (to - from) (drop from vs) k (pos 0) lt ∙ get_or-drop from vs k (pos 0))) (low (from + k) (omega arith))
+  | inr past ↦
+      let none : get_or (take (to - from) (drop from vs)) k (pos 0) ≡ pos 0 =
+      get_or_past (take (to - from) (drop from vs)) k (pos 0) (omega (arith, past, length-take (to - from) (drop from vs))) in
+      subst (λ (v : ℤ). (unsigned_abs v + 1) * factor_of index ≤ 2 ^ 20) (sym none) (omega (arith, low_factor _ index (low from (omega arith))))
+]
+
+-- what was read is too great where what is dealt is
+pub wide-dealt : (each : ℕ) (p : Part) (n total : ℕ) (block : List Bool) → p.qindex ≤ 127 → n ≡ length (quantisers_before each p total)
+    → (AreWithin (2 ^ 18) (values n block) → ⊥)
+    → StayWithin (2 ^ 18) false (λ k. get_or (dealt block (quantisers_before each p total)) k (pos 0)) 0 n
+wide-dealt each p n total block le is wide =
+    let qs = quantisers_before each p total in
+    record {
+      yes = λ e. absurd cc;
+      no = λ e all. wide (subst (λ (m : ℕ). AreWithin (2 ^ 18) (values m block)) (sym is)
+          (within-read (2 ^ 18) block qs (quantisers-low each p total le) (λ k lt. all k (omega arith) (omega (arith, lt, is)))));
+    }

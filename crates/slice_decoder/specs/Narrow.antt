@@ -1,5 +1,5 @@
 -- A slice in bands of 32 bits, whose magnitudes are at most 2 ^ 18.
-use Rattle.std.specs.Prelude.{◌≡◌, ℕ, ◌+◌, ◌*◌, ◌^◌, ◌<◌, ◌≤◌, ◌⊎◌, ◌&&◌, Bool, true, false, List, length, slice_index_or, ℤ, pos, ◌+ℤ◌}
+use Rattle.std.specs.Prelude.{◌≡◌, ℕ, ◌+◌, ◌*◌, ◌^◌, ◌<◌, ◌≤◌, ◌⊎◌, Bool, true, false, List, length, slice_index_or, ℤ, pos, ◌+ℤ◌}
 use Rattle.planes.specs.Raster.{at}
 use Rattle.planes.specs.declared.Rect.{Rect}
 use Rattle.planes.specs.Rect.{IsInRect}
@@ -7,6 +7,7 @@ use Rattle.planes.specs.Bounded.{AreBandsWithin}
 use Rattle.planes.specs.Subbands.{BandStack, band_of}
 use Rattle.planes.specs.declared.Trio.{Trio}
 use Rattle.planes.specs.declared.NarrowTrio.{NarrowTrio}
+use Rattle.bounded_blocks.specs.declared.TheConstants.{SPARE}
 use Rattle.dc_prediction.specs.Prediction.{prediction}
 use Rattle.dc_prediction.specs.Restoring.{RestoresRect, IsNarrow, IsBefore, IsStopped}
 use Rattle.slice_geometry.specs.declared.Size.{Size}
@@ -14,8 +15,6 @@ use Rattle.slice_geometry.specs.declared.PictureShape.{PictureShape}
 use Rattle.slice_geometry.specs.Slicing.{Slicing}
 use Rattle.slice_geometry.specs.SliceOrder.{level_rect, place_number, numbered}
 use Rattle.quant_factors.specs.Weights.{Weights}
-use Rattle.slice_decoder.specs.declared.narrow.Fit.{Fit}
-use Rattle.slice_decoder.specs.declared.narrow.Fit.TheVariants.{Narrow, Wide, TooLarge}
 use Rattle.slice_decoder.specs.Slice.{Slice, are_small, luma_values, colour_values}
 use Rattle.slice_decoder.specs.Dealing.{dealt, KeepsOutside}
 use Rattle.slice_decoder.specs.Components.{Part, quantisers_before, BandsHold, BandsKeep}
@@ -29,19 +28,18 @@ pub record AreNarrowBands (b : NarrowTrio) : Type 0 where
   pub c1 : AreBandsWithin (pos (2 ^ 18)) b.c1
   pub c2 : AreBandsWithin (pos (2 ^ 18)) b.c2
 
--- more values than there is room for, or one that is not narrow
+-- more values than there is room for, with the places behind them that reading takes, or one that is not narrow
 abbrev pub NeedMore : ℕ → List ℤ → Type 0
-NeedMore room values = (room < length values) ⊎ (((k : ℕ) → IsNarrow (slice_index_or values k (pos 0))) → ⊥)
+NeedMore room values = (room < length values + SPARE) ⊎ (((k : ℕ) → IsNarrow (slice_index_or values k (pos 0))) → ⊥)
 
 -- the values of a block, of which each place has so many
 abbrev pub block_values : ℕ → Part → List Bool → List ℤ
 block_values each p block = dealt block (quantisers_before each p (3 * p.slicing.depth + 1))
 
 -- what an answer says of the values of a block, where what they leave is Stands
-abbrev pub Answers : ℕ → List ℤ → Type 0 → Fit → Type 0
-Answers room values Stands Narrow = (are_small values ≡ true) × Stands
-Answers room values Stands Wide = NeedMore room values
-Answers room values Stands TooLarge = are_small values ≡ false
+abbrev pub Answers : ℕ → List ℤ → Type 0 → Bool → Type 0
+Answers room values Stands true = (are_small values ≡ true) × Stands
+Answers room values Stands false = NeedMore room values
 
 -- Restoring stops at a place whose value would not be narrow: those before it hold what they restore.
 pub record StopsAtPlace (each from : ℕ) (s : Slicing) (size : Size) (sx sy : ℕ) (values : List ℤ) (b : BandStack)
@@ -65,20 +63,18 @@ NeedsWide room s shape sx sy matrix slice new =
     ⊎ StopsSlice 2 0 s shape.colour sx sy colours new.c1 ⊎ StopsSlice 2 1 s shape.colour sx sy colours new.c2
 
 -- what an answer says of both blocks of a slice
-abbrev pub BothAnswer : ℕ → Part → Part → List Bool → List Bool → Trio → Trio → Fit → Type 0
-BothAnswer room luma colour luma_block colour_block old new Narrow =
+abbrev pub BothAnswer : ℕ → Part → Part → List Bool → List Bool → Trio → Trio → Bool → Type 0
+BothAnswer room luma colour luma_block colour_block old new true =
     (are_small (block_values 1 luma luma_block) ≡ true) × (are_small (block_values 2 colour colour_block) ≡ true)
     × BandsHold 1 0 luma (3 * luma.slicing.depth + 1) luma_block old.luma new.luma
     × BandsHold 2 0 colour (3 * colour.slicing.depth + 1) colour_block old.c1 new.c1
     × BandsHold 2 1 colour (3 * colour.slicing.depth + 1) colour_block old.c2 new.c2
-BothAnswer room luma colour luma_block colour_block old new Wide =
+BothAnswer room luma colour luma_block colour_block old new false =
     NeedMore room (block_values 1 luma luma_block) ⊎ NeedMore room (block_values 2 colour colour_block)
-BothAnswer room luma colour luma_block colour_block old new TooLarge =
-    (are_small (block_values 1 luma luma_block) && are_small (block_values 2 colour colour_block)) ≡ false
 
 -- what reading both blocks leaves, before the lowest subbands are restored
 pub record IsReadNarrow (room : ℕ) (luma colour : Part) (luma_block colour_block : List Bool) (old new : NarrowTrio)
-    (fit : Fit) : Type 0 where
+    (fit : Bool) : Type 0 where
   pub answer : BothAnswer room luma colour luma_block colour_block (trio_of old) (trio_of new) fit
   pub luma_keeps : BandsKeep luma old.luma new.luma
   pub c1_keeps : BandsKeep colour old.c1 new.c1

@@ -57,7 +57,7 @@ pub fn read_ahead(
     shape: &PictureShape,
     sx: u32,
     sy: u32,
-    kept: &mut [i64],
+    kept: &mut [i32],
 )
     requires across { sx < layout.now.slices_x }
     requires down { sy < layout.now.slices_y }
@@ -72,5 +72,5 @@ pub fn read_ahead(
         ^ read_bands(&bands.c1, layout, shape.colour, sy)
         ^ read_bands(&bands.c2, layout, shape.colour, sy);
     // What is kept nowhere a compiler need not read.
-    kept[0] = i64::from(all);
+    kept[0] = all;
 }

@@ -1,6 +1,6 @@
 // The places of a slice in the bands of each level of one component.
 
-ghost use Rattle.std.specs.Prelude.{◌≡◌, ◌+◌, ◌*◌, ◌^◌, ◌<◌, ◌≤◌};
+ghost use Rattle.std.specs.Prelude.{◌≡◌, ◌+◌, ◌*◌, ◌/◌, ◌^◌, ◌<◌, ◌≤◌};
 ghost use Rattle.slice_geometry.specs.Shape.{IsSize};
 ghost use Rattle.slice_geometry.specs.SliceOrder.{area, place_count};
 ghost use Rattle.slice_decoder.specs.Levels.{IsLowRect, AreRects};
@@ -18,22 +18,34 @@ pub fn area_of(rect: Rect) -> usize
     (rect.x1 - rect.x0) as usize * (rect.y1 - rect.y0) as usize
 }
 
-// The slice's rectangle in the bands of each level. There are five levels at most.
+// The same places where each way there are half as many.
+fn halved(rect: Rect) -> Rect
+    ensures { result ≡ record { x0 = rect.x0 / 2; x1 = rect.x1 / 2; y0 = rect.y0 / 2; y1 = rect.y1 / 2 } }
+{
+    Rect {
+        x0: rect.x0 / 2,
+        x1: rect.x1 / 2,
+        y0: rect.y0 / 2,
+        y1: rect.y1 / 2,
+    }
+}
+
+// The slice's rectangle in the bands of each level. There are five levels at most. The bands of a level are half as large
+// each way as those of the next one, and those of level 0 as large as those of level 1: so only the last level's rectangle
+// takes divisions by the number of slices.
 pub fn level_rects(layout: &Layout, size: Size, place: Place) -> [Rect; 5]
     requires size { IsSize size.w size.h }
     requires across { place.sx < layout.now.slices_x }
     requires down { place.sy < layout.now.slices_y }
     ensures { AreRects layout.now size place.sx place.sy result }
 {
-    let mut rects = [Rect {
-        x0: 0,
-        x1: 0,
-        y0: 0,
-        y1: 0,
-    }; 5];
-    for level in 0..layout.depth() + 1 {
-        rects[level as usize] = layout.band_rect(size, level, place.sx, place.sy);
+    let depth = layout.depth();
+    let mut rects = [layout.band_rect(size, depth, place.sx, place.sy); 5];
+    for k in 1..depth {
+        let level = (depth - k) as usize;
+        rects[level] = halved(rects[level + 1]);
     }
+    rects[0] = rects[depth.min(1) as usize];
     rects
 }
 

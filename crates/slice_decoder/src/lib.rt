@@ -20,10 +20,12 @@ mod dealing;
 mod levels;
 mod narrow;
 mod narrow_placing;
+mod narrow_restoring;
 mod narrow_slice;
 mod placing;
 mod restoring;
 
+pub use ahead::read_ahead;
 use bit_codes::BitReader;
 use bounded_blocks::Block;
 use components::{Place, read_colour, read_luma};

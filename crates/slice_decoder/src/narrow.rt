@@ -1,9 +1,8 @@
 //! A slice into bands of 32 bits, whose magnitudes are at most 2^18.
 
-ghost use Rattle.std.specs.Prelude.{◌≡◌, ◌↔◌, ℕ, ◌+◌, ◌*◌, ◌^◌, ◌<◌, ◌≤◌, true, length, slice_index_or, pos};
+ghost use Rattle.std.specs.Prelude.{◌≡◌, ◌+◌, ◌*◌, ◌^◌, ◌<◌, ◌≤◌, length, pos};
 ghost use Rattle.planes.specs.Bounded.{AreBandsWithin};
 ghost use Rattle.planes.specs.Subbands.{HaveSizes};
-ghost use Rattle.dc_prediction.specs.Restoring.{IsNarrow};
 ghost use Rattle.slice_geometry.specs.Shape.{IsSize};
 ghost use Rattle.slice_geometry.specs.Geometry.{padded_length};
 ghost use Rattle.slice_decoder.specs.Components.{part_of, BandsHold, BandsKeep};
@@ -12,54 +11,24 @@ ghost use Rattle.slice_decoder.specs.Narrow.{block_values, Answers};
 use crate::components::Place;
 use crate::levels::{count_places, level_rects};
 use crate::narrow_placing::{put_colour, put_luma};
-use crate::restoring::read_values;
-use bounded_blocks::Block;
+use crate::narrow_restoring::read_values;
+use bounded_blocks::{Block, CodeTable, SPARE};
 use planes::NarrowBands;
 use quant_factors::Matrix;
 use slice_geometry::{Layout, Size};
 
-/// How the values of a block fit into narrow bands.
-#[derive(Clone, Copy)]
-pub enum Fit {
-    /// No magnitude passes 2^18, and each value stands at its place.
-    Narrow,
-    /// A magnitude passes 2^18, or there are more values than the buffer has room for.
-    Wide,
-    /// A magnitude passes 2^36.
-    TooLarge,
-}
-
-// The greatest magnitude of a narrow band's numbers.
-const MOST: i64 = 262144;
-
-#[inline(always)]
-fn is_narrow(v: &i64) -> bool
-    ensures { (result ≡ true) ↔ IsNarrow v.now }
-{
-    -MOST <= *v && *v <= MOST
-}
-
-// Whether no magnitude passes 2^18. All are looked at, with no branch for each.
-fn are_narrow(values: &[i64]) -> bool
-    ensures { (result ≡ true) ↔ ((k : ℕ) → k < length values.now → IsNarrow (slice_index_or values.now k (pos 0))) }
-{
-    let mut all = true;
-    for value in values {
-        all = all & is_narrow(value);
-    }
-    all
-}
-
-/// Reads the values of a block into a component's subbands, unless they don't fit.
+/// Reads the values of a block into a component's subbands. It answers false where these don't serve: there are more
+/// values than the buffer has room for, or the magnitude of one passes 2^18.
 pub fn read_luma(
-    block: &mut Block<'_>,
+    block: &Block<'_>,
+    codes: &CodeTable,
     bands: &mut NarrowBands,
     layout: &Layout,
     size: Size,
     matrix: &Matrix,
     place: Place,
-    buffer: &mut [i64],
-) -> Fit
+    buffer: &mut [i32],
+) -> bool
     requires size { IsSize size.w size.h }
     requires across { place.sx < layout.now.slices_x }
     requires down { place.sy < layout.now.slices_y }
@@ -69,39 +38,38 @@ pub fn read_luma(
     requires sizes { HaveSizes bands.old (padded_length layout.now.depth size.w) (padded_length layout.now.depth size.h) }
     requires narrow { AreBandsWithin (pos (2 ^ 18)) bands.old }
     ensures answer { let part = part_of layout.now size place.sx place.sy matrix.now place.qindex in
-        Answers (length buffer.old) (block_values 1 part block.old) (BandsHold 1 0 part (3 * layout.now.depth + 1) block.old bands.old bands.new) result }
+        Answers (length buffer.old) (block_values 1 part block.now) (BandsHold 1 0 part (3 * layout.now.depth + 1) block.now bands.old bands.new) result }
     ensures keeps { let part = part_of layout.now size place.sx place.sy matrix.now place.qindex in
         BandsKeep part bands.old bands.new }
     ensures narrow { AreBandsWithin (pos (2 ^ 18)) bands.new }
 {
     let rects = level_rects(layout, size, place);
     let count = count_places(&rects, layout, size, place);
-    if count > buffer.len() {
-        return Fit::Wide;
+    if count + SPARE > buffer.len() {
+        return false;
     }
-    let values = &mut buffer[..count];
-    if !read_values(block, values, 1, &rects, layout, size, matrix, place) {
-        return Fit::TooLarge;
+    if !read_values(
+        block, codes, buffer, count, 1, &rects, layout, size, matrix, place,
+    ) {
+        return false;
     }
-    if !are_narrow(values) {
-        return Fit::Wide;
-    }
-    put_luma(values, bands, &rects, layout, size, place);
-    Fit::Narrow
+    put_luma(&buffer[..count], bands, &rects, layout, size, place);
+    true
 }
 
-/// Reads the values of a block into the subbands of the two colour components, which take them in turn, unless they
-/// don't fit.
+/// Reads the values of a block into the subbands of the two colour components, which take them in turn. It answers false
+/// where these don't serve.
 pub fn read_colour(
-    block: &mut Block<'_>,
+    block: &Block<'_>,
+    codes: &CodeTable,
     first: &mut NarrowBands,
     second: &mut NarrowBands,
     layout: &Layout,
     size: Size,
     matrix: &Matrix,
     place: Place,
-    buffer: &mut [i64],
-) -> Fit
+    buffer: &mut [i32],
+) -> bool
     requires size { IsSize size.w size.h }
     requires across { place.sx < layout.now.slices_x }
     requires down { place.sy < layout.now.slices_y }
@@ -114,9 +82,9 @@ pub fn read_colour(
     requires first_narrow { AreBandsWithin (pos (2 ^ 18)) first.old }
     requires second_narrow { AreBandsWithin (pos (2 ^ 18)) second.old }
     ensures answer { let part = part_of layout.now size place.sx place.sy matrix.now place.qindex in
-        Answers (length buffer.old) (block_values 2 part block.old)
-        (BandsHold 2 0 part (3 * layout.now.depth + 1) block.old first.old first.new
-        × BandsHold 2 1 part (3 * layout.now.depth + 1) block.old second.old second.new) result }
+        Answers (length buffer.old) (block_values 2 part block.now)
+        (BandsHold 2 0 part (3 * layout.now.depth + 1) block.now first.old first.new
+        × BandsHold 2 1 part (3 * layout.now.depth + 1) block.now second.old second.new) result }
     ensures first_keeps { let part = part_of layout.now size place.sx place.sy matrix.now place.qindex in
         BandsKeep part first.old first.new }
     ensures second_keeps { let part = part_of layout.now size place.sx place.sy matrix.now place.qindex in
@@ -126,16 +94,14 @@ pub fn read_colour(
 {
     let rects = level_rects(layout, size, place);
     let count = 2 * count_places(&rects, layout, size, place);
-    if count > buffer.len() {
-        return Fit::Wide;
+    if count + SPARE > buffer.len() {
+        return false;
     }
-    let values = &mut buffer[..count];
-    if !read_values(block, values, 2, &rects, layout, size, matrix, place) {
-        return Fit::TooLarge;
+    if !read_values(
+        block, codes, buffer, count, 2, &rects, layout, size, matrix, place,
+    ) {
+        return false;
     }
-    if !are_narrow(values) {
-        return Fit::Wide;
-    }
-    put_colour(values, first, second, &rects, layout, size, place);
-    Fit::Narrow
+    put_colour(&buffer[..count], first, second, &rects, layout, size, place);
+    true
 }

@@ -1,4 +1,4 @@
-//! Restored values of magnitudes of at most 2^18, put at the places of a slice in bands of 32 bits.
+//! Restored values, put at the places of a slice in bands of 32 bits.
 
 ghost use Rattle.std.specs.Prelude.{◌≡◌, ℕ, ◌+◌, ◌-◌, ◌*◌, ◌<◌, ◌≤◌, length, drop, slice_index_or, pos};
 ghost use Rattle.planes.specs.Raster.{height};
@@ -14,18 +14,21 @@ use crate::levels::area_of;
 use planes::{NarrowBands, NarrowPlane, Rect};
 use slice_geometry::{Layout, Size};
 
-// A number in 32 bits.
+// Puts four numbers at the places from x on.
 #[inline(always)]
-fn narrowed(v: i64) -> i32
-    requires { IsNarrow v }
-    ensures { result ≡ v }
+fn put_all(row: &mut [i32], x: usize, four: [i32; 4])
+    requires inside { x + 4 ≤ length row.old }
+    ensures inside { (j : ℕ) → x ≤ j → j < x + 4 → slice_index_or row.new j (pos 0) ≡ slice_index_or four (j - x) (pos 0) }
+    ensures outside { StaysBeside x (x + 4) row.old row.new }
 {
-    v as i32
+    for i in 0..4 {
+        row[x + i] = four[i];
+    }
 }
 
 // Puts four values from one on at the places from x on. All are read before one is put, so that they are put at once.
 #[inline(always)]
-fn put_four(values: &[i64], from: usize, row: &mut [i32], x: usize)
+fn put_four(values: &[i32], from: usize, row: &mut [i32], x: usize)
     requires inside { x + 4 ≤ length row.old }
     requires room { from + 4 ≤ length values.now }
     requires narrow { (k : ℕ) → IsNarrow (slice_index_or values.now k (pos 0)) }
@@ -33,20 +36,19 @@ fn put_four(values: &[i64], from: usize, row: &mut [i32], x: usize)
         slice_index_or row.new j (pos 0) ≡ slice_index_or values.now (from + (j - x)) (pos 0) }
     ensures outside { StaysBeside x (x + 4) row.old row.new }
 {
-    let one = narrowed(values[from]);
-    let two = narrowed(values[from + 1]);
-    let three = narrowed(values[from + 2]);
-    let four = narrowed(values[from + 3]);
-    row[x] = one;
-    row[x + 1] = two;
-    row[x + 2] = three;
-    row[x + 3] = four;
+    let four = [
+        values[from],
+        values[from + 1],
+        values[from + 2],
+        values[from + 3],
+    ];
+    put_all(row, x, four);
 }
 
 // Puts the values from one on at the places of a row from `start` on, four at a time, as long as four are left before
 // `end`. It answers the place behind them.
 #[inline(always)]
-fn put_fours(values: &[i64], from: usize, row: &mut [i32], start: usize, end: usize) -> usize
+fn put_fours(values: &[i32], from: usize, row: &mut [i32], start: usize, end: usize) -> usize
     requires order { start ≤ end }
     requires inside { end ≤ length row.old }
     requires room { from + (end - start) ≤ length values.now }
@@ -67,22 +69,21 @@ fn put_fours(values: &[i64], from: usize, row: &mut [i32], start: usize, end: us
 
 // Puts the values from one on at the places of a row from `start` to `end`, one at a time.
 #[inline(always)]
-fn put_ones(values: &[i64], from: usize, row: &mut [i32], start: usize, end: usize)
+fn put_ones(values: &[i32], from: usize, row: &mut [i32], start: usize, end: usize)
     requires order { start ≤ end }
     requires inside { end ≤ length row.old }
     requires room { from + (end - start) ≤ length values.now }
-    requires narrow { (k : ℕ) → IsNarrow (slice_index_or values.now k (pos 0)) }
     ensures inside { (x : ℕ) → start ≤ x → x < end →
         slice_index_or row.new x (pos 0) ≡ slice_index_or values.now (from + (x - start)) (pos 0) }
     ensures outside { StaysBeside start end row.old row.new }
 {
     for x in start..end {
-        row[x] = narrowed(values[from + (x - start)]);
+        row[x] = values[from + (x - start)];
     }
 }
 
 // Puts the values from one on at the places x0..x1 of a row.
-fn put_part(values: &[i64], from: usize, row: &mut [i32], x0: u32, x1: u32)
+fn put_part(values: &[i32], from: usize, row: &mut [i32], x0: u32, x1: u32)
     requires order { x0 ≤ x1 }
     requires inside { x1 ≤ length row.old }
     requires room { from + (x1 - x0) ≤ length values.now }
@@ -96,8 +97,98 @@ fn put_part(values: &[i64], from: usize, row: &mut [i32], x0: u32, x1: u32)
     put_ones(values, from + (middle - start), row, middle, end);
 }
 
+// Puts eight values from one on at the places of two rows from x on in turn, all of them read before one is put.
+#[inline(always)]
+fn put_four_pairs(values: &[i32], from: usize, first: &mut [i32], second: &mut [i32], x: usize)
+    requires first_inside { x + 4 ≤ length first.old }
+    requires second_inside { x + 4 ≤ length second.old }
+    requires room { from + 8 ≤ length values.now }
+    requires narrow { (k : ℕ) → IsNarrow (slice_index_or values.now k (pos 0)) }
+    ensures first { (j : ℕ) → x ≤ j → j < x + 4 →
+        slice_index_or first.new j (pos 0) ≡ slice_index_or values.now (from + 2 * (j - x)) (pos 0) }
+    ensures second { (j : ℕ) → x ≤ j → j < x + 4 →
+        slice_index_or second.new j (pos 0) ≡ slice_index_or values.now (from + (2 * (j - x) + 1)) (pos 0) }
+    ensures first_stays { StaysBeside x (x + 4) first.old first.new }
+    ensures second_stays { StaysBeside x (x + 4) second.old second.new }
+{
+    let ones = [
+        values[from],
+        values[from + 2],
+        values[from + 4],
+        values[from + 6],
+    ];
+    let others = [
+        values[from + 1],
+        values[from + 3],
+        values[from + 5],
+        values[from + 7],
+    ];
+    put_all(first, x, ones);
+    put_all(second, x, others);
+}
+
+// Puts the values from one on at the places of two rows from `start` on in turn, four places at a time, as long as four
+// are left before `end`. It answers the place behind them.
+#[inline(always)]
+fn put_pair_fours(
+    values: &[i32],
+    from: usize,
+    first: &mut [i32],
+    second: &mut [i32],
+    start: usize,
+    end: usize,
+) -> usize
+    requires order { start ≤ end }
+    requires first_inside { end ≤ length first.old }
+    requires second_inside { end ≤ length second.old }
+    requires room { from + 2 * (end - start) ≤ length values.now }
+    requires narrow { (k : ℕ) → IsNarrow (slice_index_or values.now k (pos 0)) }
+    ensures begun { start ≤ result }
+    ensures ended { result ≤ end }
+    ensures first { (j : ℕ) → start ≤ j → j < result →
+        slice_index_or first.new j (pos 0) ≡ slice_index_or values.now (from + 2 * (j - start)) (pos 0) }
+    ensures second { (j : ℕ) → start ≤ j → j < result →
+        slice_index_or second.new j (pos 0) ≡ slice_index_or values.now (from + (2 * (j - start) + 1)) (pos 0) }
+    ensures first_stays { StaysBeside start result first.old first.new }
+    ensures second_stays { StaysBeside start result second.old second.new }
+{
+    let mut x = start;
+    while x + 4 <= end {
+        put_four_pairs(values, from + 2 * (x - start), first, second, x);
+        x += 4;
+    }
+    x
+}
+
+// Puts the values from one on at the places of two rows from `start` to `end` in turn, one place at a time.
+#[inline(always)]
+fn put_pair_ones(
+    values: &[i32],
+    from: usize,
+    first: &mut [i32],
+    second: &mut [i32],
+    start: usize,
+    end: usize,
+)
+    requires order { start ≤ end }
+    requires first_inside { end ≤ length first.old }
+    requires second_inside { end ≤ length second.old }
+    requires room { from + 2 * (end - start) ≤ length values.now }
+    ensures first { (x : ℕ) → start ≤ x → x < end →
+        slice_index_or first.new x (pos 0) ≡ slice_index_or values.now (from + 2 * (x - start)) (pos 0) }
+    ensures second { (x : ℕ) → start ≤ x → x < end →
+        slice_index_or second.new x (pos 0) ≡ slice_index_or values.now (from + (2 * (x - start) + 1)) (pos 0) }
+    ensures first_stays { StaysBeside start end first.old first.new }
+    ensures second_stays { StaysBeside start end second.old second.new }
+{
+    for x in start..end {
+        first[x] = values[from + 2 * (x - start)];
+        second[x] = values[from + (2 * (x - start) + 1)];
+    }
+}
+
 // Puts the values from one on at the places x0..x1 of two rows in turn.
-fn put_pair(values: &[i64], from: usize, first: &mut [i32], second: &mut [i32], x0: u32, x1: u32)
+fn put_pair(values: &[i32], from: usize, first: &mut [i32], second: &mut [i32], x0: u32, x1: u32)
     requires order { x0 ≤ x1 }
     requires first_inside { x1 ≤ length first.old }
     requires second_inside { x1 ≤ length second.old }
@@ -111,14 +202,19 @@ fn put_pair(values: &[i64], from: usize, first: &mut [i32], second: &mut [i32], 
     ensures second_stays { StaysBeside x0 x1 second.old second.new }
 {
     let (start, end) = (x0 as usize, x1 as usize);
-    for x in start..end {
-        first[x] = narrowed(values[from + 2 * (x - start)]);
-        second[x] = narrowed(values[from + (2 * (x - start) + 1)]);
-    }
+    let middle = put_pair_fours(values, from, first, second, start, end);
+    put_pair_ones(
+        values,
+        from + 2 * (middle - start),
+        first,
+        second,
+        middle,
+        end,
+    );
 }
 
 // Puts the values from one on at the places of a rectangle.
-fn put_rect(values: &[i64], from: usize, plane: &mut NarrowPlane, rect: Rect)
+fn put_rect(values: &[i32], from: usize, plane: &mut NarrowPlane, rect: Rect)
     requires across { rect.x0 ≤ rect.x1 }
     requires down { rect.y0 ≤ rect.y1 }
     requires x_inside { rect.x1 ≤ plane.old.w }
@@ -136,7 +232,7 @@ fn put_rect(values: &[i64], from: usize, plane: &mut NarrowPlane, rect: Rect)
 
 // Puts the values from one on at the places of a rectangle in two bands, which take them in turn.
 fn put_rects(
-    values: &[i64],
+    values: &[i32],
     from: usize,
     first: &mut NarrowPlane,
     second: &mut NarrowPlane,
@@ -164,7 +260,7 @@ fn put_rects(
 
 // Puts the values of a slice at its places in a component's subbands.
 pub fn put_luma(
-    values: &[i64],
+    values: &[i32],
     bands: &mut NarrowBands,
     rects: &[Rect; 5],
     layout: &Layout,
@@ -192,7 +288,7 @@ pub fn put_luma(
 
 // Puts the values of a slice at its places in the subbands of the two colour components, which take them in turn.
 pub fn put_colour(
-    values: &[i64],
+    values: &[i32],
     first: &mut NarrowBands,
     second: &mut NarrowBands,
     rects: &[Rect; 5],

@@ -14,25 +14,26 @@ ghost use Rattle.slice_decoder.specs.Narrow.{trio_of, AreNarrowBands, NeedsWide,
 
 use crate::ahead::read_ahead;
 use crate::components::Place;
-use crate::narrow::{Fit, read_colour, read_luma};
+use crate::narrow::{read_colour, read_luma};
 use crate::{SliceFault, head_of};
-use bounded_blocks::Block;
+use bounded_blocks::{Block, CodeTable};
 use dc_prediction::restore_narrow;
 use planes::{NarrowBands, NarrowTrio, Rect};
 use quant_factors::Matrix;
 use slice_geometry::{Layout, PictureShape, SliceHead, length_bits};
 
-// Reads the values of both blocks into the subbands, unless they don't fit.
+// Reads the values of both blocks into the subbands. It answers false where these don't serve.
 fn read_blocks(
     layout: &Layout,
     shape: &PictureShape,
     matrix: &Matrix,
     place: Place,
     bytes: &[u8],
+    codes: &CodeTable,
     luma_bits: u32,
     bands: &mut NarrowTrio,
-    buffer: &mut [i64],
-) -> Fit
+    buffer: &mut [i32],
+) -> bool
     requires some { 1 ≤ length bytes.now }
     requires most { length bytes.now ≤ 2 ^ 28 }
     requires fits { luma_bits + 7 + slicing.length_bits (length bytes.now) ≤ 8 * length bytes.now }
@@ -52,10 +53,11 @@ fn read_blocks(
 {
     let start = 7 + u64::from(length_bits(bytes.len() as u32));
     let middle = start + u64::from(luma_bits);
-    let mut luma = Block::new(bytes, start, u64::from(luma_bits));
-    let mut colour = Block::new(bytes, middle, 8 * bytes.len() as u64 - middle);
-    match read_luma(
-        &mut luma,
+    let luma = Block::new(bytes, start, u64::from(luma_bits));
+    let colour = Block::new(bytes, middle, 8 * bytes.len() as u64 - middle);
+    if !read_luma(
+        &luma,
+        codes,
         &mut bands.luma,
         layout,
         shape.luma,
@@ -63,19 +65,19 @@ fn read_blocks(
         place,
         buffer,
     ) {
-        Fit::Narrow => read_colour(
-            &mut colour,
-            &mut bands.c1,
-            &mut bands.c2,
-            layout,
-            shape.colour,
-            matrix,
-            place,
-            buffer,
-        ),
-        Fit::Wide => Fit::Wide,
-        Fit::TooLarge => Fit::TooLarge,
+        return false;
     }
+    read_colour(
+        &colour,
+        codes,
+        &mut bands.c1,
+        &mut bands.c2,
+        layout,
+        shape.colour,
+        matrix,
+        place,
+        buffer,
+    )
 }
 
 // Restores the residuals of a rectangle in the lowest of a component's subbands, up to a value that would pass 2^18.
@@ -116,9 +118,9 @@ fn restore_all(bands: &mut NarrowTrio, luma: Rect, colour: Rect) -> bool
 
 /// Decodes a slice as `decode_slice` does, into bands of 32 bits whose magnitudes are at most 2^18 before and after.
 ///
-/// It gives no head where such bands don't serve: a dequantised or a restored magnitude passes 2^18, or a block has more
-/// values than the buffer has room for. The slice's own places hold any values then, as after a refusal. All other
-/// places stay.
+/// It gives no head where such bands don't serve: a dequantised or a restored magnitude passes 2^18, or the buffer has no
+/// room for the values of a block and `SPARE` of `bounded_blocks` more. The slice's own places hold any values then, as
+/// after a refusal. All other places stay.
 pub fn decode_narrow(
     layout: &Layout,
     shape: &PictureShape,
@@ -126,8 +128,9 @@ pub fn decode_narrow(
     sx: u32,
     sy: u32,
     bytes: &[u8],
+    codes: &CodeTable,
     bands: &mut NarrowTrio,
-    buffer: &mut [i64],
+    buffer: &mut [i32],
 ) -> Result<Option<SliceHead>, SliceFault>
     requires across { sx < layout.now.slices_x }
     requires down { sy < layout.now.slices_y }
@@ -158,19 +161,18 @@ pub fn decode_narrow(
         qindex: head.qindex,
     };
     read_ahead(bands, layout, shape, sx, sy, buffer);
-    match read_blocks(
+    if !read_blocks(
         layout,
         shape,
         matrix,
         place,
         bytes,
+        codes,
         head.luma_bits,
         bands,
         buffer,
     ) {
-        Fit::TooLarge => return Err(SliceFault::CoefficientTooLarge),
-        Fit::Wide => return Ok(None),
-        Fit::Narrow => {}
+        return Ok(None);
     }
     let luma = layout.band_rect(shape.luma, 0, sx, sy);
     let colour = layout.band_rect(shape.colour, 0, sx, sy);

@@ -17,4 +17,5 @@ pub mod RestoredSlice
 pub mod Encoded
 pub mod Room
 pub mod Chosen
+pub mod Sources
 pub mod Jobs

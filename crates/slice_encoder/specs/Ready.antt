@@ -7,6 +7,7 @@ use Rattle.planes.specs.Rect.{IsInRect}
 use Rattle.planes.specs.Subbands.{HaveSizes}
 use Rattle.planes.specs.declared.ThreePlanes.{ThreePlanes}
 use Rattle.planes.specs.declared.Trio.{Trio}
+use Rattle.planes.specs.declared.NarrowTrio.{NarrowTrio}
 use Rattle.quant_factors.specs.Weights.{Weights}
 use Rattle.slice_geometry.specs.declared.PictureShape.{PictureShape}
 use Rattle.slice_geometry.specs.Frames.{frame_of}
@@ -66,6 +67,10 @@ pub record AllKeepOthers (j : CodedPicture) (sx sy : ℕ) (old new : ThreePlanes
 abbrev pub coded_picture : Slicing → PictureShape → Weights → Trio → CodedPicture
 coded_picture s shape matrix coefficients =
     record { slicing = s; frame = frame_of shape; matrix = matrix; coefficients = coefficients }
+
+-- the same of coefficients in 32 bits
+abbrev pub narrow_picture : Slicing → PictureShape → Weights → NarrowTrio → CodedPicture
+narrow_picture s shape matrix c = coded_picture s shape matrix (record { luma = c.luma; c1 = c.c1; c2 = c.c2 })
 
 -- ---- from slice to slice
 

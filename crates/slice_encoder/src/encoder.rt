@@ -5,7 +5,8 @@ ghost use Rattle.slice_encoder.specs.TrialLaws.{IsSteepOk};
 ghost use Rattle.slice_encoder.specs.Trials.{AreKept};
 ghost use Rattle.slice_encoder.specs.Tries.{AreTried, IsNext, tried_lists};
 ghost use Rattle.slice_encoder.specs.LowNeeds.{lower_of, IsFirstCandidate};
-ghost use Rattle.slice_encoder.specs.Ready.{coded_picture, AreReady, AreGiven};
+ghost use Rattle.slice_encoder.specs.Ready.{coded_picture, narrow_picture, AreReady, AreGiven};
+ghost use Rattle.slice_encoder.specs.Sources.{trio_seen};
 ghost use Rattle.slice_encoder.specs.Encoded as encoded;
 ghost use Rattle.slice_encoder.specs.Encoded.{IsEncoded, IsEncodedAfter, trial_of, IsTriedAfter};
 
@@ -16,7 +17,8 @@ use crate::jobs::SliceJob;
 use crate::packing::put_slice;
 use crate::room::most_places;
 use crate::search::{find_least, share_of, try_at};
-use planes::{NoMemory, ThreePlanes, Trio};
+use crate::sources::TrioSource;
+use planes::{NarrowTrio, NoMemory, ThreePlanes, Trio};
 use quant_factors::Matrix;
 use slice_geometry::{Layout, PictureShape, SliceHead};
 use std::alloc::Global;
@@ -103,7 +105,7 @@ impl SliceEncoder {
             layout: &self.layout,
             shape: &self.shape,
             matrix,
-            coefficients,
+            coefficients: TrioSource::Wide(coefficients),
             sx,
             sy,
         };
@@ -195,6 +197,61 @@ impl SliceEncoder {
         ensures after { (indices : List ℕ) → IsNext (coded_picture self.old.slicing self.old.shape matrix.now coefficients.now) indices sx sy
             → AreKept (coded_picture self.old.slicing self.old.shape matrix.now coefficients.now) indices kept.old
             → IsEncodedAfter (coded_picture self.old.slicing self.old.shape matrix.now coefficients.now) indices sx sy bytes.new result kept.new }
+    {
+        self.encode_from(matrix, sx, sy, TrioSource::Wide(coefficients), kept, bytes)
+    }
+
+    /// Writes a slice as `encode_slice` does, of coefficients in 32 bits.
+    pub fn encode_slice_narrow(
+        &mut self,
+        matrix: &Matrix,
+        sx: u32,
+        sy: u32,
+        coefficients: &NarrowTrio,
+        kept: &mut ThreePlanes,
+        bytes: &mut [u8],
+    ) -> SliceHead
+        requires some { 1 ≤ length bytes.old }
+        requires most { length bytes.old ≤ 2 ^ 28 }
+        requires ready { AreReady (narrow_picture self.old.slicing self.old.shape matrix.now coefficients.now) sx sy kept.old }
+        requires steep { IsSteepOk self.old.slicing.depth (max self.old.shape.luma_depth self.old.shape.colour_depth) matrix.now }
+        ensures same { self.new ≡ self.old }
+        ensures slice { IsEncoded (tried_lists (narrow_picture self.old.slicing self.old.shape matrix.now coefficients.now) kept.old sx sy) bytes.new result }
+        ensures kept { AreTried (narrow_picture self.old.slicing self.old.shape matrix.now coefficients.now) sx sy result.qindex kept.old kept.new }
+        ensures after { (indices : List ℕ) → IsNext (narrow_picture self.old.slicing self.old.shape matrix.now coefficients.now) indices sx sy
+            → AreKept (narrow_picture self.old.slicing self.old.shape matrix.now coefficients.now) indices kept.old
+            → IsEncodedAfter (narrow_picture self.old.slicing self.old.shape matrix.now coefficients.now) indices sx sy bytes.new result kept.new }
+    {
+        self.encode_from(
+            matrix,
+            sx,
+            sy,
+            TrioSource::Narrow(coefficients),
+            kept,
+            bytes,
+        )
+    }
+
+    // The same of coefficients in 64 or in 32 bits.
+    fn encode_from(
+        &mut self,
+        matrix: &Matrix,
+        sx: u32,
+        sy: u32,
+        coefficients: TrioSource<'_>,
+        kept: &mut ThreePlanes,
+        bytes: &mut [u8],
+    ) -> SliceHead
+        requires some { 1 ≤ length bytes.old }
+        requires most { length bytes.old ≤ 2 ^ 28 }
+        requires ready { AreReady (coded_picture self.old.slicing self.old.shape matrix.now (trio_seen coefficients)) sx sy kept.old }
+        requires steep { IsSteepOk self.old.slicing.depth (max self.old.shape.luma_depth self.old.shape.colour_depth) matrix.now }
+        ensures same { self.new ≡ self.old }
+        ensures slice { IsEncoded (tried_lists (coded_picture self.old.slicing self.old.shape matrix.now (trio_seen coefficients.entry)) kept.old sx sy) bytes.new result }
+        ensures kept { AreTried (coded_picture self.old.slicing self.old.shape matrix.now (trio_seen coefficients.entry)) sx sy result.qindex kept.old kept.new }
+        ensures after { (indices : List ℕ) → IsNext (coded_picture self.old.slicing self.old.shape matrix.now (trio_seen coefficients.entry)) indices sx sy
+            → AreKept (coded_picture self.old.slicing self.old.shape matrix.now (trio_seen coefficients.entry)) indices kept.old
+            → IsEncodedAfter (coded_picture self.old.slicing self.old.shape matrix.now (trio_seen coefficients.entry)) indices sx sy bytes.new result kept.new }
     {
         let job = SliceJob {
             layout: &self.layout,

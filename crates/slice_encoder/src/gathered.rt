@@ -12,14 +12,16 @@ ghost use Rattle.slice_encoder.specs.Gathering.{raw_before, piece_of, quantised,
 ghost use Rattle.slice_encoder.specs.GatheredSlices.{AreAllGathered, gathered_low, CanHoldAll};
 ghost use Rattle.slice_encoder.specs.Jobs.{picture_of};
 ghost use Rattle.slice_encoder.specs.Ready.{AreGiven};
+ghost use Rattle.slice_encoder.specs.Sources.{band_seen, stack_seen};
 
 use crate::bounding::Lower;
 use crate::code_lengths::CodeLengths;
 use crate::jobs::SliceJob;
 use crate::reaching::reach_over;
 use crate::room::most_places;
+use crate::sources::{BandSource, StackSource};
 use crate::trying::{band_numbered, orient_numbered};
-use planes::{Bands, NoMemory, Plane, Rect};
+use planes::{NarrowPlane, NoMemory, Plane, Rect};
 use quant_factors::{Matrix, forward};
 use slice_geometry::{Layout, PictureShape, Size};
 use std::alloc::Global;
@@ -72,6 +74,37 @@ fn gather_rect(coefficients: &Plane, rect: Rect, out: &mut [i64], from: usize)
     }
 }
 
+// The same of coefficients in 32 bits.
+fn gather_narrow_rect(coefficients: &NarrowPlane, rect: Rect, out: &mut [i64], from: usize)
+    requires can { CanGather rect coefficients.now }
+    requires room { from + area rect ≤ length out.old }
+    requires small { All (Within (2 ^ 27)) out.old }
+    ensures gathered { take (from + area rect) out.new ≡ take from out.old ++ rect_values (at coefficients.now) rect }
+    ensures small { All (Within (2 ^ 27)) out.new }
+{
+    let mut place = from;
+    for y in rect.y0..rect.y1 {
+        let row = coefficients.row(y);
+        for x in rect.x0..rect.x1 {
+            out[place] = i64::from(row[x as usize]);
+            place += 1;
+        }
+    }
+}
+
+fn gather_band(coefficients: BandSource<'_>, rect: Rect, out: &mut [i64], from: usize)
+    requires can { CanGather rect (band_seen coefficients) }
+    requires room { from + area rect ≤ length out.old }
+    requires small { All (Within (2 ^ 27)) out.old }
+    ensures gathered { take (from + area rect) out.new ≡ take from out.old ++ rect_values (at (band_seen coefficients.entry)) rect }
+    ensures small { All (Within (2 ^ 27)) out.new }
+{
+    match coefficients {
+        BandSource::Wide(band) => gather_rect(band, rect, out, from),
+        BandSource::Narrow(band) => gather_narrow_rect(band, rect, out, from),
+    }
+}
+
 // The rectangle of band number k, by that of the band before it: those of a level have the same.
 #[inline(always)]
 fn next_rect(layout: &Layout, size: Size, sx: u32, sy: u32, k: u32, before: Rect) -> Rect
@@ -97,17 +130,17 @@ fn gather_bands(
     size: Size,
     sx: u32,
     sy: u32,
-    bands: &Bands,
+    bands: StackSource<'_>,
     out: &mut [i64],
 ) -> [usize; 13]
     requires size { IsSize size.w size.h }
     requires across { sx < layout.now.slices_x }
     requires down { sy < layout.now.slices_y }
-    requires can { CanGatherAll layout.now size bands.now }
+    requires can { CanGatherAll layout.now size (stack_seen bands) }
     requires room { place_count layout.now size sx sy ≤ length out.old }
     requires small { All (Within (2 ^ 27)) out.old }
-    ensures ends { (k : ℕ) → k < 3 * layout.now.depth + 1 → slice_index result k ≡ length (raw_before layout.now size bands.now sx sy (k + 1)) }
-    ensures gathered { take (length (raw_before layout.now size bands.now sx sy (3 * layout.now.depth + 1))) out.new ≡ raw_before layout.now size bands.now sx sy (3 * layout.now.depth + 1) }
+    ensures ends { (k : ℕ) → k < 3 * layout.now.depth + 1 → slice_index result k ≡ length (raw_before layout.now size (stack_seen bands.entry) sx sy (k + 1)) }
+    ensures gathered { take (length (raw_before layout.now size (stack_seen bands.entry) sx sy (3 * layout.now.depth + 1))) out.new ≡ raw_before layout.now size (stack_seen bands.entry) sx sy (3 * layout.now.depth + 1) }
     ensures small { All (Within (2 ^ 27)) out.new }
 {
     let mut ends = [0; 13];
@@ -116,7 +149,7 @@ fn gather_bands(
     for k in 0..3 * layout.depth() + 1 {
         let (level, orient) = band_numbered(k);
         rect = next_rect(layout, size, sx, sy, k, rect);
-        gather_rect(bands.band(level, orient), rect, out, place);
+        gather_band(bands.band(level, orient), rect, out, place);
         place += (rect.x1 - rect.x0) as usize * (rect.y1 - rect.y0) as usize;
         ends[k as usize] = place;
     }
@@ -229,14 +262,14 @@ impl Gathered {
     }
 
     /// Gathers the coefficients of a slice.
-    pub fn gather(&mut self, layout: &Layout, size: Size, sx: u32, sy: u32, bands: &Bands)
+    pub fn gather(&mut self, layout: &Layout, size: Size, sx: u32, sy: u32, bands: StackSource<'_>)
         requires size { IsSize size.w size.h }
         requires across { sx < layout.now.slices_x }
         requires down { sy < layout.now.slices_y }
-        requires can { CanGatherAll layout.now size bands.now }
+        requires can { CanGatherAll layout.now size (stack_seen bands) }
         requires room { place_count layout.now size sx sy ≤ length self.old.values }
         ensures room { length self.new.values ≡ length self.old.values }
-        ensures gathered { AreGathered layout.now size bands.now sx sy self.new }
+        ensures gathered { AreGathered layout.now size (stack_seen bands.entry) sx sy self.new }
     {
         self.ends = gather_bands(layout, size, sx, sy, bands, &mut self.values);
         self.depth = layout.depth();
@@ -366,11 +399,11 @@ impl GatheredSlice {
         let sy = job.sy;
         let _depth = layout.depth();
         self.luma
-            .gather(layout, shape.luma, sx, sy, &coefficients.luma);
+            .gather(layout, shape.luma, sx, sy, coefficients.luma());
         self.c1
-            .gather(layout, shape.colour, sx, sy, &coefficients.c1);
+            .gather(layout, shape.colour, sx, sy, coefficients.c1());
         self.c2
-            .gather(layout, shape.colour, sx, sy, &coefficients.c2);
+            .gather(layout, shape.colour, sx, sy, coefficients.c2());
     }
 
     /// What the slice needs at least at an index, whatever is restored of it.

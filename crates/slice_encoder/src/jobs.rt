@@ -1,6 +1,6 @@
 // A slice that is to be encoded.
 
-use planes::Trio;
+use crate::sources::TrioSource;
 use quant_factors::Matrix;
 use slice_geometry::{Layout, PictureShape};
 
@@ -10,7 +10,7 @@ pub struct SliceJob<'a> {
     pub layout: &'a Layout,
     pub shape: &'a PictureShape,
     pub matrix: &'a Matrix,
-    pub coefficients: &'a Trio,
+    pub coefficients: TrioSource<'a>,
     pub sx: u32,
     pub sy: u32,
 }

@@ -23,6 +23,7 @@ mod rect_trials;
 mod room;
 mod search;
 mod short_texts;
+mod sources;
 mod steep;
 mod trying;
 

@@ -3,9 +3,11 @@
 ghost use Rattle.std.specs.Prelude.{◌≡◌, ◌+◌, ◌-◌, ◌*◌, ◌^◌, ◌<◌, ◌≤◌, ◌++◌, length, take};
 ghost use Rattle.planes.specs.Rect.{IsInRect};
 ghost use Rattle.slice_geometry.specs.SliceOrder.{area};
+ghost use Rattle.slice_encoder.specs.Sources.{band_seen};
 ghost use Rattle.slice_encoder.specs.Listing.{band_value, rect_values, pair_values, CanList};
 
 use crate::rect_trials::residual;
+use crate::sources::BandSource;
 use dc_prediction::predict;
 use planes::{Plane, Rect};
 use quant_factors::forward;
@@ -13,7 +15,7 @@ use quant_factors::forward;
 // The value of a place of a rectangle.
 #[inline(always)]
 fn value_at(
-    coefficients: &Plane,
+    coefficients: BandSource<'_>,
     kept: &Plane,
     level: u32,
     rect: Rect,
@@ -22,9 +24,9 @@ fn value_at(
     index: u32,
 ) -> i64
     requires index { index ≤ 127 }
-    requires can { CanList rect level coefficients.now kept.now }
+    requires can { CanList rect level (band_seen coefficients) kept.now }
     requires inside { IsInRect rect y x }
-    ensures { result ≡ band_value coefficients.now kept.now level index y x }
+    ensures { result ≡ band_value (band_seen coefficients.entry) kept.now level index y x }
 {
     let coefficient = coefficients.get(y, x);
     if level == 0 {
@@ -36,7 +38,7 @@ fn value_at(
 
 // Lists the values of a rectangle from a place on.
 pub fn list_rect(
-    coefficients: &Plane,
+    coefficients: BandSource<'_>,
     kept: &Plane,
     level: u32,
     rect: Rect,
@@ -45,9 +47,9 @@ pub fn list_rect(
     from: usize,
 )
     requires index { index ≤ 127 }
-    requires can { CanList rect level coefficients.now kept.now }
+    requires can { CanList rect level (band_seen coefficients) kept.now }
     requires room { from + area rect ≤ length out.old }
-    ensures listed { take (from + area rect) out.new ≡ take from out.old ++ rect_values (band_value coefficients.now kept.now level index) rect }
+    ensures listed { take (from + area rect) out.new ≡ take from out.old ++ rect_values (band_value (band_seen coefficients.entry) kept.now level index) rect }
 {
     let mut place = from;
     for y in rect.y0..rect.y1 {
@@ -60,8 +62,8 @@ pub fn list_rect(
 
 // Lists the values of a rectangle in two bands in turn, from a place on.
 pub fn list_pair(
-    first: &Plane,
-    second: &Plane,
+    first: BandSource<'_>,
+    second: BandSource<'_>,
     first_kept: &Plane,
     second_kept: &Plane,
     level: u32,
@@ -71,11 +73,11 @@ pub fn list_pair(
     from: usize,
 )
     requires index { index ≤ 127 }
-    requires first_can { CanList rect level first.now first_kept.now }
-    requires second_can { CanList rect level second.now second_kept.now }
+    requires first_can { CanList rect level (band_seen first) first_kept.now }
+    requires second_can { CanList rect level (band_seen second) second_kept.now }
     requires room { from + 2 * area rect ≤ length out.old }
     ensures listed { take (from + 2 * area rect) out.new ≡ take from out.old
-        ++ pair_values (band_value first.now first_kept.now level index) (band_value second.now second_kept.now level index) rect }
+        ++ pair_values (band_value (band_seen first.entry) first_kept.now level index) (band_value (band_seen second.entry) second_kept.now level index) rect }
 {
     let mut place = from;
     for y in rect.y0..rect.y1 {

@@ -5,8 +5,10 @@ ghost use Rattle.std.specs.Prelude.{◌≡◌, ◌+◌, ◌*◌, ◌^◌, ◌≤
 ghost use Rattle.planes.specs.Numbers.{Within};
 ghost use Rattle.planes.specs.Raster.{at};
 ghost use Rattle.slice_encoder.specs.Loop.{residual_of, restored_value};
+ghost use Rattle.slice_encoder.specs.Sources.{band_seen};
 ghost use Rattle.slice_encoder.specs.RectTrials.{CanTryRect, TriesRect};
 
+use crate::sources::BandSource;
 use dc_prediction::predict;
 use planes::{Plane, Rect};
 use quant_factors::{Dequantised, forward, inverse};
@@ -39,10 +41,10 @@ fn restored(coefficient: i64, prediction: i64, index: u32) -> i64
 }
 
 // Restores the places of a rectangle in a kept band, row by row.
-pub fn try_rect(coefficients: &Plane, kept: &mut Plane, rect: Rect, index: u32)
+pub fn try_rect(coefficients: BandSource<'_>, kept: &mut Plane, rect: Rect, index: u32)
     requires index { index ≤ 127 }
-    requires can { CanTryRect rect coefficients.now kept.old }
-    ensures { TriesRect (at coefficients.now) index rect kept.old kept.new }
+    requires can { CanTryRect rect (band_seen coefficients) kept.old }
+    ensures { TriesRect (at (band_seen coefficients.entry)) index rect kept.old kept.new }
 {
     for y in rect.y0..rect.y1 {
         for x in rect.x0..rect.x1 {

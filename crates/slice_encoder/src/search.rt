@@ -62,7 +62,7 @@ fn restore_lowest(job: SliceJob<'_>, index: u32, kept: &mut ThreePlanes)
         shape.luma,
         shape.luma_depth,
         index,
-        &coefficients.luma,
+        coefficients.luma(),
         &mut kept.luma,
     );
     try_lowest(
@@ -70,7 +70,7 @@ fn restore_lowest(job: SliceJob<'_>, index: u32, kept: &mut ThreePlanes)
         shape.colour,
         shape.colour_depth,
         index,
-        &coefficients.c1,
+        coefficients.c1(),
         &mut kept.c1,
     );
     try_lowest(
@@ -78,7 +78,7 @@ fn restore_lowest(job: SliceJob<'_>, index: u32, kept: &mut ThreePlanes)
         shape.colour,
         shape.colour_depth,
         index,
-        &coefficients.c2,
+        coefficients.c2(),
         &mut kept.c2,
     );
 }

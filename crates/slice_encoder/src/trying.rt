@@ -13,12 +13,14 @@ ghost use Rattle.slice_encoder.specs.Tries.{IsTried};
 ghost use Rattle.slice_encoder.specs.Buffers.{coded_component};
 ghost use Rattle.slice_encoder.specs.Ready.{IsReady};
 ghost use Rattle.slice_encoder.specs.Gathering.{AreGathered};
+ghost use Rattle.slice_encoder.specs.Sources.{stack_seen, trio_seen};
 
 use crate::gathered::{Gathered, GatheredSlice};
 use crate::jobs::SliceJob;
 use crate::listing::{list_pair, list_rect};
 use crate::rect_trials::try_rect;
-use planes::{Bands, Orient, Plane, ThreePlanes};
+use crate::sources::StackSource;
+use planes::{Orient, Plane, ThreePlanes};
 use slice_geometry::Size;
 
 // Restores the slice's places of one component at an index. The depth of its samples bounds the coefficients, in the
@@ -28,7 +30,7 @@ pub fn try_lowest(
     size: Size,
     sample_depth: u32,
     index: u32,
-    coefficients: &Bands,
+    coefficients: StackSource<'_>,
     kept: &mut Plane,
 )
     requires index { index ≤ 127 }
@@ -37,8 +39,8 @@ pub fn try_lowest(
     requires across { job.sx < job.layout.now.slices_x }
     requires down { job.sy < job.layout.now.slices_y }
     requires entries { job.matrix.now.depth ≡ job.layout.now.depth }
-    requires ready { IsReady (coded_component job.layout.now size job.matrix.now coefficients.now) sample_depth job.sx job.sy kept.old }
-    ensures { IsTried (coded_component job.entry.layout.now size job.entry.matrix.now coefficients.now) job.entry.sx job.entry.sy index kept.old kept.new }
+    requires ready { IsReady (coded_component job.layout.now size job.matrix.now (stack_seen coefficients)) sample_depth job.sx job.sy kept.old }
+    ensures { IsTried (coded_component job.entry.layout.now size job.entry.matrix.now (stack_seen coefficients.entry)) job.entry.sx job.entry.sy index kept.old kept.new }
 {
     let _ = sample_depth;
     let _depth = job.layout.depth();
@@ -82,16 +84,16 @@ pub fn list_luma(
     requires across { job.sx < job.layout.now.slices_x }
     requires down { job.sy < job.layout.now.slices_y }
     requires entries { job.matrix.now.depth ≡ job.layout.now.depth }
-    requires depth { job.coefficients.now.luma.depth ≡ job.layout.now.depth }
+    requires depth { (trio_seen job.coefficients).luma.depth ≡ job.layout.now.depth }
     requires can { CanListAll (luma_of (picture_of job)) job.sx job.sy kept.now }
-    requires gathered { AreGathered job.layout.now job.shape.now.luma job.coefficients.now.luma job.sx job.sy gathered.now }
+    requires gathered { AreGathered job.layout.now job.shape.now.luma (trio_seen job.coefficients).luma job.sx job.sy gathered.now }
     requires room { length (luma_list (luma_of (picture_of job)) (at kept.now) index job.sx job.sy) ≤ length out.old }
     ensures most { result ≤ length out.old }
     ensures listed { take result out.new ≡ luma_list (luma_of (picture_of job.entry)) (at kept.now) index job.entry.sx job.entry.sy }
 {
     let rect = job.layout.band_rect(job.shape.luma, 0, job.sx, job.sy);
     let quantiser = job.matrix.quantiser(index, 0, Orient::Ll);
-    let lowest = job.coefficients.luma.band(0, 0);
+    let lowest = job.coefficients.luma().band(0, 0);
     list_rect(lowest, kept, 0, rect, quantiser, out, 0);
     gathered.list(job.matrix, index, out)
 }
@@ -108,8 +110,8 @@ pub fn list_colour(
     requires across { job.sx < job.layout.now.slices_x }
     requires down { job.sy < job.layout.now.slices_y }
     requires entries { job.matrix.now.depth ≡ job.layout.now.depth }
-    requires first_depth { job.coefficients.now.c1.depth ≡ job.layout.now.depth }
-    requires second_depth { job.coefficients.now.c2.depth ≡ job.layout.now.depth }
+    requires first_depth { (trio_seen job.coefficients).c1.depth ≡ job.layout.now.depth }
+    requires second_depth { (trio_seen job.coefficients).c2.depth ≡ job.layout.now.depth }
     requires first_can { CanListAll (c1_of (picture_of job)) job.sx job.sy kept.now.c1 }
     requires second_can { CanListAll (c2_of (picture_of job)) job.sx job.sy kept.now.c2 }
     requires gathered { AreAllGathered (picture_of job) job.sx job.sy gathered.now }
@@ -119,8 +121,8 @@ pub fn list_colour(
 {
     let rect = job.layout.band_rect(job.shape.colour, 0, job.sx, job.sy);
     let quantiser = job.matrix.quantiser(index, 0, Orient::Ll);
-    let first = job.coefficients.c1.band(0, 0);
-    let second = job.coefficients.c2.band(0, 0);
+    let first = job.coefficients.c1().band(0, 0);
+    let second = job.coefficients.c2().band(0, 0);
     list_pair(
         first, second, &kept.c1, &kept.c2, 0, rect, quantiser, out, 0,
     );

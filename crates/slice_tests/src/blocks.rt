@@ -1,6 +1,7 @@
 //! Short blocks, and the greatest magnitudes.
 
-use bounded_blocks::{Block, Sint};
+use bounded_blocks::{Block, CodeTable, SPARE, Sint};
+use planes::NoMemory;
 use std::process::Abort;
 
 /// Each block of at most three bits: its bits at the front of a byte, how many they are, and its first five values.
@@ -23,8 +24,24 @@ const SHORT_BLOCKS: [(u8, u64, [i64; 5]); 15] = [
     (0b1110_0000, 3, [0, 0, 0, 0, 0]),
 ];
 
-/// Asserts what a block's first values are, one by one and as a row.
-fn assert_block(rt: &impl Abort, bytes: &[u8; 2], count: u64, expected: [i64; 5]) {
+/// Asserts what a block's first values are in 32 bits.
+fn assert_narrow(rt: &impl Abort, table: &CodeTable, block: &Block<'_>, expected: &[i64]) {
+    assert!(rt; expected.len() <= 56);
+    let mut out = [7; 56 + SPARE];
+    assert!(rt; block.narrow_values(table, expected.len(), &mut out));
+    for k in 0..expected.len() {
+        assert_eq!(rt; i64::from(out[k]), expected[k]);
+    }
+}
+
+/// Asserts what a block's first values are, one by one, as a row, and in 32 bits.
+fn assert_block(
+    rt: &impl Abort,
+    table: &CodeTable,
+    bytes: &[u8; 2],
+    count: u64,
+    expected: [i64; 5],
+) {
     assert!(rt; count <= 8);
     let mut block = Block::new(bytes, 8, count);
     for value in expected {
@@ -32,13 +49,16 @@ fn assert_block(rt: &impl Abort, bytes: &[u8; 2], count: u64, expected: [i64; 5]
     }
     let mut out = [7; 5];
     assert!(rt; Block::new(bytes, 8, count).fill(&mut out) && out == expected);
+    assert_narrow(rt, table, &Block::new(bytes, 8, count), &expected);
 }
 
 #[test]
-fn short_blocks(rt: HostRuntime) {
+fn short_blocks(rt: HostRuntime) -> Result<(), NoMemory> {
+    let table = CodeTable::new(rt.alloc())?;
     for (bits, count, expected) in SHORT_BLOCKS {
-        assert_block(&rt, &[0b1010_0101, bits], count, expected);
+        assert_block(&rt, &table, &[0b1010_0101, bits], count, expected);
     }
+    Ok(())
 }
 
 /// Asserts what is read of a block in turn.
@@ -92,18 +112,23 @@ fn weighed(values: &[i64; 24]) -> i64 {
 
 /// Codes that run past the block at each of its last bits.
 #[test]
-fn codes_past_the_end(rt: HostRuntime) {
+fn codes_past_the_end(rt: HostRuntime) -> Result<(), NoMemory> {
+    let table = CodeTable::new(rt.alloc())?;
     for k in 0..71 {
         let mut out = [7; 24];
         let read = Block::new(&MANY_CODES, 3, 55 + k as u64).fill(&mut out);
         assert!(&rt; read);
         assert_eq!(&rt; weighed(&out), WEIGHED[k]);
+        let block = Block::new(&MANY_CODES, 3, 55 + k as u64);
+        assert_narrow(&rt, &table, &block, &out);
     }
+    Ok(())
 }
 
 /// 2^36, whose code has 74 bits, and -1 behind it, at each place from 1 to 49; zeros beside them.
 #[test]
-fn the_longest_code(rt: HostRuntime) {
+fn the_longest_code(rt: HostRuntime) -> Result<(), NoMemory> {
+    let table = CodeTable::new(rt.alloc())?;
     for zeros in 1..50usize {
         let behind = u128::MAX >> (zeros + 78);
         let codes = 0b0110_0011u128 << (50 - zeros);
@@ -114,5 +139,53 @@ fn the_longest_code(rt: HostRuntime) {
         want[zeros] = 0x10_0000_0000;
         want[zeros + 1] = -1;
         assert_eq!(&rt; out, want);
+        let block = Block::new(&bytes, 0, 128);
+        assert_narrow(&rt, &table, &block, &want[..zeros]);
+        assert!(&rt; !block.narrow_values(&table, zeros + 1, &mut [7; 64]));
     }
+    Ok(())
+}
+
+/// Codes of 38 bits: 2^18, -2^18, 2^18 + 1 and -2^18 - 1, and which of them are told in 32 bits.
+const NEAR_THE_BOUND: [(u64, i64, bool); 4] = [
+    (0b00_0110, 262144, true),
+    (0b00_0111, -262144, true),
+    (0b01_0010, 262145, false),
+    (0b01_0011, -262145, false),
+];
+
+/// Asserts what is told of such a code behind so many zeros, with zeros behind.
+fn assert_near(
+    rt: &impl Abort,
+    table: &CodeTable,
+    zeros: usize,
+    code: u64,
+    value: i64,
+    is_narrow: bool,
+) {
+    assert!(rt; zeros >= 1 && zeros <= 25 && code < 64);
+    let bits = u64::MAX << (64 - zeros) | code << (26 - zeros) | u64::MAX >> (zeros + 38);
+    let bytes = bits.to_be_bytes();
+    let block = Block::new(&bytes, 0, 64);
+    let mut want = [0; 40];
+    assert_narrow(rt, table, &block, &want[..zeros]);
+    assert_eq!(rt;
+        block.narrow_values(table, zeros + 1, &mut [7; 64]),
+        is_narrow
+    );
+    if is_narrow {
+        want[zeros] = value;
+        assert_narrow(rt, table, &block, &want);
+    }
+}
+
+#[test]
+fn magnitudes_near_the_narrow_bound(rt: HostRuntime) -> Result<(), NoMemory> {
+    let table = CodeTable::new(rt.alloc())?;
+    for (code, value, is_narrow) in NEAR_THE_BOUND {
+        for zeros in 1..26usize {
+            assert_near(&rt, &table, zeros, code, value, is_narrow);
+        }
+    }
+    Ok(())
 }

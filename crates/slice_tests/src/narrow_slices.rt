@@ -9,6 +9,7 @@ ghost use Rattle.slice_decoder.specs.Decoded.{IsReady, AreReady};
 ghost use Rattle.slice_decoder.specs.Narrow.{trio_of, AreNarrowBands};
 
 use crate::slices::{layout, shape};
+use bounded_blocks::{CodeTable, SPARE};
 use planes::{NarrowBands, NarrowTrio, NoMemory};
 use quant_factors::Matrix;
 use slice_decoder::{SliceFault, decode_narrow};
@@ -45,6 +46,7 @@ fn decode_only(
     layout: &Layout,
     shape: &PictureShape,
     bytes: &[u8],
+    codes: &CodeTable,
     bands: &mut NarrowTrio,
     room: usize,
 ) -> Result<Option<SliceHead>, SliceFault>
@@ -55,9 +57,9 @@ fn decode_only(
     assert!(rt; layout.slices_x() > 0 && layout.slices_y() > 0 && layout.depth() <= 1);
     let depth = layout.depth();
     let matrix = Matrix::new(depth, &[0; 4][..(1 + 3 * depth) as usize]);
-    let mut buffer = [0; 4];
-    let values = &mut buffer[..room];
-    decode_narrow(layout, shape, &matrix, 0, 0, bytes, bands, values)
+    let mut buffer = [0; 4 + SPARE];
+    let values = &mut buffer[..room + SPARE];
+    decode_narrow(layout, shape, &matrix, 0, 0, bytes, codes, bands, values)
 }
 
 /// The first two values of the lowest band.
@@ -73,13 +75,14 @@ fn values_of(
     layout: &Layout,
     shape: &PictureShape,
     bytes: &[u8],
+    codes: &CodeTable,
     bands: &mut NarrowTrio,
     room: usize,
 ) -> Result<Option<[[i32; 2]; 3]>, SliceFault>
     requires ready { AreReady layout.now shape.now 0 0 (trio_of bands.old) }
     requires narrow { AreNarrowBands bands.old }
 {
-    match decode_only(rt, layout, shape, bytes, bands, room)? {
+    match decode_only(rt, layout, shape, bytes, codes, bands, room)? {
         None => Ok(None),
         Some(_) => Ok(Some([
             two_values(rt, &bands.luma),
@@ -91,7 +94,7 @@ fn values_of(
 
 /// Slices of two places: the bytes, how many values a block may have, and the values of luma, C1 and C2, none where
 /// the bands don't serve, or the fault.
-const TWO_PLACES: [(&[u8], usize, Result<Option<[[i32; 2]; 3]>, SliceFault>); 14] = [
+const TWO_PLACES: [(&[u8], usize, Result<Option<[[i32; 2]; 3]>, SliceFault>); 15] = [
     (&[0x00], 4, Ok(Some([[0, 0], [-2, -2], [0, 0]]))),
     // a block has more values than there is room for
     (&[0x00], 3, Ok(None)),
@@ -134,13 +137,20 @@ const TWO_PLACES: [(&[u8], usize, Result<Option<[[i32; 2]; 3]>, SliceFault>); 14
         Ok(None),
     ),
     (&[0x00, 0xDF], 4, Err(SliceFault::LumaLengthTooLong)),
-    (&[0xFE, 0x00, 0x00], 4, Err(SliceFault::CoefficientTooLarge)),
+    // a value that its index makes too large, for bands of 64 bits too, and one that is too large as it is read
+    (&[0xFE, 0x00, 0x00], 4, Ok(None)),
+    (
+        &[0x00, 0x00, 0x00, 0x00, 0x00, 0x00, 0x00, 0x00, 0x00, 0x00],
+        4,
+        Ok(None),
+    ),
 ];
 
 /// Asserts the values of a slice of two places.
 fn expect_two_places(
     rt: &impl Abort,
     alloc: Global,
+    codes: &CodeTable,
     bytes: &[u8],
     room: usize,
     want: &Result<Option<[[i32; 2]; 3]>, SliceFault>,
@@ -148,7 +158,7 @@ fn expect_two_places(
     assert!(rt; bytes.len() <= 10);
     let (layout, shape) = (layout(rt, 0, 1, bytes.len() as u32), shape(TWO));
     let mut bands = zeros(alloc, &layout, &shape)?;
-    let values = values_of(rt, &layout, &shape, bytes, &mut bands, room);
+    let values = values_of(rt, &layout, &shape, bytes, codes, &mut bands, room);
     drop(bands);
     assert_eq!(rt; values, *want);
     Ok(())
@@ -156,8 +166,9 @@ fn expect_two_places(
 
 #[test]
 fn slices_of_two_places(rt: HostRuntime) -> Result<(), Fail> {
+    let codes = CodeTable::new(rt.alloc())?;
     for (bytes, room, want) in &TWO_PLACES {
-        expect_two_places(&rt, rt.alloc(), bytes, *room, want)?;
+        expect_two_places(&rt, rt.alloc(), &codes, bytes, *room, want)?;
     }
     Ok(())
 }

@@ -5,7 +5,7 @@ use std::alloc::Global;
 use std::fmt::Debug;
 use std::process::Abort;
 use std::test::Fail;
-use stream_units::{Item, ReadStop, Reason, Refusal, StreamReader, Verdict, judge};
+use stream_units::{Item, ReadStop, Reason, Refusal, StreamChecker, StreamReader, Verdict, judge};
 use vc2_io::{MemSource, Source};
 
 /// The first unit of most streams here: one sample, 4:4:4, 8 bits, frames.
@@ -156,6 +156,37 @@ pub(crate) fn expect<S: Source>(
     )
 }
 
+/// The items come in order, and then the last answer, which stays.
+fn expect_checked<S: Source>(
+    rt: &impl Abort,
+    checker: &mut StreamChecker,
+    src: &mut S,
+    items: &[Item],
+    last: Result<Item, ReadStop>,
+) {
+    for item in items {
+        assert_same(rt, checker.next(src), Ok(*item));
+    }
+    assert_same(rt, checker.next(src), last);
+    assert_same(rt, checker.next(src), last);
+}
+
+/// A reader that makes no pictures answers the same.
+fn expect_unshown(
+    rt: &impl Abort,
+    alloc: Global,
+    bytes: &[u8],
+    pieces: &[usize],
+    items: &[Item],
+    last: Result<Item, ReadStop>,
+) -> Result<(), Fail> {
+    let mut src = MemSource::new(bytes, pieces, &[]);
+    lend(
+        StreamChecker::new(alloc),
+        |checker| expect_checked(rt, checker, &mut src, items, last),
+    )
+}
+
 /// The verdict of the judge of bytes in memory is that of this last answer.
 fn expect_verdict(
     rt: &impl Abort,
@@ -172,7 +203,8 @@ fn expect_verdict(
     Ok(())
 }
 
-/// The same where all comes at once, and where each byte comes alone; and by the judge of bytes in memory.
+/// The same where all comes at once, and where each byte comes alone; by a reader that makes no pictures; and by the judge
+/// of bytes in memory.
 pub(crate) fn expect_twice(
     rt: &impl Abort,
     alloc: Global,
@@ -183,6 +215,7 @@ pub(crate) fn expect_twice(
     for pieces in [WHOLE, ONE_EACH] {
         let mut src = MemSource::new(bytes, pieces, &[]);
         expect(rt, alloc, &mut src, items, last)?;
+        expect_unshown(rt, alloc, bytes, pieces, items, last)?;
     }
     expect_verdict(rt, alloc, bytes, last)
 }

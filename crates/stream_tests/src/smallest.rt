@@ -9,7 +9,7 @@ use slice_geometry::{UnitShape, UnitShapes};
 use std::alloc::Global;
 use std::process::Abort;
 use std::test::Fail;
-use stream_units::{Item, ReadStop, Reason, StreamReader, first_unit};
+use stream_units::{Item, ReadStop, Reason, StreamChecker, StreamReader, first_unit};
 use vc2_io::{MemSource, Source, SteadySource};
 
 const ITEMS: [Item; 2] = [Item::Sequence, Item::Picture(0)];
@@ -92,6 +92,31 @@ fn expect_shapes(rt: &impl Abort, shapes: &UnitShapes) {
         assert!(rt; number < shapes.len());
         assert_same(rt, (number, shapes.get(number)), (number, *shape));
     }
+}
+
+/// Whether a header is shown, and the bytes taken and held, by a reader that makes no pictures.
+fn checked(checker: &StreamChecker) -> (bool, u64, usize) {
+    (checker.header().is_some(), checker.taken(), checker.held())
+}
+
+/// The same but for the pictures.
+#[test]
+fn unit_by_unit_without_pictures(rt: HostRuntime) -> Result<(), Fail> {
+    let bytes = joined(rt.alloc(), &[HEADER, PICTURE, END])?;
+    let mut src = SteadySource::new(bytes.as_slice());
+    lend(
+        StreamChecker::new(rt.alloc()),
+        |checker| expect_checked(&rt, checker, &mut src),
+    )
+}
+
+fn expect_checked<S: Source>(rt: &impl Abort, checker: &mut StreamChecker, src: &mut S) {
+    assert_same(rt, checked(checker), (false, 0, 0));
+    for (item, (has_header, _, taken, held)) in &STEPS {
+        assert_same(rt, checker.next(src), Ok(*item));
+        assert_same(rt, checked(checker), (*has_header, *taken, *held));
+    }
+    expect_shapes(rt, checker.shapes());
 }
 
 /// Behind a refusal the header, the shapes and the bytes taken are those of the units that stand; no picture is shown.

@@ -15,7 +15,7 @@ use Rattle.stream_units.specs.Held.{StopsHeld, BeforeSlices, InSlices, NoDecoder
 use Rattle.stream_units.specs.StreamTable.{StreamTableSeen, IsFoundBy, StopsTable}
 
 pub stops_before : (table : StreamTableSeen) (held0 : List ℕ) (rest0 : Option (List ℕ)) (held : List ℕ) (stop : ReadStop Reason) → length held ≤ READ_SIZE → StopsTable table table held0 rest0 held stop
-stops_before table held0 rest0 held stop few = record { header = refl; shapes = refl; held = BeforeSlices refl (omega (arith, few)) }
+stops_before table held0 rest0 held stop few = record { makes = refl; header = refl; shapes = refl; held = BeforeSlices refl (omega (arith, few)) }
 
 -- a unit that is refused, whatever it is refused for
 held_otherwise : (z : Past) (held0 : List ℕ) (rest0 : Option (List ℕ)) (old new : Option PictureDecoderSeen) (held : List ℕ) (refusal : Refusal Reason) (stop : ReadStop Reason) → StopsHeld z held0 rest0 old new held (stops.Refused refusal) → StopsHeld z held0 rest0 old new held stop
@@ -24,12 +24,12 @@ held_otherwise z held0 rest0 old new held refusal stop (InSlices p reads d is sa
 held_otherwise z held0 rest0 old new held refusal stop (NoDecoder want none few) = absurd cc
 
 pub stops_otherwise : (before now : StreamTableSeen) (held0 : List ℕ) (rest0 : Option (List ℕ)) (held : List ℕ) (refusal : Refusal Reason) (stop : ReadStop Reason) → StopsTable before now held0 rest0 held (stops.Refused refusal) → StopsTable before now held0 rest0 held stop
-stops_otherwise before now held0 rest0 held refusal stop h = record { header = h.header; shapes = h.shapes; held = held_otherwise before.past held0 rest0 before.decoder now.decoder held refusal stop h.held }
+stops_otherwise before now held0 rest0 held refusal stop h = record { makes = h.makes; header = h.header; shapes = h.shapes; held = held_otherwise before.past held0 rest0 before.decoder now.decoder held refusal stop h.held }
 
 pub stops_behind : (before now : StreamTableSeen) (found : Found) (unit : DataUnit) (bytes : List ℕ) (held0 : List ℕ) (rest0 : Option (List ℕ)) (held : List ℕ) (stop : ReadStop Reason)
     → IsFoundBy before now found unit bytes → unit_behind unit ≡ Final → length held ≤ READ_SIZE → StopsTable before now held0 rest0 held stop
-stops_behind before now (founds.Sequence first) unit bytes held0 rest0 held stop is final few = record { header = is.header; shapes = is.shapes; held = BeforeSlices is.kept (omega (arith, few)) }
-stops_behind before now founds.Repeated unit bytes held0 rest0 held stop is final few = record { header = is.header; shapes = is.shapes; held = BeforeSlices is.kept (omega (arith, few)) }
+stops_behind before now (founds.Sequence first) unit bytes held0 rest0 held stop is final few = record { makes = is.makes; header = is.header; shapes = is.shapes; held = BeforeSlices is.kept (omega (arith, few)) }
+stops_behind before now founds.Repeated unit bytes held0 rest0 held stop is final few = record { makes = is.makes; header = is.header; shapes = is.shapes; held = BeforeSlices is.kept (omega (arith, few)) }
 stops_behind before now (founds.Picture shown) unit bytes held0 rest0 held stop is final few = absurd (let clash : Inner ≡ Final = sym (ap unit_behind is.is_read.0.2.is_picture) ∙ final in cc)
-stops_behind before now founds.Skipped unit bytes held0 rest0 held stop is final few = record { header = is.header; shapes = is.shapes; held = BeforeSlices is.kept (omega (arith, few)) }
-stops_behind before now founds.End unit bytes held0 rest0 held stop is final few = record { header = is.header; shapes = is.shapes; held = BeforeSlices is.kept (omega (arith, few)) }
+stops_behind before now founds.Skipped unit bytes held0 rest0 held stop is final few = record { makes = is.makes; header = is.header; shapes = is.shapes; held = BeforeSlices is.kept (omega (arith, few)) }
+stops_behind before now founds.End unit bytes held0 rest0 held stop is final few = record { makes = is.makes; header = is.header; shapes = is.shapes; held = BeforeSlices is.kept (omega (arith, few)) }

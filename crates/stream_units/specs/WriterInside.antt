@@ -1,5 +1,5 @@
 -- What is true of the fields of a writer.
-use Rattle.std.specs.Prelude.{◌≡◌, ◌≤◌, ℕ, ◌+◌, ◌%◌, ◌^◌, ◌<◌, Bool, false, List, length, take, drop, Option}
+use Rattle.std.specs.Prelude.{◌≡◌, ◌≤◌, ℕ, ◌+◌, ◌%◌, ◌^◌, ◌<◌, Bool, false, List, [], length, take, drop, Option, None}
 use Rattle.parse_info.specs.declared.TheConstants.{HEAD_SIZE}
 use Rattle.vc2_io.specs.declared.TheConstants.{INPUT_LIMIT}
 use Rattle.parse_info.specs.Chain.{ChainSeen}
@@ -10,8 +10,9 @@ use Rattle.transform_params.specs.Params.{Params}
 use Rattle.transform_params.specs.ParameterFields.{unit_length}
 use Rattle.picture_codec.specs.Encoding.{PictureEncoderSeen}
 use Rattle.stream_units.specs.declared.write_stop.WriteStop.{WriteStop}
-use Rattle.stream_units.specs.EncodedStream.{header_length, header_unit}
-use Rattle.stream_units.specs.Writer.{total_length, pictures_among, last_length}
+use Rattle.stream_units.specs.declared.write_stop.WriteStop.TheVariants as stops
+use Rattle.stream_units.specs.EncodedStream.{Settings, header_length, header_unit}
+use Rattle.stream_units.specs.Writer.{StreamWriterSeen, IsSteepUnder, total_length, pictures_among, last_length}
 
 pub record IsSound (first : ℕ) (chain : ChainSeen) (number position : ℕ) (shapes : UnitShapesSeen) (stop : Option WriteStop)
     (ended : Bool) : Type 0 where
@@ -42,3 +43,13 @@ pub record Holds (parts : HeaderParts) (p : Params) (buffer : List ℕ) (from : 
 pub record Encodes (parts : HeaderParts) (p : Params) (encoder : PictureEncoderSeen) : Type 0 where
   pub shape : IsShapeOf encoder.shape parts
   pub params : encoder.params ≡ p
+
+-- a writer that wrote nothing yet
+abbrev pub IsReady : Settings → StreamWriterSeen → Type 0
+IsReady s w = (w ≡ record { settings = s; shapes = []; ended = false; stop = None }) × IsSteepUnder s
+
+-- why there is none
+abbrev pub IsUnready : Settings → WriteStop → Type 0
+IsUnready s stops.MatrixTooSteep = IsSteepUnder s → ⊥
+IsUnready s stops.NoMemory = Unit {0}
+IsUnready s other = ⊥

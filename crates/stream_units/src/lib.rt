@@ -1,6 +1,7 @@
-//! Streams: the rows of their units, and the reader that takes them from any source.
+//! Streams: the readers that take their units from any source, and the writer of them to any sink.
 #![tactic(auto)]
 
+mod checker;
 mod due_units;
 mod earlier;
 pub mod encoding;
@@ -19,6 +20,7 @@ mod write_stop;
 mod writer;
 mod written_units;
 
+pub use checker::StreamChecker;
 pub use head_reader::HeadReader;
 pub use heads::first_unit;
 pub use judging::{Verdict, judge};

@@ -9,8 +9,7 @@ ghost use Rattle.sequence_header.specs.declared.parts.HeaderParts.{HeaderParts};
 ghost use Rattle.transform_params.specs.Params.{params_rows};
 ghost use Rattle.transform_params.specs.Views.{params_of};
 ghost use Rattle.slice_geometry.specs.Frames.{frame_of};
-ghost use Rattle.picture_codec.specs.Samples.{picture_of};
-ghost use Rattle.picture_codec.specs.Decoding.{HasTaken, synthesised_picture, wanted_of};
+ghost use Rattle.picture_codec.specs.Decoding.{wanted_of};
 ghost use Rattle.unit_table.specs.Begun.{Begun};
 ghost use Rattle.unit_reader.specs.declared.stop.ReadStop.TheVariants as stops;
 ghost use Rattle.stream_rows.specs.Streams.{frame_under};
@@ -33,7 +32,7 @@ use unit_reader::{ReadStop, Refusal, Window, read_on, refused, stop_of};
 use vc2_io::Source;
 
 /// A picture that was read: its number, how it is cut into slices, the bytes of its unit before the first slice, and
-/// the decoder that made it.
+/// the decoder that took its slices.
 #[derive(Drop)]
 pub(crate) struct Shown {
     pub number: u32,
@@ -198,18 +197,7 @@ fn slices<S: Source>(
     Ok(())
 }
 
-// Has a decoder that took all slices make its picture.
-fn finish(decoder: &mut PictureDecoder)
-    requires unrefused { decoder.old.refused ≡ false }
-    requires whole { wanted_of decoder.old ≡ None }
-    ensures state { decoder.new ≡ record decoder.old { picture = Some (synthesised_picture decoder.old) } }
-    ensures unit { (slices : List (List ℕ)) → HasTaken slices decoder.old
-        → synthesised_picture decoder.old ≡ picture_of (frame_of decoder.old.shape) decoder.old.params slices }
-{
-    let _ = decoder.finish();
-}
-
-/// Takes the payload of a picture unit, behind its head. The decoder of an earlier picture serves where it made one of
+/// Takes the payload of a picture unit, behind its head. The decoder of an earlier picture serves where that one has
 /// the same shape and parameters; the one of a picture that is refused is kept.
 pub(crate) fn picture<S: Source>(
     alloc: Global,
@@ -245,7 +233,6 @@ pub(crate) fn picture<S: Source>(
         drop(kept.replace(decoder));
         return Err(refused(place + 5, Reason::OffsetWrong));
     }
-    finish(&mut decoder);
     Ok(Shown {
         number,
         layout: params.layout,

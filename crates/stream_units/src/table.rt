@@ -43,11 +43,12 @@ impl Model for StreamUnit {
     ghost view = { λ a. End };
 }
 
-/// What the units of a stream so far leave, the header that was read last, their shapes, and the decoder of the last picture
-/// unit whose parameters were read.
+/// What the units of a stream so far leave, the header that was read last, their shapes, the decoder of the last picture
+/// unit whose parameters were read, and whether it makes pictures.
 #[derive(Drop)]
 pub(crate) struct StreamTable {
     alloc: Global,
+    makes_pictures: bool,
     earlier: Earlier,
     header: Option<SequenceHeader>,
     shapes: UnitShapes,
@@ -60,7 +61,7 @@ impl Model for StreamTable {
 
     ghost Value = { StreamTableSeen };
 
-    ghost view = { λ a. record { past = a.earlier; header = a.header; shapes = a.shapes; decoder = a.decoder } };
+    ghost view = { λ a. record { makes_pictures = a.makes_pictures; past = a.earlier; header = a.header; shapes = a.shapes; decoder = a.decoder } };
 
     ghost invariant = { λ a. a.shapes.total ≡ a.earlier.place };
 }
@@ -69,12 +70,13 @@ impl StreamTable {
     ghost use Rattle.std.specs.Prelude.{◌≡◌, ◌↔◌, IfSome, IsNone, Some, None};
     ghost use Rattle.stream_units.specs.StreamTable.{IsNew};
 
-    /// Before the first unit.
-    pub fn new(alloc: Global) -> StreamTable
-        ensures { IsNew result }
+    /// Before the first unit. Pictures are made of their slices where they are asked for.
+    pub fn new(alloc: Global, makes_pictures: bool) -> StreamTable
+        ensures { IsNew makes_pictures result }
     {
         StreamTable {
             alloc,
+            makes_pictures,
             earlier: Earlier::new(),
             header: None,
             shapes: UnitShapes::new(alloc),
@@ -190,8 +192,8 @@ impl Table for StreamTable {
         self.shapes
             .push(shape_of(&found, self.earlier.place(), size));
         self.header = header_behind(&found, self.header);
-        let (item, made) = step(&mut self.earlier, found, size);
-        keep(&mut self.decoder, made);
+        let (item, took) = step(&mut self.earlier, found, size);
+        keep(&mut self.decoder, took, self.makes_pictures);
         item
     }
 }

@@ -1,12 +1,13 @@
 //! The writer of a stream.
 
-ghost use Rattle.std.specs.Prelude.{◌≡◌, ◌%◌, ◌≤◌, Err, Some, None, true, false, IfSome};
+ghost use Rattle.std.specs.Prelude.{◌≡◌, ◌%◌, ◌≤◌, [], ◌∷◌, Err, Some, None, true, false, IfSome, IfOk, MatchResult};
 ghost use Rattle.transform_params.specs.Views.{params_of};
 ghost use Rattle.sequence_header.specs.Coding.{IsShapeOf};
 ghost use Rattle.picture_codec.specs.Encoding.{slices_of};
 ghost use Rattle.stream_rows.specs.Streams.{frame_under};
-ghost use Rattle.stream_units.specs.EncodedStream.{begins_at, IsGroup};
-ghost use Rattle.stream_units.specs.Writer.{total_length, Starts, WritesPicture, WritesEnd, WriteCause};
+ghost use Rattle.stream_units.specs.EncodedStream.{begins_at, IsGroup, header_length, header_unit};
+ghost use Rattle.stream_units.specs.Writer.{total_length, plain_shape, Starts, WritesPicture, WritesEnd, Wrote, EndStops, WriteCause};
+ghost use Rattle.stream_units.specs.WriterInside.{IsReady, IsUnready};
 
 use crate::due_units::DueUnits;
 use crate::write_stop::WriteStop;
@@ -58,6 +59,60 @@ impl Model for StreamWriter {
 }
 
 impl StreamWriter {
+    // A writer that wrote nothing yet.
+    fn ready(
+        alloc: Global,
+        header: &SequenceHeader,
+        params: &TransformParams,
+        first: u32,
+        group: Option<u32>,
+    ) -> Result<StreamWriter, WriteStop>
+        ensures { MatchResult result (IsReady (record { parts = header.now; params = params_of params.now; first = first; group = group })) (IsUnready (record { parts = header.now; params = params_of params.now; first = first; group = group })) }
+    {
+        let encoder = match PictureEncoder::new(alloc, &header.picture_shape(), params) {
+            Ok(made) => made,
+            Err(EncoderFault::MatrixTooSteep) => return Err(WriteStop::MatrixTooSteep),
+            Err(EncoderFault::NoMemory) => return Err(WriteStop::NoMemory),
+        };
+        match DueUnits::new(alloc, header, params, encoder) {
+            Ok(due) => Ok(StreamWriter {
+                due,
+                first,
+                group,
+                chain: Chain::new(),
+                number: first,
+                position: 0,
+                shapes: UnitShapes::new(alloc),
+                stop: None,
+                ended: false,
+            }),
+            Err(_) => Err(WriteStop::NoMemory),
+        }
+    }
+
+    // Writes the sequence header unit, before all others.
+    fn begin<K: Sink>(&mut self, sink: &mut K) -> Result<(), WriteStop>
+        requires nothing { self.old.shapes ≡ [] }
+        requires open { self.old.ended ≡ false }
+        ensures wrote { Wrote (header_unit self.old.settings.parts) (K.written sink.old) (K.written sink.new) result }
+        ensures after { IfOk result (λ _. self.new ≡ record self.old { shapes = plain_shape 0 (header_length self.old.settings.parts) ∷ [] }) }
+        ensures why { EndStops result }
+        ensures cause { WriteCause (K.faults sink.old) (K.faults sink.new) result }
+    {
+        if self.shapes.reserve(1).is_err() {
+            return Err(WriteStop::NoMemory);
+        }
+        match write_whole(sink, self.due.header_unit()) {
+            Ok(()) => {}
+            Err(_) => return Err(WriteStop::OutFault),
+        }
+        let size = self.due.header_len();
+        self.shapes
+            .push(plain_shape(self.chain.place(), u64::from(size)));
+        self.chain.step(size);
+        Ok(())
+    }
+
     /// Writes the sequence header unit. Where pictures are fields, the number of the first one is even, and so is the group.
     /// The pictures will have these parameters, and a new sequence begins behind every group of them. `MatrixTooSteep` comes
     /// exactly where an entry of the quantisation matrix is too great for the header's depths.
@@ -74,38 +129,14 @@ impl StreamWriter {
         ensures starts { Starts (record { parts = header.now; params = params_of params.now; first = first; group = group }) (K.written sink.old) (K.written sink.new) result }
         ensures cause { WriteCause (K.faults sink.old) (K.faults sink.new) result }
     {
-        let encoder = match PictureEncoder::new(alloc, &header.picture_shape(), params) {
-            Ok(made) => made,
-            Err(EncoderFault::MatrixTooSteep) => return Err(WriteStop::MatrixTooSteep),
-            Err(EncoderFault::NoMemory) => return Err(WriteStop::NoMemory),
-        };
-        let due = match DueUnits::new(alloc, header, params, encoder) {
-            Ok(made) => made,
-            Err(_) => return Err(WriteStop::NoMemory),
-        };
-        let mut shapes = UnitShapes::new(alloc);
-        if shapes.reserve(1).is_err() {
-            return Err(WriteStop::NoMemory);
+        let mut writer = StreamWriter::ready(alloc, header, params, first, group)?;
+        match writer.begin(sink) {
+            Ok(()) => Ok(writer),
+            Err(stop) => {
+                drop(writer);
+                Err(stop)
+            }
         }
-        match write_whole(sink, due.header_unit()) {
-            Ok(()) => {}
-            Err(_) => return Err(WriteStop::OutFault),
-        }
-        let size = due.header_len();
-        shapes.push(plain_shape(0, u64::from(size)));
-        let mut chain = Chain::new();
-        chain.step(size);
-        Ok(StreamWriter {
-            due,
-            first,
-            group,
-            chain,
-            number: first,
-            position: 0,
-            shapes,
-            stop: None,
-            ended: false,
-        })
     }
 
     /// Writes the unit of a picture of the header's shape, whose number is the next one; where a new sequence begins with it,

@@ -10,6 +10,8 @@ use Rattle.unit_table.specs.Fronts.{Between, Command, machine_of}
 use Rattle.stream_rows.specs.declared.reason.Reason.{Reason}
 use Rattle.stream_rows.specs.Units.{Past, nothing_yet, DataUnit, Sequence, Repeated, Picture, Skipped, End, units}
 use Rattle.stream_rows.specs.Streams.{limit, past_limit, refusal_of, frame_under}
+use Rattle.stream_units.specs.declared.stop.Item.{Item}
+use Rattle.stream_units.specs.declared.stop.Item.TheVariants as items
 use Rattle.vc2_cli.specs.Texts.{accepted_line, replayed_lines}
 use Rattle.vc2_cli.specs.declared.status.Ending.{Ending}
 use Rattle.vc2_cli.specs.declared.status.Ending.TheVariants.{Done, Decoded, Accepted, Scheduled, Refused}
@@ -102,6 +104,11 @@ shown_text (Some seen) = raw_text (frame_of seen.shape) seen.samples
 abbrev pub shown_count : Option PictureSeen → ℕ
 shown_count None = 0
 shown_count (Some seen) = 1
+
+-- the pictures that an item tells
+abbrev pub pictures_told : Item → ℕ
+pictures_told (items.Picture number) = 1
+pictures_told other = 0
 
 -- so many slices has the last of these units
 abbrev pub IsLastCount : List UnitShape → ℕ → Type 0

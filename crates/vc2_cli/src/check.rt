@@ -6,13 +6,13 @@ ghost use Rattle.vc2_cli.specs.declared.status.Ending.TheVariants as ending;
 ghost use Rattle.vc2_cli.specs.Change.{change};
 ghost use Rattle.vc2_cli.specs.Running.{IsDone, Runs, Closes};
 ghost use Rattle.vc2_cli.specs.Soon.{Soon};
-ghost use Rattle.vc2_cli.specs.Decode.{Counts, nothing_counted, checking, check_machine, last_line, shown_count, IsLastCount};
+ghost use Rattle.vc2_cli.specs.Decode.{Counts, nothing_counted, checking, check_machine, last_line, pictures_told, IsLastCount};
 
 use crate::running::{UnitCommand, run_units};
 use crate::status::Ending;
 use crate::texts::accepted_text;
 use std::alloc::Global;
-use stream_units::{Item, Refusal, StreamReader};
+use stream_units::{Item, Refusal, StreamChecker};
 use vc2_io::{Sink, Source, write_whole};
 use vc2_run::Halt;
 
@@ -41,18 +41,18 @@ fn accept<K: Sink>(
     }
 }
 
-// How many pictures the reader shows.
-pub(crate) fn shown_count(reader: &StreamReader) -> u64
-    ensures { result ≡ shown_count reader.now.picture }
+// How many pictures the item tells.
+pub(crate) fn pictures_told(item: Item) -> u64
+    ensures { result ≡ pictures_told item }
 {
-    match reader.picture() {
-        Some(_) => 1,
-        None => 0,
+    match item {
+        Item::Picture(_) => 1,
+        _ => 0,
     }
 }
 
 // The number of slices of the last unit.
-pub(crate) fn last_count(reader: &StreamReader) -> u32
+pub(crate) fn last_count(reader: &StreamChecker) -> u32
     ensures { IsLastCount reader.now.shapes result }
 {
     let shapes = reader.shapes();
@@ -70,7 +70,7 @@ struct Checking {
     slices: u64,
 }
 
-impl UnitCommand<StreamReader> for Checking {
+impl UnitCommand<StreamChecker> for Checking {
     ghost Own = { Counts };
 
     ghost command = { checking };
@@ -93,31 +93,31 @@ impl UnitCommand<StreamReader> for Checking {
 
     fn turn<K: Sink>(
         &mut self,
-        reader: &StreamReader,
-        _item: Item,
+        reader: &StreamChecker,
+        item: Item,
         _out: &mut K,
     ) -> Result<(), Halt> {
-        self.pictures += shown_count(reader);
+        self.pictures += pictures_told(item);
         self.slices += u64::from(last_count(reader));
         Ok(())
     }
 
     fn finish<K: Sink>(
         &mut self,
-        reader: &StreamReader,
+        reader: &StreamChecker,
         _item: Item,
         out: &mut K,
     ) -> Result<Ending, Halt> {
         accept(self.alloc, out, self.pictures, self.slices, reader.taken())
     }
 
-    fn rest<K: Sink>(&mut self, _reader: &StreamReader, _out: &mut K) -> Result<Ending, Halt> {
+    fn rest<K: Sink>(&mut self, _reader: &StreamChecker, _out: &mut K) -> Result<Ending, Halt> {
         Ok(Ending::Done)
     }
 
     fn refuse<K: Sink>(
         &mut self,
-        _reader: &StreamReader,
+        _reader: &StreamChecker,
         refusal: Refusal,
         _out: &mut K,
     ) -> Result<Ending, Halt> {
@@ -134,7 +134,7 @@ pub(crate) fn check<S: Source, K: Sink>(
     ensures runs { Runs check_machine IsDone (change S.rest S.faults src.old src.new) (change K.written K.faults out.old out.new) result }
     ensures soon { Soon check_machine READ_SIZE (S.rest src.old) (S.rest src.new) result }
 {
-    match StreamReader::new(alloc) {
+    match StreamChecker::new(alloc) {
         Ok(mut reader) => {
             let mut command = Checking {
                 alloc,

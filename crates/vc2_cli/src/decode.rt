@@ -1,14 +1,13 @@
 // The command `decode`.
 ghost use Rattle.vc2_io.specs.declared.TheConstants.{READ_SIZE};
-ghost use Rattle.std.specs.Prelude.{ℕ, ◌≤◌, OnOk, OnErr};
+ghost use Rattle.std.specs.Prelude.{◌≡◌, ℕ, ◌≤◌, OnOk, OnErr};
 ghost use Rattle.std.specs.Io.KnownBytes.{Appends};
 ghost use Rattle.vc2_io.specs.Outside.{HasCause, GrewShort};
 ghost use Rattle.vc2_cli.specs.Change.{change};
 ghost use Rattle.vc2_cli.specs.Running.{IsDone, Runs};
 ghost use Rattle.vc2_cli.specs.Soon.{Soon};
-ghost use Rattle.vc2_cli.specs.Decode.{decoding, decode_machine, shown_text};
+ghost use Rattle.vc2_cli.specs.Decode.{decoding, decode_machine, shown_count, shown_text};
 
-use crate::check::shown_count;
 use crate::running::{UnitCommand, run_units};
 use crate::status::Ending;
 use raw_video::write_picture;
@@ -26,6 +25,16 @@ fn write_shown<K: Sink>(out: &mut K, reader: &StreamReader) -> Result<(), Failed
     match reader.picture() {
         Some(picture) => write_picture(out, picture),
         None => Ok(()),
+    }
+}
+
+// How many pictures the reader shows.
+fn shown_count(reader: &StreamReader) -> u64
+    ensures { result ≡ shown_count reader.now.picture }
+{
+    match reader.picture() {
+        Some(_) => 1,
+        None => 0,
     }
 }
 

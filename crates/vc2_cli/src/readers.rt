@@ -6,12 +6,12 @@ ghost use Rattle.stream_units.specs.HeadUnits.{heads};
 ghost use Rattle.stream_rows.proofs.Steady.{units_laws};
 ghost use Rattle.stream_units.proofs.HeadOnlyRows.{heads_laws};
 ghost use Rattle.stream_rows.proofs.Answering.{after-place};
-ghost use Rattle.vc2_cli.specs.Telling.{TellsUnit, StaysBehind};
+ghost use Rattle.vc2_cli.specs.Telling.{TellsPicture, TellsCount, StaysBehind};
 
 use crate::running::{Turn, UnitReader};
 use parse_info::ParseInfo;
 use std::marker::Model;
-use stream_units::{HeadReader, Item, ReadStop, StreamReader};
+use stream_units::{HeadReader, Item, ReadStop, StreamChecker, StreamReader};
 use vc2_io::Source;
 
 /// A unit's head, and where the unit begins.
@@ -99,7 +99,44 @@ impl UnitReader for StreamReader {
 
     ghost seen = { λ r. record { past = r.past; held = r.held; stop = r.stop; ended = r.ended } };
 
-    ghost tells = { λ old new z unit bytes item. TellsUnit old new z unit bytes };
+    ghost tells = { λ old new z unit bytes item. TellsPicture old new z unit bytes };
+
+    ghost stays = { StaysBehind };
+
+    fn next_turn<S: Source>(&mut self, src: &mut S) -> Result<Turn<Item>, ReadStop> {
+        let item = match self.next(src) {
+            Ok(item) => item,
+            Err(stop) => return Err(stop),
+        };
+        if item.is_end() {
+            return Ok(Turn::Last(item));
+        }
+        Ok(Turn::Unit(item))
+    }
+}
+
+impl UnitReader for StreamChecker {
+    type Past = StreamPast;
+
+    type Made = StreamUnit;
+
+    type Item = Item;
+
+    ghost grammar = { units };
+
+    ghost laws = { units_laws };
+
+    ghost along = { after-place };
+
+    ghost short = { λ reason. refl };
+
+    ghost first = { nothing_yet };
+
+    ghost begins = { refl };
+
+    ghost seen = { λ r. record { past = r.past; held = r.held; stop = r.stop; ended = r.ended } };
+
+    ghost tells = { TellsCount };
 
     ghost stays = { StaysBehind };
 

@@ -10,13 +10,13 @@ ghost use Rattle.vc2_cli.specs.Soon.{Soon};
 ghost use Rattle.vc2_cli.specs.Decode.{last_line};
 ghost use Rattle.vc2_cli.specs.Scheduled.{Replayed, nothing_replayed, replaying_any, replay_machine};
 
-use crate::check::{last_count, shown_count};
+use crate::check::{last_count, pictures_told};
 use crate::running::{UnitCommand, run_units};
 use crate::status::Ending;
 use crate::texts::replayed_text;
 use channel_schedule::{Outcome, Schedule, replay};
 use std::alloc::Global;
-use stream_units::{Item, Refusal, StreamReader};
+use stream_units::{Item, Refusal, StreamChecker};
 use vc2_io::{Sink, Source, write_whole};
 use vc2_run::Halt;
 
@@ -57,7 +57,7 @@ struct Replaying {
     ghost lawful: { IsSchedule schedule },
 }
 
-impl UnitCommand<StreamReader> for Replaying {
+impl UnitCommand<StreamChecker> for Replaying {
     ghost Own = { Replayed };
 
     ghost command = { replaying_any };
@@ -80,18 +80,18 @@ impl UnitCommand<StreamReader> for Replaying {
 
     fn turn<K: Sink>(
         &mut self,
-        reader: &StreamReader,
-        _item: Item,
+        reader: &StreamChecker,
+        item: Item,
         _out: &mut K,
     ) -> Result<(), Halt> {
-        self.pictures += shown_count(reader);
+        self.pictures += pictures_told(item);
         self.slices += u64::from(last_count(reader));
         Ok(())
     }
 
     fn finish<K: Sink>(
         &mut self,
-        reader: &StreamReader,
+        reader: &StreamChecker,
         _item: Item,
         out: &mut K,
     ) -> Result<Ending, Halt> {
@@ -106,13 +106,13 @@ impl UnitCommand<StreamReader> for Replaying {
         )
     }
 
-    fn rest<K: Sink>(&mut self, _reader: &StreamReader, _out: &mut K) -> Result<Ending, Halt> {
+    fn rest<K: Sink>(&mut self, _reader: &StreamChecker, _out: &mut K) -> Result<Ending, Halt> {
         Ok(Ending::Done)
     }
 
     fn refuse<K: Sink>(
         &mut self,
-        _reader: &StreamReader,
+        _reader: &StreamChecker,
         refusal: Refusal,
         _out: &mut K,
     ) -> Result<Ending, Halt> {
@@ -132,7 +132,7 @@ pub(crate) fn check_schedule<S: Source, K: Sink>(
     ensures runs { Runs (replay_machine schedule) IsDone (change S.rest S.faults src.old src.new) (change K.written K.faults out.old out.new) result }
     ensures soon { Soon (replay_machine schedule) READ_SIZE (S.rest src.old) (S.rest src.new) result }
 {
-    match StreamReader::new(alloc) {
+    match StreamChecker::new(alloc) {
         Ok(mut reader) => {
             let mut command = Replaying {
                 alloc,

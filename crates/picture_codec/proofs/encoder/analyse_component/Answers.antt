@@ -14,8 +14,8 @@ use Rattle.picture_codec.proofs.Runs.{below-all}
 use Rattle.picture_codec.proofs.Tables.{positive}
 use Rattle.picture_codec.proofs.encoder.analyse_component.Goals as goal
 
-pub analyse-requires-clause-sizes : goal.analyse-requires-clause-sizes
-analyse-requires-clause-sizes c =
+pub analyse_narrow-requires-clause-sizes : goal.analyse_narrow-requires-clause-sizes
+analyse_narrow-requires-clause-sizes c =
     let s = c.args.params.now.layout in
     let size : Size = size_of (frame_of c.args.picture.now.shape) c.args.c in
     let columns : c.centre.new.plane.w ≡ padded_length s.depth size.w = c.centre.ensures.same_width ∙ c.requires.room.columns in
@@ -28,8 +28,8 @@ analyse-requires-clause-sizes c =
       scratch_height = c.requires.room.scratch_rows ∙ sym rows;
     }
 
-pub analyse-requires-clause-small : goal.analyse-requires-clause-small
-analyse-requires-clause-small c y x ly lx =
+pub analyse_narrow-requires-clause-small : goal.analyse_narrow-requires-clause-small
+analyse_narrow-requires-clause-small c y x ly lx =
     let p = c.args.picture.now in
     let size : Size = size_of (frame_of p.shape) c.args.c in
     let d = depth_of (frame_of p.shape) c.args.c in
@@ -52,6 +52,6 @@ returns-clause-bands c =
     let some : 1 ≤ d = omega (arith, bits, c.depth_of-depth.ensures.allowed.some) in
     let values : (y x : ℕ) → y < height c.centre.new.plane → x < c.centre.new.plane.w → at c.centre.new.plane y x ≡ centred d size (shown p c.args.c) y x = λ y x ly lx.
     c.centre.ensures.values y x ly lx ∙ centred_cells d c.depth_of-depth.result size c.size_of.result c.samples.result.now (shown p c.args.c) bits same c.samples.ensures.width c.samples.ensures.value y x in
-    holds_component _ size d (shown p c.args.c) c.analyse.new.bands c.centre.new.plane c.depth.ensures.allowed.depth some (sizes_stay s size c.args.bands.now c.analyse.new.bands c.requires.bands c.analyse.ensures.same_sizes)
-    columns rows c.analyse.ensures.coefficients values
+    holds_component _ size d (shown p c.args.c) c.analyse_narrow.new.bands c.centre.new.plane c.depth.ensures.allowed.depth some (sizes_stay s size c.args.bands.now c.analyse_narrow.new.bands c.requires.bands c.analyse_narrow.ensures.same_sizes)
+    columns rows c.analyse_narrow.ensures.coefficients values
     (λ y x ly lx. rw (values y x ly lx) (centred_within d size (shown p c.args.c) some (below-all (2 ^ d) (shown p c.args.c).cells (positive d) (rw c.samples.ensures.value at c.samples.ensures.below)) y x)) c.are_whole.ensures

@@ -24,28 +24,8 @@ pub read_blocks-requires-clause-fits : goal.read_blocks-requires-clause-fits
 read_blocks-requires-clause-fits c =
     omega (arith, c.if-head-left.false, c.length_bits.ensures, length_bits-fit (length c.args.bytes.now) c.requires.some)
 
-pub returns-in-TooLarge-clause-decoded : goal.returns-in-TooLarge-clause-decoded
-returns-in-TooLarge-clause-decoded c =
-    let fits_in : (slice_at c.args.layout.now c.args.shape.now.luma c.args.shape.now.colour c.args.sx c.args.sy c.args.bytes.now).too_long ≡ false =
-    ge_tests _ _ (omega (arith, c.if-head-left.false, c.length_bits.ensures, c.head_of-head.ensures.luma_bits, length-rest c.args.bytes.now (7 + length_bits (length c.args.bytes.now)), length_bits-fit (length c.args.bytes.now) c.requires.some))
-    in
-    let are : AreValues c.args.layout.now c.args.shape.now.luma c.args.shape.now.colour c.args.sx c.args.sy c.args.matrix.now c.args.bytes.now c.head_of-head.result.qindex c.head_of-head.result.luma_bits =
-    are-values c.args.layout.now c.args.shape.now.luma c.args.shape.now.colour c.args.sx c.args.sy c.args.matrix.now c.args.bytes.now c.head_of-head.result.qindex c.head_of-head.result.luma_bits c.head_of-head.ensures.qindex c.head_of-head.ensures.luma_bits fits_in
-    in
-    (fits_in, both-small _ _ _ _ false are.of_luma are.of_colour (sym c.in-TooLarge.ensures.answer))
-
-pub returns-in-TooLarge-clause-others : goal.returns-in-TooLarge-clause-others
-returns-in-TooLarge-clause-others c =
-    let luma : Part = part_of c.args.layout.now c.args.shape.now.luma c.args.sx c.args.sy c.args.matrix.now c.head_of-head.result.qindex in
-    let colour : Part = part_of c.args.layout.now c.args.shape.now.colour c.args.sx c.args.sy c.args.matrix.now c.head_of-head.result.qindex in
-    record {
-      luma = keeps-others luma c.args.bands.now.luma c.read_blocks.new.bands.luma c.read_blocks.ensures.luma_keeps;
-      c1 = keeps-others colour c.args.bands.now.c1 c.read_blocks.new.bands.c1 c.read_blocks.ensures.c1_keeps;
-      c2 = keeps-others colour c.args.bands.now.c2 c.read_blocks.new.bands.c2 c.read_blocks.ensures.c2_keeps;
-    }
-
-pub returns-in-Wide-clause-decoded : goal.returns-in-Wide-clause-decoded
-returns-in-Wide-clause-decoded c =
+pub returns-then-not-read_blocks-clause-decoded : goal.returns-then-not-read_blocks-clause-decoded
+returns-then-not-read_blocks-clause-decoded c =
     let fits_in : (slice_at c.args.layout.now c.args.shape.now.luma c.args.shape.now.colour c.args.sx c.args.sy c.args.bytes.now).too_long ≡ false =
     ge_tests _ _ (omega (arith, c.if-head-left.false, c.length_bits.ensures, c.head_of-head.ensures.luma_bits, length-rest c.args.bytes.now (7 + length_bits (length c.args.bytes.now)), length_bits-fit (length c.args.bytes.now) c.requires.some))
     in
@@ -54,13 +34,13 @@ returns-in-Wide-clause-decoded c =
     in
     let room : ℕ = length c.args.buffer.now in
     let same = c.read_ahead.auto.kept in
-    elim c.in-Wide.ensures.answer [
+    elim c.if-not-read_blocks.ensures.answer [
       | inl lumas ↦ inl (subst (λ (vs : List ℤ). NeedMore room vs) (sym are.of_luma) (elim lumas [ inl few ↦ inl (omega (arith, few, same)) | inr apart ↦ inr apart ]))
       | inr colours ↦ inr (inl (subst (λ (vs : List ℤ). NeedMore room vs) (sym are.of_colour) (elim colours [ inl few ↦ inl (omega (arith, few, same)) | inr apart ↦ inr apart ])))
     ]
 
-pub returns-in-Wide-clause-others : goal.returns-in-Wide-clause-others
-returns-in-Wide-clause-others c =
+pub returns-then-not-read_blocks-clause-others : goal.returns-then-not-read_blocks-clause-others
+returns-then-not-read_blocks-clause-others c =
     let luma : Part = part_of c.args.layout.now c.args.shape.now.luma c.args.sx c.args.sy c.args.matrix.now c.head_of-head.result.qindex in
     let colour : Part = part_of c.args.layout.now c.args.shape.now.colour c.args.sx c.args.sy c.args.matrix.now c.head_of-head.result.qindex in
     record {
@@ -126,7 +106,7 @@ returns-then-not-restore_all-clause-decoded c =
     let colour_block : List Bool = block_of c.args.bytes.now (start + c.head_of-head.result.luma_bits) (8 * length c.args.bytes.now) in
     let old = c.args.bands.now in
     let mid = c.read_blocks.new.bands in
-    let answer = c.in-Narrow.ensures.answer in
+    let answer = c.if-not-read_blocks.ensures.answer in
     let new = c.restore_all.new.bands in
     elim (c.restore_all.ensures.stopped c.if-not-restore_all.true) [
       | inl at_luma ↦ inr (inr (inl (slice-stops 1 0 luma luma_block old.luma mid.luma new.luma c.band_rect-luma.result _ (omega arith) c.band_rect-luma.ensures are.of_luma answer.2 at_luma)))
@@ -165,7 +145,7 @@ returns-clause-decoded c =
     let colour_block : List Bool = block_of c.args.bytes.now (start + c.head_of-head.result.luma_bits) (8 * length c.args.bytes.now) in
     let old = c.args.bands.now in
     let mid = c.read_blocks.new.bands in
-    let answer = c.in-Narrow.ensures.answer in
+    let answer = c.if-not-read_blocks.ensures.answer in
     let new = c.restore_all.new.bands in
     let done = c.restore_all.ensures.restored c.if-not-restore_all.false in
     let keeps = c.restore_all.ensures.keeps in

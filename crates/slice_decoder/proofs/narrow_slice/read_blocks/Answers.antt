@@ -11,8 +11,8 @@ use Rattle.slice_decoder.proofs.narrow_slice.read_blocks.Goals as goal
 same_block : (bytes : List ℕ) (block : List Bool) (from to start end : ℕ) → block ≡ block_of bytes from to → from ≡ start → to ≡ end → block ≡ block_of bytes start end
 same_block bytes block from to start end is one two = is ∙ ap (λ b. block_of bytes b to) one ∙ ap (block_of bytes start) two
 
-pub returns-in-Narrow : goal.returns-in-Narrow
-returns-in-Narrow c =
+pub returns : goal.returns
+returns c =
     let luma : Part = part_of c.args.layout.now c.args.shape.now.luma c.args.place.sx c.args.place.sy c.args.matrix.now c.args.place.qindex in
     let colour : Part = part_of c.args.layout.now c.args.shape.now.colour c.args.place.sx c.args.place.sy c.args.matrix.now c.args.place.qindex in
     let start : ℕ = 7 + length_bits (length c.args.bytes.now) in
@@ -24,7 +24,7 @@ returns-in-Narrow c =
     let old = c.args.bands.now in
     let total : ℕ = 3 * c.args.layout.now.depth + 1 in
     let new : Trio = record { luma = c.read_luma.new.bands; c1 = c.read_colour.new.first; c2 = c.read_colour.new.second } in
-    let first = c.in-Narrow.ensures.answer in
+    let first = c.if-not-read_luma.ensures.answer in
     let second : ℕ → List Bool → Type 0 = λ room b. Answers room (block_values 2 colour b) (BandsHold 2 0 colour total b old.c1 new.c1 × BandsHold 2 1 colour total b old.c2 new.c2) c.read_colour.result in
     record {
       answer =
@@ -32,23 +32,23 @@ returns-in-Narrow c =
           (subst (λ (b : List Bool). are_small (block_values 1 luma b) ≡ true) luma_is first.0)
           (subst (λ (b : List Bool). BandsHold 1 0 luma total b old.luma new.luma) luma_is first.1)
           (subst (λ (room : ℕ). second room colour_block) c.read_luma.auto.buffer (subst (second (length c.read_luma.new.buffer)) colour_is c.read_colour.ensures.answer));
-      luma_keeps = c.in-Narrow.ensures.keeps;
+      luma_keeps = c.if-not-read_luma.ensures.keeps;
       c1_keeps = c.read_colour.ensures.first_keeps;
       c2_keeps = c.read_colour.ensures.second_keeps;
-      narrow = record { luma = c.in-Narrow.ensures.narrow; c1 = c.read_colour.ensures.first_narrow; c2 = c.read_colour.ensures.second_narrow };
+      narrow = record { luma = c.if-not-read_luma.ensures.narrow; c1 = c.read_colour.ensures.first_narrow; c2 = c.read_colour.ensures.second_narrow };
     }
 
-pub returns-in-Wide : goal.returns-in-Wide
-returns-in-Wide c =
+pub returns-then-not-read_luma : goal.returns-then-not-read_luma
+returns-then-not-read_luma c =
     let luma : Part = part_of c.args.layout.now c.args.shape.now.luma c.args.place.sx c.args.place.sy c.args.matrix.now c.args.place.qindex in
     let colour : Part = part_of c.args.layout.now c.args.shape.now.colour c.args.place.sx c.args.place.sy c.args.matrix.now c.args.place.qindex in
     let start : ℕ = 7 + length_bits (length c.args.bytes.now) in
     let middle : ℕ = start + c.args.luma_bits in
     let luma_is : c.new-luma.result ≡ block_of c.args.bytes.now start middle = same_block c.args.bytes.now c.new-luma.result _ _ start middle c.new-luma.ensures (omega (arith, c.length_bits.ensures, c.from-start.ensures)) (omega (arith, c.length_bits.ensures, c.from-start.ensures, c.from.ensures, c.from-2.ensures)) in
     record {
-      answer = inl (subst (λ (b : List Bool). NeedMore (length c.args.buffer.now) (block_values 1 luma b)) luma_is c.in-Wide.ensures.answer);
-      luma_keeps = c.in-Wide.ensures.keeps;
+      answer = inl (subst (λ (b : List Bool). NeedMore (length c.args.buffer.now) (block_values 1 luma b)) luma_is c.if-not-read_luma.ensures.answer);
+      luma_keeps = c.if-not-read_luma.ensures.keeps;
       c1_keeps = nothing-read colour c.args.bands.now.c1;
       c2_keeps = nothing-read colour c.args.bands.now.c2;
-      narrow = record { luma = c.in-Wide.ensures.narrow; c1 = c.requires.narrow.c1; c2 = c.requires.narrow.c2 };
+      narrow = record { luma = c.if-not-read_luma.ensures.narrow; c1 = c.requires.narrow.c1; c2 = c.requires.narrow.c2 };
     }

@@ -1,13 +1,8 @@
-use Rattle.std.proofs.Common.{◌≡◌, ℕ, ◌+◌, ◌*◌, List, length, sym, ap, subst, ◌∙◌, ℤ, arith}
-use Rattle.slice_geometry.specs.SliceOrder.{place_count}
+use Rattle.std.proofs.Common.{◌≡◌, ℕ, ◌+◌, ◌*◌, ◌^◌, List, length, sym, ap, subst, ◌∙◌, ℤ, arith}
 use Rattle.slice_decoder.specs.Components.{Part, part_of, quantisers_before}
-use Rattle.slice_decoder.specs.Restored.{restored_at, StaySmall}
-use Rattle.slice_decoder.proofs.LevelLemmas.{length-places, places_all}
-use Rattle.slice_decoder.proofs.Restores.{huge-dealt, stay-dealt, dealt-at}
+use Rattle.slice_decoder.specs.Restored.{restored_at, StayWithin}
+use Rattle.slice_decoder.proofs.Restores.{count_is, huge-dealt, stay-dealt, dealt-at}
 use Rattle.slice_decoder.proofs.restoring.read_values.Goals as goal
-
-count_is : (each : ℕ) (p : Part) (n : ℕ) → n ≡ each * place_count p.slicing p.size p.sx p.sy → n ≡ length (quantisers_before each p (3 * p.slicing.depth + 1))
-count_is each p n is = is ∙ ap (λ m. each * m) (sym (places_all p.slicing p.size p.sx p.sy)) ∙ sym (length-places each p (3 * p.slicing.depth + 1))
 
 pub returns-then-not-fill-clause-small : goal.returns-then-not-fill-clause-small
 returns-then-not-fill-clause-small c =
@@ -20,9 +15,11 @@ returns-clause-small c =
     let n = length c.args.values.now in
     let read = c.fill.ensures.filled c.if-not-fill.false in
     stay-dealt c.args.block.now (quantisers_before c.args.each part (3 * c.args.layout.now.depth + 1)) c.fill.new.out n c.restore_block.result (count_is c.args.each part n c.requires.count) read.same
-    (let stay : StaySmall c.restore_block.result (restored_at c.fill.new.out (quantisers_before c.args.each part (3 * c.args.layout.now.depth + 1))) 0 (length c.fill.new.out) = c.restore_block.ensures.small in
+    (let stay : StayWithin (2 ^ 36) c.restore_block.result (restored_at c.fill.new.out (quantisers_before c.args.each part (3 * c.args.layout.now.depth + 1)))
+    0 (length c.fill.new.out) = c.restore_block.ensures.small in
     let long : length c.fill.new.out ≡ length c.args.values.now = c.fill.auto.out in
-    subst (λ (m : ℕ). StaySmall c.restore_block.result (restored_at c.fill.new.out (quantisers_before c.args.each part (3 * c.args.layout.now.depth + 1))) 0 m) long stay)
+    subst (λ (m : ℕ). StayWithin (2 ^ 36) c.restore_block.result
+    (restored_at c.fill.new.out (quantisers_before c.args.each part (3 * c.args.layout.now.depth + 1))) 0 m) long stay)
 
 pub returns-clause-values : goal.returns-clause-values
 returns-clause-values c good k lt =

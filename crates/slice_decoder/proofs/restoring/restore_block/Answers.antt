@@ -1,17 +1,16 @@
-use Rattle.std.proofs.Common.{◌≡◌, ℕ, ◌+◌, ◌*◌, ◌^◌, ◌<◌, ◌≤◌, length, get_or, ℤ, pos, unsigned_abs, refl, sym, ap, subst, ◌∙◌, inl, inr, arith}
-use Rattle.planes.specs.declared.Rect.{Rect}
-use Rattle.slice_geometry.specs.SliceOrder.{level_rect, area, place_count, level_of}
+use Rattle.std.proofs.Common.{◌≡◌, ℕ, ◌+◌, ◌*◌, ◌^◌, ◌<◌, ◌≤◌, length, get_or, pos, unsigned_abs, refl, sym, ap, ◌∙◌, inl, inr, arith}
+use Rattle.slice_geometry.specs.SliceOrder.{place_count}
 use Rattle.slice_geometry.specs.declared.Size.{Size}
 use Rattle.slice_geometry.specs.Slicing.{Slicing}
-use Rattle.slice_decoder.specs.Levels.{no_rect, places_in}
-use Rattle.slice_decoder.proofs.LevelLemmas.{rect_of_level, room_here, next_from, count_few, places_all}
+use Rattle.slice_decoder.specs.Levels.{places_in}
+use Rattle.slice_decoder.proofs.LevelLemmas.{count_few, places_all}
 use Rattle.std.proofs.Math.Nat.{mul-le-mul_right}
 use Rattle.std.proofs.lemmas.Bool.{cases_lt}
-use Rattle.quant_factors.specs.Factors.{factor_of, inverse_of}
+use Rattle.quant_factors.specs.Factors.{inverse_of}
 use Rattle.quant_factors.proofs.Quantisers.{index_here}
 use Rattle.slice_decoder.specs.Components.{Part, part_of, index_of, quantisers_before}
 use Rattle.slice_decoder.specs.Restored.{restored_at}
-use Rattle.slice_decoder.proofs.Restores.{lt_tested, safe_below, restored_here, part-not, part-more, low-stay}
+use Rattle.slice_decoder.proofs.Restores.{BandMeets, band-meets, part-not, part-more, all-stay}
 use Rattle.slice_decoder.proofs.restoring.restore_block.Goals as goal
 
 none : (n : ℕ) → 0 ≡ n * 0
@@ -30,87 +29,73 @@ loop-k-init c = record {
 pub overflow_add-to : goal.overflow_add-to
 overflow_add-to c =
     let part : Part = part_of c.args.layout.now c.args.size c.args.place.sx c.args.place.sy c.args.matrix.now c.args.place.qindex in
-    let s = c.args.layout.now in
-    let size = c.args.size in
-    let sx = c.args.place.sx in
-    let sy = c.args.place.sy in
     let l = c.loop-k in
-    let i = l.invariant in
-    let below : l.k < 3 * c.args.layout.now.depth + 1 = omega (arith, c.loop-k-test.true, c.depth.ensures.value) in
-    let rect : Rect = get_or c.args.rects.now c.band_numbered-level.result.0 no_rect in
-    let rect_is : get_or c.args.rects.now c.band_numbered-level.result.0 no_rect ≡ level_rect c.args.layout.now c.args.size c.args.place.sx c.args.place.sy (level_of c.loop-k.k) = rect_of_level c.args.layout.now c.args.size c.args.place.sx c.args.place.sy c.args.rects.now l.k c.band_numbered-level.result.0 c.requires.rects c.band_numbered-level.ensures.level below in
-    let n_is : c.area_of.result ≡ area (level_rect c.args.layout.now c.args.size c.args.place.sx c.args.place.sy (level_of c.loop-k.k)) = c.area_of.ensures.area ∙ ap area rect_is in
-    let room = room_here c.args.each s size sx sy l.k l.from c.area_of.result (length c.args.values.now) i.from n_is c.requires.count below in
-    let most : c.args.each * place_count s size sx sy ≤ 2 * place_count s size sx sy = mul-le-mul_right (place_count s size sx sy) c.requires.few in
-    omega (arith, room, c.requires.count, most, count_few s size sx sy c.args.rects.now c.requires.rects)
+    let index_is : c.quantiser-index.result ≡ index_of part l.k =
+    index_here part.matrix part.qindex c.band_numbered-level.result.0 _ c.band_numbered-level.result.1 _ _ c.quantiser-index.result
+    c.band_numbered-level.ensures.level c.band_numbered-level.ensures.orient c.orient_numbered.ensures c.quantiser-index.ensures in
+    let meets : BandMeets c.args.each part l.k l.from c.area_of.result c.quantiser-index.result (length c.args.values.now) =
+    band-meets c.args.each part c.args.rects.now l.k c.band_numbered-level.result.0 l.from c.area_of.result c.quantiser-index.result
+    (length c.args.values.now) c.requires.rects (omega (arith, c.loop-k-test.true, c.depth.ensures.value)) c.band_numbered-level.ensures.level
+    c.area_of.ensures.area index_is l.invariant.from c.requires.count in
+    let s = c.args.layout.now in
+    let count : ℕ = place_count s c.args.size c.args.place.sx c.args.place.sy in
+    let most : c.args.each * count ≤ 2 * count = mul-le-mul_right count c.requires.few in
+    omega (arith, meets.room, c.requires.count, most, count_few s c.args.size c.args.place.sx c.args.place.sy c.args.rects.now c.requires.rects)
 
 pub restore_part-requires-clause-inside : goal.restore_part-requires-clause-inside
 restore_part-requires-clause-inside c =
     let part : Part = part_of c.args.layout.now c.args.size c.args.place.sx c.args.place.sy c.args.matrix.now c.args.place.qindex in
-    let s = c.args.layout.now in
-    let size = c.args.size in
-    let sx = c.args.place.sx in
-    let sy = c.args.place.sy in
     let l = c.loop-k in
-    let i = l.invariant in
-    let below : l.k < 3 * c.args.layout.now.depth + 1 = omega (arith, c.loop-k-test.true, c.depth.ensures.value) in
-    let rect : Rect = get_or c.args.rects.now c.band_numbered-level.result.0 no_rect in
-    let rect_is : get_or c.args.rects.now c.band_numbered-level.result.0 no_rect ≡ level_rect c.args.layout.now c.args.size c.args.place.sx c.args.place.sy (level_of c.loop-k.k) = rect_of_level c.args.layout.now c.args.size c.args.place.sx c.args.place.sy c.args.rects.now l.k c.band_numbered-level.result.0 c.requires.rects c.band_numbered-level.ensures.level below in
-    let n_is : c.area_of.result ≡ area (level_rect c.args.layout.now c.args.size c.args.place.sx c.args.place.sy (level_of c.loop-k.k)) = c.area_of.ensures.area ∙ ap area rect_is in
-    let room = room_here c.args.each s size sx sy l.k l.from c.area_of.result (length c.args.values.now) i.from n_is c.requires.count below in
-    omega (arith, room, i.length)
+    let index_is : c.quantiser-index.result ≡ index_of part l.k =
+    index_here part.matrix part.qindex c.band_numbered-level.result.0 _ c.band_numbered-level.result.1 _ _ c.quantiser-index.result
+    c.band_numbered-level.ensures.level c.band_numbered-level.ensures.orient c.orient_numbered.ensures c.quantiser-index.ensures in
+    let meets : BandMeets c.args.each part l.k l.from c.area_of.result c.quantiser-index.result (length c.args.values.now) =
+    band-meets c.args.each part c.args.rects.now l.k c.band_numbered-level.result.0 l.from c.area_of.result c.quantiser-index.result
+    (length c.args.values.now) c.requires.rects (omega (arith, c.loop-k-test.true, c.depth.ensures.value)) c.band_numbered-level.ensures.level
+    c.area_of.ensures.area index_is l.invariant.from c.requires.count in
+    omega (arith, meets.room, l.invariant.length)
 
 pub restore_part-requires-clause-small : goal.restore_part-requires-clause-small
 restore_part-requires-clause-small c k low = omega (arith, ap unsigned_abs (c.loop-k.invariant.rest k low), c.requires.small k)
 
-pub restore_part-requires-clause-low : goal.restore_part-requires-clause-low
-restore_part-requires-clause-low c safe k low lt =
-    let values = c.args.values.now in
-    let at : get_or c.loop-k.values k (pos 0) ≡ get_or c.args.values.now k (pos 0) = c.loop-k.invariant.rest k low in
-    subst (λ (v : ℤ). (unsigned_abs v + 1) * factor_of c.quantiser-index.result ≤ 2 ^ 30) (sym at)
-    (safe_below (unsigned_abs (get_or c.args.values.now k (pos 0))) c.all_magnitudes.result c.safe_magnitude.result c.quantiser-index.result c.args.place.qindex (c.all_magnitudes.ensures k) (lt_tested c.all_magnitudes.result c.safe_magnitude.result safe) (omega (arith, c.quantiser-index.ensures)) c.requires.qindex c.safe_magnitude.ensures)
-
 pub returns-then-not-restore_part-clause-small : goal.returns-then-not-restore_part-clause-small
 returns-then-not-restore_part-clause-small c =
     let part : Part = part_of c.args.layout.now c.args.size c.args.place.sx c.args.place.sy c.args.matrix.now c.args.place.qindex in
-    let s = c.args.layout.now in
-    let size = c.args.size in
-    let sx = c.args.place.sx in
-    let sy = c.args.place.sy in
     let l = c.loop-k in
-    let i = l.invariant in
-    let below : l.k < 3 * c.args.layout.now.depth + 1 = omega (arith, c.loop-k-test.true, c.depth.ensures.value) in
-    let rect : Rect = get_or c.args.rects.now c.band_numbered-level.result.0 no_rect in
-    let rect_is : get_or c.args.rects.now c.band_numbered-level.result.0 no_rect ≡ level_rect c.args.layout.now c.args.size c.args.place.sx c.args.place.sy (level_of c.loop-k.k) = rect_of_level c.args.layout.now c.args.size c.args.place.sx c.args.place.sy c.args.rects.now l.k c.band_numbered-level.result.0 c.requires.rects c.band_numbered-level.ensures.level below in
-    let n_is : c.area_of.result ≡ area (level_rect c.args.layout.now c.args.size c.args.place.sx c.args.place.sy (level_of c.loop-k.k)) = c.area_of.ensures.area ∙ ap area rect_is in
-    let room = room_here c.args.each s size sx sy l.k l.from c.area_of.result (length c.args.values.now) i.from n_is c.requires.count below in
-    let index_is : c.quantiser-index.result ≡ index_of part c.loop-k.k = index_here part.matrix part.qindex c.band_numbered-level.result.0 _ c.band_numbered-level.result.1 _ _ c.quantiser-index.result c.band_numbered-level.ensures.level c.band_numbered-level.ensures.orient c.orient_numbered.ensures c.quantiser-index.ensures in
-    let total : ℕ = 3 * c.args.layout.now.depth + 1 in
-    let same = λ (j : ℕ) (low : l.from ≤ j) (lt : j < l.from + c.args.each * c.area_of.result). restored_here c.args.each part l.k total l.from c.area_of.result c.quantiser-index.result j c.args.values.now l.values below i.from n_is index_is low lt (i.rest j low) in
-    part-not (restored_at c.args.values.now (quantisers_before c.args.each part total)) (λ j. inverse_of (get_or l.values j (pos 0)) c.quantiser-index.result) l.from (l.from + c.args.each * c.area_of.result) (length c.args.values.now) c.restore_part.result c.if-not-restore_part.true room same c.restore_part.ensures.small
+    let index_is : c.quantiser-index.result ≡ index_of part l.k =
+    index_here part.matrix part.qindex c.band_numbered-level.result.0 _ c.band_numbered-level.result.1 _ _ c.quantiser-index.result
+    c.band_numbered-level.ensures.level c.band_numbered-level.ensures.orient c.orient_numbered.ensures c.quantiser-index.ensures in
+    let meets : BandMeets c.args.each part l.k l.from c.area_of.result c.quantiser-index.result (length c.args.values.now) =
+    band-meets c.args.each part c.args.rects.now l.k c.band_numbered-level.result.0 l.from c.area_of.result c.quantiser-index.result
+    (length c.args.values.now) c.requires.rects (omega (arith, c.loop-k-test.true, c.depth.ensures.value)) c.band_numbered-level.ensures.level
+    c.area_of.ensures.area index_is l.invariant.from c.requires.count in
+    let values = c.args.values.now in
+    let to : ℕ = l.from + c.args.each * c.area_of.result in
+    part-not (2 ^ 36) (restored_at values (quantisers_before c.args.each part (3 * c.args.layout.now.depth + 1)))
+    (λ j. inverse_of (get_or l.values j (pos 0)) c.quantiser-index.result) l.from to (length values) c.restore_part.result c.if-not-restore_part.true
+    meets.room (λ j low lt. meets.same values l.values j low lt (l.invariant.rest j low)) c.restore_part.ensures.small
 
 pub loop-k-preserved : goal.loop-k-preserved
 loop-k-preserved c =
     let part : Part = part_of c.args.layout.now c.args.size c.args.place.sx c.args.place.sy c.args.matrix.now c.args.place.qindex in
-    let s = c.args.layout.now in
-    let size = c.args.size in
-    let sx = c.args.place.sx in
-    let sy = c.args.place.sy in
     let l = c.loop-k in
+    let index_is : c.quantiser-index.result ≡ index_of part l.k =
+    index_here part.matrix part.qindex c.band_numbered-level.result.0 _ c.band_numbered-level.result.1 _ _ c.quantiser-index.result
+    c.band_numbered-level.ensures.level c.band_numbered-level.ensures.orient c.orient_numbered.ensures c.quantiser-index.ensures in
+    let meets : BandMeets c.args.each part l.k l.from c.area_of.result c.quantiser-index.result (length c.args.values.now) =
+    band-meets c.args.each part c.args.rects.now l.k c.band_numbered-level.result.0 l.from c.area_of.result c.quantiser-index.result
+    (length c.args.values.now) c.requires.rects (omega (arith, c.loop-k-test.true, c.depth.ensures.value)) c.band_numbered-level.ensures.level
+    c.area_of.ensures.area index_is l.invariant.from c.requires.count in
+    let values = c.args.values.now in
     let i = l.invariant in
-    let below : l.k < 3 * c.args.layout.now.depth + 1 = omega (arith, c.loop-k-test.true, c.depth.ensures.value) in
-    let rect : Rect = get_or c.args.rects.now c.band_numbered-level.result.0 no_rect in
-    let rect_is : get_or c.args.rects.now c.band_numbered-level.result.0 no_rect ≡ level_rect c.args.layout.now c.args.size c.args.place.sx c.args.place.sy (level_of c.loop-k.k) = rect_of_level c.args.layout.now c.args.size c.args.place.sx c.args.place.sy c.args.rects.now l.k c.band_numbered-level.result.0 c.requires.rects c.band_numbered-level.ensures.level below in
-    let n_is : c.area_of.result ≡ area (level_rect c.args.layout.now c.args.size c.args.place.sx c.args.place.sy (level_of c.loop-k.k)) = c.area_of.ensures.area ∙ ap area rect_is in
-    let room = room_here c.args.each s size sx sy l.k l.from c.area_of.result (length c.args.values.now) i.from n_is c.requires.count below in
-    let index_is : c.quantiser-index.result ≡ index_of part c.loop-k.k = index_here part.matrix part.qindex c.band_numbered-level.result.0 _ c.band_numbered-level.result.1 _ _ c.quantiser-index.result c.band_numbered-level.ensures.level c.band_numbered-level.ensures.orient c.orient_numbered.ensures c.quantiser-index.ensures in
-    let total : ℕ = 3 * c.args.layout.now.depth + 1 in
-    let same = λ (j : ℕ) (low : l.from ≤ j) (lt : j < l.from + c.args.each * c.area_of.result). restored_here c.args.each part l.k total l.from c.area_of.result c.quantiser-index.result j c.args.values.now l.values below i.from n_is index_is low lt (i.rest j low) in
+    let to : ℕ = l.from + c.args.each * c.area_of.result in
     let good = c.if-not-restore_part.false in
+    let same = λ (j : ℕ) (low : l.from ≤ j) (lt : j < to). meets.same values l.values j low lt (i.rest j low) in
     record {
-      from = next_from c.args.each s size sx sy l.k l.from c.area_of.result i.from n_is;
+      from = meets.next;
       length = c.restore_part.auto.values ∙ i.length;
-      small = part-more (restored_at c.args.values.now (quantisers_before c.args.each part total)) (λ j. inverse_of (get_or l.values j (pos 0)) c.quantiser-index.result) l.from (l.from + c.args.each * c.area_of.result) c.restore_part.result good same i.small c.restore_part.ensures.small;
+      small = part-more (2 ^ 36) (restored_at values (quantisers_before c.args.each part (3 * c.args.layout.now.depth + 1)))
+          (λ j. inverse_of (get_or l.values j (pos 0)) c.quantiser-index.result) l.from to c.restore_part.result good same i.small c.restore_part.ensures.small;
       done = λ j lt. elim (cases_lt j l.from) [
         | inl old ↦ c.restore_part.ensures.outside j (inl old) ∙ i.done j old
         | inr new ↦ c.restore_part.ensures.inside good j new lt ∙ same j new lt
@@ -118,8 +103,10 @@ loop-k-preserved c =
       rest = λ j le. c.restore_part.ensures.outside j (inr le) ∙ i.rest j (omega arith);
     }
 
-all_places : (each : ℕ) (s : Slicing) (size : Size) (sx sy k from n : ℕ) → from ≡ each * places_in s size sx sy k → k ≡ 3 * s.depth + 1 → n ≡ each * place_count s size sx sy → n ≡ from
-all_places each s size sx sy k from n from_is k_is n_is = n_is ∙ ap (λ m. each * m) (sym (places_all s size sx sy)) ∙ ap (λ k. each * places_in s size sx sy k) (sym k_is) ∙ sym from_is
+all_places : (each : ℕ) (s : Slicing) (size : Size) (sx sy k from n : ℕ) → from ≡ each * places_in s size sx sy k → k ≡ 3 * s.depth + 1
+    → n ≡ each * place_count s size sx sy → n ≡ from
+all_places each s size sx sy k from n from_is k_is n_is =
+    n_is ∙ ap (λ m. each * m) (sym (places_all s size sx sy)) ∙ ap (λ k. each * places_in s size sx sy k) (sym k_is) ∙ sym from_is
 
 pub returns-clause-small : goal.returns-clause-small
 returns-clause-small c =
@@ -127,7 +114,8 @@ returns-clause-small c =
     let l = c.loop-k in
     let n = length c.args.values.now in
     let whole : length c.args.values.now ≡ l.from = all_places c.args.each c.args.layout.now c.args.size c.args.place.sx c.args.place.sy l.k l.from (length c.args.values.now) l.invariant.from (omega (arith, c.loop-k-test.false, c.loop-k.auto.k-end, c.depth.ensures.value)) c.requires.count in
-    low-stay (restored_at c.args.values.now (quantisers_before c.args.each part (3 * c.args.layout.now.depth + 1))) 0 (length c.args.values.now) (λ k low lt. l.invariant.small k low (omega (arith, lt, whole)))
+    all-stay (2 ^ 36) (restored_at c.args.values.now (quantisers_before c.args.each part (3 * c.args.layout.now.depth + 1))) 0 (length c.args.values.now)
+    (λ k low lt. l.invariant.small k low (omega (arith, lt, whole)))
 
 pub returns-clause-values : goal.returns-clause-values
 returns-clause-values c good k lt =

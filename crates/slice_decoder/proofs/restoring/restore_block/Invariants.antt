@@ -1,7 +1,7 @@
-use Rattle.std.proofs.Common.{◌≡◌, ℕ, ◌+◌, ◌*◌, ◌<◌, ◌≤◌, length, get_or, pos}
+use Rattle.std.proofs.Common.{◌≡◌, ℕ, ◌+◌, ◌*◌, ◌^◌, ◌<◌, ◌≤◌, length, get_or, pos}
 use Rattle.slice_decoder.specs.Components.{Part, quantisers_before}
 use Rattle.slice_decoder.specs.Levels.{places_in}
-use Rattle.slice_decoder.specs.Restored.{restored_at, AllSmall}
+use Rattle.slice_decoder.specs.Restored.{restored_at, AllWithin}
 use Rattle.slice_decoder.proofs.restoring.restore_block.Given as goal
 
 abbrev pub invariant-loop-k : goal.invariant-loop-k
@@ -10,7 +10,7 @@ invariant-loop-k l =
     record {
       from : l.from ≡ l.each * places_in l.layout l.fn.size l.fn.place.sx l.fn.place.sy l.k;
       length : length l.values ≡ length l.fn.values;
-      small : AllSmall (restored_at l.fn.values (quantisers_before l.each part (3 * l.layout.depth + 1))) 0 l.from;
+      small : AllWithin (2 ^ 36) (restored_at l.fn.values (quantisers_before l.each part (3 * l.layout.depth + 1))) 0 l.from;
       done : (j : ℕ) → j < l.from → get_or l.values j (pos 0) ≡ restored_at l.fn.values (quantisers_before l.each part (3 * l.layout.depth + 1)) j;
       rest : (j : ℕ) → l.from ≤ j → get_or l.values j (pos 0) ≡ get_or l.fn.values j (pos 0);
     }

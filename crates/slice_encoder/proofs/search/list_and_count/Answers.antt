@@ -6,6 +6,7 @@ use Rattle.slice_encoder.specs.Trials.{CodedComponent, luma_list, colour_list}
 use Rattle.slice_encoder.specs.Tries.{tried}
 use Rattle.slice_encoder.specs.Choice.{needs_fit}
 use Rattle.slice_encoder.specs.TrialLaws.{AreSmall}
+use Rattle.slice_encoder.specs.Sources.{trio_seen}
 use Rattle.slice_encoder.specs.Buffers.{coded_component}
 use Rattle.bounded_blocks.proofs.CodeLengths.{length-codes_of-most}
 use Rattle.slice_encoder.proofs.WholeTrial.{length_luma, length_colour, all_small, luma_small, colour_small, grid_is, can_list_all}
@@ -18,7 +19,7 @@ list_luma-lumas-requires-clause-can c =
     let ready = c.requires.restored.1 in
     let was = c.requires.restored.2 in
     let shape = a.job.shape.now in
-    let l : CodedComponent = coded_component a.job.layout.now shape.luma a.job.matrix.now a.job.coefficients.now.luma in
+    let l : CodedComponent = coded_component a.job.layout.now shape.luma a.job.matrix.now (trio_seen a.job.coefficients).luma in
     let shallow = c.depth-depth.ensures.allowed.depth in
     can_list_all l shape.luma_depth a.job.sx a.job.sy a.index old.luma c.requires.index shallow shape.luma_depth_fits.most ready.luma a.kept.now.luma was.luma ready.across ready.down
 
@@ -26,7 +27,7 @@ pub list_luma-lumas-requires-clause-room : goal.list_luma-lumas-requires-clause-
 list_luma-lumas-requires-clause-room c =
     let a = c.args in
     let shape = a.job.shape.now in
-    let l : CodedComponent = coded_component a.job.layout.now shape.luma a.job.matrix.now a.job.coefficients.now.luma in
+    let l : CodedComponent = coded_component a.job.layout.now shape.luma a.job.matrix.now (trio_seen a.job.coefficients).luma in
     omega (arith, length_luma l (at a.kept.now.luma) a.index a.job.sx a.job.sy, c.requires.room.luma)
 
 pub list_colour-colours-requires-clause-first_can : goal.list_colour-colours-requires-clause-first_can
@@ -36,7 +37,7 @@ list_colour-colours-requires-clause-first_can c =
     let ready = c.requires.restored.1 in
     let was = c.requires.restored.2 in
     let shape = a.job.shape.now in
-    let c1 : CodedComponent = coded_component a.job.layout.now shape.colour a.job.matrix.now a.job.coefficients.now.c1 in
+    let c1 : CodedComponent = coded_component a.job.layout.now shape.colour a.job.matrix.now (trio_seen a.job.coefficients).c1 in
     let shallow = c.depth-depth.ensures.allowed.depth in
     can_list_all c1 shape.colour_depth a.job.sx a.job.sy a.index old.c1 c.requires.index shallow shape.colour_depth_fits.most ready.c1 a.kept.now.c1 was.c1 ready.across ready.down
 
@@ -47,7 +48,7 @@ list_colour-colours-requires-clause-second_can c =
     let ready = c.requires.restored.1 in
     let was = c.requires.restored.2 in
     let shape = a.job.shape.now in
-    let c2 : CodedComponent = coded_component a.job.layout.now shape.colour a.job.matrix.now a.job.coefficients.now.c2 in
+    let c2 : CodedComponent = coded_component a.job.layout.now shape.colour a.job.matrix.now (trio_seen a.job.coefficients).c2 in
     let shallow = c.depth-depth.ensures.allowed.depth in
     can_list_all c2 shape.colour_depth a.job.sx a.job.sy a.index old.c2 c.requires.index shallow shape.colour_depth_fits.most ready.c2 a.kept.now.c2 was.c2 ready.across ready.down
 
@@ -55,8 +56,8 @@ pub list_colour-colours-requires-clause-room : goal.list_colour-colours-requires
 list_colour-colours-requires-clause-room c =
     let a = c.args in
     let shape = a.job.shape.now in
-    let c1 : CodedComponent = coded_component a.job.layout.now shape.colour a.job.matrix.now a.job.coefficients.now.c1 in
-    let c2 : CodedComponent = coded_component a.job.layout.now shape.colour a.job.matrix.now a.job.coefficients.now.c2 in
+    let c1 : CodedComponent = coded_component a.job.layout.now shape.colour a.job.matrix.now (trio_seen a.job.coefficients).c1 in
+    let c2 : CodedComponent = coded_component a.job.layout.now shape.colour a.job.matrix.now (trio_seen a.job.coefficients).c2 in
     omega (arith, length_colour c1 c2 (at a.kept.now.c1) (at a.kept.now.c2) a.index a.job.sx a.job.sy, c.requires.room.colour)
 
 pub need_of_values-luma_need-requires-clause-small : goal.need_of_values-luma_need-requires-clause-small
@@ -66,7 +67,7 @@ need_of_values-luma_need-requires-clause-small c =
     let ready = c.requires.restored.1 in
     let was = c.requires.restored.2 in
     let shape = a.job.shape.now in
-    let l : CodedComponent = coded_component a.job.layout.now shape.luma a.job.matrix.now a.job.coefficients.now.luma in
+    let l : CodedComponent = coded_component a.job.layout.now shape.luma a.job.matrix.now (trio_seen a.job.coefficients).luma in
     let shallow = c.depth-depth.ensures.allowed.depth in
     let lumas = luma_list l (tried l a.job.sx a.job.sy a.index (at old.luma)) a.index a.job.sx a.job.sy in
     let luma_is : take c.list_luma-lumas.result c.list_luma-lumas.new.out ≡ lumas = c.list_luma-lumas.ensures.listed ∙ ap (λ (g : Grid). luma_list l g a.index a.job.sx a.job.sy) (grid_is l shape.luma_depth a.job.sx a.job.sy a.index old.luma c.requires.index shallow shape.luma_depth_fits.most ready.luma a.kept.now.luma was.luma) in
@@ -80,8 +81,8 @@ need_of_values-colour_need-requires-clause-small c =
     let ready = c.requires.restored.1 in
     let was = c.requires.restored.2 in
     let shape = a.job.shape.now in
-    let c1 : CodedComponent = coded_component a.job.layout.now shape.colour a.job.matrix.now a.job.coefficients.now.c1 in
-    let c2 : CodedComponent = coded_component a.job.layout.now shape.colour a.job.matrix.now a.job.coefficients.now.c2 in
+    let c1 : CodedComponent = coded_component a.job.layout.now shape.colour a.job.matrix.now (trio_seen a.job.coefficients).c1 in
+    let c2 : CodedComponent = coded_component a.job.layout.now shape.colour a.job.matrix.now (trio_seen a.job.coefficients).c2 in
     let shallow = c.depth-depth.ensures.allowed.depth in
     let colours = colour_list c1 c2 (tried c1 a.job.sx a.job.sy a.index (at old.c1)) (tried c2 a.job.sx a.job.sy a.index (at old.c2)) a.index a.job.sx a.job.sy in
     let colour_is : take c.list_colour-colours.result c.list_colour-colours.new.out ≡ colours =
@@ -99,7 +100,7 @@ do_fit-requires-clause-luma_small c =
     let ready = c.requires.restored.1 in
     let was = c.requires.restored.2 in
     let shape = a.job.shape.now in
-    let l : CodedComponent = coded_component a.job.layout.now shape.luma a.job.matrix.now a.job.coefficients.now.luma in
+    let l : CodedComponent = coded_component a.job.layout.now shape.luma a.job.matrix.now (trio_seen a.job.coefficients).luma in
     let shallow = c.depth-depth.ensures.allowed.depth in
     let lumas = luma_list l (tried l a.job.sx a.job.sy a.index (at old.luma)) a.index a.job.sx a.job.sy in
     let luma_is : take c.list_luma-lumas.result c.list_luma-lumas.new.out ≡ lumas = c.list_luma-lumas.ensures.listed ∙ ap (λ (g : Grid). luma_list l g a.index a.job.sx a.job.sy) (grid_is l shape.luma_depth a.job.sx a.job.sy a.index old.luma c.requires.index shallow shape.luma_depth_fits.most ready.luma a.kept.now.luma was.luma) in
@@ -113,8 +114,8 @@ do_fit-requires-clause-colour_small c =
     let ready = c.requires.restored.1 in
     let was = c.requires.restored.2 in
     let shape = a.job.shape.now in
-    let c1 : CodedComponent = coded_component a.job.layout.now shape.colour a.job.matrix.now a.job.coefficients.now.c1 in
-    let c2 : CodedComponent = coded_component a.job.layout.now shape.colour a.job.matrix.now a.job.coefficients.now.c2 in
+    let c1 : CodedComponent = coded_component a.job.layout.now shape.colour a.job.matrix.now (trio_seen a.job.coefficients).c1 in
+    let c2 : CodedComponent = coded_component a.job.layout.now shape.colour a.job.matrix.now (trio_seen a.job.coefficients).c2 in
     let shallow = c.depth-depth.ensures.allowed.depth in
     let colours = colour_list c1 c2 (tried c1 a.job.sx a.job.sy a.index (at old.c1)) (tried c2 a.job.sx a.job.sy a.index (at old.c2)) a.index a.job.sx a.job.sy in
     let colour_is : take c.list_colour-colours.result c.list_colour-colours.new.out ≡ colours =
@@ -129,9 +130,9 @@ pub returns : goal.returns
 returns c = λ old ready was.
     let a = c.args in
     let shape = a.job.shape.now in
-    let l : CodedComponent = coded_component a.job.layout.now shape.luma a.job.matrix.now a.job.coefficients.now.luma in
-    let c1 : CodedComponent = coded_component a.job.layout.now shape.colour a.job.matrix.now a.job.coefficients.now.c1 in
-    let c2 : CodedComponent = coded_component a.job.layout.now shape.colour a.job.matrix.now a.job.coefficients.now.c2 in
+    let l : CodedComponent = coded_component a.job.layout.now shape.luma a.job.matrix.now (trio_seen a.job.coefficients).luma in
+    let c1 : CodedComponent = coded_component a.job.layout.now shape.colour a.job.matrix.now (trio_seen a.job.coefficients).c1 in
+    let c2 : CodedComponent = coded_component a.job.layout.now shape.colour a.job.matrix.now (trio_seen a.job.coefficients).c2 in
     let shallow = c.depth-depth.ensures.allowed.depth in
     let lumas = luma_list l (tried l a.job.sx a.job.sy a.index (at old.luma)) a.index a.job.sx a.job.sy in
     let luma_is : take c.list_luma-lumas.result c.list_luma-lumas.new.out ≡ lumas = c.list_luma-lumas.ensures.listed ∙ ap (λ (g : Grid). luma_list l g a.index a.job.sx a.job.sy) (grid_is l shape.luma_depth a.job.sx a.job.sy a.index old.luma c.requires.index shallow shape.luma_depth_fits.most ready.luma a.kept.now.luma was.luma) in

@@ -7,9 +7,9 @@ use Rattle.slice_geometry.specs.Frames.{frame_of}
 use Rattle.field_rows.specs.Rows.{done}
 use Rattle.stream_rows.specs.declared.reason.Reason.{Reason}
 use Rattle.stream_rows.specs.Units.{Picture}
-use Rattle.stream_units.specs.Turns.{PictureOver}
+use Rattle.stream_units.specs.Turns.{PictureOver, IsTaker}
 use Rattle.unit_reader.proofs.Stopping.{stops_due}
-use Rattle.stream_units.proofs.PictureTurns.{behind_slices, behind_params, behind_number, payload_begun, begun_at, slices_begun, ready_frame, finished_shows, next_wrong, next_right, picture_taken}
+use Rattle.stream_units.proofs.PictureTurns.{behind_slices, behind_params, behind_number, payload_begun, begun_at, slices_begun, ready_frame, next_wrong, next_right, picture_taken}
 use Rattle.unit_reader.specs.declared.stop.ReadStop.{ReadStop}
 use Rattle.stream_units.specs.declared.pictures.Shown.{Shown}
 use Rattle.stream_units.specs.Held.{greatest_share, StopsHeld, BeforeSlices, InSlices, NoDecoder}
@@ -99,9 +99,14 @@ returns-clause-unit g c = λ held0 rest0 b.
     let there : c.place-place.result + (17 + c.in_ok-params.size) + total_bytes c.in_ok-decoder.decoder.params.slicing ≡ z.place + span = omega (arith, c.place-place.ensures.value, c.from.ensures, c.total_bytes.ensures, size) in
     let right = next_right (λ length. done (Picture parts number p t.slices)) next span t.begun there (sym c.leads_behind.ensures ∙ c.if-not-leads_behind.false) in
     let few : total_bytes p.slicing ≤ 2 ^ 28 = subst (λ q. total_bytes q.slicing ≤ 2 ^ 28) ready.params_are c.in-Ok.ensures.allowed.share.total in
-    let shows = finished_shows parts p t.slices c.slices.new.decoder c.finish.new.decoder (ap frame_of c.in-Ok.ensures.shape ∙ frame) (c.in-Ok.ensures.params ∙ ready.params_are) c.finish.ensures.state (c.finish.ensures.unit t.slices t.has) in
-    picture_taken parts (record { number = number; layout = c.in_ok-params.params.layout; head = 17 + c.in_ok-params.size; decoder = c.finish.new.decoder }) p t.slices c.slices.new.window.room right
-    (omega (arith, c.place-place.ensures.value, size)) (omega (arith, few, c.in_ok-params.ensures.most)) c.in-Ok.ensures.place refl shows
+    let taker : IsTaker parts p t.slices c.slices.new.decoder = record {
+      frame = ap frame_of c.in-Ok.ensures.shape ∙ frame;
+      params_are = c.in-Ok.ensures.params ∙ ready.params_are;
+      taken = t.has;
+      whole = record { none_refused = c.in-Ok.ensures.unrefused; none_wanted = c.in-Ok.ensures.whole };
+    } in
+    picture_taken parts (record { number = number; layout = c.in_ok-params.params.layout; head = 17 + c.in_ok-params.size; decoder = c.slices.new.decoder }) p t.slices c.slices.new.window.room right
+    (omega (arith, c.place-place.ensures.value, size)) (omega (arith, few, c.in_ok-params.ensures.most)) c.in-Ok.ensures.place refl taker
 
 pub returns-in_err-number-clause-held : goal.returns-in_err-number-clause-held
 returns-in_err-number-clause-held g c = λ held0 rest0 b. if_err _ _ (λ stop. BeforeSlices refl c.number.ensures.held)

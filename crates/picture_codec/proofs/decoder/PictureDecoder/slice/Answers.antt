@@ -68,9 +68,7 @@ invariant_of-self c =
     record {
       taken = all_more s shape n wanted.0 allowed.slices matrix (slice_at s shape.luma shape.colour (n % s.slices_x) (n / s.slices_x) bytes) head old new c.self.invariant.taken keeps decoded;
       luma = c.self.invariant.luma;
-      luma_in_32_bits = c.self.invariant.luma_in_32_bits;
       colour = c.self.invariant.colour;
-      colour_in_32_bits = c.self.invariant.colour_in_32_bits;
     }
 
 pub invariant_of-self-in-Err : goal.invariant_of-self-in-Err
@@ -88,9 +86,7 @@ invariant_of-self-in-Err c =
     record {
       taken = all_same s shape n wanted.0 allowed.slices old new c.self.invariant.taken keeps;
       luma = c.self.invariant.luma;
-      luma_in_32_bits = c.self.invariant.luma_in_32_bits;
       colour = c.self.invariant.colour;
-      colour_in_32_bits = c.self.invariant.colour_in_32_bits;
     }
 
 pub returns-in-Ok : goal.returns-in-Ok

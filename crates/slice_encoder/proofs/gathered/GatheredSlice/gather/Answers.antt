@@ -1,4 +1,8 @@
+use Rattle.std.proofs.Common.{sym, subst}
+use Rattle.planes.specs.Subbands.{BandStack}
+use Rattle.slice_encoder.specs.Sources.{trio_seen}
 use Rattle.slice_encoder.specs.Buffers.{coded_component}
+use Rattle.slice_encoder.specs.Gathering.{CanGatherAll}
 use Rattle.slice_encoder.proofs.Gathers.{given_gathers}
 use Rattle.slice_encoder.proofs.gathered.GatheredSlice.gather.Goals as goal
 
@@ -6,16 +10,19 @@ pub gather-requires-clause-can : goal.gather-requires-clause-can
 gather-requires-clause-can c =
     let a = c.args in
     let given = c.requires.given in
-    given_gathers (coded_component a.job.layout.now a.job.shape.now.luma a.job.matrix.now a.job.coefficients.now.luma) a.job.shape.now.luma_depth c.depth-depth.ensures.allowed.depth given.luma_bits.most given.luma
+    subst (λ (b : BandStack). CanGatherAll a.job.layout.now a.job.shape.now.luma b) (sym c.luma.ensures)
+    (given_gathers (coded_component a.job.layout.now a.job.shape.now.luma a.job.matrix.now (trio_seen a.job.coefficients).luma) a.job.shape.now.luma_depth c.depth-depth.ensures.allowed.depth given.luma_bits.most given.luma)
 
 pub gather-requires-2-clause-can : goal.gather-requires-2-clause-can
 gather-requires-2-clause-can c =
     let a = c.args in
     let given = c.requires.given in
-    given_gathers (coded_component a.job.layout.now a.job.shape.now.colour a.job.matrix.now a.job.coefficients.now.c1) a.job.shape.now.colour_depth c.depth-depth.ensures.allowed.depth given.colour_bits.most given.c1
+    subst (λ (b : BandStack). CanGatherAll a.job.layout.now a.job.shape.now.colour b) (sym c.c1.ensures)
+    (given_gathers (coded_component a.job.layout.now a.job.shape.now.colour a.job.matrix.now (trio_seen a.job.coefficients).c1) a.job.shape.now.colour_depth c.depth-depth.ensures.allowed.depth given.colour_bits.most given.c1)
 
 pub gather-requires-3-clause-can : goal.gather-requires-3-clause-can
 gather-requires-3-clause-can c =
     let a = c.args in
     let given = c.requires.given in
-    given_gathers (coded_component a.job.layout.now a.job.shape.now.colour a.job.matrix.now a.job.coefficients.now.c2) a.job.shape.now.colour_depth c.depth-depth.ensures.allowed.depth given.colour_bits.most given.c2
+    subst (λ (b : BandStack). CanGatherAll a.job.layout.now a.job.shape.now.colour b) (sym c.c2.ensures)
+    (given_gathers (coded_component a.job.layout.now a.job.shape.now.colour a.job.matrix.now (trio_seen a.job.coefficients).c2) a.job.shape.now.colour_depth c.depth-depth.ensures.allowed.depth given.colour_bits.most given.c2)

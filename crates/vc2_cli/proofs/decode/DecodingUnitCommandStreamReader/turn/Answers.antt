@@ -6,4 +6,4 @@ use Rattle.vc2_cli.proofs.decode.DecodingUnitCommandStreamReader.turn.Goals as g
 
 pub returns-clause-keeps : goal.returns-clause-keeps
 returns-clause-keeps g c = λ before z unit bytes t same few.
-    omega (arith, few, t.byte, c.shown_count.ensures, pictures_are unit c.args.reader.now.picture t.picture, ap (λ (x : Past). x.place) t.past ∙ after-place z unit bytes, ap (λ (x : Past). x.place) same)
+    omega (arith, few, t.tells.byte, c.shown_count.ensures, pictures_are unit c.args.reader.now.picture t.picture, ap (λ (x : Past). x.place) t.tells.past ∙ after-place z unit bytes, ap (λ (x : Past). x.place) same)

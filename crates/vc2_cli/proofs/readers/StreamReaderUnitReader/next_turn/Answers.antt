@@ -11,7 +11,7 @@ returns-then-is_end-clause-next g c = λ no_stop going.
     record {
       unit = End;
       bytes = n.bytes;
-      tells = record { past = n.past; picture = n.over.1; shapes = n.shapes; byte = omega arith; few = omega arith };
+      tells = record { tells = record { past = n.past; shapes = n.shapes; byte = omega arith; few = omega arith }; picture = n.over.1 };
       meets = n.meets;
       whole = n.whole;
       last = n.last;
@@ -25,7 +25,7 @@ returns-clause-next g c = λ no_stop going.
     record {
       unit = n.unit;
       bytes = n.bytes;
-      tells = record { past = n.past; picture = n.picture; shapes = n.shapes; byte = omega (arith, pictures_few n.unit, n.takes.some); few = n.few };
+      tells = record { tells = record { past = n.past; shapes = n.shapes; byte = omega (arith, pictures_few n.unit, n.takes.some); few = n.few }; picture = n.picture };
       takes = n.takes;
       past = n.past;
       going = n.going;

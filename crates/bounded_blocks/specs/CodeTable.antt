@@ -1,0 +1,28 @@
+-- Codes at the front of twelve bits.
+use Rattle.std.specs.Prelude.{◌≡◌, ◌≢◌, ◌-◌, ◌<◌, ◌≤◌, ◌^◌, ◌++◌, ℕ, List, [], length, Bool, take, drop, slice_index_or}
+use Rattle.bit_codes.specs.Bits.{digits_below}
+use Rattle.bounded_blocks.specs.Reading.{with_sign}
+use Rattle.bounded_blocks.specs.Parts.{Reads, AreWithin}
+use Rattle.bounded_blocks.specs.declared.short_codes.ShortCode.{ShortCode}
+use Rattle.bounded_blocks.specs.declared.code_table.Codes.{Codes}
+
+-- a code with a length has this magnitude and the sign that follows in the last `left` of a number's last bits
+abbrev pub IsSigned : ℕ → ℕ → ℕ → ℕ → ShortCode → Type 0
+IsSigned magnitude word left bits code =
+    code.length ≢ 0
+    → (code.length ≤ bits)
+    × ((rest : List Bool) → with_sign magnitude (digits_below left word ++ rest) ≡ (code.value, digits_below (bits - code.length) word ++ rest))
+
+-- these codes are the first ones of these bits, whatever follows them, and their values are low
+abbrev pub Begin : Codes → List Bool → Type 0
+Begin codes bits =
+    (codes.count ≤ 8) × (codes.length ≤ length bits) × AreWithin (2 ^ 7) codes.values
+    × ((rest : List Bool) → Reads codes.count (bits ++ rest) (take codes.count codes.values) (drop codes.length bits ++ rest))
+
+abbrev pub no_codes : Codes
+no_codes = record { values = []; count = 0; length = 0 }
+
+-- an entry for each twelve bits
+pub record IsTable (entries : List Codes) : Type 0 where
+  pub count : length entries ≡ 4096
+  pub right : (k : ℕ) → k < 4096 → Begin (slice_index_or entries k no_codes) (digits_below 12 k)

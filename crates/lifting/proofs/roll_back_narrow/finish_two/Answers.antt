@@ -1,0 +1,14 @@
+use Rattle.std.proofs.Common.{◌*◌}
+use Rattle.planes.specs.Raster.{at}
+use Rattle.lifting.proofs.RollingBack.{lifted_small, above_small}
+use Rattle.lifting.proofs.roll_back_narrow.finish_two.Goals as goal
+
+pub lift_row_between-requires-2-clause-a_small : goal.lift_row_between-requires-2-clause-a_small
+lift_row_between-requires-2-clause-a_small c =
+    above_small c.args.wavelet c.args.y c.args.h (2 * c.args.w) c.requires.inside (at c.args.scratch.now) (at c.lift_row_between.new.plane) c.requires.small
+    c.row_after-below.result c.row_after-below.ensures c.lift_row_between.ensures.lifted c.lift_row_between.ensures.others c.row_before-above.result c.row_before-above.ensures
+
+pub lift_row_between-requires-2-clause-b_small : goal.lift_row_between-requires-2-clause-b_small
+lift_row_between-requires-2-clause-b_small c =
+    lifted_small c.args.wavelet c.args.y c.args.h (2 * c.args.w) c.requires.inside (at c.args.scratch.now) (at c.lift_row_between.new.plane) c.requires.small
+    c.row_after-below.result c.row_after-below.ensures c.lift_row_between.ensures.lifted c.lift_row_between.ensures.others

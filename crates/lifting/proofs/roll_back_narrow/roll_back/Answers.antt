@@ -1,0 +1,75 @@
+use Rattle.std.proofs.Common.{◌≡◌, ◌∙◌, refl, subst, ℕ, ◌+◌, ◌*◌, ◌%◌, ◌<◌, ◌≤◌, arith}
+use Rattle.planes.specs.Raster.{at}
+use Rattle.planes.specs.Subbands.{band_of}
+use Rattle.lifting.specs.Lines.{before}
+use Rattle.lifting.specs.Places.{side_place}
+use Rattle.lifting.specs.Transform.{analysis_level, every_other}
+use Rattle.lifting.proofs.LevelsDown.{same_sizes_after, other_levels_after}
+use Rattle.lifting.proofs.RollingBack.{same_row, above_apart, before_next, turn_small, odd_done, even_done, dealt_left, dealt_right, rows_more}
+use Rattle.lifting.proofs.roll_back_narrow.roll_back.Goals as goal
+
+pub finish_two-requires-clause-small : goal.finish_two-requires-clause-small
+finish_two-requires-clause-small c =
+    let k = c.args.wavelet in
+    let h = c.args.h in
+    let w = c.args.w in
+    let g = at c.args.plane.now in
+    let p = at c.loop-y.plane in
+    let y = c.loop-y.y in
+    let s = at c.put_two.new.scratch in
+    let i = c.loop-y.invariant in
+    let put = c.put_two.ensures in
+    let lt : y < h = c.loop-y-test.true in
+    turn_small k h w g y lt s
+    (λ x lx. put.others (2 * y % 4) x (omega arith) (omega arith) ∙ i.even lt x lx)
+    (λ some x lx. put.others (before (2 * y) % 4) x (above_apart y some).0 (above_apart y some).1 ∙ i.above some x lx)
+    (λ x lx. put.odd x lx ∙ same_row k w p g (2 * y + 1) (λ m. i.rest (2 * y + 1) m (omega arith)) (side_place w x))
+    (λ more x lx. put.even more x lx ∙ same_row k w p g (2 * y + 2) (λ m. i.rest (2 * y + 2) m (omega arith)) (side_place w x))
+    c.requires.small
+
+pub loop-y-preserved : goal.loop-y-preserved
+loop-y-preserved c =
+    let k = c.args.wavelet in
+    let h = c.args.h in
+    let w = c.args.w in
+    let g = at c.args.plane.now in
+    let p = at c.loop-y.plane in
+    let y = c.loop-y.y in
+    let s = at c.put_two.new.scratch in
+    let t = at c.finish_two.new.scratch in
+    let i = c.loop-y.invariant in
+    let put = c.put_two.ensures in
+    let done = c.finish_two.ensures in
+    let dealt = c.deal_two.ensures in
+    let lt : y < h = c.loop-y-test.true in
+    let level = analysis_level k (2 * h) (2 * w) g in
+    let even = λ (x : ℕ) (lx : x < 2 * w). put.others (2 * y % 4) x (omega arith) (omega arith) ∙ i.even lt x lx in
+    let above = λ (some : 1 ≤ y) (x : ℕ) (lx : x < 2 * w). put.others (before (2 * y) % 4) x (above_apart y some).0 (above_apart y some).1 ∙ i.above some x lx in
+    let odd = λ (x : ℕ) (lx : x < 2 * w). put.odd x lx ∙ same_row k w p g (2 * y + 1) (λ m. i.rest (2 * y + 1) m (omega arith)) (side_place w x) in
+    let next = λ (more : y + 1 < h) (x : ℕ) (lx : x < 2 * w). put.even more x lx ∙ same_row k w p g (2 * y + 2) (λ m. i.rest (2 * y + 2) m (omega arith)) (side_place w x) in
+    let odd_is : (x : ℕ) → x < 2 * w → t ((2 * y + 1) % 4) x ≡ level (2 * y + 1) (side_place w x) = odd_done k h w g y lt s even above odd next t done.odd done.even done.others in
+    let even_is : (x : ℕ) → x < 2 * w → t (2 * y % 4) x ≡ level (2 * y) (side_place w x) = even_done k h w g y lt s even above odd next t done.odd done.even done.others in
+    let two_more : 2 * (y + 1) ≡ 2 * y + 2 = omega arith in
+    let last_odd : 2 * y + 1 ≡ before (2 * (y + 1)) = before_next y in
+    let whole : 2 * y ≡ 2 * y + 0 = omega arith in
+    record {
+      same_width = dealt.same_width ∙ i.same_width;
+      same_height = dealt.same_height ∙ i.same_height;
+      same_width_scratch = done.same_width ∙ put.same_width ∙ i.same_width_scratch;
+      same_height_scratch = done.same_height ∙ put.same_height ∙ i.same_height_scratch;
+      same_sizes = same_sizes_after _ _ _ i.same_sizes dealt.same_sizes;
+      rest = λ j x le. dealt.rows j x (omega arith) ∙ i.rest j x (omega arith);
+      even = λ more x lx. rw two_more (done.others ((2 * y + 2) % 4) x (omega arith) (omega arith) ∙ next more x lx);
+      above = λ some x lx. subst (λ (m : ℕ). t (m % 4) x ≡ level m (side_place w x)) last_odd (odd_is x lx);
+      left = rows_more y w p (at c.deal_two.new.plane) (every_other 0 0 level) i.left dealt.rows
+          (dealt_left k h w g (2 * y) y (t (2 * y % 4)) (at c.deal_two.new.plane y) even_is dealt.left 0 whole);
+      dealt = record {
+        hl = rows_more y w (at (band_of c.loop-y.bands c.args.level 1)) (at (band_of c.deal_two.new.bands c.args.level 1)) (every_other 0 1 level) i.dealt.hl dealt.hl_rows
+            (dealt_right k h w g (2 * y) y (t (2 * y % 4)) (at (band_of c.deal_two.new.bands c.args.level 1) y) even_is dealt.hl 0 whole);
+        lh = rows_more y w (at (band_of c.loop-y.bands c.args.level 2)) (at (band_of c.deal_two.new.bands c.args.level 2)) (every_other 1 0 level) i.dealt.lh dealt.lh_rows
+            (dealt_left k h w g (2 * y + 1) y (t ((2 * y + 1) % 4)) (at (band_of c.deal_two.new.bands c.args.level 2) y) odd_is dealt.lh 1 refl);
+        hh = rows_more y w (at (band_of c.loop-y.bands c.args.level 3)) (at (band_of c.deal_two.new.bands c.args.level 3)) (every_other 1 1 level) i.dealt.hh dealt.hh_rows
+            (dealt_right k h w g (2 * y + 1) y (t ((2 * y + 1) % 4)) (at (band_of c.deal_two.new.bands c.args.level 3) y) odd_is dealt.hh 1 refl);
+      };
+      others = other_levels_after c.args.level c.args.bands.now c.loop-y.bands c.deal_two.new.bands i.same_sizes i.others dealt.others;
+    }

@@ -1,0 +1,254 @@
+//! A level of analysis in 32 bits into its bands, with four rows of scratch: row j of the level lies in row j % 4 of it.
+//! The rows come from above downward, so that the plane's own rows are read before LL takes their places.
+
+ghost use Rattle.std.specs.Prelude.{◌≡◌, ◌≢◌, ℕ, ◌+◌, ◌-◌, ◌*◌, ◌%◌, ◌^◌, ◌<◌, ◌≤◌, length};
+ghost use Rattle.planes.specs.Raster.{height, at};
+ghost use Rattle.planes.specs.Subbands.{BandExists, band_index, band_of};
+ghost use Rattle.lifting.specs.declared.PairStep.TheVariants.{OddDown, EvenUp};
+ghost use Rattle.lifting.specs.Places.{place, side_place};
+ghost use Rattle.lifting.specs.Steps.{step, doubled};
+ghost use Rattle.lifting.specs.Lines.{before, after, analysis_line};
+ghost use Rattle.lifting.specs.Transform.{analysis_level, every_other};
+ghost use Rattle.lifting.specs.Ranges.{LineWithin, GridWithin, SameInside};
+ghost use Rattle.lifting.specs.Bands.{SameSizes, HoldLevel, OtherLevelsStay};
+
+use crate::columns::{row_after, row_before};
+use crate::halves_back_narrow::analyse_sides;
+use crate::kernels_narrow::lift_between;
+use crate::{PairStep, Wavelet};
+use planes::{NarrowBands, NarrowPlane, Three};
+
+// Row j of the plane as a line of a level, in row r of the scratch, its halves side by side.
+fn put_sides(
+    scratch: &mut NarrowPlane,
+    r: u32,
+    plane: &NarrowPlane,
+    j: u32,
+    w: u32,
+    wavelet: Wavelet,
+)
+    requires some { 1 ≤ w }
+    requires short { w ≤ 4104 }
+    requires r_inside { r < height scratch.old }
+    requires j_inside { j < height plane.now }
+    requires fits { 2 * w ≤ plane.now.w }
+    requires fits_scratch { 2 * w ≤ scratch.old.w }
+    requires small { LineWithin (2 * w) (2 ^ 25) (at plane.now j) }
+    ensures same_width { scratch.new.w ≡ scratch.old.w }
+    ensures same_height { height scratch.new ≡ height scratch.old }
+    ensures row { (x : ℕ) → x < 2 * w
+        → at scratch.new r x ≡ analysis_line wavelet (2 * w) (λ i. doubled wavelet (at plane.now j i)) (side_place w x) }
+    ensures others { (k x : ℕ) → k ≢ r → at scratch.new k x ≡ at scratch.old k x }
+{
+    analyse_sides(scratch.row_mut(r), plane.row(j), w as usize, wavelet);
+}
+
+// Rows 2y + 1 and, where the level has it, 2y + 2.
+fn put_two(scratch: &mut NarrowPlane, plane: &NarrowPlane, y: u32, w: u32, h: u32, wavelet: Wavelet)
+    requires some { 1 ≤ w }
+    requires short { w ≤ 4104 }
+    requires inside { y < h }
+    requires low { h ≤ 4104 }
+    requires fits { 2 * w ≤ plane.now.w }
+    requires high { 2 * h ≤ height plane.now }
+    requires fits_scratch { 2 * w ≤ scratch.old.w }
+    requires high_scratch { 2 * h ≤ height scratch.old }
+    requires small { (j : ℕ) → 2 * y + 1 ≤ j → j < 2 * h → LineWithin (2 * w) (2 ^ 25) (at plane.now j) }
+    ensures same_width { scratch.new.w ≡ scratch.old.w }
+    ensures same_height { height scratch.new ≡ height scratch.old }
+    ensures odd { (x : ℕ) → x < 2 * w → at scratch.new ((2 * y + 1) % 4) x
+        ≡ analysis_line wavelet (2 * w) (λ i. doubled wavelet (at plane.now (2 * y + 1) i)) (side_place w x) }
+    ensures even { y + 1 < h → (x : ℕ) → x < 2 * w → at scratch.new ((2 * y + 2) % 4) x
+        ≡ analysis_line wavelet (2 * w) (λ i. doubled wavelet (at plane.now (2 * y + 2) i)) (side_place w x) }
+    ensures others { (k x : ℕ) → k ≢ (2 * y + 1) % 4 → k ≢ (2 * y + 2) % 4 → at scratch.new k x ≡ at scratch.old k x }
+{
+    put_sides(scratch, (2 * y + 1) % 4, plane, 2 * y + 1, w, wavelet);
+    if y + 1 < h {
+        put_sides(scratch, (2 * y + 2) % 4, plane, 2 * y + 2, w, wavelet);
+    }
+}
+
+// One step on the first w places of row y, between those of the rows a and b, which may be one row.
+fn lift_row_between(
+    plane: &mut NarrowPlane,
+    y: u32,
+    a: u32,
+    b: u32,
+    w: u32,
+    wavelet: Wavelet,
+    kind: PairStep,
+)
+    requires y_inside { y < height plane.old }
+    requires a_inside { a < height plane.old }
+    requires b_inside { b < height plane.old }
+    requires not_a { y ≢ a }
+    requires not_b { y ≢ b }
+    requires w_fits { w ≤ plane.old.w }
+    requires own_small { LineWithin w (2 ^ 29) (at plane.old y) }
+    requires a_small { LineWithin w (2 ^ 29) (at plane.old a) }
+    requires b_small { LineWithin w (2 ^ 29) (at plane.old b) }
+    ensures same_width { plane.new.w ≡ plane.old.w }
+    ensures same_height { height plane.new ≡ height plane.old }
+    ensures lifted { (x : ℕ) → x < w → at plane.new y x ≡ step wavelet kind (at plane.old y x) (at plane.old a x) (at plane.old b x) }
+    ensures others { (j x : ℕ) → j ≢ y → at plane.new j x ≡ at plane.old j x }
+{
+    let n = w as usize;
+    let Three { dst, a, b } = plane.rows_three(y, a, b);
+    lift_between(wavelet, kind, &mut dst[..n], &a[..n], &b[..n]);
+}
+
+// The last steps on rows 2y + 1 and 2y: down between 2y and 2y + 2, and then up between 2y - 1 and 2y + 1.
+fn finish_two(scratch: &mut NarrowPlane, y: u32, w: u32, h: u32, wavelet: Wavelet)
+    requires inside { y < h }
+    requires short { w ≤ 4104 }
+    requires low { h ≤ 4104 }
+    requires fits { 2 * w ≤ scratch.old.w }
+    requires high { 2 * h ≤ height scratch.old }
+    requires small { (j : ℕ) → 2 * y - 1 ≤ j → j ≤ 2 * y + 2 → j < 2 * h → LineWithin (2 * w) (2 ^ 28) (at scratch.old (j % 4)) }
+    ensures same_width { scratch.new.w ≡ scratch.old.w }
+    ensures same_height { height scratch.new ≡ height scratch.old }
+    ensures odd { (x : ℕ) → x < 2 * w → at scratch.new ((2 * y + 1) % 4) x
+        ≡ step wavelet OddDown (at scratch.old ((2 * y + 1) % 4) x) (at scratch.old (2 * y % 4) x)
+        (at scratch.old (after (2 * h) (2 * y + 1) % 4) x) }
+    ensures even { (x : ℕ) → x < 2 * w → at scratch.new (2 * y % 4) x
+        ≡ step wavelet EvenUp (at scratch.old (2 * y % 4) x) (at scratch.new (before (2 * y) % 4) x)
+        (at scratch.new ((2 * y + 1) % 4) x) }
+    ensures others { (k x : ℕ) → k ≢ (2 * y + 1) % 4 → k ≢ 2 * y % 4 → at scratch.new k x ≡ at scratch.old k x }
+{
+    let (even, odd) = (2 * y % 4, (2 * y + 1) % 4);
+    let below = row_after(2 * h, 2 * y + 1) % 4;
+    lift_row_between(scratch, odd, even, below, 2 * w, wavelet, PairStep::OddDown);
+    let above = row_before(2 * y) % 4;
+    lift_row_between(scratch, even, above, odd, 2 * w, wavelet, PairStep::EvenUp);
+}
+
+// The w places of a row from x0 on.
+fn copy_from(dst: &mut [i32], row: &[i32], x0: usize, w: usize)
+    requires short { w ≤ 8208 }
+    requires left { x0 ≤ w }
+    requires room { w ≤ length dst.old }
+    requires inside { x0 + w ≤ length row.now }
+    ensures { (x : ℕ) → x < w → place dst.new x ≡ place row.now (x0 + x) }
+{
+    dst[..w].copy_from_slice(&row[x0..x0 + w]);
+}
+
+// Row y of a band: the w places from x0 on of row r of the scratch.
+fn put_row(band: &mut NarrowPlane, y: u32, scratch: &NarrowPlane, r: u32, x0: u32, w: u32)
+    requires short { w ≤ 4104 }
+    requires left { x0 ≤ w }
+    requires y_inside { y < height band.old }
+    requires r_inside { r < height scratch.now }
+    requires fits { w ≤ band.old.w }
+    requires fits_scratch { 2 * w ≤ scratch.now.w }
+    ensures same_width { band.new.w ≡ band.old.w }
+    ensures same_height { height band.new ≡ height band.old }
+    ensures row { (x : ℕ) → x < w → at band.new y x ≡ at scratch.now r (x0 + x) }
+    ensures others { (j x : ℕ) → j ≢ y → at band.new j x ≡ at band.old j x }
+{
+    copy_from(band.row_mut(y), scratch.row(r), x0 as usize, w as usize);
+}
+
+fn deal_row(
+    bands: &mut NarrowBands,
+    level: u32,
+    orient: u32,
+    y: u32,
+    scratch: &NarrowPlane,
+    r: u32,
+    x0: u32,
+    w: u32,
+)
+    requires exists { BandExists bands.old.depth level orient }
+    requires short { w ≤ 4104 }
+    requires left { x0 ≤ w }
+    requires y_inside { y < height (band_of bands.old level orient) }
+    requires r_inside { r < height scratch.now }
+    requires fits { w ≤ (band_of bands.old level orient).w }
+    requires fits_scratch { 2 * w ≤ scratch.now.w }
+    ensures same_sizes { SameSizes bands.old bands.new }
+    ensures row { (x : ℕ) → x < w → at (band_of bands.new level orient) y x ≡ at scratch.now r (x0 + x) }
+    ensures rows { (j x : ℕ) → j ≢ y → at (band_of bands.new level orient) j x ≡ at (band_of bands.old level orient) j x }
+    ensures others { (l o : ℕ) → band_index l o ≢ band_index level orient → band_of bands.new l o ≡ band_of bands.old l o }
+{
+    put_row(bands.band_mut(level, orient), y, scratch, r, x0, w);
+}
+
+// Row y of the bands of a level: LL goes to the plane.
+fn deal_two(
+    plane: &mut NarrowPlane,
+    bands: &mut NarrowBands,
+    level: u32,
+    y: u32,
+    scratch: &NarrowPlane,
+    w: u32,
+)
+    requires some_level { 1 ≤ level }
+    requires level_inside { level ≤ bands.old.depth }
+    requires short { w ≤ 4104 }
+    requires low { y ≤ 4104 }
+    requires y_inside { y < height plane.old }
+    requires y_inside_bands { (o : ℕ) → 1 ≤ o → o ≤ 3 → y < height (band_of bands.old level o) }
+    requires inside { 2 * y + 1 < height scratch.now }
+    requires fits { w ≤ plane.old.w }
+    requires fits_bands { (o : ℕ) → 1 ≤ o → o ≤ 3 → w ≤ (band_of bands.old level o).w }
+    requires fits_scratch { 2 * w ≤ scratch.now.w }
+    ensures same_width { plane.new.w ≡ plane.old.w }
+    ensures same_height { height plane.new ≡ height plane.old }
+    ensures same_sizes { SameSizes bands.old bands.new }
+    ensures left { (x : ℕ) → x < w → at plane.new y x ≡ at scratch.now (2 * y % 4) (0 + x) }
+    ensures hl { (x : ℕ) → x < w → at (band_of bands.new level 1) y x ≡ at scratch.now (2 * y % 4) (w + x) }
+    ensures lh { (x : ℕ) → x < w → at (band_of bands.new level 2) y x ≡ at scratch.now ((2 * y + 1) % 4) (0 + x) }
+    ensures hh { (x : ℕ) → x < w → at (band_of bands.new level 3) y x ≡ at scratch.now ((2 * y + 1) % 4) (w + x) }
+    ensures rows { (j x : ℕ) → j ≢ y → at plane.new j x ≡ at plane.old j x }
+    ensures hl_rows { (j x : ℕ) → j ≢ y → at (band_of bands.new level 1) j x ≡ at (band_of bands.old level 1) j x }
+    ensures lh_rows { (j x : ℕ) → j ≢ y → at (band_of bands.new level 2) j x ≡ at (band_of bands.old level 2) j x }
+    ensures hh_rows { (j x : ℕ) → j ≢ y → at (band_of bands.new level 3) j x ≡ at (band_of bands.old level 3) j x }
+    ensures others { OtherLevelsStay level bands.old bands.new }
+{
+    let (even, odd) = (2 * y % 4, (2 * y + 1) % 4);
+    put_row(plane, y, scratch, even, 0, w);
+    deal_row(bands, level, 1, y, scratch, even, w, w);
+    deal_row(bands, level, 2, y, scratch, odd, 0, w);
+    deal_row(bands, level, 3, y, scratch, odd, w, w);
+}
+
+/// A level: the plane's first 2w columns and 2h rows hold it, and then its first w and h hold LL.
+pub(crate) fn roll_back(
+    plane: &mut NarrowPlane,
+    scratch: &mut NarrowPlane,
+    bands: &mut NarrowBands,
+    level: u32,
+    w: u32,
+    h: u32,
+    wavelet: Wavelet,
+)
+    requires some_columns { 1 ≤ w }
+    requires some_rows { 1 ≤ h }
+    requires short { w ≤ 4104 }
+    requires low { h ≤ 4104 }
+    requires some_level { 1 ≤ level }
+    requires level_inside { level ≤ bands.old.depth }
+    requires fits { 2 * w ≤ plane.old.w }
+    requires high { 2 * h ≤ height plane.old }
+    requires fits_scratch { 2 * w ≤ scratch.old.w }
+    requires high_scratch { 2 * h ≤ height scratch.old }
+    requires fits_bands { (o : ℕ) → 1 ≤ o → o ≤ 3 → w ≤ (band_of bands.old level o).w }
+    requires high_bands { (o : ℕ) → 1 ≤ o → o ≤ 3 → h ≤ height (band_of bands.old level o) }
+    requires small { GridWithin (2 * h) (2 * w) (2 ^ 25) (at plane.old) }
+    ensures same_width { plane.new.w ≡ plane.old.w }
+    ensures same_height { height plane.new ≡ height plane.old }
+    ensures same_width_scratch { scratch.new.w ≡ scratch.old.w }
+    ensures same_height_scratch { height scratch.new ≡ height scratch.old }
+    ensures same_sizes { SameSizes bands.old bands.new }
+    ensures left { SameInside h w (at plane.new) (every_other 0 0 (analysis_level wavelet (2 * h) (2 * w) (at plane.old))) }
+    ensures dealt { HoldLevel h w (analysis_level wavelet (2 * h) (2 * w) (at plane.old)) level bands.new }
+    ensures others { OtherLevelsStay level bands.old bands.new }
+{
+    put_sides(scratch, 0, plane, 0, w, wavelet);
+    for y in 0..h {
+        put_two(scratch, plane, y, w, h, wavelet);
+        finish_two(scratch, y, w, h, wavelet);
+        deal_two(plane, bands, level, y, scratch, w);
+    }
+}

@@ -1,0 +1,61 @@
+use Rattle.std.proofs.Common.{◌≡◌, ◌∙◌, ℕ, ◌++◌, List, length, take, ℤ, sym, ap, subst, arith}
+use Rattle.std.proofs.Math.Seq.{take-append_seam}
+use Rattle.bit_codes.specs.Bits.{bits_of}
+use Rattle.slice_geometry.specs.declared.SliceHead.{SliceHead}
+use Rattle.slice_encoder.specs.Trials.{CodedPicture}
+use Rattle.slice_encoder.specs.Tries.{AreTried, tried_lists}
+use Rattle.slice_encoder.specs.Choice.{IsLeast, slice_bits}
+use Rattle.slice_encoder.specs.TrialLaws.{AreSmall}
+use Rattle.slice_encoder.specs.Ready.{coded_picture}
+use Rattle.slice_encoder.specs.Sources.{trio_seen}
+use Rattle.slice_encoder.specs.Encoded.{IsEncoded, SliceEncoderSeen}
+use Rattle.slice_encoder.proofs.Encoding.{encoded_after, bits_as}
+use Rattle.slice_encoder.proofs.encoder.SliceEncoder.encode_from.Goals as goal
+
+front : (n : ℕ) (xs ys : List ℤ) → n ≡ length xs → take n (xs ++ ys) ≡ xs
+front n xs ys e = ap (λ (k : ℕ). take k (xs ++ ys)) e ∙ take-append_seam xs ys
+
+pub put_slice-requires-clause-luma_small : goal.put_slice-requires-clause-luma_small
+put_slice-requires-clause-luma_small c =
+    let found = c.find_least-found in
+    let e = c.self.inside in
+    let is : take found.result.trying.luma c.deref.result.now ≡ _ = ap (take found.result.trying.luma) (c.deref.ensures.value ∙ front (e.luma.len) found.new.luma _ (omega (arith, found.auto.luma, c.deref_mut.ensures.len))) ∙ found.ensures.holds.luma in
+    subst (λ (vs : List ℤ). AreSmall vs) (sym is) found.ensures.holds.luma_small
+
+pub put_slice-requires-clause-colour_small : goal.put_slice-requires-clause-colour_small
+put_slice-requires-clause-colour_small c =
+    let found = c.find_least-found in
+    let e = c.self.inside in
+    let is : take found.result.trying.colour c.deref-2.result.now ≡ _ = ap (take found.result.trying.colour) (c.deref-2.ensures.value ∙ front (e.colour.len) found.new.colour _ (omega (arith, found.auto.colour, c.deref_mut-2.ensures.len))) ∙ found.ensures.holds.colour in
+    subst (λ (vs : List ℤ). AreSmall vs) (sym is) found.ensures.holds.colour_small
+
+pub returns-clause-slice : goal.returns-clause-slice
+returns-clause-slice c =
+    let a = c.args in
+    let found = c.find_least-found in
+    let e = c.self.inside in
+    let own : CodedPicture = coded_picture e.layout e.shape a.matrix.now (trio_seen a.coefficients) in
+    let same_length : length a.bytes.now ≡ length c.put_slice.new.bytes = sym c.put_slice.auto.bytes in
+    let holds = found.ensures.holds in
+    let head : SliceHead = record { qindex = found.result.index; luma_bits = found.result.trying.luma_need } in
+    let same_lists : record { luma = take found.result.trying.luma c.deref.result.now; colour = take found.result.trying.colour c.deref-2.result.now } ≡ tried_lists own a.kept.now a.sx a.sy found.result.index =
+    ap (λ (vs : List ℤ). record { luma = take found.result.trying.luma vs; colour = take found.result.trying.colour c.deref-2.result.now }) (c.deref.ensures.value ∙ front (e.luma.len) found.new.luma _ (omega (arith, found.auto.luma, c.deref_mut.ensures.len)))
+    ∙ ap (λ (vs : List ℤ). record { luma = take found.result.trying.luma found.new.luma; colour = take found.result.trying.colour vs }) (c.deref-2.ensures.value ∙ front (e.colour.len) found.new.colour _ (omega (arith, found.auto.colour, c.deref_mut-2.ensures.len)))
+    ∙ ap (λ (vs : List ℤ). record { luma = vs; colour = take found.result.trying.colour found.new.colour }) holds.luma
+    ∙ ap (λ (vs : List ℤ). record { luma = (tried_lists own a.kept.now a.sx a.sy found.result.index).luma; colour = vs }) holds.colour
+    in
+    subst (λ (s : SliceEncoderSeen). IsEncoded (tried_lists (coded_picture s.slicing s.shape a.matrix.now (trio_seen a.coefficients)) a.kept.now a.sx a.sy) c.put_slice.new.bytes head) c.self.view_is
+    (record {
+      least = subst (λ (n : ℕ). IsLeast n (tried_lists own a.kept.now a.sx a.sy) found.result.index) same_length found.ensures.least;
+      luma_bits = holds.luma_need;
+      bits = subst (λ (n : ℕ). bits_of c.put_slice.new.bytes ≡ slice_bits n found.result.index (tried_lists own a.kept.now a.sx a.sy found.result.index)) same_length (bits_as (bits_of c.put_slice.new.bytes) (length a.bytes.now) found.result.index _ (tried_lists own a.kept.now a.sx a.sy found.result.index) same_lists c.put_slice.ensures);
+    })
+
+pub returns-clause-after : goal.returns-clause-after
+returns-clause-after c = λ indices next kept.
+    let a = c.args in
+    let found = c.find_least-found in
+    let e = c.self.inside in
+    let head : SliceHead = record { qindex = found.result.index; luma_bits = found.result.trying.luma_need } in
+    let tries = subst (λ (s : SliceEncoderSeen). AreTried (coded_picture s.slicing s.shape a.matrix.now (trio_seen a.coefficients)) a.sx a.sy found.result.index a.kept.now found.new.kept) c.self.view_is found.ensures.kept in
+    encoded_after (coded_picture a.self.now.slicing a.self.now.shape a.matrix.now (trio_seen a.coefficients)) indices a.sx a.sy c.put_slice.new.bytes head a.kept.now found.new.kept c.requires.ready (returns-clause-slice c) tries next kept

@@ -1,0 +1,77 @@
+use Rattle.std.proofs.Common.{◌≡◌, ◌∙◌, ℕ, ◌+◌, ◌-◌, ◌*◌, ◌^◌, ◌<◌, ◌++◌, List, length, get_or, pos, take, map, sym, subst, ap, arith, ℤ, to_z, of_z, w32, w64}
+use Rattle.std.specs.List.{flat_map, range_with_len}
+use Rattle.dc_prediction.proofs.PredictionLemmas.{fits}
+use Rattle.std.proofs.lemmas.Int.{ints}
+use Rattle.std.proofs.lemmas.List.{length-set}
+use Rattle.std.proofs.lemmas.List.Elements.{All-set}
+use Rattle.std.proofs.lemmas.Nat.{mul-add-lt}
+use Rattle.planes.specs.Numbers.{Within}
+use Rattle.planes.specs.Raster.{at}
+use Rattle.slice_encoder.specs.Listing.{row_values}
+use Rattle.slice_encoder.proofs.Listed.{listed_one, flat_more, next_row, turned}
+use Rattle.slice_encoder.proofs.gathered.gather_narrow_rect.Goals as goal
+
+kept : (v : ℤ) → Within (2 ^ 27) v → to_z w32 (of_z w32 v) ≡ v
+kept v near = omega (arith, ints)
+
+pub loop-x-preserved : goal.loop-x-preserved
+loop-x-preserved c =
+    let r = c.args.rect in
+    let l = c.loop-x in
+    let y = c.loop-y.y in
+    let w : ℕ = r.x1 - r.x0 in
+    let h : ℕ = r.y1 - r.y0 in
+    let value = at c.args.coefficients.now in
+    let before = flat_map (row_values value r) (range_with_len r.y0 (y - r.y0)) in
+    let e : ℤ = c.from.result in
+    let g : ℤ = get_or c.row-row.result.now l.x (pos 0) in
+    let g_is : g ≡ value y l.x = ap (λ (t : List ℤ). get_or t l.x (pos 0)) c.row-row.ensures.value in
+    let e_is : e ≡ value y l.x = c.from.ensures ∙ kept g (subst (λ (u : ℤ). Within (2 ^ 27) u) (sym g_is) (c.requires.can.small y l.x)) ∙ g_is in
+    let v = to_z w64 (of_z w64 e) in
+    let v_is : v ≡ e = fits (2 ^ 27) e (omega arith) (subst (λ (u : ℤ). Within (2 ^ 27) u) (sym e_is) (c.requires.can.small y l.x)) in
+    let near : Within (2 ^ 27) v = subst (λ (u : ℤ). Within (2 ^ 27) u) (sym (v_is ∙ e_is)) (c.requires.can.small y l.x) in
+    let inside = mul-add-lt (y - r.y0) w (l.x - r.x0) h (omega arith) (omega arith) in
+    let lt : l.place < length l.out = omega (arith, l.invariant.place, l.invariant.same_length, c.requires.room, inside, turned w h) in
+    let next : l.x + 1 - r.x0 ≡ l.x - r.x0 + 1 = omega arith in
+    record {
+      place = omega (arith, l.invariant.place);
+      same_length = length-set l.out l.place v ∙ l.invariant.same_length;
+      small = All-set (Within (2 ^ 27)) l.out l.place v near l.invariant.small;
+      so_far =
+          listed_one l.out (take c.args.from c.args.out.now) before c.args.from l.place v e (value y) r.x0 (l.x - r.x0) l.x lt l.invariant.so_far v_is e_is (omega arith)
+          ∙ sym (ap (λ (n : ℕ). take c.args.from c.args.out.now ++ (before ++ map (value y) (range_with_len r.x0 n))) next);
+    }
+
+pub loop-y-preserved : goal.loop-y-preserved
+loop-y-preserved c =
+    let r = c.args.rect in
+    let l = c.loop-x in
+    let y = c.loop-y.y in
+    let w : ℕ = r.x1 - r.x0 in
+    let value = at c.args.coefficients.now in
+    let before = flat_map (row_values value r) (range_with_len r.y0 (y - r.y0)) in
+    let next : y + 1 - r.y0 ≡ y - r.y0 + 1 = omega arith in
+    let whole : l.x - r.x0 ≡ w = omega (arith, c.requires.can.across) in
+    record {
+      place = omega (arith, l.invariant.place, ap (λ (k : ℕ). k * w) next, next_row (y - r.y0) w);
+      same_length = l.invariant.same_length;
+      small = l.invariant.small;
+      so_far =
+          l.invariant.so_far
+          ∙ ap (λ (n : ℕ). take c.args.from c.args.out.now ++ (before ++ map (value y) (range_with_len r.x0 n))) whole
+          ∙ ap (λ t. take c.args.from c.args.out.now ++ t) (sym (flat_more (row_values value r) r.y0 (y - r.y0) y (omega arith)))
+          ∙ sym (ap (λ (n : ℕ). take c.args.from c.args.out.now ++ flat_map (row_values value r) (range_with_len r.y0 n)) next);
+    }
+
+pub returns-clause-gathered : goal.returns-clause-gathered
+returns-clause-gathered c =
+    let r = c.args.rect in
+    let l = c.loop-y in
+    let w : ℕ = r.x1 - r.x0 in
+    let h : ℕ = r.y1 - r.y0 in
+    let value = at c.args.coefficients.now in
+    let whole : l.y - r.y0 ≡ h = omega (arith, c.requires.can.down) in
+    let place : c.args.from + w * h ≡ l.place = omega (arith, l.invariant.place, ap (λ (k : ℕ). k * w) whole, turned w h) in
+    ap (λ (n : ℕ). take n l.out) place
+    ∙ l.invariant.so_far
+    ∙ ap (λ (n : ℕ). take c.args.from c.args.out.now ++ flat_map (row_values value r) (range_with_len r.y0 n)) whole

@@ -1,0 +1,90 @@
+// The coefficients of a picture, in 64 or in 32 bits. Contracts see of both the same.
+
+ghost use Rattle.std.specs.Prelude.{◌≡◌, ◌<◌};
+ghost use Rattle.planes.specs.Raster.{height, at};
+ghost use Rattle.planes.specs.Subbands.{BandExists, band_of};
+ghost use Rattle.slice_encoder.specs.Sources.{band_seen, stack_seen, trio_seen};
+
+use planes::{Bands, NarrowBands, NarrowPlane, NarrowTrio, Plane, Trio};
+
+/// A subband.
+#[derive(Clone, Copy)]
+pub enum BandSource<'a> {
+    Wide(&'a Plane),
+    Narrow(&'a NarrowPlane),
+}
+
+/// The subbands of a component.
+#[derive(Clone, Copy)]
+pub enum StackSource<'a> {
+    Wide(&'a Bands),
+    Narrow(&'a NarrowBands),
+}
+
+/// Those of all three.
+#[derive(Clone, Copy)]
+pub enum TrioSource<'a> {
+    Wide(&'a Trio),
+    Narrow(&'a NarrowTrio),
+}
+
+impl<'a> BandSource<'a> {
+    /// The number in row y and column x.
+    #[inline(always)]
+    pub fn get(self, y: u32, x: u32) -> i64
+        requires y_inside { y < height (band_seen self) }
+        requires x_inside { x < (band_seen self).w }
+        ensures { result ≡ at (band_seen self.entry) y x }
+    {
+        match self {
+            BandSource::Wide(band) => band.get(y, x),
+            BandSource::Narrow(band) => i64::from(band.get(y, x)),
+        }
+    }
+}
+
+impl<'a> StackSource<'a> {
+    /// The band of this level and orientation.
+    #[inline(always)]
+    pub fn band(self, level: u32, orient: u32) -> BandSource<'a>
+        requires { BandExists (stack_seen self).depth level orient }
+        ensures { band_seen result ≡ band_of (stack_seen self.entry) level orient }
+    {
+        match self {
+            StackSource::Wide(bands) => BandSource::Wide(bands.band(level, orient)),
+            StackSource::Narrow(bands) => BandSource::Narrow(bands.band(level, orient)),
+        }
+    }
+}
+
+impl<'a> TrioSource<'a> {
+    #[inline(always)]
+    pub fn luma(self) -> StackSource<'a>
+        ensures { stack_seen result ≡ (trio_seen self.entry).luma }
+    {
+        match self {
+            TrioSource::Wide(bands) => StackSource::Wide(&bands.luma),
+            TrioSource::Narrow(bands) => StackSource::Narrow(&bands.luma),
+        }
+    }
+
+    #[inline(always)]
+    pub fn c1(self) -> StackSource<'a>
+        ensures { stack_seen result ≡ (trio_seen self.entry).c1 }
+    {
+        match self {
+            TrioSource::Wide(bands) => StackSource::Wide(&bands.c1),
+            TrioSource::Narrow(bands) => StackSource::Narrow(&bands.c1),
+        }
+    }
+
+    #[inline(always)]
+    pub fn c2(self) -> StackSource<'a>
+        ensures { stack_seen result ≡ (trio_seen self.entry).c2 }
+    {
+        match self {
+            TrioSource::Wide(bands) => StackSource::Wide(&bands.c2),
+            TrioSource::Narrow(bands) => StackSource::Narrow(&bands.c2),
+        }
+    }
+}
