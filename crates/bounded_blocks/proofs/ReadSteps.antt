@@ -2,6 +2,8 @@
 use Rattle.std.proofs.Common.{◌≡◌, ℕ, ◌+◌, ◌≤◌, min, Bool, List, [], ◌∷◌, ◌++◌, length, take, ℤ, sym, ap, subst, ◌∙◌}
 use Rattle.bounded_blocks.specs.Reading.{value_at}
 use Rattle.bounded_blocks.specs.Parts.{block_of, IsSmall, Reads}
+use Rattle.bounded_blocks.specs.Windows.{IsAt, HoldsRead}
+use Rattle.bounded_blocks.specs.declared.window.Window.{Window}
 use Rattle.bounded_blocks.proofs.ReadLemmas.{Reads-join, Reads-one, take-part}
 use Rattle.bounded_blocks.proofs.Windows.{block_of-cut}
 
@@ -22,3 +24,12 @@ pub before-single : (bytes : List ℕ) (start end n here there now : ℕ) (vs : 
     → Reads n (block_of bytes start end) vs (block_of bytes now end)
 before-single bytes start end n here there now vs is same read =
     subst (λ (x : List Bool). Reads n (block_of bytes start end) vs x) (sym (ap (λ (p : ℕ). block_of bytes p end) is ∙ block_of-cut bytes here end ∙ same)) read
+
+-- the same behind another window at the same bits
+pub holds-from : (bytes : List ℕ) (start end n : ℕ) (out : List ℤ) (w v : Window) → IsAt bytes end v → block_of bytes v.place end ≡ block_of bytes w.place end
+    → HoldsRead bytes start end n out w → HoldsRead bytes start end n out v
+holds-from bytes start end n out w v at same held = record {
+  at = at;
+  read = subst (λ (x : List Bool). Reads n (block_of bytes start end) (take n out) x) (sym same) held.read;
+  within = held.within;
+}

@@ -76,7 +76,7 @@ code-begins code number left bits word same one is signed some =
     )
 
 -- codes that were read one after another
-pub codes-begin : (codes : Codes) (k word : ℕ) → codes.count ≤ 8 → codes.length ≤ k → AreWithin (2 ^ 7) codes.values
+pub codes-begin : (codes : Codes) (k word : ℕ) → codes.count ≤ 8 → codes.length ≤ k → AreWithin 127 codes.values
     → ((rest : List Bool) → Reads codes.count (digits_below k word ++ rest) (take codes.count codes.values) (digits_below (k - codes.length) word ++ rest))
     → Begin codes (digits_below k word)
 codes-begin codes k word few short low read = (
@@ -88,7 +88,7 @@ codes-begin codes k word few short low read = (
 )
 
 -- a low value in the place of another
-pub low_set : (vs : List ℤ) (n : ℕ) (v : ℤ) → AreWithin (2 ^ 7) vs → unsigned_abs v ≤ 2 ^ 7 → AreWithin (2 ^ 7) (slice_set vs n v)
+pub low_set : (vs : List ℤ) (n : ℕ) (v : ℤ) → AreWithin 127 vs → unsigned_abs v ≤ 127 → AreWithin 127 (slice_set vs n v)
 low_set [] n v all low = all
 low_set (x ∷ vs) zero v all low = (low, all.1)
 low_set (x ∷ vs) (suc n) v all low = (all.0, low_set vs n v all.1 low)

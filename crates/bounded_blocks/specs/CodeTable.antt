@@ -1,5 +1,5 @@
 -- Codes at the front of twelve bits.
-use Rattle.std.specs.Prelude.{◌≡◌, ◌≢◌, ◌-◌, ◌<◌, ◌≤◌, ◌^◌, ◌++◌, ℕ, List, [], length, Bool, take, drop, slice_index_or}
+use Rattle.std.specs.Prelude.{◌≡◌, ◌≢◌, ◌-◌, ◌<◌, ◌≤◌, ◌++◌, ℕ, List, [], length, Bool, take, drop, slice_index_or}
 use Rattle.bit_codes.specs.Bits.{digits_below}
 use Rattle.bounded_blocks.specs.Reading.{with_sign}
 use Rattle.bounded_blocks.specs.Parts.{Reads, AreWithin}
@@ -16,7 +16,7 @@ IsSigned magnitude word left bits code =
 -- these codes are the first ones of these bits, whatever follows them, and their values are low
 abbrev pub Begin : Codes → List Bool → Type 0
 Begin codes bits =
-    (codes.count ≤ 8) × (codes.length ≤ length bits) × AreWithin (2 ^ 7) codes.values
+    (codes.count ≤ 8) × (codes.length ≤ length bits) × AreWithin 127 codes.values
     × ((rest : List Bool) → Reads codes.count (bits ++ rest) (take codes.count codes.values) (drop codes.length bits ++ rest))
 
 abbrev pub no_codes : Codes

@@ -142,22 +142,22 @@ impl CodeTable {
 
     /// The entry of twelve bits.
     #[inline(always)]
-    fn entry(&self, bits: u64) -> Codes
+    fn entry(&self, bits: u64) -> &Codes
         requires { bits < 4096 }
-        ensures { Begin result (digits_below 12 bits) }
+        ensures { Begin result.now (digits_below 12 bits) }
     {
-        self.entries[bits as usize]
+        &self.entries[bits as usize]
     }
 
     /// The codes at a window.
     #[inline(always)]
-    pub(crate) fn codes_at(&self, window: Window) -> Codes
+    pub(crate) fn codes_at(&self, window: Window) -> &Codes
         requires { 12 ≤ window.shown }
-        ensures few { result.count ≤ 8 }
-        ensures low { AreWithin (2 ^ 7) result.values }
-        ensures short { result.length ≤ 12 }
+        ensures few { result.now.count ≤ 8 }
+        ensures low { AreWithin 127 result.now.values }
+        ensures short { result.now.length ≤ 12 }
         ensures reads { (bytes : List ℕ) (end : ℕ) → IsAt bytes end window →
-            Reads result.count (block_of bytes window.place end) (take result.count result.values) (block_of bytes (window.place + result.length) end) }
+            Reads result.now.count (block_of bytes window.place end) (take result.now.count result.now.values) (block_of bytes (window.place + result.now.length) end) }
     {
         self.entry(window.word >> (64 - TABLE_BITS))
     }

@@ -1,12 +1,13 @@
 //! The values of a block in 32 bits, all read at once.
 
-ghost use Rattle.std.specs.Prelude.{◌≡◌, ◌↔◌, ◌+◌, ◌*◌, ◌^◌, ◌<◌, ◌≤◌, ◌++◌, length, take, true, IfSome, IfNone, unsigned_abs};
+ghost use Rattle.std.specs.Prelude.{◌≡◌, ◌↔◌, ℕ, List, ◌+◌, ◌*◌, ◌^◌, ◌<◌, ◌≤◌, ◌++◌, length, take, true, IfSome, IfNone, unsigned_abs};
 ghost use Rattle.bounded_blocks.specs.Reading.{value_at, values};
 ghost use Rattle.bounded_blocks.specs.Parts.{block_of, AreWithin};
+ghost use Rattle.bounded_blocks.specs.Windows.{HoldsRead};
 
 use crate::bit_by_bit::any_sint_at;
-use crate::code_table::{CodeTable, TABLE_BITS};
-use crate::window::{behind, showing, window_at};
+use crate::code_table::CodeTable;
+use crate::window::{SHOWN, Window, behind, showing, window_at};
 use crate::{MAX_NARROW, SPARE, Sint};
 
 /// The value at a place, and the place behind it, or none where its magnitude is above 2^18.
@@ -28,16 +29,108 @@ fn narrow_at(bytes: &[u8], place: u64, end: u64) -> Option<(i32, u64)>
     }
 }
 
-/// Puts eight values from a place on.
+/// Puts eight numbers from a place on.
 #[inline(always)]
-fn put_eight(out: &mut [i32], at: usize, values: [i8; 8])
+fn put_all(out: &mut [i32], at: usize, eight: [i32; 8])
     requires { at + 8 ≤ length out.old }
     ensures length { length out.new ≡ length out.old }
-    ensures values { take (at + 8) out.new ≡ take at out.old ++ values }
+    ensures values { take (at + 8) out.new ≡ take at out.old ++ eight }
 {
     for i in 0..8 {
-        out[at + i] = i32::from(values[i]);
+        out[at + i] = eight[i];
     }
+}
+
+/// Puts eight values from a place on. All are read before one is put, so that they are put at once.
+#[inline(always)]
+fn put_eight(out: &mut [i32], at: usize, values: &[i8; 8])
+    requires room { at + 8 ≤ length out.old }
+    requires low { AreWithin 127 values.now }
+    ensures length { length out.new ≡ length out.old }
+    ensures values { take (at + 8) out.new ≡ take at out.old ++ values.now }
+{
+    let eight = [
+        i32::from(values[0]),
+        i32::from(values[1]),
+        i32::from(values[2]),
+        i32::from(values[3]),
+        i32::from(values[4]),
+        i32::from(values[5]),
+        i32::from(values[6]),
+        i32::from(values[7]),
+    ];
+    put_all(out, at, eight);
+}
+
+/// Takes the codes that one look-up gives: puts their values from a place on, and answers the window and the place behind
+/// them.
+#[inline(always)]
+fn look(table: &CodeTable, window: Window, done: usize, out: &mut [i32]) -> (Window, usize)
+    requires shown { 12 ≤ window.shown }
+    requires room { done + 8 ≤ length out.old }
+    requires near { window.place < 2 ^ 50 }
+    ensures length { length out.new ≡ length out.old }
+    ensures more { done ≤ result.1 }
+    ensures few { result.1 ≤ done + 8 }
+    ensures shown { window.shown ≤ result.0.shown + 12 }
+    ensures near { result.0.place ≤ window.place + 12 }
+    ensures holds { (bytes : List ℕ) (start end : ℕ) → HoldsRead bytes start end done out.old window → HoldsRead bytes start end result.1 out.new result.0 }
+{
+    let codes = table.codes_at(window);
+    // All eight values are put, which is cheaper than a choice; the next ones go over what is beyond the count.
+    put_eight(out, done, &codes.values);
+    (behind(window, codes.length), done + codes.count as usize)
+}
+
+/// The same as long as fewer values than so many are there.
+#[inline(always)]
+fn look_on(
+    table: &CodeTable,
+    window: Window,
+    done: usize,
+    count: usize,
+    out: &mut [i32],
+) -> (Window, usize)
+    requires shown { 12 ≤ window.shown }
+    requires spare { count + SPARE ≤ length out.old }
+    requires near { window.place < 2 ^ 50 }
+    requires inside { done ≤ count + 7 }
+    ensures length { length out.new ≡ length out.old }
+    ensures more { done ≤ result.1 }
+    ensures inside { result.1 ≤ count + 7 }
+    ensures shown { window.shown ≤ result.0.shown + 12 }
+    ensures near { result.0.place ≤ window.place + 12 }
+    ensures holds { (bytes : List ℕ) (start end : ℕ) → HoldsRead bytes start end done out.old window → HoldsRead bytes start end result.1 out.new result.0 }
+{
+    if done < count {
+        look(table, window, done, out)
+    } else {
+        (window, done)
+    }
+}
+
+/// Four look-ups, which the 57 bits of a window serve whatever they take.
+#[inline(always)]
+fn look_four(
+    table: &CodeTable,
+    window: Window,
+    done: usize,
+    count: usize,
+    out: &mut [i32],
+) -> (Window, usize)
+    requires shown { 57 ≤ window.shown }
+    requires spare { count + SPARE ≤ length out.old }
+    requires near { window.place < 2 ^ 49 }
+    requires inside { done ≤ count + 7 }
+    ensures length { length out.new ≡ length out.old }
+    ensures more { done ≤ result.1 }
+    ensures inside { result.1 ≤ count + 7 }
+    ensures holds { (bytes : List ℕ) (start end : ℕ) → HoldsRead bytes start end done out.old window → HoldsRead bytes start end result.1 out.new result.0 }
+{
+    let (window, done) = look_on(table, window, done, count, out);
+    let (window, done) = look_on(table, window, done, count, out);
+    let (window, done) = look_on(table, window, done, count, out);
+    look_on(table, window, done, count, out)
 }
 
 /// Fills the front of a slice with so many values from a place on, and its other places with any. It answers false where
@@ -60,15 +153,13 @@ pub(crate) fn fill_from(
     let mut window = window_at(start);
     let mut done = 0;
     while done < count {
-        let here = showing(TABLE_BITS, bytes, window, end);
-        let codes = table.codes_at(here);
-        // All eight values are put, which is cheaper than a choice; the next ones go over what is beyond the count.
-        if codes.count != 0 {
-            put_eight(out, done, codes.values);
-            done += codes.count as usize;
-            window = behind(here, codes.length);
+        let here = showing(SHOWN, bytes, window, end);
+        let (behind, now) = look_four(table, here, done, count, out);
+        if now != done {
+            window = behind;
+            done = now;
         } else {
-            let Some((value, next)) = narrow_at(bytes, here.place.min(end), end) else {
+            let Some((value, next)) = narrow_at(bytes, behind.place.min(end), end) else {
                 return false;
             };
             out[done] = value;

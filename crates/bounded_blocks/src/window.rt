@@ -6,12 +6,12 @@
 ghost use Rattle.std.specs.Prelude.{◌≡◌, ℕ, ◌+◌, ◌-◌, ◌*◌, ◌^◌, ◌<◌, ◌≤◌, List, true, length, take, slice_index_or};
 ghost use Rattle.bit_codes.specs.Bits.{bit};
 ghost use Rattle.bounded_blocks.specs.Parts.{block_of, Reads};
-ghost use Rattle.bounded_blocks.specs.Windows.{IsAt, HasBytes};
+ghost use Rattle.bounded_blocks.specs.Windows.{IsAt, HasBytes, IsWord};
 
 use crate::short_codes::{ShortCodes, codes_in};
 
 /// How many bits a window shows where it is loaded: 64 less those of the first byte that are behind.
-const SHOWN: u32 = 57;
+pub(crate) const SHOWN: u32 = 57;
 
 /// The bits from a place on: the first `shown` of a block and of the ones behind it are the top ones of the word.
 #[derive(Clone, Copy)]
@@ -47,7 +47,6 @@ fn byte_or_ones(bytes: &[u8], index: usize) -> u8
 }
 
 /// Eight bytes, of which some may be past the end.
-#[inline(never)]
 fn last_bytes(bytes: &[u8], index: usize) -> [u8; 8]
     requires inside { index ≤ length bytes.now }
     requires room { length bytes.now ≤ 2 ^ 40 }
@@ -65,16 +64,22 @@ fn last_bytes(bytes: &[u8], index: usize) -> [u8; 8]
     ]
 }
 
-/// Eight bytes, those past the end 255.
-#[inline(always)]
-fn eight_bytes(bytes: &[u8], index: usize) -> [u8; 8]
+/// Their number.
+#[inline(never)]
+fn last_word(bytes: &[u8], index: usize) -> u64
     requires inside { index ≤ length bytes.now }
     requires room { length bytes.now ≤ 2 ^ 40 }
+    ensures { IsWord bytes.now index result }
+{
+    u64::from_be_bytes(last_bytes(bytes, index))
+}
+
+/// Eight bytes that are there.
+#[inline(always)]
+fn eight_bytes(bytes: &[u8], index: usize) -> [u8; 8]
+    requires inside { index + 8 ≤ length bytes.now }
     ensures { HasBytes bytes.now index result }
 {
-    if bytes.len() - index < 8 {
-        return last_bytes(bytes, index);
-    }
     [
         bytes[index],
         bytes[index + 1],
@@ -87,6 +92,21 @@ fn eight_bytes(bytes: &[u8], index: usize) -> [u8; 8]
     ]
 }
 
+/// The number of eight bytes, those past the end 255.
+#[inline(always)]
+fn word_at(bytes: &[u8], index: usize) -> u64
+    requires inside { index ≤ length bytes.now }
+    requires room { length bytes.now ≤ 2 ^ 40 }
+    ensures { IsWord bytes.now index result }
+{
+    // Each way makes a number of its bytes by itself, so that it need not go through memory.
+    if bytes.len() - index < 8 {
+        last_word(bytes, index)
+    } else {
+        u64::from_be_bytes(eight_bytes(bytes, index))
+    }
+}
+
 /// The bits from a place on, ones past the end of the block.
 #[inline(always)]
 fn bits_at(bytes: &[u8], place: u64, end: u64) -> u64
@@ -95,7 +115,7 @@ fn bits_at(bytes: &[u8], place: u64, end: u64) -> u64
     requires inside { end ≤ 8 * length bytes.now }
     ensures { (i : ℕ) → i < 57 → bit result (63 - i) ≡ slice_index_or (block_of bytes.now place end) i true }
 {
-    let word = u64::from_be_bytes(eight_bytes(bytes, (place / 8) as usize)) << (place % 8);
+    let word = word_at(bytes, (place / 8) as usize) << (place % 8);
     let left = end - place;
     if left < 64 {
         word | u64::MAX >> left
@@ -145,6 +165,7 @@ pub(crate) fn behind(window: Window, length: u8) -> Window
     requires shown { length ≤ window.shown }
     requires room { window.place < 2 ^ 50 }
     ensures place { result.place ≡ window.place + length }
+    ensures shown { result.shown + length ≡ window.shown }
     ensures at { (bytes : List ℕ) (end : ℕ) → IsAt bytes end window → IsAt bytes end result }
 {
     Window {

@@ -16,12 +16,6 @@ use Rattle.channel_schedule.specs.Stepping.{IsAt, Arrives, CanStep}
 pub quotient_is : (s : SteppedQuotient) (num den number : ℕ) → IsAt s num den number → s.quotient ≡ number / den
 quotient_is s num den number at = sym (div-mul-add s.quotient den s.remainder at.remainder_low) ∙ ap (λ n. n / den) at.number_is
 
-pub quotient_low : (s : SteppedQuotient) (num den number : ℕ) → IsAt s num den number → s.quotient ≤ number
-quotient_low s num den number at =
-    let one : 1 ≤ den = omega (arith, at.remainder_low) in
-    let more : s.quotient * 1 ≤ s.quotient * den = mul-le-mul_left s.quotient one in
-    omega (arith, at.number_is, more)
-
 pub step_low : (s : SteppedQuotient) (num den number : ℕ) → IsAt s num den number → s.step_quotient ≤ num
 step_low s num den number at =
     let one : 1 ≤ den = omega (arith, at.step_remainder_low) in

@@ -1,5 +1,5 @@
 // The second pass of a plan: the most bytes that are held.
-ghost use Rattle.std.specs.Prelude.{◌≡◌, ◌+◌, ◌^◌, ◌<◌, ◌≤◌};
+ghost use Rattle.std.specs.Prelude.{◌≡◌, ◌+◌, ◌^◌, ◌≤◌};
 ghost use Rattle.slice_geometry.specs.UnitLengths.{IsUnitAllowed, unit_length};
 ghost use Rattle.channel_schedule.specs.Courses.{course_of, unit_course, gone_in, count_in, held};
 ghost use Rattle.channel_schedule.specs.Plans.{IsGreatest};

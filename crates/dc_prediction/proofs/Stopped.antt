@@ -186,15 +186,6 @@ places_split y x0 x le = record {
   };
 }
 
-pub no_places : (y x : ℕ) (p : Raster ℤ) → RestoresRect (row_rect y x x) p p
-no_places y x p = record {
-  same_width = refl;
-  same_height = refl;
-  restored = λ j i q. absurd (omega (arith, q.left, q.right));
-  small = λ j i q. absurd (omega (arith, q.left, q.right));
-  stays = λ j i out. refl;
-}
-
 -- a row stops behind the places that are restored
 pub row_stops : (y x0 x x1 : ℕ) → x0 ≤ x → x < x1 → (old mid new : Raster ℤ) → RestoresRect (row_rect y x0 x) old mid → IsStopped (row_rect y x (x + 1)) mid new → IsStopped (row_rect y x0 x1) old new
 row_stops y x0 x x1 le lt old mid new a stop =

@@ -1,5 +1,5 @@
 -- Rows of the bands of a level, whose numbers are within a bound, and so within a greater one.
-use Rattle.std.proofs.Common.{◌≡◌, sym, subst, ℕ, ◌+◌, ◌-◌, ◌*◌, ◌<◌, ◌≤◌, arith, ℤ}
+use Rattle.std.proofs.Common.{◌≡◌, sym, subst, ℕ, ◌-◌, ◌*◌, ◌<◌, ◌≤◌, arith, ℤ}
 use Rattle.planes.specs.Numbers.{Within}
 use Rattle.planes.proofs.Floors.{wider}
 use Rattle.lifting.specs.Lines.{Line}

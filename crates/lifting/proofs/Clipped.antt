@@ -1,14 +1,15 @@
--- A number that was clipped and is counted from the lowest one, in 32 bits.
-use Rattle.std.proofs.Common.{◌≡◌, sym, ap, subst, ◌∙◌, ℕ, arith, ℤ, pos, negsuc, neg_ℤ, ◌+ℤ◌, ◌-ℤ◌, ◌≤ℤ◌}
+-- A number that was clipped and is counted from the lowest one, at any width.
+use Rattle.std.proofs.Common.{◌≡◌, sym, ap, subst, ◌∙◌, ℕ, arith, ◌≤◌, ℤ, pos, negsuc, neg_ℤ, ◌+ℤ◌, ◌-ℤ◌, ◌≤ℤ◌}
 use Rattle.std.proofs.lemmas.Int.{ints, to_z-of_z, int_max_is, int_min_is}
 use Rattle.std.specs.Int.{int_min, int_max}
 use Rattle.std.specs.Int.Signed.{non_neg, pos-nat_abs, yes_non_neg}
 use Rattle.std.proofs.Math.IntN.{nat_abs}
 use Rattle.std.proofs.Math.Dec.{T}
-use mir.Syntax.{w16, w32}
+use mir.Syntax.{Width, w16}
 use mir.Val.{SFits, Fits}
 use Rattle.lifting.specs.Clipping.{clipped_up}
 use Rattle.lifting.proofs.Kept.{again}
+use Rattle.lifting.proofs.Lanes.{Room, fits}
 
 record IsBetween (half r : ℤ) : Type 0 where
   pub low : neg_ℤ half ≤ℤ r
@@ -17,44 +18,42 @@ record IsBetween (half r : ℤ) : Type 0 where
 clip_between : (half v : ℤ) → pos 1 ≤ℤ half → IsBetween half (int_max (neg_ℤ half) (int_min (half -ℤ pos 1) v))
 clip_between half v some = record { low = omega (arith, ints, int_max_is, int_min_is); high = omega (arith, ints, int_max_is, int_min_is) }
 
-up_fits : (half r : ℤ) → half ≤ℤ pos 32768 → pos 1 ≤ℤ half → IsBetween half r → SFits w32 (r +ℤ half)
-up_fits half r most some between = go (r +ℤ half) (omega (arith, ints)) (omega (arith, ints))
-  where
-    go : (z : ℤ) → pos 0 ≤ℤ z → z ≤ℤ pos 65535 → SFits w32 z
-    go (pos n) low high = record { sfits = omega (arith, ints) }
-    go (negsuc n) low high = absurd (omega (arith, ints))
-
 short_fits : (z : ℤ) → pos 0 ≤ℤ z → z ≤ℤ pos 65535 → Fits w16 (nat_abs z)
 short_fits (pos n) low high = record { fits = omega (arith, ints) }
 short_fits (negsuc n) low high = absurd (omega (arith, ints))
 
-module _ (half v r : ℤ) (some : pos 1 ≤ℤ half) (most : half ≤ℤ pos 32768) (fh : SFits w32 half) (fv : SFits w32 v) (fr : SFits w32 r)
-    (is : r ≡ int_max (neg_ℤ (again w32 half)) (int_min (again w32 half -ℤ pos 1) (again w32 v))) where
-  clip_is : r ≡ int_max (neg_ℤ half) (int_min (half -ℤ pos 1) v)
-  clip_is =
-      is ∙ ap (λ (h : ℤ). int_max (neg_ℤ h) (int_min (h -ℤ pos 1) (again w32 v))) (to_z-of_z w32 half fh)
-      ∙ ap (λ (z : ℤ). int_max (neg_ℤ half) (int_min (half -ℤ pos 1) z)) (to_z-of_z w32 v fv)
+module _ (w : Width) (m : ℕ) (room : Room w m) (enough : 32768 ≤ m) where
+  up_fits : (half r : ℤ) → half ≤ℤ pos 32768 → pos 1 ≤ℤ half → IsBetween half r → SFits w (r +ℤ half)
+  up_fits half r most some between =
+      fits w m room (r +ℤ half) (record { low = omega (arith, ints, most, some, enough, between.low); high = omega (arith, ints, most, some, enough, between.high) })
 
-  between : IsBetween half r
-  between = subst (IsBetween half) (sym clip_is) (clip_between half v some)
+  module _ (half v r : ℤ) (some : pos 1 ≤ℤ half) (most : half ≤ℤ pos 32768) (fh : SFits w half) (fv : SFits w v) (fr : SFits w r)
+      (is : r ≡ int_max (neg_ℤ (again w half)) (int_min (again w half -ℤ pos 1) (again w v))) where
+    clip_is : r ≡ int_max (neg_ℤ half) (int_min (half -ℤ pos 1) v)
+    clip_is =
+        is ∙ ap (λ (h : ℤ). int_max (neg_ℤ h) (int_min (h -ℤ pos 1) (again w v))) (to_z-of_z w half fh)
+        ∙ ap (λ (z : ℤ). int_max (neg_ℤ half) (int_min (half -ℤ pos 1) z)) (to_z-of_z w v fv)
 
-  least : pos 0 ≤ℤ (r +ℤ half)
-  least = let b = between in omega (arith, ints, b.low)
+    between : IsBetween half r
+    between = subst (IsBetween half) (sym clip_is) (clip_between half v some)
 
-  greatest : (r +ℤ half) ≤ℤ pos 65535
-  greatest = let b = between in omega (arith, ints, b.high)
+    least : pos 0 ≤ℤ (r +ℤ half)
+    least = let b = between in omega (arith, ints, b.low)
 
-  parts : again w32 r +ℤ again w32 half ≡ r +ℤ half
-  parts = ap (λ (z : ℤ). z +ℤ again w32 half) (to_z-of_z w32 r fr) ∙ ap (λ (z : ℤ). r +ℤ z) (to_z-of_z w32 half fh)
+    greatest : (r +ℤ half) ≤ℤ pos 65535
+    greatest = let b = between in omega (arith, ints, b.high)
 
-  pub sum_fits : SFits w32 (again w32 r +ℤ again w32 half)
-  sum_fits = subst (SFits w32) (sym parts) (up_fits half r most some between)
+    parts : again w r +ℤ again w half ≡ r +ℤ half
+    parts = ap (λ (z : ℤ). z +ℤ again w half) (to_z-of_z w r fr) ∙ ap (λ (z : ℤ). r +ℤ z) (to_z-of_z w half fh)
 
-  whole : again w32 (again w32 r +ℤ again w32 half) ≡ r +ℤ half
-  whole = to_z-of_z w32 (again w32 r +ℤ again w32 half) sum_fits ∙ parts
+    pub sum_fits : SFits w (again w r +ℤ again w half)
+    sum_fits = subst (SFits w) (sym parts) (up_fits half r most some between)
 
-  pub cast_fits : T (non_neg (again w32 (again w32 r +ℤ again w32 half))) × Fits w16 (nat_abs (again w32 (again w32 r +ℤ again w32 half)))
-  cast_fits = subst (λ (z : ℤ). T (non_neg z) × Fits w16 (nat_abs z)) (sym whole) (yes_non_neg least, short_fits (r +ℤ half) least greatest)
+    whole : again w (again w r +ℤ again w half) ≡ r +ℤ half
+    whole = to_z-of_z w (again w r +ℤ again w half) sum_fits ∙ parts
 
-  pub counted : pos (nat_abs (again w32 (again w32 r +ℤ again w32 half))) ≡ clipped_up half v
-  counted = ap (λ (z : ℤ). pos (nat_abs z)) whole ∙ pos-nat_abs (r +ℤ half) (yes_non_neg least) ∙ ap (λ (z : ℤ). z +ℤ half) clip_is
+    pub cast_fits : T (non_neg (again w (again w r +ℤ again w half))) × Fits w16 (nat_abs (again w (again w r +ℤ again w half)))
+    cast_fits = subst (λ (z : ℤ). T (non_neg z) × Fits w16 (nat_abs z)) (sym whole) (yes_non_neg least, short_fits (r +ℤ half) least greatest)
+
+    pub counted : pos (nat_abs (again w (again w r +ℤ again w half))) ≡ clipped_up half v
+    counted = ap (λ (z : ℤ). pos (nat_abs z)) whole ∙ pos-nat_abs (r +ℤ half) (yes_non_neg least) ∙ ap (λ (z : ℤ). z +ℤ half) clip_is

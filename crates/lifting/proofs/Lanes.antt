@@ -165,14 +165,3 @@ chunk_small m at n xs le p =
     Each1-from_get_or (Within m) (chunk at n xs) (pos 0) (λ i lt.
     let short : i < n = omega (arith, lt, length-chunk at n xs le) in
     rw (get_or-chunk at n xs i (pos 0) short) (p i short))
-
--- the same of a number that went through its bits
-pub quarter_kept : (w : Width) (m : ℕ) → Room w m → (z : ℤ) → Sum m z → Within m (to_z w (of_z w (int_shr z 2)))
-quarter_kept w m room z s =
-    let q : Within m (int_shr z 2) = quarter_small m z room.some s in
-    rw (to_z-of_z w (int_shr z 2) (fits w m room (int_shr z 2) (wider m (int_shr z 2) q))) q
-
-pub half_kept : (w : Width) (m : ℕ) → Room w m → (z : ℤ) → SumOne m z → Within m (to_z w (of_z w (int_shr z 1)))
-half_kept w m room z s =
-    let q : Within m (int_shr z 1) = half_small m z room.some s in
-    rw (to_z-of_z w (int_shr z 1) (fits w m room (int_shr z 1) (wider m (int_shr z 1) q))) q

@@ -1,16 +1,15 @@
 -- The last level of synthesis, from the levels below it.
-use Rattle.std.proofs.Common.{◌≡◌, ◌∙◌, refl, sym, ap, subst, ℕ, ◌+◌, ◌-◌, ◌*◌, ◌/◌, ◌%◌, ◌^◌, ◌<◌, ◌≤◌, arith, lit≤, ℤ}
+use Rattle.std.proofs.Common.{◌≡◌, ◌∙◌, refl, sym, ap, subst, ℕ, ◌+◌, ◌-◌, ◌*◌, ◌/◌, ◌%◌, ◌^◌, ◌<◌, ◌≤◌, arith, ℤ}
 use Rattle.planes.specs.Raster.{Raster, height, at}
 use Rattle.planes.specs.Subbands.{BandStack, band_of, HaveSizes}
 use Rattle.lifting.specs.declared.Wavelet.{Wavelet}
 use Rattle.lifting.specs.Bands.{coefficients_of, lowest}
 use Rattle.lifting.specs.Transform.{Grid, synthesis, synthesis_level, interleaved}
-use Rattle.lifting.specs.Ranges.{GridWithin, BandsWithin, SameInside}
+use Rattle.lifting.specs.Ranges.{GridWithin, BandsWithin, SameInside, reach}
 use Rattle.lifting.proofs.Growth.{ll_within, hl_within, lh_within, hh_within}
-use Rattle.lifting.proofs.Levels.{half_size, whole_size, columns_of, rows_of, reach_narrow, level_of, level_small}
+use Rattle.lifting.proofs.Levels.{half_size, whole_size, columns_of, rows_of, level_of, level_small}
 
 module _ (k : Wavelet) (w h : ℕ) (b : BandStack) (some : 1 ≤ b.depth) (four : b.depth ≤ 4) (whole_columns : w % 2 ^ b.depth ≡ 0) (whole_rows : h % 2 ^ b.depth ≡ 0) (sizes : HaveSizes b w h)
-    (small : BandsWithin (lowest b.depth h) (lowest b.depth w) b.depth (2 ^ 18) (2 ^ 18) (coefficients_of b))
     (p hl lh hh : Raster ℤ) (depth : ℕ) (is : depth ≡ b.depth) (ehl : hl ≡ band_of b depth 1) (elh : lh ≡ band_of b depth 2) (ehh : hh ≡ band_of b depth 3)
     (below : SameInside (lowest b.depth h * 2 ^ (b.depth - 1)) (lowest b.depth w * 2 ^ (b.depth - 1)) (at p) (synthesis k (lowest b.depth h) (lowest b.depth w) (coefficients_of b) (b.depth - 1))) where
   abbrev n : ℕ
@@ -26,11 +25,26 @@ module _ (k : Wavelet) (w h : ℕ) (b : BandStack) (some : 1 ≤ b.depth) (four 
   of_next r orient e = e ∙ ap (λ (m : ℕ). band_of b m orient) next
 
   -- a band of the last level is half of the component each way
-  pub half_columns : (r : Raster ℤ) (orient : ℕ) → 1 ≤ orient → orient ≤ 3 → r ≡ band_of b depth orient → r.w ≡ w / 2
+  half_columns : (r : Raster ℤ) (orient : ℕ) → 1 ≤ orient → orient ≤ 3 → r ≡ band_of b depth orient → r.w ≡ w / 2
   half_columns r orient one three e = columns_of b w h whole_columns whole_rows sizes n orient lt one three r (of_next r orient e) ∙ half_size w b.depth whole_columns some
 
-  pub half_rows : (r : Raster ℤ) (orient : ℕ) → 1 ≤ orient → orient ≤ 3 → r ≡ band_of b depth orient → height r ≡ h / 2
+  half_rows : (r : Raster ℤ) (orient : ℕ) → 1 ≤ orient → orient ≤ 3 → r ≡ band_of b depth orient → height r ≡ h / 2
   half_rows r orient one three e = rows_of b w h whole_columns whole_rows sizes n orient lt one three r (of_next r orient e) ∙ half_size h b.depth whole_rows some
+
+  -- so each has room for half of it
+  pub wide_enough : (w / 2 ≤ hl.w) × (w / 2 ≤ lh.w) × (w / 2 ≤ hh.w)
+  wide_enough = (
+    omega (arith, half_columns hl 1 (omega arith) (omega arith) ehl),
+    omega (arith, half_columns lh 2 (omega arith) (omega arith) elh),
+    omega (arith, half_columns hh 3 (omega arith) (omega arith) ehh),
+  )
+
+  pub high_enough : (h / 2 ≤ height hl) × (h / 2 ≤ height lh) × (h / 2 ≤ height hh)
+  high_enough = (
+    omega (arith, half_rows hl 1 (omega arith) (omega arith) ehl),
+    omega (arith, half_rows lh 2 (omega arith) (omega arith) elh),
+    omega (arith, half_rows hh 3 (omega arith) (omega arith) ehh),
+  )
 
   columns : hl.w ≡ lowest b.depth w * 2 ^ n
   columns = columns_of b w h whole_columns whole_rows sizes n 1 lt (omega arith) (omega arith) hl (of_next hl 1 ehl)
@@ -41,27 +55,11 @@ module _ (k : Wavelet) (w h : ℕ) (b : BandStack) (some : 1 ≤ b.depth) (four 
   abbrev g : Grid
   g = interleaved (at p) (at hl) (at lh) (at hh)
 
-  all_small : GridWithin (2 * height hl) (2 * hl.w) (2 ^ 26) g
-  all_small = level_small k (lowest b.depth h) (lowest b.depth w) b n p hl lh hh (of_next hl 1 ehl) (of_next lh 2 elh) (of_next hh 3 ehh) rows columns below
-      (2 ^ 18) (2 ^ 18) (2 ^ 26) b.depth reach_narrow (lit≤ tt) small lt four
-
   high : h / 2 ≡ height hl
   high = sym (half_rows hl 1 (omega arith) (omega arith) ehl)
 
   wide : w / 2 ≡ hl.w
   wide = sym (half_columns hl 1 (omega arith) (omega arith) ehl)
-
-  pub ll_small : GridWithin (h / 2) (w / 2) (2 ^ 26) (at p)
-  ll_small = ll_within (height hl) (h / 2) hl.w (w / 2) (2 ^ 26) (at p) (at hl) (at lh) (at hh) high wide all_small
-
-  pub hl_small : GridWithin (h / 2) (w / 2) (2 ^ 26) (at hl)
-  hl_small = hl_within (height hl) (h / 2) hl.w (w / 2) (2 ^ 26) (at p) (at hl) (at lh) (at hh) high wide all_small
-
-  pub lh_small : GridWithin (h / 2) (w / 2) (2 ^ 26) (at lh)
-  lh_small = lh_within (height hl) (h / 2) hl.w (w / 2) (2 ^ 26) (at p) (at hl) (at lh) (at hh) high wide all_small
-
-  pub hh_small : GridWithin (h / 2) (w / 2) (2 ^ 26) (at hh)
-  hh_small = hh_within (height hl) (h / 2) hl.w (w / 2) (2 ^ 26) (at p) (at hl) (at lh) (at hh) high wide all_small
 
   up : SameInside (lowest b.depth h * 2 ^ (n + 1)) (lowest b.depth w * 2 ^ (n + 1)) (synthesis_level k (2 * height hl) (2 * hl.w) g) (synthesis k (lowest b.depth h) (lowest b.depth w) (coefficients_of b) (n + 1))
   up = level_of k (lowest b.depth h) (lowest b.depth w) b n p hl lh hh (of_next hl 1 ehl) (of_next lh 2 elh) (of_next hh 3 ehh) rows columns below
@@ -75,3 +73,22 @@ module _ (k : Wavelet) (w h : ℕ) (b : BandStack) (some : 1 ≤ b.depth) (four 
       ap (λ (m : ℕ). synthesis_level k (2 * m) (2 * (w / 2)) g y x) high
       ∙ ap (λ (m : ℕ). synthesis_level k (2 * height hl) (2 * m) g y x) wide
       ∙ whole y x (omega (arith, ly, whole_size h b.depth whole_rows)) (omega (arith, lx, whole_size w b.depth whole_columns))
+
+  -- from numbers within m in the lowest band, and within `others` in the others, no level below the last comes above `most`
+  module _ (m others most : ℕ) (reaches : (j : ℕ) → j ≤ 3 → reach m j ≤ most) (few : others ≤ m)
+      (small : BandsWithin (lowest b.depth h) (lowest b.depth w) b.depth m others (coefficients_of b)) where
+    all_small : GridWithin (2 * height hl) (2 * hl.w) most g
+    all_small = level_small k (lowest b.depth h) (lowest b.depth w) b n p hl lh hh (of_next hl 1 ehl) (of_next lh 2 elh) (of_next hh 3 ehh) rows columns below
+        m others most b.depth reaches few small lt four
+
+    pub ll_small : GridWithin (h / 2) (w / 2) most (at p)
+    ll_small = ll_within (height hl) (h / 2) hl.w (w / 2) most (at p) (at hl) (at lh) (at hh) high wide all_small
+
+    pub hl_small : GridWithin (h / 2) (w / 2) most (at hl)
+    hl_small = hl_within (height hl) (h / 2) hl.w (w / 2) most (at p) (at hl) (at lh) (at hh) high wide all_small
+
+    pub lh_small : GridWithin (h / 2) (w / 2) most (at lh)
+    lh_small = lh_within (height hl) (h / 2) hl.w (w / 2) most (at p) (at hl) (at lh) (at hh) high wide all_small
+
+    pub hh_small : GridWithin (h / 2) (w / 2) most (at hh)
+    hh_small = hh_within (height hl) (h / 2) hl.w (w / 2) most (at p) (at hl) (at lh) (at hh) high wide all_small

@@ -1,5 +1,5 @@
 -- A row of one place more, as the places of each number and those after them.
-use Rattle.std.proofs.Common.{◌≡◌, sym, ap, subst, ◌∙◌, ℕ, ◌+◌, ◌-◌, ◌*◌, ◌<◌, ◌≤◌, arith, List, length, take, drop, ℤ, pos, lit≤}
+use Rattle.std.proofs.Common.{◌≡◌, sym, subst, ℕ, ◌+◌, ◌-◌, ◌*◌, ◌<◌, ◌≤◌, arith, List, length, take, drop, ℤ}
 use Rattle.std.proofs.lemmas.Grind.{common_steps}
 use Rattle.planes.specs.Numbers.{Within}
 use Rattle.lifting.specs.Places.{place, EachWithin}

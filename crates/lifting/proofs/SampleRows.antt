@@ -1,19 +1,20 @@
 -- Samples, row by row.
 use Rattle.std.proofs.Common.{◌≡◌, ◌≢◌, ◌∙◌, sym, ap, ℕ, suc, ◌+◌, ◌-◌, ◌*◌, ◌/◌, ◌%◌, ◌^◌, ◌<◌, ◌≤◌, arith, inl, inr, List, ◌++◌, length, take, get_or, set, ℤ, pos}
-use Rattle.std.specs.Prelude.{neg_ℤ, ◌+ℤ◌, ◌-ℤ◌, ◌≤ℤ◌, unsigned_abs}
+use Rattle.planes.specs.Numbers.{Within}
+use Rattle.std.specs.Prelude.{if◌then◌else◌, ◌==◌, neg_ℤ, ◌+ℤ◌, ◌-ℤ◌, ◌≤ℤ◌, unsigned_abs}
 use Rattle.std.specs.Int.{int_min, int_max}
 use Rattle.std.proofs.Math.Nat.{pow-le-pow_right, mul-le-mul_right, suc-mul}
 use Rattle.std.proofs.lemmas.Bool.{cases_lt, cases_eq}
-use Rattle.std.proofs.lemmas.Int.{ints, to_z-of_z}
-use mir.Syntax.{w32}
-use mir.Val.{to_z, of_z, SFits}
-use Rattle.planes.specs.Numbers.{Within}
+use Rattle.std.proofs.lemmas.Int.{ints}
+use mir.Syntax.{Width}
 use Rattle.std.proofs.lemmas.List.{get_or-set_other, get_or-set_same, length-set, get_or_append_left, get_or-append-add, length-take-le}
 use borrow.Rule.Slice.PartMut.{put_mid, post_of}
 use Rattle.lifting.specs.Lines.{Line}
-use Rattle.lifting.specs.Places.{woven}
+use Rattle.lifting.specs.Places.{woven, odd_stepped}
 use Rattle.lifting.specs.Clipping.{clipped_up, sample_of}
 use Rattle.lifting.proofs.WovenLines.{at_even, at_odd}
+use Rattle.lifting.proofs.Lanes.{Room}
+use Rattle.lifting.proofs.Kept.{again, again_is}
 
 pub half_some : (depth : ℕ) → 1 ≤ 2 ^ (depth - 1)
 half_some depth = pow-le-pow_right {n = 2} (omega arith) {i = 0} {j = depth - 1} (omega arith)
@@ -81,12 +82,35 @@ part_row a k xs ys i low here =
 pub row_inside : (y h w n : ℕ) → y < h → n ≡ h * w → y * w + w ≤ n
 row_inside y h w n lt e = omega (arith, e, suc-mul y w, mul-le-mul_right {m = suc y} {n = h} w (omega arith))
 
--- a number in its bits and back
-pub as_it_was : (z : ℤ) → Within (2 ^ 29) z → to_z w32 (of_z w32 z) ≡ z
-as_it_was z small = to_z-of_z w32 z (let f : SFits w32 z = fits z small in f)
-  where
-    fits : (z : ℤ) → Within (2 ^ 29) z → SFits w32 z
-    fits z s = grind (arith, ints)
+-- one more place of a row
+pub put_one : {X : Type 0} (P : ℕ → X → Type 0) (d x : X) (out : List X) (k : ℕ) → k < length out → ((i : ℕ) → i < k → P i (get_or out i d)) → P k x
+    → (i : ℕ) → i < k + 1 → P i (get_or (set out k x) i d)
+put_one P d x out k room first last i lt = elim (cases_eq i k) [
+  | inl e ↦ rw (e, get_or-set_same out k x d room) last
+  | inr ne ↦ rw (get_or-set_other out k i x d ne) (first i (omega arith))
+]
 
-pub half_as_it_was : (z : ℤ) → pos 1 ≤ℤ z → z ≤ℤ pos 32768 → to_z w32 (of_z w32 z) ≡ z
-half_as_it_was z some most = as_it_was z (record { low = omega (arith, ints, some, most); high = omega (arith, ints, some, most) })
+-- ---- an odd place between even ones that were read from their bits
+
+module _ (w : Width) (m : ℕ) (room : Room w m) (f : ℤ → ℤ → ℤ → ℤ) (n : ℕ) (e o : Line) where
+  pub inner_again : (k : ℕ) → k + 1 < n → Within m (o k) → Within m (e k) → Within m (e (k + 1))
+      → f (again w (o k)) (again w (e k)) (again w (e (k + 1))) ≡ odd_stepped f n e o k
+  inner_again k lt po pe pn =
+      let next : (if k + 1 == n then k else k + 1) ≡ k + 1 = grind arith in
+      ap (λ (v : ℤ). f v (again w (e k)) (again w (e (k + 1)))) (again_is w m room (o k) po)
+      ∙ ap (λ (v : ℤ). f (o k) v (again w (e (k + 1)))) (again_is w m room (e k) pe)
+      ∙ ap (λ (v : ℤ). f (o k) (e k) v) (again_is w m room (e (k + 1)) pn)
+      ∙ ap (λ (j : ℕ). f (o k) (e k) (e j)) (sym next)
+
+  pub last_again : (k : ℕ) → k + 1 ≡ n → Within m (o k) → Within m (e k) → f (again w (o k)) (again w (e k)) (again w (e k)) ≡ odd_stepped f n e o k
+  last_again k is po pe =
+      let next : (if k + 1 == n then k else k + 1) ≡ k = grind arith in
+      ap (λ (v : ℤ). f v (again w (e k)) (again w (e k))) (again_is w m room (o k) po)
+      ∙ ap (λ (v : ℤ). f (o k) v (again w (e k))) (again_is w m room (e k) pe)
+      ∙ ap (λ (v : ℤ). f (o k) (e k) v) (again_is w m room (e k) pe)
+      ∙ ap (λ (j : ℕ). f (o k) (e k) (e j)) (sym next)
+
+-- half of the numbers of a sample, in its bits and back
+pub half_again_is : (w : Width) (m : ℕ) (room : Room w m) → 32768 ≤ m → (z : ℤ) → pos 1 ≤ℤ z → z ≤ℤ pos 32768 → again w z ≡ z
+half_again_is w m room enough z some most =
+    again_is w m room z (record { low = omega (arith, ints, enough, some, most); high = omega (arith, ints, enough, some, most) })

@@ -4,6 +4,7 @@ use Rattle.lifting.specs.declared.Wavelet.{Wavelet}
 use Rattle.lifting.specs.Transform.{Grid, synthesis}
 use Rattle.lifting.specs.Ranges.{BandsWithin}
 use Rattle.lifting.specs.Bands.{coefficients_of, lowest}
+use Rattle.planes.specs.declared.TheConstants.{MAX_MAGNITUDE}
 use Rattle.planes.specs.Raster.{Raster, height}
 use Rattle.planes.specs.Subbands.{BandStack, HaveSizes}
 use Rattle.lifting.specs.declared.SampleArea.{SampleArea}
@@ -35,6 +36,10 @@ pub record IsShownArea (area : SampleArea) (w h : ℕ) (samples : List ℕ) : Ty
 -- the bands of a component of w by h: all magnitudes are at most 2 ^ 18
 abbrev pub AreNarrowIn : BandStack → ℕ → ℕ → Type 0
 AreNarrowIn b w h = BandsWithin (lowest b.depth h) (lowest b.depth w) b.depth (2 ^ 18) (2 ^ 18) (coefficients_of b)
+
+-- Those of the lowest band are at most 2 ^ 50, and those of the others at most 2 ^ 36.
+abbrev pub AreSmallIn : BandStack → ℕ → ℕ → Type 0
+AreSmallIn b w h = BandsWithin (lowest b.depth h) (lowest b.depth w) b.depth (2 ^ 50) MAX_MAGNITUDE (coefficients_of b)
 
 -- and their synthesis
 abbrev pub synthesis_of : Wavelet → BandStack → ℕ → ℕ → Grid

@@ -1,4 +1,4 @@
-//! Synthesis of all levels in 32 bits, the last one straight into samples.
+//! Synthesis of all levels, the last one straight into samples.
 
 ghost use Rattle.std.specs.Prelude.{◌≡◌, ◌≢◌, ℕ, ◌+◌, ◌-◌, ◌*◌, ◌/◌, ◌%◌, ◌^◌, ◌<◌, ◌≤◌, length, slice_index_or};
 ghost use Rattle.planes.specs.Raster.{height, at};
@@ -8,26 +8,26 @@ ghost use Rattle.lifting.specs.Transform.{interleaved, synthesis_level, synthesi
 ghost use Rattle.lifting.specs.Ranges.{GridWithin, SameInside};
 ghost use Rattle.lifting.specs.Bands.{coefficients_of, lowest};
 ghost use Rattle.lifting.specs.Clipping.{sample_of, AreSamplesOf};
-ghost use Rattle.lifting.specs.SampleRoom.{HaveRoom, IsShownArea, AreNarrowIn, synthesis_of};
+ghost use Rattle.lifting.specs.SampleRoom.{HaveRoom, IsShownArea, AreSmallIn, synthesis_of};
 
 use crate::roll_samples::roll_samples;
-use crate::samples_narrow::sample_band;
-use crate::synthesis_narrow::{put_lowest, synth_up};
+use crate::samples::sample_band;
+use crate::synthesis::{put_lowest, synth_up};
 use crate::{SampleArea, Wavelet};
-use planes::{NarrowBands, NarrowPlane};
+use planes::{Bands, Plane};
 
 // All levels but the last, in the plane's first columns and rows.
 fn synth_below(
     wavelet: Wavelet,
-    bands: &NarrowBands,
+    bands: &Bands,
     w: u32,
     h: u32,
-    plane: &mut NarrowPlane,
-    scratch: &mut NarrowPlane,
+    plane: &mut Plane,
+    scratch: &mut Plane,
 )
     requires some { 1 ≤ bands.now.depth }
     requires room { HaveRoom bands.now w h plane.old scratch.old }
-    requires small { AreNarrowIn bands.now w h }
+    requires small { AreSmallIn bands.now w h }
     ensures same_width { plane.new.w ≡ plane.old.w }
     ensures same_height { height plane.new ≡ height plane.old }
     ensures same_width_scratch { scratch.new.w ≡ scratch.old.w }
@@ -50,17 +50,17 @@ fn synth_below(
 // The samples of the last level, from the levels below it in the plane.
 fn synth_last(
     wavelet: Wavelet,
-    bands: &NarrowBands,
+    bands: &Bands,
     w: u32,
     h: u32,
-    plane: &NarrowPlane,
-    scratch: &mut NarrowPlane,
+    plane: &Plane,
+    scratch: &mut Plane,
     samples: &mut [u16],
     area: SampleArea,
 )
     requires some { 1 ≤ bands.now.depth }
     requires room { HaveRoom bands.now w h plane.now scratch.old }
-    requires small { AreNarrowIn bands.now w h }
+    requires small { AreSmallIn bands.now w h }
     requires below { let n = bands.now.depth - 1 in
         SameInside (lowest bands.now.depth h * 2 ^ n) (lowest bands.now.depth w * 2 ^ n) (at plane.now)
         (synthesis wavelet (lowest bands.now.depth h) (lowest bands.now.depth w) (coefficients_of bands.now) n) }
@@ -92,7 +92,7 @@ fn synth_last(
 }
 
 // Row y of the samples, from that row of a band.
-fn sample_row_of(samples: &mut [u16], area: SampleArea, y: u32, band: &NarrowPlane)
+fn sample_row_of(samples: &mut [u16], area: SampleArea, y: u32, band: &Plane)
     requires some_bits { 1 ≤ area.depth }
     requires bits { area.depth ≤ 16 }
     requires count { length samples.old ≡ area.h * area.w }
@@ -100,7 +100,7 @@ fn sample_row_of(samples: &mut [u16], area: SampleArea, y: u32, band: &NarrowPla
     requires down { y < area.h }
     requires high { area.h ≤ height band.now }
     requires fits { area.w ≤ band.now.w }
-    requires small { GridWithin (height band.now) band.now.w (2 ^ 29) (at band.now) }
+    requires small { GridWithin (height band.now) band.now.w (2 ^ 61) (at band.now) }
     ensures count { length samples.new ≡ length samples.old }
     ensures row { (x : ℕ) → x < area.w → slice_index_or samples.new (y * area.w + x) 0 ≡ sample_of area.depth (at band.now y x) }
     ensures before { (k : ℕ) → k < y * area.w → slice_index_or samples.new k 0 ≡ slice_index_or samples.old k 0 }
@@ -111,14 +111,14 @@ fn sample_row_of(samples: &mut [u16], area: SampleArea, y: u32, band: &NarrowPla
 }
 
 // The samples of the lowest band, where there is no level.
-fn sample_lowest(samples: &mut [u16], area: SampleArea, band: &NarrowPlane)
+fn sample_lowest(samples: &mut [u16], area: SampleArea, band: &Plane)
     requires some_bits { 1 ≤ area.depth }
     requires bits { area.depth ≤ 16 }
     requires count { length samples.old ≡ area.h * area.w }
     requires few { area.h * area.w ≤ 2 ^ 30 }
     requires high { area.h ≤ height band.now }
     requires fits { area.w ≤ band.now.w }
-    requires small { GridWithin (height band.now) band.now.w (2 ^ 29) (at band.now) }
+    requires small { GridWithin (height band.now) band.now.w (2 ^ 61) (at band.now) }
     ensures count { length samples.new ≡ length samples.old }
     ensures samples { AreSamplesOf area.w area.h area.depth samples.new (at band.now) }
 {
@@ -127,24 +127,25 @@ fn sample_lowest(samples: &mut [u16], area: SampleArea, band: &NarrowPlane)
     }
 }
 
-/// The samples of a component, from bands whose magnitudes are at most 2^18: synthesis of all levels as `synth` has it, in
-/// 32 bits, and of the first columns and rows each number clipped to the area's bits and offset to begin at 0.
+/// The samples of a component, from its bands: synthesis of all levels as `synth` has it, and of the first columns and rows
+/// each number clipped to the area's bits and offset to begin at 0.
 ///
-/// The component's padded size is w by h, both at least 1 and multiples of 2^depth, h at most 8208. The plane has room for half of that size each way, for
-/// the levels below the last, which goes straight into the samples. The scratch has room for h / 2 rows of w, and for 3.
-/// Both hold any values afterwards.
+/// The component's padded size is w by h, both at least 1 and multiples of 2^depth, h at most 8208. The magnitudes of LL are
+/// at most 2^50, and those of the other bands at most 2^36. The plane has room for half of that size each way, for the levels
+/// below the last, which goes straight into the samples. The scratch has room for h / 2 rows of w, and for 3. Both hold any
+/// values afterwards.
 pub fn synth_samples(
     wavelet: Wavelet,
-    bands: &NarrowBands,
+    bands: &Bands,
     w: u32,
     h: u32,
-    plane: &mut NarrowPlane,
-    scratch: &mut NarrowPlane,
+    plane: &mut Plane,
+    scratch: &mut Plane,
     samples: &mut [u16],
     area: SampleArea,
 )
     requires room { HaveRoom bands.now w h plane.old scratch.old }
-    requires small { AreNarrowIn bands.now w h }
+    requires small { AreSmallIn bands.now w h }
     requires shown { IsShownArea area w h samples.old }
     ensures same_width { plane.new.w ≡ plane.old.w }
     ensures same_height { height plane.new ≡ height plane.old }

@@ -2,7 +2,7 @@
 use Rattle.std.proofs.Common.{◌≡◌, ℕ, zero, suc, ◌+◌, ◌*◌, ◌/◌, ◌%◌, ◌^◌, ◌<◌, ◌≤◌, inl, inr, refl, pos, sym, ap, subst, ◌∙◌, arith}
 use Rattle.std.proofs.Math.Nat.{mul_comm}
 use Rattle.std.specs.Prelude.{ℤ}
-use Rattle.planes.specs.Raster.{Raster, height, at}
+use Rattle.planes.specs.Raster.{Raster, at}
 use Rattle.planes.specs.Subbands.{BandStack, BandExists, band_of, subband_length}
 use Rattle.planes.specs.Bounded.{AreBandsWithin}
 use Rattle.dc_prediction.specs.Prediction.{reach}
@@ -12,17 +12,15 @@ use Rattle.slice_geometry.specs.Slicing.{Slicing, AreSlicesAllowed, slice_count}
 use Rattle.slice_geometry.specs.Geometry.{padded_length, band_size, holding}
 use Rattle.slice_geometry.proofs.Lengths.{padded_most}
 use Rattle.slice_geometry.proofs.Places.{holding_below}
-use Rattle.lifting.specs.Bands.{coefficients_of, lowest, AgreeInSize, AreSmall}
-use Rattle.lifting.specs.SampleRoom.{HaveRoom, AreNarrowIn, synthesis_of}
+use Rattle.lifting.specs.Bands.{coefficients_of, lowest}
+use Rattle.lifting.specs.SampleRoom.{HaveRoom, AreSmallIn, AreNarrowIn, synthesis_of}
 use Rattle.lifting.specs.Ranges.{GridWithin}
 use Rattle.lifting.proofs.Levels as levels
 use Rattle.lifting.specs.declared.Wavelet.{Wavelet}
 use Rattle.lifting.specs.Transform.{synthesis}
-use Rattle.lifting.specs.Ranges.{SameInside}
 use Rattle.picture_codec.specs.Pictures.{sample_of}
 use Rattle.picture_codec.specs.Samples.{tabulated}
-use Rattle.picture_codec.specs.Decoding.{AreTaken, ArePadded, HasNarrowRoom, synthesised}
-use Rattle.picture_codec.proofs.Tables.{tabulated_same}
+use Rattle.picture_codec.specs.Decoding.{AreTaken, HaveHalfRoom, synthesised}
 use Rattle.picture_codec.specs.Taking.{holder}
 use Rattle.picture_codec.proofs.Taking.{times-le, times-suc}
 use Rattle.planes.proofs.Floors.{wider}
@@ -53,65 +51,6 @@ holder_below s band y x allowed y_in x_in =
     let sy = holding s.slices_y band.h y in
     omega (arith, down, across, times-le (sy + 1) s.slices_y s.slices_x (omega (arith, down)), times-suc sy s.slices_x, mul_comm s.slices_x s.slices_y)
 
-module _ (s : Slicing) (size : Size) (b : BandStack) (plane scratch : Raster ℤ) (n : ℕ) (taken : AreTaken s size n b) (all : n ≡ slice_count s) (allowed : AreSlicesAllowed s) (low : s.depth ≤ 4) (is_size : IsSize size.w size.h) (room : ArePadded s size plane scratch) where
-  pub agree : AgreeInSize b plane scratch
-  agree = record {
-    whole_columns = rw (room.columns, taken.depth) (padded_whole s.depth size.w low);
-    whole_rows = rw (room.rows, taken.depth) (padded_whole s.depth size.h low);
-    bands = rw (room.columns, room.rows) taken.sizes;
-    scratch_width = room.scratch_columns ∙ sym room.columns;
-    scratch_height = room.scratch_rows ∙ sym room.rows;
-  }
-
-  pub lowest_rows : lowest b.depth (height plane) ≡ lowest s.depth (padded_length s.depth size.h)
-  lowest_rows = ap (λ (d : ℕ). height plane / 2 ^ d) taken.depth ∙ ap (λ (p : ℕ). p / 2 ^ s.depth) room.rows
-
-  pub lowest_columns : lowest b.depth plane.w ≡ lowest s.depth (padded_length s.depth size.w)
-  lowest_columns = ap (λ (d : ℕ). plane.w / 2 ^ d) taken.depth ∙ ap (λ (p : ℕ). p / 2 ^ s.depth) room.columns
-
-  is_next : (m : ℕ) → m + 1 ≡ suc m
-  is_next m = omega arith
-
-  level_rows : (m : ℕ) → m < s.depth → lowest b.depth (height plane) * 2 ^ m ≡ (band_size s.depth (suc m) size).h
-  level_rows m lt = ap (λ (v : ℕ). v * 2 ^ m) lowest_rows ∙ sym (levels.band_size (padded_length s.depth size.h) s.depth (padded_whole s.depth size.h low) m lt) ∙ ap (λ (l : ℕ). subband_length s.depth l (padded_length s.depth size.h)) (is_next m)
-
-  level_columns : (m : ℕ) → m < s.depth → lowest b.depth plane.w * 2 ^ m ≡ (band_size s.depth (suc m) size).w
-  level_columns m lt = ap (λ (v : ℕ). v * 2 ^ m) lowest_columns ∙ sym (levels.band_size (padded_length s.depth size.w) s.depth (padded_whole s.depth size.w low) m lt) ∙ ap (λ (l : ℕ). subband_length s.depth l (padded_length s.depth size.w)) (is_next m)
-
-  upper : (m orient : ℕ) → m < b.depth → 1 ≤ orient → orient ≤ 3 → GridWithin (lowest b.depth (height plane) * 2 ^ m) (lowest b.depth plane.w * 2 ^ m) (2 ^ 36) (at (band_of b (suc m) orient))
-  upper m orient lt some few y x ly lx =
-      let below : m < s.depth = omega (arith, taken.depth) in
-      let y_in : y < (band_size s.depth (suc m) size).h = subst (λ v. y < v) (level_rows m below) ly in
-      let x_in : x < (band_size s.depth (suc m) size).w = subst (λ v. x < v) (level_columns m below) lx in
-      taken.upper (suc m) orient y x (inr (omega arith, omega arith, some, few)) (omega arith) y_in x_in (subst (λ v. holder s (band_size s.depth (suc m) size) y x < v) (sym all) (holder_below s (band_size s.depth (suc m) size) y x allowed y_in x_in))
-
-  pub small : AreSmall b plane
-  small = record {
-    ll = λ y x ly lx.
-        let y_in : y < (band_size s.depth 0 size).h = subst (λ v. y < v) lowest_rows ly in
-        let x_in : x < (band_size s.depth 0 size).w = subst (λ v. x < v) lowest_columns lx in
-        wider (reach y x) (2 ^ 50) (at (band_of b 0 0) y x) (omega (arith, y_in, x_in, lowest_most s.depth size.h low is_size.height, lowest_most s.depth size.w low is_size.width))
-        (taken.lowest y x y_in x_in (subst (λ v. holder s (band_size s.depth 0 size) y x < v) (sym all) (holder_below s (band_size s.depth 0 size) y x allowed y_in x_in)));
-    hl = λ m lt. upper m 1 lt (omega arith) (omega arith);
-    lh = λ m lt. upper m 2 lt (omega arith) (omega arith);
-    hh = λ m lt. upper m 3 lt (omega arith) (omega arith);
-  }
-
-  -- the samples of the plane that synthesis leaves
-  pub shown_is : (wavelet : Wavelet) (depth : ℕ) (out : Raster ℤ) → SameInside (height plane) plane.w (at out) (synthesis wavelet (lowest b.depth (height plane)) (lowest b.depth plane.w) (coefficients_of b) b.depth)
-      → tabulated size (λ y x. sample_of depth (at out y x)) ≡ synthesised wavelet size depth b
-  unfolding synthesised
-  shown_is wavelet depth out same =
-      let rows : lowest b.depth (height plane) ≡ (band_size b.depth 0 size).h = ap (λ (p : ℕ). p / 2 ^ b.depth) (room.rows ∙ ap (λ (d : ℕ). padded_length d size.h) (sym taken.depth)) in
-      let columns : lowest b.depth plane.w ≡ (band_size b.depth 0 size).w = ap (λ (p : ℕ). p / 2 ^ b.depth) (room.columns ∙ ap (λ (d : ℕ). padded_length d size.w) (sym taken.depth)) in
-      tabulated_same size (λ y x. sample_of depth (at out y x)) (λ y x. sample_of depth (synthesis wavelet (band_size b.depth 0 size).h (band_size b.depth 0 size).w (coefficients_of b) b.depth y x))
-      (λ y x y_in x_in. ap (λ v. sample_of depth v)
-      (same y x (omega (arith, y_in, padded_covers s.depth size.h low, room.rows)) (omega (arith, x_in, padded_covers s.depth size.w low, room.columns))
-      ∙ ap (λ (h : ℕ). synthesis wavelet h (lowest b.depth plane.w) (coefficients_of b) b.depth y x) rows
-      ∙ ap (λ (w : ℕ). synthesis wavelet (band_size b.depth 0 size).h w (coefficients_of b) b.depth y x) columns))
-
--- ---- in 32 bits
-
 module _ (s : Slicing) (size : Size) (b : BandStack) (n : ℕ) (taken : AreTaken s size n b) (low : s.depth ≤ 4) (is_size : IsSize size.w size.h) where
   abbrev w : ℕ
   w = padded_length s.depth size.w
@@ -125,8 +64,8 @@ module _ (s : Slicing) (size : Size) (b : BandStack) (n : ℕ) (taken : AreTaken
   whole_rows : h % 2 ^ b.depth ≡ 0
   whole_rows = rw taken.depth (padded_whole s.depth size.h low)
 
-  pub narrow_room : (plane scratch : Raster ℤ) → HasNarrowRoom s size plane scratch → HaveRoom b w h plane scratch
-  narrow_room plane scratch room = record {
+  pub half_room : (plane scratch : Raster ℤ) → HaveHalfRoom s size plane scratch → HaveRoom b w h plane scratch
+  half_room plane scratch room = record {
     some_columns = omega (arith, is_size.some_columns, padded_covers s.depth size.w low);
     some_rows = omega (arith, is_size.some_rows, padded_covers s.depth size.h low);
     low = omega (arith, padded_most s.depth size.h low is_size.height);
@@ -139,6 +78,50 @@ module _ (s : Slicing) (size : Size) (b : BandStack) (n : ℕ) (taken : AreTaken
     scratch_rows = omega (arith, room.scratch_rows);
     three_rows = omega (arith, room.scratch_rows);
   }
+
+  -- bands of slices that were all taken
+  module _ (all : n ≡ slice_count s) (allowed : AreSlicesAllowed s) where
+    lowest_rows : lowest b.depth h ≡ lowest s.depth h
+    lowest_rows = ap (λ (d : ℕ). h / 2 ^ d) taken.depth
+
+    lowest_columns : lowest b.depth w ≡ lowest s.depth w
+    lowest_columns = ap (λ (d : ℕ). w / 2 ^ d) taken.depth
+
+    is_next : (m : ℕ) → m + 1 ≡ suc m
+    is_next m = omega arith
+
+    level_rows : (m : ℕ) → m < s.depth → lowest b.depth h * 2 ^ m ≡ (band_size s.depth (suc m) size).h
+    level_rows m lt =
+        ap (λ (v : ℕ). v * 2 ^ m) lowest_rows ∙ sym (levels.band_size h s.depth (padded_whole s.depth size.h low) m lt)
+        ∙ ap (λ (l : ℕ). subband_length s.depth l h) (is_next m)
+
+    level_columns : (m : ℕ) → m < s.depth → lowest b.depth w * 2 ^ m ≡ (band_size s.depth (suc m) size).w
+    level_columns m lt =
+        ap (λ (v : ℕ). v * 2 ^ m) lowest_columns ∙ sym (levels.band_size w s.depth (padded_whole s.depth size.w low) m lt)
+        ∙ ap (λ (l : ℕ). subband_length s.depth l w) (is_next m)
+
+    upper : (m orient : ℕ) → m < b.depth → 1 ≤ orient → orient ≤ 3
+        → GridWithin (lowest b.depth h * 2 ^ m) (lowest b.depth w * 2 ^ m) (2 ^ 36) (at (band_of b (suc m) orient))
+    upper m orient lt some few y x ly lx =
+        let below : m < s.depth = omega (arith, taken.depth) in
+        let y_in : y < (band_size s.depth (suc m) size).h = subst (λ v. y < v) (level_rows m below) ly in
+        let x_in : x < (band_size s.depth (suc m) size).w = subst (λ v. x < v) (level_columns m below) lx in
+        taken.upper (suc m) orient y x (inr (omega arith, omega arith, some, few)) (omega arith) y_in x_in
+        (subst (λ v. holder s (band_size s.depth (suc m) size) y x < v) (sym all) (holder_below s (band_size s.depth (suc m) size) y x allowed y_in x_in))
+
+    pub small_in : AreSmallIn b w h
+    small_in = record {
+      ll = λ y x ly lx.
+          let y_in : y < (band_size s.depth 0 size).h = subst (λ v. y < v) lowest_rows ly in
+          let x_in : x < (band_size s.depth 0 size).w = subst (λ v. x < v) lowest_columns lx in
+          wider (reach y x) (2 ^ 50) (at (band_of b 0 0) y x)
+          (omega (arith, y_in, x_in, lowest_most s.depth size.h low is_size.height, lowest_most s.depth size.w low is_size.width))
+          (taken.lowest y x y_in x_in
+          (subst (λ v. holder s (band_size s.depth 0 size) y x < v) (sym all) (holder_below s (band_size s.depth 0 size) y x allowed y_in x_in)));
+      hl = λ m lt. upper m 1 lt (omega arith) (omega arith);
+      lh = λ m lt. upper m 2 lt (omega arith) (omega arith);
+      hh = λ m lt. upper m 3 lt (omega arith) (omega arith);
+    }
 
   -- bands within 2 ^ 18, at the places of a level
   narrow_band : (level orient : ℕ) → BandExists b.depth level orient → AreBandsWithin (pos (2 ^ 18)) b → GridWithin (subband_length b.depth level h) (subband_length b.depth level w) (2 ^ 18) (at (band_of b level orient))

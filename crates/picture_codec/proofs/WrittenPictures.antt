@@ -19,7 +19,7 @@ use Rattle.slice_geometry.proofs.Places.{held}
 use Rattle.slice_decoder.specs.Slice.{Slice, slice_of, slice_at, quantisers, dequantised}
 use Rattle.slice_encoder.specs.Order.{Place, places_of}
 use Rattle.slice_encoder.specs.Trials as trials
-use Rattle.slice_encoder.specs.Trials.{CodedComponent, CodedPicture, luma_of, c1_of, c2_of, Lists, lists, last_lists, restored_after, value_of, luma_list}
+use Rattle.slice_encoder.specs.Trials.{CodedComponent, CodedPicture, luma_of, c1_of, c2_of, Lists, lists, restored_after, value_of}
 use Rattle.slice_encoder.specs.TrialLaws.{IsIndex, AreSmall, AreCoefficients, most_coefficient}
 use Rattle.slice_encoder.specs.Ready.{AreGiven}
 use Rattle.slice_encoder.proofs.Near.{stays_near, within_abs, index_most}

@@ -89,6 +89,13 @@ pub record ArePadded (s : Slicing) (size : Size) (plane scratch : Raster ℤ) : 
   pub scratch_columns : scratch.w ≡ padded_length s.depth size.w
   pub scratch_rows : height scratch ≡ padded_length s.depth size.h
 
+-- the room for a component's synthesis: half of its padded size each way, rows of that size, and three more
+pub record HaveHalfRoom (s : Slicing) (size : Size) (plane scratch : Raster ℤ) : Type 0 where
+  pub columns : plane.w ≡ padded_length s.depth size.w / 2
+  pub rows : height plane ≡ padded_length s.depth size.h / 2
+  pub scratch_columns : scratch.w ≡ padded_length s.depth size.w
+  pub scratch_rows : height scratch ≡ padded_length s.depth size.h / 2 + 3
+
 -- where room isn't made, there are planes of no rows, in whose place it is
 abbrev pub IsRowless : LateWorkspace → Type 0
 IsRowless w = w.is_made ≡ false → (height w.room.plane ≡ 0) × (height w.room.scratch ≡ 0)
@@ -96,19 +103,12 @@ IsRowless w = w.is_made ≡ false → (height w.room.plane ≡ 0) × (height w.r
 -- the room for a component's synthesis in 64 bits, or the memory for it
 pub record HasLateRoom (s : Slicing) (size : Size) (w : LateWorkspace) : Type 0 where
   pub rowless : IsRowless w
-  pub made : w.is_made ≡ true → ArePadded s size w.room.plane w.room.scratch
-  pub late : w.is_made ≡ false → ArePadded s size w.late_plane w.late_scratch
+  pub made : w.is_made ≡ true → HaveHalfRoom s size w.room.plane w.room.scratch
+  pub late : w.is_made ≡ false → HaveHalfRoom s size w.late_plane w.late_scratch
 
--- the room for a component's synthesis in 32 bits: half of its padded size each way, rows of that size, and three more
-pub record HasNarrowRoom (s : Slicing) (size : Size) (plane scratch : Raster ℤ) : Type 0 where
-  pub columns : plane.w ≡ padded_length s.depth size.w / 2
-  pub rows : height plane ≡ padded_length s.depth size.h / 2
-  pub scratch_columns : scratch.w ≡ padded_length s.depth size.w
-  pub scratch_rows : height scratch ≡ padded_length s.depth size.h / 2 + 3
-
--- both
+-- in 64 bits and in 32
 abbrev pub HasSynthesisRoom : Slicing → Size → SynthesisRoom → Type 0
-HasSynthesisRoom s size room = HasLateRoom s size room.late × HasNarrowRoom s size room.narrow.plane room.narrow.scratch
+HasSynthesisRoom s size room = HasLateRoom s size room.late × HaveHalfRoom s size room.narrow.plane room.narrow.scratch
 
 -- ---- its calls
 

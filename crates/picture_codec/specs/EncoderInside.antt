@@ -11,7 +11,7 @@ use Rattle.slice_geometry.specs.Slicing.{Slicing}
 use Rattle.slice_geometry.specs.Geometry.{padded_length, band_size}
 use Rattle.slice_encoder.specs.TrialLaws.{most_coefficient}
 use Rattle.transform_params.specs.Params.{Params}
-use Rattle.picture_codec.specs.Samples.{SamplesSeen, PictureSamples}
+use Rattle.picture_codec.specs.Samples.{SamplesSeen}
 use Rattle.picture_codec.specs.Decoding.{ArePadded}
 use Rattle.picture_codec.specs.Encoding.{analysed_bands}
 
@@ -51,8 +51,3 @@ pub record HoldComponent (p : Params) (size : Size) (d : ℕ) (s : SamplesSeen) 
       → at (band_of b level orient) y x ≡ at (band_of (analysed_bands p.wavelet p.slicing.depth size d s) level orient) y x
   pub small : (level orient y x : ℕ) → BandExists p.slicing.depth level orient
       → Within (most_coefficient p.slicing.depth d) (at (band_of b level orient) y x)
-
-pub record HoldPicture (p : Params) (shape : PictureShape) (s : PictureSamples) (bands : NarrowTrio) : Type 0 where
-  pub luma : HoldComponent p shape.luma shape.luma_depth s.luma bands.luma
-  pub c1 : HoldComponent p shape.colour shape.colour_depth s.c1 bands.c1
-  pub c2 : HoldComponent p shape.colour shape.colour_depth s.c2 bands.c2

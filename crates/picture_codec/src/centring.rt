@@ -1,13 +1,23 @@
 //! The samples of a component in a plane of 32 bits, counted from the middle of their range, and padded.
 
-ghost use Rattle.std.specs.Prelude.{◌≡◌, ℕ, ◌*◌, ◌-◌, ◌<◌, ◌≤◌, ◌≤ℤ◌, length, slice_index_or, min, pos, ◌-ℤ◌};
+ghost use Rattle.std.specs.Prelude.{◌≡◌, ℕ, ◌*◌, ◌-◌, ◌^◌, ◌<◌, ◌≤◌, ◌≤ℤ◌, length, slice_index_or, min, pos, ◌-ℤ◌};
 ghost use Rattle.planes.specs.Raster.{height, row_of, at, IsEdgeFilled};
 ghost use Rattle.slice_geometry.specs.Shape.{IsSize, IsDepth};
 ghost use Rattle.picture_codec.specs.Encoding.{centred};
 
-use crate::samples::half_range;
 use planes::{NarrowPlane, Three};
 use slice_geometry::Size;
+
+// Half of the numbers of so many bits.
+#[tactic(auto, using(crate::proofs::Halves::half_some, crate::proofs::Halves::half_most))]
+fn half_range(depth: u32) -> i32
+    requires { IsDepth depth }
+    ensures value { result ≡ pos (2 ^ (depth - 1)) }
+    ensures some { pos 1 ≤ℤ result }
+    ensures most { result ≤ℤ pos 32768 }
+{
+    1 << (depth - 1)
+}
 
 // A row of samples, counted from the middle of their range. What lies behind them in the row stays.
 fn put_row(row: &mut [i32], samples: &[u16], half: i32)
@@ -85,7 +95,7 @@ pub(crate) fn centre(samples: &[u16], size: Size, depth: u32, plane: &mut Narrow
     ensures same_height { height plane.new ≡ height plane.old }
     ensures values { (y x : ℕ) → y < height plane.new → x < plane.new.w → at plane.new y x ≡ centred depth size (record { w = size.w; h = size.h; cells = samples.now }) y x }
 {
-    let half = half_range(depth) as i32;
+    let half = half_range(depth);
     for y in 0..size.h {
         let start = (y * size.w) as usize;
         let end = start + size.w as usize;

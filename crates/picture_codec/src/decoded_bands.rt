@@ -8,14 +8,13 @@ ghost use Rattle.slice_decoder.specs.Slice.{slice_at};
 ghost use Rattle.slice_decoder.specs.Decoded.{AreReady, AllKeepOthers, IsDecoded, IsRefused};
 ghost use Rattle.slice_decoder.specs.Narrow.{trio_of, AreNarrowBands};
 ghost use Rattle.picture_codec.specs.Pictures as pictures;
-ghost use Rattle.picture_codec.specs.Decoding.{AreTaken, HasLateRoom, HasNarrowRoom, AreNewBands, stack_of, with_synthesised};
+ghost use Rattle.picture_codec.specs.Decoding.{AreTaken, HasLateRoom, HaveHalfRoom, AreNewBands, stack_of, with_synthesised};
 ghost use Rattle.picture_codec.specs.DecodedBands.{AllAgree, narrow_of};
 
 use crate::picture::Picture;
 use crate::wide_bands::WideBands;
 use crate::workspace::{LateWorkspace, NarrowWorkspace, narrow_zero_trio, size_of};
 use bounded_blocks::{CodeTable, SPARE};
-use lifting::synth;
 use planes::{Bands, NarrowBands, NarrowTrio, NoMemory, Trio};
 use quant_factors::Matrix;
 use slice_decoder::{SliceFault, decode_narrow};
@@ -44,12 +43,11 @@ fn show_in_64_bits(
     ensures room { HasLateRoom params.now.layout (pictures.size_of (frame_of picture.old.shape) c) late.new }
     ensures allowed { IsAllowed params.now.layout }
 {
-    // The rules of a layout and of a size.
-    let _ = (params.layout.depth(), size_of(picture.shape(), c));
+    // The rules of a layout.
+    let _ = params.layout.depth();
+    let padded = params.layout.padded_size(size_of(picture.shape(), c));
     late.make();
-    let room = &mut late.room;
-    synth(params.wavelet, bands, &mut room.plane, &mut room.scratch);
-    picture.show(c, &room.plane);
+    picture.synthesise(c, params.wavelet, bands, padded, &mut late.room);
 }
 
 // The same in 32 bits, of bands whose magnitudes are at most 2^18.
@@ -62,15 +60,15 @@ fn show_in_32_bits(
 )
     requires taken { AreTaken params.now.layout (pictures.size_of (frame_of picture.old.shape) c) (slice_count params.now.layout) bands.now }
     requires narrow { AreBandsWithin (pos (2 ^ 18)) bands.now }
-    requires room { HasNarrowRoom params.now.layout (pictures.size_of (frame_of picture.old.shape) c) room.old.plane room.old.scratch }
+    requires room { HaveHalfRoom params.now.layout (pictures.size_of (frame_of picture.old.shape) c) room.old.plane room.old.scratch }
     ensures picture { picture.new ≡ with_synthesised params.now.wavelet picture.old c bands.now }
-    ensures room { HasNarrowRoom params.now.layout (pictures.size_of (frame_of picture.old.shape) c) room.new.plane room.new.scratch }
+    ensures room { HaveHalfRoom params.now.layout (pictures.size_of (frame_of picture.old.shape) c) room.new.plane room.new.scratch }
     ensures allowed { IsAllowed params.now.layout }
 {
     // The rules of a layout.
     let _ = params.layout.depth();
     let padded = params.layout.padded_size(size_of(picture.shape(), c));
-    picture.synthesise(c, params.wavelet, bands, padded, room);
+    picture.synthesise_narrow(c, params.wavelet, bands, padded, room);
 }
 
 // The bands of a component.
@@ -233,10 +231,10 @@ impl DecodedBands {
     )
         requires taken { AreTaken params.now.layout (pictures.size_of (frame_of picture.old.shape) c) (slice_count params.now.layout) (stack_of self.now c) }
         requires room { HasLateRoom params.now.layout (pictures.size_of (frame_of picture.old.shape) c) room.old }
-        requires narrow_room { HasNarrowRoom params.now.layout (pictures.size_of (frame_of picture.old.shape) c) narrow_room.old.plane narrow_room.old.scratch }
+        requires narrow_room { HaveHalfRoom params.now.layout (pictures.size_of (frame_of picture.old.shape) c) narrow_room.old.plane narrow_room.old.scratch }
         ensures picture { picture.new ≡ with_synthesised params.now.wavelet picture.old c (stack_of self.now c) }
         ensures room { HasLateRoom params.now.layout (pictures.size_of (frame_of picture.old.shape) c) room.new }
-        ensures narrow_room { HasNarrowRoom params.now.layout (pictures.size_of (frame_of picture.old.shape) c) narrow_room.new.plane narrow_room.new.scratch }
+        ensures narrow_room { HaveHalfRoom params.now.layout (pictures.size_of (frame_of picture.old.shape) c) narrow_room.new.plane narrow_room.new.scratch }
         ensures allowed { IsAllowed params.now.layout }
     {
         if self.is_wide {

@@ -19,9 +19,9 @@ use transform_params::TransformParams;
 /// Makes pictures of slices, which come to it in order. Contracts see its bands, the number of its next slice, whether
 /// it refused a slice, and the picture that it finished.
 ///
-/// All memory is taken in `new`: about 12 bytes a sample for the subbands in 32 and in 64 bits, 16 for two planes of each
-/// size, 3 for the room in 32 bits, and 2 for the picture. C1 and C2 share their planes. What serves 64 bits alone isn't
-/// touched before a slice needs it.
+/// All memory is taken in `new`: about 12 bytes a sample for the subbands in 32 and in 64 bits, 6 for the room of synthesis in
+/// 64 bits, 3 for that in 32, and 2 for the picture. C1 and C2 share their rooms. What serves 64 bits alone isn't touched
+/// before a slice needs it.
 #[derive(Drop)]
 pub struct PictureDecoder {
     params: TransformParams,

@@ -1,10 +1,9 @@
 //! The encoder of pictures.
 
-ghost use Rattle.std.specs.Prelude.{◌≡◌, ℕ, ◌+◌, ◌*◌, ◌<◌, ◌≤◌, ◌≤ℤ◌, ◌↔◌, length, IfOk, MatchResult, slice_index_or, pos, ◌-ℤ◌, ◌++◌, Err, true};
+ghost use Rattle.std.specs.Prelude.{◌≡◌, ◌+◌, ◌*◌, ◌<◌, ◌↔◌, length, IfOk, ◌++◌, Err, true};
 ghost use Rattle.std.specs.List.{concat};
 ghost use Rattle.std.specs.Int.{w32, to_be_bytes};
-ghost use Rattle.planes.specs.Raster.{height, at};
-ghost use Rattle.slice_geometry.specs.Shape.{IsSize, IsDepth};
+ghost use Rattle.slice_geometry.specs.Shape.{IsSize};
 ghost use Rattle.slice_geometry.specs.Slicing.{total_bytes};
 ghost use Rattle.slice_encoder.specs.Ready.{narrow_picture, AreGiven};
 ghost use Rattle.slice_encoder.specs.Tries.{KeptHaveSizes};
@@ -16,7 +15,7 @@ ghost use Rattle.picture_codec.specs.Samples.{shown};
 ghost use Rattle.picture_codec.specs.Decoding.{ArePadded};
 ghost use Rattle.picture_codec.specs.Pictures as pictures;
 ghost use Rattle.picture_codec.specs.Encoding.{slices_of, picture_bytes, IsSteepFor};
-ghost use Rattle.picture_codec.specs.EncoderInside.{IsWhole, AreWhole, HaveBandSizes, IsLowest, IsReadyToEncode, HoldComponent, HoldPicture};
+ghost use Rattle.picture_codec.specs.EncoderInside.{IsWhole, AreWhole, HaveBandSizes, IsLowest, IsReadyToEncode, HoldComponent};
 
 use crate::centring::centre;
 use crate::picture::Picture;
@@ -238,6 +237,7 @@ impl PictureEncoder {
     ) -> Result<PictureEncoder, EncoderFault>
         ensures new { IfOk result (λ e. (e ≡ record { shape = shape.now; params = params_of params.now }) × IsSteepFor shape.now (params_of params.now)) }
         ensures steep { result ≡ Err EncoderFault.MatrixTooSteep → IsSteepFor shape.now (params_of params.now) → ⊥ }
+        ensures memory { result ≡ Err EncoderFault.NoMemory → IsSteepFor shape.now (params_of params.now) }
     {
         if !is_steep_ok(shape, params) {
             return Err(EncoderFault::MatrixTooSteep);

@@ -3,13 +3,13 @@
 ghost use Rattle.std.specs.Prelude.{◌≡◌, ◌+◌, ◌*◌, ◌^◌, ◌<◌, ◌≤◌, length, IfOk};
 ghost use Rattle.std.specs.List.{All};
 ghost use Rattle.planes.specs.Raster.{height, at};
-ghost use Rattle.lifting.specs.SampleRoom.{HaveRoom, AreNarrowIn, synthesis_of};
+ghost use Rattle.lifting.specs.SampleRoom.{HaveRoom, AreSmallIn, AreNarrowIn, synthesis_of};
 ghost use Rattle.picture_codec.specs.Samples.{AreBelow, PictureSeen, blank_picture, shown, width_of, height_of, bits_of, sample_at, with_sample, with_run, with_component, with_shown};
 
 use crate::samples::Samples;
-use crate::workspace::NarrowWorkspace;
+use crate::workspace::{NarrowWorkspace, Workspace};
 use lifting::Wavelet;
-use planes::{NarrowBands, NoMemory, Plane};
+use planes::{Bands, NarrowBands, NoMemory};
 use slice_geometry::{Component, PictureShape, Size};
 use std::alloc::Global;
 use std::marker::Model;
@@ -117,24 +117,41 @@ impl Picture {
         }
     }
 
-    /// A component's samples from the first columns and rows of a plane: each number is clipped to the component's
-    /// depth and offset.
-    pub(crate) fn show(&mut self, c: Component, plane: &Plane)
-        requires fits { width_of self.old c ≤ plane.now.w }
-        requires high { height_of self.old c ≤ height plane.now }
-        ensures { self.new ≡ with_shown self.old c (at plane.now) }
+    /// A component's samples from its bands: synthesised, trimmed to the component's size, clipped to its depth and offset.
+    pub(crate) fn synthesise(
+        &mut self,
+        c: Component,
+        wavelet: Wavelet,
+        bands: &Bands,
+        padded: Size,
+        room: &mut Workspace,
+    )
+        requires fits { width_of self.old c ≤ padded.w }
+        requires high { height_of self.old c ≤ padded.h }
+        requires room { HaveRoom bands.now padded.w padded.h room.old.plane room.old.scratch }
+        requires small { AreSmallIn bands.now padded.w padded.h }
+        ensures samples { self.new ≡ with_shown self.old c (synthesis_of wavelet bands.now padded.w padded.h) }
+        ensures same_width { room.new.plane.w ≡ room.old.plane.w }
+        ensures same_height { height room.new.plane ≡ height room.old.plane }
+        ensures same_width_scratch { room.new.scratch.w ≡ room.old.scratch.w }
+        ensures same_height_scratch { height room.new.scratch ≡ height room.old.scratch }
     {
         let shape = self.shape;
         match c {
-            Component::Luma => self.luma.show(plane, shape.luma_depth),
-            Component::C1 => self.c1.show(plane, shape.colour_depth),
-            Component::C2 => self.c2.show(plane, shape.colour_depth),
+            Component::Luma => self
+                .luma
+                .synthesise(wavelet, bands, padded, room, shape.luma_depth),
+            Component::C1 => self
+                .c1
+                .synthesise(wavelet, bands, padded, room, shape.colour_depth),
+            Component::C2 => self
+                .c2
+                .synthesise(wavelet, bands, padded, room, shape.colour_depth),
         }
     }
 
-    /// A component's samples from its bands, whose magnitudes are at most 2^18: synthesised in 32 bits, trimmed to the
-    /// component's size, clipped to its depth and offset.
-    pub(crate) fn synthesise(
+    /// The same of bands whose magnitudes are at most 2^18, in 32 bits.
+    pub(crate) fn synthesise_narrow(
         &mut self,
         c: Component,
         wavelet: Wavelet,
@@ -156,13 +173,13 @@ impl Picture {
         match c {
             Component::Luma => self
                 .luma
-                .synthesise(wavelet, bands, padded, room, shape.luma_depth),
+                .synthesise_narrow(wavelet, bands, padded, room, shape.luma_depth),
             Component::C1 => self
                 .c1
-                .synthesise(wavelet, bands, padded, room, shape.colour_depth),
+                .synthesise_narrow(wavelet, bands, padded, room, shape.colour_depth),
             Component::C2 => self
                 .c2
-                .synthesise(wavelet, bands, padded, room, shape.colour_depth),
+                .synthesise_narrow(wavelet, bands, padded, room, shape.colour_depth),
         }
     }
 }

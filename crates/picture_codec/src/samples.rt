@@ -4,13 +4,13 @@ ghost use Rattle.std.specs.Prelude.{◌≡◌, ℕ, ◌+◌, ◌-◌, ◌*◌, �
 ghost use Rattle.std.specs.Int.{int_min, int_max};
 ghost use Rattle.planes.specs.Raster.{height, at};
 ghost use Rattle.slice_geometry.specs.Shape.{IsSize, IsDepth};
-ghost use Rattle.lifting.specs.SampleRoom.{HaveRoom, AreNarrowIn, synthesis_of};
+ghost use Rattle.lifting.specs.SampleRoom.{HaveRoom, AreSmallIn, AreNarrowIn, synthesis_of};
 ghost use Rattle.picture_codec.specs.Pictures.{sample_of};
 ghost use Rattle.picture_codec.specs.Samples.{sample_at, with_sample, with_run, tabulated, blank};
 
-use crate::workspace::NarrowWorkspace;
-use lifting::{SampleArea, Wavelet, synth_samples};
-use planes::{NarrowBands, NoMemory, Plane};
+use crate::workspace::{NarrowWorkspace, Workspace};
+use lifting::{SampleArea, Wavelet, synth_samples, synth_samples_narrow};
+use planes::{Bands, NarrowBands, NoMemory};
 use slice_geometry::Size;
 use std::alloc::Global;
 use std::marker::Model;
@@ -33,55 +33,6 @@ impl Model for Samples {
     ghost view = { λ s. record { w = s.w; h = s.h; cells = s.cells.items } };
 
     ghost invariant = { λ s. (length s.cells.items ≡ s.h * s.w) × IsSize s.w s.h };
-}
-
-// The nearest number from -half to half - 1.
-#[inline(always)]
-fn clip(v: i64, half: i64) -> i64
-    requires some { pos 1 ≤ℤ half }
-    requires most { half ≤ℤ pos 32768 }
-    ensures { result ≡ int_max (neg_ℤ half) (int_min (half -ℤ pos 1) v) }
-{
-    if v < -half {
-        -half
-    } else if v < half {
-        v
-    } else {
-        half - 1
-    }
-}
-
-// The same, counted from the lowest of them.
-#[inline(always)]
-fn offset(v: i64, half: i64) -> u16
-    requires some { pos 1 ≤ℤ half }
-    requires most { half ≤ℤ pos 32768 }
-    ensures { pos result ≡ int_max (neg_ℤ half) (int_min (half -ℤ pos 1) v) +ℤ half }
-{
-    (clip(v, half) + half) as u16
-}
-
-// Half of the numbers of so many bits.
-#[tactic(auto, using(crate::proofs::Halves::half_some, crate::proofs::Halves::half_most))]
-pub(crate) fn half_range(depth: u32) -> i64
-    requires { IsDepth depth }
-    ensures value { result ≡ pos (2 ^ (depth - 1)) }
-    ensures some { pos 1 ≤ℤ result }
-    ensures most { result ≤ℤ pos 32768 }
-{
-    1 << (depth - 1)
-}
-
-// The samples of a row.
-fn offset_row(samples: &mut [u16], row: &[i64], depth: u32)
-    requires depth { IsDepth depth }
-    requires len { length samples.old ≤ length row.now }
-    ensures { (x : ℕ) → x < length samples.old → slice_index_or samples.new x 0 ≡ sample_of depth (slice_index_or row.now x (pos 0)) }
-{
-    let half = half_range(depth);
-    for x in 0..samples.len() {
-        samples[x] = offset(row[x], half);
-    }
 }
 
 impl Samples {
@@ -132,37 +83,46 @@ impl Samples {
         self.cells.as_slice()
     }
 
-    // The samples of row y, from a row of numbers.
-    fn show_row(&mut self, y: u32, row: &[i64], depth: u32)
-        requires depth { IsDepth depth }
-        requires down { y < self.old.h }
-        requires len { self.old.w ≤ length row.now }
-        ensures same_width { self.new.w ≡ self.old.w }
-        ensures same_height { self.new.h ≡ self.old.h }
-        ensures count { length self.new.cells ≡ self.new.h * self.new.w }
-        ensures row { (x : ℕ) → x < self.old.w → sample_at self.new y x ≡ sample_of depth (slice_index_or row.now x (pos 0)) }
-        ensures above { (k : ℕ) → k < y * self.old.w → slice_index_or self.new.cells k 0 ≡ slice_index_or self.old.cells k 0 }
-    {
-        let start = (y * self.w) as usize;
-        let end = start + self.w as usize;
-        offset_row(&mut self.cells[start..end], row, depth);
-    }
-
-    /// The numbers of a plane in its first rows and columns, clipped to so many bits and offset.
-    pub(crate) fn show(&mut self, plane: &Plane, depth: u32)
-        requires depth { IsDepth depth }
-        requires fits { self.old.w ≤ plane.now.w }
-        requires high { self.old.h ≤ height plane.now }
-        ensures { self.new ≡ tabulated (record { w = self.old.w; h = self.old.h }) (λ y x. sample_of depth (at plane.now y x)) }
-    {
-        for y in 0..self.h {
-            self.show_row(y, plane.row(y), depth);
-        }
-    }
-
-    /// The samples of a component from its bands, whose magnitudes are at most 2^18: synthesised in 32 bits, and of the
-    /// first rows and columns each number clipped to so many bits and offset.
+    /// The samples of a component from its bands: synthesised, and of the first rows and columns each number clipped to so
+    /// many bits and offset.
     pub(crate) fn synthesise(
+        &mut self,
+        wavelet: Wavelet,
+        bands: &Bands,
+        padded: Size,
+        room: &mut Workspace,
+        depth: u32,
+    )
+        requires depth { IsDepth depth }
+        requires fits { self.old.w ≤ padded.w }
+        requires high { self.old.h ≤ padded.h }
+        requires room { HaveRoom bands.now padded.w padded.h room.old.plane room.old.scratch }
+        requires small { AreSmallIn bands.now padded.w padded.h }
+        ensures samples { self.new ≡ tabulated (record { w = self.old.w; h = self.old.h }) (λ y x. sample_of depth (synthesis_of wavelet bands.now padded.w padded.h y x)) }
+        ensures same_width { room.new.plane.w ≡ room.old.plane.w }
+        ensures same_height { height room.new.plane ≡ height room.old.plane }
+        ensures same_width_scratch { room.new.scratch.w ≡ room.old.scratch.w }
+        ensures same_height_scratch { height room.new.scratch ≡ height room.old.scratch }
+    {
+        let area = SampleArea {
+            w: self.w,
+            h: self.h,
+            depth,
+        };
+        synth_samples(
+            wavelet,
+            bands,
+            padded.w,
+            padded.h,
+            &mut room.plane,
+            &mut room.scratch,
+            self.cells.as_mut_slice(),
+            area,
+        );
+    }
+
+    /// The same of bands whose magnitudes are at most 2^18, in 32 bits.
+    pub(crate) fn synthesise_narrow(
         &mut self,
         wavelet: Wavelet,
         bands: &NarrowBands,
@@ -186,7 +146,7 @@ impl Samples {
             h: self.h,
             depth,
         };
-        synth_samples(
+        synth_samples_narrow(
             wavelet,
             bands,
             padded.w,

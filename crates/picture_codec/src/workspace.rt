@@ -4,7 +4,7 @@ ghost use Rattle.std.specs.Prelude.{◌≡◌, ◌≤◌, true, IfOk};
 ghost use Rattle.slice_geometry.specs.Shape.{IsSize, IsDepth};
 ghost use Rattle.picture_codec.specs.Pictures as pictures;
 ghost use Rattle.slice_geometry.specs.Frames.{frame_of};
-ghost use Rattle.picture_codec.specs.Decoding.{ArePadded, HasNarrowRoom, AreNewBands, IsRowless, HasLateRoom, HasSynthesisRoom};
+ghost use Rattle.picture_codec.specs.Decoding.{ArePadded, HaveHalfRoom, AreNewBands, IsRowless, HasLateRoom, HasSynthesisRoom};
 ghost use Rattle.planes.specs.Subbands.{AreZeroBands};
 ghost use Rattle.slice_geometry.specs.Slicing.{Slicing};
 ghost use Rattle.slice_geometry.specs.declared.Size.{Size};
@@ -16,14 +16,15 @@ use planes::{
 use slice_geometry::{Component, Layout, PictureShape, Size};
 use std::alloc::Global;
 
-/// The plane that is transformed in 64 bits, and a scratch beside it.
+/// The room for synthesis in 64 bits: a plane for the levels below the last, and a scratch for their rows and for three of
+/// the last, which goes straight into the samples.
 #[derive(Drop)]
 pub(crate) struct Workspace {
     pub(crate) plane: Plane,
     pub(crate) scratch: Plane,
 }
 
-/// The room for synthesis in 64 bits, which few pictures need: its memory isn't touched before it is made.
+/// The same room, which few pictures need: its memory isn't touched before it is made.
 #[derive(Drop)]
 pub(crate) struct LateWorkspace {
     pub(crate) room: Workspace,
@@ -45,8 +46,8 @@ impl LateWorkspace {
                 plane: Plane::new(alloc, 0, 0)?,
                 scratch: Plane::new(alloc, 0, 0)?,
             },
-            late_plane: LatePlane::new(alloc, padded.w, padded.h)?,
-            late_scratch: LatePlane::new(alloc, padded.w, padded.h)?,
+            late_plane: LatePlane::new(alloc, padded.w / 2, padded.h / 2)?,
+            late_scratch: LatePlane::new(alloc, padded.w, padded.h / 2 + 3)?,
             is_made: false,
         })
     }
@@ -54,7 +55,7 @@ impl LateWorkspace {
     /// The room, made if it wasn't.
     pub(crate) fn make(&mut self)
         requires { IsRowless self.old }
-        ensures { (s : Slicing) (size : Size) → HasLateRoom s size self.old → ArePadded s size self.new.room.plane self.new.room.scratch × (self.new.is_made ≡ true) }
+        ensures { (s : Slicing) (size : Size) → HasLateRoom s size self.old → HaveHalfRoom s size self.new.room.plane self.new.room.scratch × (self.new.is_made ≡ true) }
     {
         if self.is_made {
             return;
@@ -91,8 +92,7 @@ impl AnalysisWorkspace {
     }
 }
 
-/// The room for synthesis in 32 bits: a plane for the levels below the last, and a scratch for their rows and for three of
-/// the last, which goes straight into the samples.
+/// The room for synthesis in 32 bits.
 #[derive(Drop)]
 pub(crate) struct NarrowWorkspace {
     pub(crate) plane: NarrowPlane,
@@ -106,7 +106,7 @@ impl NarrowWorkspace {
         size: Size,
     ) -> Result<NarrowWorkspace, NoMemory>
         requires { IsSize size.w size.h }
-        ensures { IfOk result (λ w. HasNarrowRoom layout.now size w.plane w.scratch) }
+        ensures { IfOk result (λ w. HaveHalfRoom layout.now size w.plane w.scratch) }
     {
         // The rules of a layout.
         let _ = layout.depth();

@@ -7,7 +7,7 @@ ghost use Rattle.lifting.specs.Bands.{AgreeInSize};
 ghost use Rattle.lifting.specs.Places.{place};
 ghost use Rattle.lifting.specs.Ranges.{GridWithin};
 
-use crate::synthesis::{can_synth, exists};
+use crate::synthesis::{both, can_synth, exists};
 use lifting::{Wavelet, analyse, analyse_level, synth};
 use planes::{Bands, NoMemory, Plane};
 use std::alloc::Global;
@@ -95,7 +95,7 @@ fn assert_analysed(
     scratch: Result<Plane, NoMemory>,
     rows: &[BandRow],
 ) -> Result<(), Fail> {
-    let (mut plane, mut bands, mut scratch) = (plane?, bands?, scratch?);
+    let (mut plane, (mut bands, mut scratch)) = both(plane, both(bands, scratch))?;
     assert!(rt; can_analyse(&bands, &plane, &scratch));
     analyse(wavelet, &mut plane, &mut scratch, &mut bands);
     for (level, orient, y, row) in rows {
@@ -104,6 +104,9 @@ fn assert_analysed(
         assert!(rt; *y < band.h());
         assert_eq!(rt; band.row(*y), *row);
     }
+    drop(plane);
+    drop(bands);
+    drop(scratch);
     Ok(())
 }
 
@@ -243,13 +246,20 @@ fn assert_given_back(
     scratch: Result<Plane, NoMemory>,
     kept: Result<Plane, NoMemory>,
 ) -> Result<(), Fail> {
-    let (mut plane, mut bands, mut scratch, kept) = (plane?, bands?, scratch?, kept?);
+    let ((mut plane, kept), (mut bands, mut scratch)) = both(
+        both(plane, kept),
+        both(bands, scratch),
+    )?;
     assert_alike(rt, &plane, &kept);
     assert!(rt; can_analyse(&bands, &plane, &scratch));
     analyse(wavelet, &mut plane, &mut scratch, &mut bands);
     assert!(rt; can_synth(&bands, &plane, &scratch));
     synth(wavelet, &bands, &mut plane, &mut scratch);
     assert_alike(rt, &plane, &kept);
+    drop(plane);
+    drop(kept);
+    drop(bands);
+    drop(scratch);
     Ok(())
 }
 

@@ -128,29 +128,39 @@ fn put(bands: &mut Bands, coefficients: &[Coefficient]) {
     }
 }
 
+/// Two values, where both were made. Its proof doesn't look into what they own, and so is short.
+pub(crate) fn both<A: Drop, B: Drop, E: Drop>(
+    first: Result<A, E>,
+    second: Result<B, E>,
+) -> Result<(A, B), E> {
+    let first = first?;
+    let second = second?;
+    Ok((first, second))
+}
+
 fn synthesised(
+    rt: &impl Abort,
     alloc: Global,
     wavelet: Wavelet,
     coefficients: &[Coefficient],
     depth: u32,
     w: u32,
     h: u32,
-) -> Result<Option<Plane>, NoMemory>
+) -> Result<Plane, NoMemory>
     requires depth { depth ≤ 4 }
     requires w_fits { w ≤ 8208 }
     requires h_fits { h ≤ 8208 }
     requires w_whole { w % 2 ^ depth ≡ 0 }
     requires h_whole { h % 2 ^ depth ≡ 0 }
 {
-    let mut bands = Bands::new(alloc, depth, w, h)?;
+    let planes = both(Plane::new(alloc, w, h), Plane::new(alloc, w, h));
+    let (mut bands, (mut plane, mut scratch)) = both(Bands::new(alloc, depth, w, h), planes)?;
     put(&mut bands, coefficients);
-    let mut plane = Plane::new(alloc, w, h)?;
-    let mut scratch = Plane::new(alloc, w, h)?;
-    if !can_synth(&bands, &plane, &scratch) {
-        return Ok(None);
-    }
+    assert!(rt; can_synth(&bands, &plane, &scratch));
     synth(wavelet, &bands, &mut plane, &mut scratch);
-    Ok(Some(plane))
+    drop(bands);
+    drop(scratch);
+    Ok(plane)
 }
 
 /// Two levels from a lowest band of one row and two columns, against an independent model.
@@ -208,10 +218,10 @@ const BY_HAAR_SHIFT: [[i64; 8]; 4] = [
 /// Asserts what coefficients of these sizes become, row by row.
 fn assert_synthesised(
     rt: &impl Abort,
-    plane: Result<Option<Plane>, NoMemory>,
+    plane: Result<Plane, NoMemory>,
     rows: &[&[i64]],
 ) -> Result<(), Fail> {
-    let plane = plane?.expect(rt, "sizes");
+    let plane = plane?;
     assert_eq!(rt; plane.h() as usize, rows.len());
     for (y, row) in rows.iter().enumerate() {
         assert!(rt; y < plane.h() as usize);
@@ -227,7 +237,7 @@ fn two_levels(rt: HostRuntime) -> Result<(), Fail> {
         (Wavelet::HaarFlat, &BY_HAAR_FLAT),
         (Wavelet::HaarShift, &BY_HAAR_SHIFT),
     ] {
-        let plane = synthesised(rt.alloc(), wavelet, &TWO_LEVELS, 2, 8, 4);
+        let plane = synthesised(&rt, rt.alloc(), wavelet, &TWO_LEVELS, 2, 8, 4);
         assert_synthesised(&rt, plane, &[a, b, c, d])?;
     }
     Ok(())
@@ -244,8 +254,16 @@ const PAIR: [Coefficient; 4] = [
 /// One pair, and no level at all.
 #[test]
 fn smallest_planes(rt: HostRuntime) -> Result<(), Fail> {
-    let pair = synthesised(rt.alloc(), Wavelet::LeGall, &PAIR, 1, 2, 2);
+    let pair = synthesised(&rt, rt.alloc(), Wavelet::LeGall, &PAIR, 1, 2, 2);
     assert_synthesised(&rt, pair, &[&[11, 12], &[8, 10]])?;
-    let one = synthesised(rt.alloc(), Wavelet::LeGall, &[(0, 0, 0, 0, -5)], 0, 1, 1);
+    let one = synthesised(
+        &rt,
+        rt.alloc(),
+        Wavelet::LeGall,
+        &[(0, 0, 0, 0, -5)],
+        0,
+        1,
+        1,
+    );
     assert_synthesised(&rt, one, &[&[-5]])
 }

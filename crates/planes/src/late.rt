@@ -3,7 +3,7 @@
 ghost use Rattle.std.specs.Prelude.{◌≡◌, ℕ, ◌+◌, ◌*◌, ◌/◌, ◌%◌, ◌^◌, ◌<◌, ◌≤◌, length, map, replicate, slice_index_or, pos, IfOk, [], vec_capacity};
 ghost use Rattle.std.specs.List.{All};
 ghost use Rattle.planes.specs.Raster.{height, zeros};
-ghost use Rattle.planes.specs.Subbands.{no_band, subband_length, AreZeroBands};
+ghost use Rattle.planes.specs.Subbands.{no_band, band_of, subband_length, AreZeroBands};
 ghost use Rattle.planes.specs.Late.{IsUntouched};
 
 use crate::band_set::band_length;
@@ -80,7 +80,8 @@ impl LatePlane {
     /// Makes the plane, in the place of one without rows. No memory is left then.
     pub fn make(&mut self, plane: &mut Plane)
         requires { height plane.old ≡ 0 }
-        ensures { plane.new ≡ self.old }
+        ensures made { plane.new ≡ self.old }
+        ensures left { height self.new ≡ 0 }
     {
         touch_all(&mut self.rows, self.w as usize);
         plane.take_rows(self.w, &mut self.rows);
@@ -143,7 +144,8 @@ impl LateBands {
     /// Makes the bands, in the place of those of a component of no rows and no columns. No memory is left then.
     pub fn make(&mut self, bands: &mut Bands)
         requires { AreZeroBands bands.old self.old.depth 0 0 }
-        ensures { bands.new ≡ self.old }
+        ensures made { bands.new ≡ self.old }
+        ensures left { (level orient : ℕ) → height (band_of self.new level orient) ≡ 0 }
     {
         let _ = (self.depth, bands.depth());
         for k in 0..self.planes.len() {

@@ -121,16 +121,6 @@ module _ (f : Frame) (room : ℕ) (rest0 rest1 : Option (List ℕ)) (luma : List
       behind_luma rest3 (b ++ b) (c1 ++ c2) result
       (reads_then (is_wide f) (luma_count f) room b b rest1 rest2 rest3 c1 c2 result second (subst (λ (k : ℕ). ReadsSamples (is_wide f) k room b rest2 rest3 c2 result) place r))
 
--- how many bytes a component takes that was read
-pub room_behind : (wide : Bool) (start room count bound : ℕ) (rest0 rest1 : Option (List ℕ)) (samples : List ℕ) → ReadsSamples wide start room (replicate count bound) rest0 rest1 samples (Ok tt) → sample_size wide * (start + count) ≤ room
-room_behind wide start room count bound rest0 rest1 samples r =
-    let all : sample_size wide * length (replicate count bound) ≡ sample_size wide * count = ap (λ (m : ℕ). sample_size wide * m) (length-replicate count bound) in
-    by wide (omega (arith, r.most, r.are.0, all))
-  where
-    by : (wide : Bool) → sample_size wide * start + sample_size wide * count ≤ room → sample_size wide * (start + count) ≤ room
-    by false le = omega (arith, le)
-    by true le = omega (arith, le)
-
 -- the number of a sample that is too large
 pub number_few : (shape : PictureShape) (room n : ℕ) (rest0 rest1 : Option (List ℕ)) (cells : List ℕ) → ReadsSamples (is_wide (frame_of shape)) 0 room (sample_bounds (frame_of shape)) rest0 rest1 cells (Err (Large n)) → n ≤ 2 ^ 26
 number_few shape room n rest0 rest1 cells r =

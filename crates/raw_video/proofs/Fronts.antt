@@ -14,6 +14,7 @@ use Rattle.raw_video.specs.declared.reading.Halt.TheVariants as halts
 use Rattle.raw_video.specs.declared.reader.RawStep.TheVariants as steps
 use Rattle.raw_video.specs.declared.reader.RawFault.TheVariants as faults
 use Rattle.raw_video.proofs.SampleLaws.{large-stays}
+use Rattle.raw_video.proofs.ReadTurns.{soon_at_once}
 
 -- ---- sizes
 
@@ -156,6 +157,7 @@ module _ (f : Frame) (place : ℕ) (inside : place ≤ 2 ^ 40) (rest0 rest1 : Op
         most = omega (arith, long);
         limit = omega (arith, r.most);
         front = (long, omega (arith, inside, r.most, long), λ more. front_shown f place r.taken more long (omega (arith, r.most)) r.are.2 ∙ ap (λ (l : List ℕ). Shown (picture_from f l)) r.are.1 ∙ ap Shown is);
+        soon = r.soon;
       }
 
   pub read_large : (p : PictureSamples) (n at : ℕ) → at ≡ place + sample_size (is_wide f) * n → ReadsSamples (is_wide f) 0 (2 ^ 40 - place) (sample_bounds f) rest0 rest1 cells (Err (halts.Large n))
@@ -169,6 +171,7 @@ module _ (f : Frame) (place : ℕ) (inside : place ≤ 2 ^ 40) (rest0 rest1 : Op
         most = few;
         limit = omega (arith, r.most);
         front = λ more. front_large f place r.taken more n few (omega (arith, r.most)) (r.are.2 ∙ ap (λ (k : ℕ). Some k) (sym number)) ∙ ap (λ (k : ℕ). LargeAt k) (sym is);
+        soon = r.soon;
       }
 
   pub read_fault : (p : PictureSamples) → ReadsSamples (is_wide f) 0 (2 ^ 40 - place) (sample_bounds f) rest0 rest1 cells (Err halts.ReadFault) → ReadsFront f place rest0 rest1 p (Err faults.ReadFault)
@@ -178,6 +181,7 @@ module _ (f : Frame) (place : ℕ) (inside : place ≤ 2 ^ 40) (rest0 rest1 : Op
     most = omega (arith, r.few, length_of_all f);
     limit = omega (arith, r.most);
     front = omega (arith, r.are, length_of_all f);
+    soon = r.soon;
   }
 
   -- the source gave no more of the picture
@@ -202,6 +206,7 @@ module _ (f : Frame) (place : ℕ) (inside : place ≤ 2 ^ 40) (rest0 rest1 : Op
       most = omega (arith, short);
       limit = omega (arith, within);
       front = (ends, front_cut f place r.taken short within (omega (arith, some, came_is)) r.are.3 ∙ ap (λ (n : ℕ). CutAt n) (let e : place + length r.taken ≡ at = omega (arith, is, came_is) in e));
+      soon = r.soon;
     }
 
     nothing : (l : List ℕ) → length l ≡ 0 → l ≡ []
@@ -217,6 +222,7 @@ module _ (f : Frame) (place : ℕ) (inside : place ≤ 2 ^ 40) (rest0 rest1 : Op
           most = omega arith;
           limit = omega (arith, inside);
           front = (refl, ends, front_over f place (omega (arith, short)));
+          soon = soon_at_once (is_wide f) (sample_bounds f) [] (omega arith);
         }
 
     pub read_past : (rest2 : Option (List ℕ)) (byte : ℕ) → place + came ≡ 2 ^ 40 → Consumes rest1 rest2 (byte ∷ []) → ReadsFront f place rest0 rest2 p (Err faults.TooLong)
@@ -228,6 +234,7 @@ module _ (f : Frame) (place : ℕ) (inside : place ≤ 2 ^ 40) (rest0 rest1 : Op
       front = λ more.
           ap (raw_front f place) (append_assoc r.taken (byte ∷ []) more)
           ∙ front_too_long f place r.taken (byte ∷ more) short (omega (arith, limit, came_is)) (omega arith) r.are.3;
+      soon = record { sure = r.taken; last = byte ∷ []; parts = refl; few = omega arith; none = r.are.3 };
     }
 
     pub read_lost : (rest2 : Option (List ℕ)) → Consumes rest1 rest2 [] → ReadsFront f place rest0 rest2 p (Err faults.ReadFault)
@@ -237,4 +244,5 @@ module _ (f : Frame) (place : ℕ) (inside : place ≤ 2 ^ 40) (rest0 rest1 : Op
       most = omega (arith, short);
       limit = omega (arith, within);
       front = short;
+      soon = r.soon;
     }

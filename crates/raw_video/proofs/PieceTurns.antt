@@ -3,9 +3,9 @@ use Rattle.std.proofs.Common.{◌≡◌, ℕ, ◌+◌, ◌-◌, ◌*◌, ◌<◌
 use Rattle.std.specs.Io.KnownBytes.{Consumes, IsAtEnd}
 use Rattle.std.proofs.lemmas.List.{length-take, length-replicate, replicate-append-replicate}
 use Rattle.raw_video.specs.RawParse.{sample_size, samples_in, first_large}
-use Rattle.raw_video.specs.Reading.{whole_samples, ReadsSamples}
+use Rattle.raw_video.specs.Reading.{whole_samples, ReadsSamples, IsSoon}
 use Rattle.raw_video.specs.declared.reading.Halt.TheVariants.{Ended, Large}
-use Rattle.raw_video.proofs.ReadTurns.{none_extend, some_extend, large_inside}
+use Rattle.raw_video.proofs.ReadTurns.{none_extend, some_extend, large_inside, soon_at_once}
 
 pub replicate_more : (count n bound : ℕ) → count ≤ n → replicate n bound ≡ replicate count bound ++ replicate (n - count) bound
 replicate_more count n bound le =
@@ -26,7 +26,7 @@ whole_all true n came e = omega (arith, e)
 
 module _ (wide : Bool) (start room n bound before want most came count : ℕ) (rest0 rest1 : Option (List ℕ)) (buf bytes new : List ℕ)
     (before_is : before ≡ sample_size wide * start) (want_is : want ≡ sample_size wide * n) (inside : sample_size wide * start ≤ room) (most_is : most ≡ min want (room - before))
-    (long : length buf ≡ most) (came_few : came ≤ length buf) (took : Consumes rest0 rest1 (take came buf)) (ends : came < length buf → IsAtEnd rest1)
+    (long : length buf ≡ most) (came_few : came ≤ length buf) (pieces : n ≤ 2048) (took : Consumes rest0 rest1 (take came buf)) (ends : came < length buf → IsAtEnd rest1)
     (bytes_are : bytes ≡ take came buf) (parsed : take count new ≡ samples_in wide bytes) (count_is : count ≡ whole_samples wide (length bytes)) (fits : count ≤ length new) where
   size : length (take came buf) ≡ came
   size = omega (arith, length-take came buf, came_few)
@@ -47,6 +47,9 @@ module _ (wide : Bool) (start room n bound before want most came count : ℕ) (r
   few =
       let all : sample_size wide * length (replicate n bound) ≡ sample_size wide * n = ap (λ (m : ℕ). sample_size wide * m) (length-replicate n bound) in
       omega (arith, size, all, came_few, long, most_is, want_is)
+
+  soon : IsSoon wide (replicate n bound) (take came buf)
+  soon = soon_at_once wide (replicate n bound) (take came buf) (omega (arith, size, came_few, long, most_is, want_is, size_most wide n pieces))
 
   room_left : sample_size wide * start + length (take came buf) ≤ room
   room_left = omega (arith, size, came_few, long, most_is, before_is, inside)
@@ -71,6 +74,7 @@ module _ (wide : Bool) (start room n bound before want most came count : ℕ) (r
         took = took;
         few = few;
         most = room_left;
+        soon = soon;
         are = (
           k,
           refl,
@@ -93,6 +97,7 @@ module _ (wide : Bool) (start room n bound before want most came count : ℕ) (r
     took = took;
     few = few;
     most = room_left;
+    soon = soon;
     are = (
       omega (arith, before_is, size),
       (let all : sample_size wide * length (replicate n bound) ≡ sample_size wide * n = ap (λ (m : ℕ). sample_size wide * m) (length-replicate n bound) in omega (arith, size, less, want_is, all)),
@@ -110,6 +115,7 @@ module _ (wide : Bool) (start room n bound before want most came count : ℕ) (r
         took = took;
         few = few;
         most = room_left;
+        soon = soon;
         are = (
           (let many : sample_size wide * length (replicate n bound) ≡ sample_size wide * n = ap (λ (m : ℕ). sample_size wide * m) (length-replicate n bound) in omega (arith, size, is, want_is, many)),
           sym samples_are ∙ ap (λ (m : ℕ). take m new) whole,

@@ -1,12 +1,12 @@
 -- Samples that are read one part after another.
-use Rattle.std.proofs.Common.{◌≡◌, ℕ, zero, suc, ◌+◌, ◌*◌, ◌%◌, ◌<◌, ◌≤◌, cond, ltb, Bool, true, false, List, [], ◌∷◌, ◌++◌, length, replicate, Option, Some, None, Result, Ok, Err, refl, sym, ap, ◌∙◌, arith, append-nil}
+use Rattle.std.proofs.Common.{◌≡◌, ℕ, zero, suc, ◌+◌, ◌*◌, ◌%◌, ◌<◌, ◌≤◌, cond, ltb, Bool, true, false, List, [], ◌∷◌, ◌++◌, length, replicate, Option, Some, None, Result, Ok, Err, refl, sym, ap, ◌∙◌, arith, append-nil, append_assoc}
 use Rattle.std.specs.List.{All}
-use Rattle.std.specs.Io.KnownBytes.{Consumes}
 use Rattle.std.proofs.lemmas.Bool.{ltb-true}
 use Rattle.std.proofs.lemmas.List.{length-append}
+use Rattle.vc2_io.specs.declared.TheConstants.{READ_SIZE}
 use Rattle.vc2_io.proofs.Known.{Consumes-then}
 use Rattle.raw_video.specs.RawParse.{sample_size, samples_in, later, first_large}
-use Rattle.raw_video.specs.Reading.{SamplesAre, ReadsSamples}
+use Rattle.raw_video.specs.Reading.{SamplesAre, ReadsSamples, IsSoon}
 use Rattle.raw_video.specs.declared.reading.Halt.{Halt}
 use Rattle.raw_video.specs.declared.reading.Halt.TheVariants.{Ended, Large, ReadFault}
 use Rattle.raw_video.proofs.SampleLaws.{later_by, samples-append, length-samples, large-behind, large-stays}
@@ -14,10 +14,6 @@ use Rattle.raw_video.proofs.SampleLaws.{later_by, samples-append, length-samples
 pub size_add : (wide : Bool) (a b : ℕ) → sample_size wide * (a + b) ≡ sample_size wide * a + sample_size wide * b
 size_add false a b = omega arith
 size_add true a b = omega arith
-
-pub size_some : (wide : Bool) (n : ℕ) → 1 ≤ n → 1 ≤ sample_size wide * n
-size_some false n some = omega (arith, some)
-size_some true n some = omega (arith, some)
 
 -- how many samples whole bytes make
 pub whole_count : (wide : Bool) (bytes : List ℕ) (n : ℕ) → length bytes ≡ sample_size wide * n → length (samples_in wide bytes) ≡ n
@@ -96,12 +92,47 @@ large_then wide bounds others first then long none =
     ∙ large-behind bounds (samples_in wide first) others (samples_in wide then) (sym count) none
     ∙ ap (λ (n : ℕ). later_by n (first_large others (samples_in wide then))) count
 
+-- ---- no sample that is too large but in the last read
+
+nothing_large : (wide : Bool) (bounds : List ℕ) → first_large bounds (samples_in wide []) ≡ None
+nothing_large false bounds = none_of_nothing bounds
+nothing_large true bounds = none_of_nothing bounds
+
+pub soon_at_once : (wide : Bool) (bounds taken : List ℕ) → length taken ≤ READ_SIZE → IsSoon wide bounds taken
+soon_at_once wide bounds taken few = record { sure = []; last = taken; parts = refl; few = few; none = nothing_large wide bounds }
+
+few_samples : (wide : Bool) (bytes : List ℕ) (n : ℕ) → length bytes ≤ sample_size wide * n → length (samples_in wide bytes) ≤ n
+few_samples false bytes n le = omega (arith, le)
+few_samples true bytes n le = omega (arith, le, length-samples bytes)
+
+soon_first : (wide : Bool) (bounds others taken : List ℕ) → length taken ≤ sample_size wide * length bounds → IsSoon wide bounds taken → IsSoon wide (bounds ++ others) taken
+soon_first wide bounds others taken few s = record {
+  sure = s.sure;
+  last = s.last;
+  parts = s.parts;
+  few = s.few;
+  none = none_extend bounds others (samples_in wide s.sure) s.none (few_samples wide s.sure (length bounds) (omega (arith, few, long)));
+}
+  where
+    long : length taken ≡ length s.sure + length s.last
+    long = ap (λ (l : List ℕ). length l) s.parts ∙ length-append s.sure s.last
+
+soon_then : (wide : Bool) (bounds others first then : List ℕ) → length first ≡ sample_size wide * length bounds → first_large bounds (samples_in wide first) ≡ None → IsSoon wide others then
+    → IsSoon wide (bounds ++ others) (first ++ then)
+soon_then wide bounds others first then long none s = record {
+  sure = first ++ s.sure;
+  last = s.last;
+  parts = ap (λ (l : List ℕ). first ++ l) s.parts ∙ sym (append_assoc first s.sure s.last);
+  few = s.few;
+  none = large_then wide bounds others first s.sure long none ∙ ap (later_by (length bounds)) s.none;
+}
+
 -- ---- parts of the samples
 
 module _ (wide : Bool) (start room : ℕ) (bounds others : List ℕ) (rest0 rest1 : Option (List ℕ)) where
   -- what halted the first part
   pub reads_first : (samples samples' : List ℕ) (halt : Halt) → ReadsSamples wide start room bounds rest0 rest1 samples (Err halt) → ReadsSamples wide start room (bounds ++ others) rest0 rest1 samples' (Err halt)
-  reads_first samples samples' halt r = record { taken = r.taken; took = r.took; few = omega (arith, r.few, more); most = r.most; are = by halt r.are }
+  reads_first samples samples' halt r = record { taken = r.taken; took = r.took; few = omega (arith, r.few, more); most = r.most; are = by halt r.are; soon = soon_first wide bounds others r.taken r.few r.soon }
     where
       more : sample_size wide * length (bounds ++ others) ≡ sample_size wide * length bounds + sample_size wide * length others
       more = ap (λ (n : ℕ). sample_size wide * n) (length-append bounds others) ∙ size_add wide (length bounds) (length others)
@@ -121,6 +152,7 @@ module _ (wide : Bool) (start room : ℕ) (bounds others : List ℕ) (rest0 rest
     few = omega (arith, b.few, both, all);
     most = omega (arith, b.most, both, before);
     are = by result b.are;
+    soon = soon_then wide bounds others a.taken b.taken a.are.0 a.are.2 b.soon;
   }
     where
       both : length (a.taken ++ b.taken) ≡ sample_size wide * length bounds + length b.taken
@@ -149,15 +181,3 @@ module _ (wide : Bool) (start room : ℕ) (bounds others : List ℕ) (rest0 rest
       )
       by (Err (Large number)) (k, is, some) = (length bounds + k, omega (arith, is), behind ∙ ap (later_by (length bounds)) some)
       by (Err ReadFault) short = omega (arith, short, both, all)
-
--- nothing was wanted
-pub reads_none : (wide : Bool) (start room : ℕ) (rest0 : Option (List ℕ)) → sample_size wide * start ≤ room → Consumes rest0 rest0 [] → ReadsSamples wide start room [] rest0 rest0 [] (Ok tt)
-reads_none wide start room rest0 inside took = record { taken = []; took = took; few = omega arith; most = omega (arith, inside); are = (nothing wide, whole wide, refl) }
-  where
-    nothing : (wide : Bool) → 0 ≡ sample_size wide * 0
-    nothing false = refl
-    nothing true = refl
-
-    whole : (wide : Bool) → samples_in wide [] ≡ []
-    whole false = refl
-    whole true = refl

@@ -50,11 +50,6 @@ text-samples true (x ∷ y ∷ bytes) f even =
 
 -- ---- samples that are too large
 
-by_test : (b : Bool) (r s : Option ℕ) (n : ℕ) → (r ≡ None → s ≡ later_by n r) → cond b (later r) (Some 0) ≡ None → r ≡ None
-by_test true None s n h e = refl
-by_test true (Some k) s n h e = absurd cc
-by_test false r s n h e = absurd cc
-
 later-later : (n : ℕ) (r : Option ℕ) → later (later_by n r) ≡ later_by (suc n) r
 later-later n None = refl
 later-later n (Some k) = ap Some (omega arith)
@@ -89,12 +84,6 @@ pub large-stays : (bounds vs more ws : List ℕ) (k : ℕ) → first_large bound
 large-stays [] vs more ws k h = absurd cc
 large-stays (b ∷ bounds) [] more ws k h = absurd cc
 large-stays (b ∷ bounds) (v ∷ vs) more ws k h = some_later (ltb v b) (first_large bounds vs) (first_large (bounds ++ more) (vs ++ ws)) k (λ j e. large-stays bounds vs more ws j e) h
-
--- all below one bound
-pub none-large : (n bound : ℕ) (vs : List ℕ) → AllByRecursion (λ v. v < bound) vs → first_large (replicate n bound) vs ≡ None
-none-large zero bound vs f = refl
-none-large (suc n) bound [] f = refl
-none-large (suc n) bound (v ∷ vs) f = rw (lt-ltb v bound f.0) (ap later (none-large n bound vs f.1))
 
 -- the same, by their places
 pub none-large-at : (n bound : ℕ) (vs : List ℕ) → All (λ v. v < bound) vs → first_large (replicate n bound) vs ≡ None

@@ -1,12 +1,13 @@
 -- What reading raw video leaves: some samples of a picture, and the next picture.
 use Rattle.std.specs.Prelude.{◌≡◌, ◌≤◌, ◌<◌, ◌⊎◌, ℕ, ◌+◌, ◌*◌, Bool, false, true, if◌then◌else◌, ◌/◌, List, [], ◌∷◌, ◌++◌, length, Option, Some, None, Result, Ok, Err}
-use Rattle.vc2_io.specs.declared.TheConstants.{INPUT_LIMIT}
+use Rattle.vc2_io.specs.declared.TheConstants.{INPUT_LIMIT, READ_SIZE}
 use Rattle.std.specs.Io.KnownBytes.{Consumes, IsAtEnd}
 use Rattle.vc2_io.specs.Outside.{Rose}
 use Rattle.slice_geometry.specs.declared.PictureShape.{PictureShape}
 use Rattle.slice_geometry.specs.Frames.{Frame, frame_of}
 use Rattle.picture_codec.specs.Samples.{PictureSamples}
-use Rattle.raw_video.specs.RawParse.{sample_size, raw_length, samples_in, first_large, raw_front, Shown, Over, LargeAt, CutAt, TooLong}
+use Rattle.raw_video.specs.RawText.{is_wide}
+use Rattle.raw_video.specs.RawParse.{sample_size, raw_length, samples_in, first_large, raw_front, sample_bounds, Shown, Over, LargeAt, CutAt, TooLong}
 use Rattle.raw_video.specs.declared.reading.Halt.{Halt}
 use Rattle.raw_video.specs.declared.reading.Halt.TheVariants as halts
 use Rattle.raw_video.specs.declared.reader.RawStep.{RawStep}
@@ -33,6 +34,15 @@ SamplesAre wide start room bounds rest taken samples (Err (halts.Large number)) 
     (k : ℕ) × (number ≡ start + k) × (first_large bounds (samples_in wide taken) ≡ Some k)
 SamplesAre wide start room bounds rest taken samples (Err halts.ReadFault) = length taken < sample_size wide * length bounds
 
+-- Without its last bytes, of which there are at most so many as a read asks for, what was taken has no sample that is too
+-- large. So nothing is read behind the read with which one came.
+pub record IsSoon (wide : Bool) (bounds taken : List ℕ) : Type 0 where
+  pub sure : List ℕ
+  pub last : List ℕ
+  pub parts : taken ≡ sure ++ last
+  pub few : length last ≤ READ_SIZE
+  pub none : first_large bounds (samples_in wide sure) ≡ None
+
 -- The samples were read, or what halted it is told; all bytes of the picture are at most so many as there is room for.
 pub record ReadsSamples (wide : Bool) (start room : ℕ) (bounds : List ℕ) (rest0 rest1 : Option (List ℕ))
     (samples : List ℕ) (result : Result (Unit {0}) Halt) : Type 0 where
@@ -41,6 +51,7 @@ pub record ReadsSamples (wide : Bool) (start room : ℕ) (bounds : List ℕ) (re
   pub few : length taken ≤ sample_size wide * length bounds
   pub most : sample_size wide * start + length taken ≤ room
   pub are : SamplesAre wide start room bounds rest1 taken samples result
+  pub soon : IsSoon wide bounds taken
 
 -- a failed read has its cause, and without one the count stands still
 abbrev pub HaltCause : {X : Type 0} → ℕ → ℕ → Result X Halt → Type 0
@@ -62,7 +73,7 @@ FrontIs f place taken rest samples (Err faults.TooLong) = (more : List ℕ) → 
 FrontIs f place taken rest samples (Err faults.ReadFault) = length taken < raw_length f
 
 -- What stands in front was read, behind so many bytes: at most a picture's bytes were taken, of which at most one lies
--- past the limit.
+-- past the limit, and none behind the read with which a sample came that is too large.
 pub record ReadsFront (f : Frame) (place : ℕ) (rest0 rest1 : Option (List ℕ)) (samples : PictureSamples)
     (result : Result RawStep RawFault) : Type 0 where
   pub taken : List ℕ
@@ -70,6 +81,7 @@ pub record ReadsFront (f : Frame) (place : ℕ) (rest0 rest1 : Option (List ℕ)
   pub most : length taken ≤ raw_length f
   pub limit : place + length taken ≤ INPUT_LIMIT + 1
   pub front : FrontIs f place taken rest1 samples result
+  pub soon : IsSoon (is_wide f) (sample_bounds f) taken
 
 -- whether a byte more was found, and taken
 abbrev pub FoundByte : Option (List ℕ) → Option (List ℕ) → Bool → Type 0

@@ -1,6 +1,6 @@
 // Pictures from a source.
-ghost use Rattle.std.specs.Prelude.{◌≡◌, ◌≤◌, ◌+◌, ◌-◌, ◌*◌, ◌^◌, ℕ, Option, List, [], ◌∷◌, false, true, IfOk, OnErr, Err, Bool};
-ghost use Rattle.std.specs.Io.KnownBytes.{Consumes, IsAtEnd};
+ghost use Rattle.std.specs.Prelude.{◌≡◌, ◌≤◌, ◌+◌, ◌-◌, ◌*◌, ◌^◌, ℕ, Option, List, [], false, true, IfOk, OnErr, Err};
+ghost use Rattle.std.specs.Io.KnownBytes.{Consumes};
 ghost use Rattle.vc2_io.specs.Outside.{HasCause};
 ghost use Rattle.slice_geometry.specs.Frames.{Frame, frame_of};
 ghost use Rattle.picture_codec.specs.Samples.{PictureSamples};
@@ -150,7 +150,7 @@ impl RawReader {
     }
 
     /// Reads the next picture, which has the reader's shape, and takes no memory. At most 4096 bytes are asked for at
-    /// once, and none beyond the picture's end.
+    /// once, none beyond the picture's end, and none behind a sample that is too large.
     ///
     /// After a refusal the picture holds any samples, and only `place` may be called.
     pub fn next<S: Source>(

@@ -11,7 +11,7 @@ use slice_geometry::Component;
 use vc2_io::{Failed, Sink, write_whole};
 
 // How many samples go out in one piece.
-const PIECE: usize = 4096;
+const PIECE: usize = 32768;
 
 // Writes the samples, a piece at a time.
 fn write_samples<K: Sink>(sink: &mut K, samples: &[u16], wide: bool) -> Result<(), Failed>

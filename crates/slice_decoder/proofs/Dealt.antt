@@ -97,11 +97,6 @@ huge-not_small (v ∷ vs) q le huge = elim (cases_lt (2 ^ 36) (unsigned_abs v)) 
   | inr small ↦ and-false _ _ (huge-not_small vs q le (λ all. huge (small, all)))
 ]
 
-pub small-at : (vs : List ℤ) (k : ℕ) → AllByRecursion IsSmall vs → unsigned_abs (get_or vs k (pos 0)) ≤ 2 ^ 36
-small-at [] k h = omega arith
-small-at (v ∷ vs) zero h = h.0
-small-at (v ∷ vs) (suc k) h = small-at vs k h.1
-
 -- ---- a row
 
 pub row-false : (block : List Bool) (n q : ℕ) → q ≤ 127 → HasHuge n block → are_small (dealt block (replicate n q)) ≡ false

@@ -11,3 +11,4 @@ pub mod LevelLemmas
 pub mod LevelHalves
 pub mod Restores
 pub mod Placed
+pub mod PairLanes

@@ -1,8 +1,10 @@
 // The places of a slice in the bands of each level of one component.
 
-ghost use Rattle.std.specs.Prelude.{◌≡◌, ◌+◌, ◌*◌, ◌/◌, ◌^◌, ◌<◌, ◌≤◌};
+ghost use Rattle.std.specs.Prelude.{◌≡◌, ℕ, ◌+◌, ◌*◌, ◌/◌, ◌^◌, ◌<◌, ◌≤◌};
 ghost use Rattle.slice_geometry.specs.Shape.{IsSize};
-ghost use Rattle.slice_geometry.specs.SliceOrder.{area, place_count};
+ghost use Rattle.slice_geometry.specs.declared.Size.{Size};
+ghost use Rattle.slice_geometry.specs.Slicing.{Slicing};
+ghost use Rattle.slice_geometry.specs.SliceOrder.{area, place_count, level_rect};
 ghost use Rattle.slice_decoder.specs.Levels.{IsLowRect, AreRects};
 
 use crate::components::Place;
@@ -47,6 +49,13 @@ pub fn level_rects(layout: &Layout, size: Size, place: Place) -> [Rect; 5]
     }
     rects[0] = rects[depth.min(1) as usize];
     rects
+}
+
+// The slice's rectangle in the lowest subband.
+pub fn lowest_of(rects: &[Rect; 5]) -> Rect
+    ensures { (s : Slicing) (size : Size) (sx sy : ℕ) → AreRects s size sx sy rects.now → result ≡ level_rect s size sx sy 0 }
+{
+    rects[0]
 }
 
 // How many places the slice has.

@@ -3,17 +3,17 @@
 ghost use Rattle.std.specs.Prelude.{◌≡◌, ◌+◌, ◌*◌, ◌^◌, ◌<◌, ◌≤◌, length, pos};
 ghost use Rattle.planes.specs.Bounded.{AreBandsWithin};
 ghost use Rattle.planes.specs.Subbands.{HaveSizes};
-ghost use Rattle.slice_geometry.specs.Shape.{IsSize};
 ghost use Rattle.slice_geometry.specs.Geometry.{padded_length};
 ghost use Rattle.slice_decoder.specs.Components.{part_of, BandsHold, BandsKeep};
+ghost use Rattle.slice_decoder.specs.Levels.{AreRects};
 ghost use Rattle.slice_decoder.specs.Narrow.{block_values, Answers};
 
 use crate::components::Place;
-use crate::levels::{count_places, level_rects};
+use crate::levels::count_places;
 use crate::narrow_placing::{put_colour, put_luma};
 use crate::narrow_restoring::read_values;
 use bounded_blocks::{Block, CodeTable, SPARE};
-use planes::NarrowBands;
+use planes::{NarrowBands, Rect};
 use quant_factors::Matrix;
 use slice_geometry::{Layout, Size};
 
@@ -23,13 +23,14 @@ pub fn read_luma(
     block: &Block<'_>,
     codes: &CodeTable,
     bands: &mut NarrowBands,
+    rects: &[Rect; 5],
     layout: &Layout,
     size: Size,
     matrix: &Matrix,
     place: Place,
     buffer: &mut [i32],
 ) -> bool
-    requires size { IsSize size.w size.h }
+    requires rects { AreRects layout.now size place.sx place.sy rects.now }
     requires across { place.sx < layout.now.slices_x }
     requires down { place.sy < layout.now.slices_y }
     requires qindex { place.qindex ≤ 127 }
@@ -43,17 +44,16 @@ pub fn read_luma(
         BandsKeep part bands.old bands.new }
     ensures narrow { AreBandsWithin (pos (2 ^ 18)) bands.new }
 {
-    let rects = level_rects(layout, size, place);
-    let count = count_places(&rects, layout, size, place);
+    let count = count_places(rects, layout, size, place);
     if count + SPARE > buffer.len() {
         return false;
     }
     if !read_values(
-        block, codes, buffer, count, 1, &rects, layout, size, matrix, place,
+        block, codes, buffer, count, 1, rects, layout, size, matrix, place,
     ) {
         return false;
     }
-    put_luma(&buffer[..count], bands, &rects, layout, size, place);
+    put_luma(&buffer[..count], bands, rects, layout, size, place);
     true
 }
 
@@ -64,13 +64,14 @@ pub fn read_colour(
     codes: &CodeTable,
     first: &mut NarrowBands,
     second: &mut NarrowBands,
+    rects: &[Rect; 5],
     layout: &Layout,
     size: Size,
     matrix: &Matrix,
     place: Place,
     buffer: &mut [i32],
 ) -> bool
-    requires size { IsSize size.w size.h }
+    requires rects { AreRects layout.now size place.sx place.sy rects.now }
     requires across { place.sx < layout.now.slices_x }
     requires down { place.sy < layout.now.slices_y }
     requires qindex { place.qindex ≤ 127 }
@@ -92,16 +93,15 @@ pub fn read_colour(
     ensures first_narrow { AreBandsWithin (pos (2 ^ 18)) first.new }
     ensures second_narrow { AreBandsWithin (pos (2 ^ 18)) second.new }
 {
-    let rects = level_rects(layout, size, place);
-    let count = 2 * count_places(&rects, layout, size, place);
+    let count = 2 * count_places(rects, layout, size, place);
     if count + SPARE > buffer.len() {
         return false;
     }
     if !read_values(
-        block, codes, buffer, count, 2, &rects, layout, size, matrix, place,
+        block, codes, buffer, count, 2, rects, layout, size, matrix, place,
     ) {
         return false;
     }
-    put_colour(&buffer[..count], first, second, &rects, layout, size, place);
+    put_colour(&buffer[..count], first, second, rects, layout, size, place);
     true
 }

@@ -13,6 +13,7 @@ use crate::components::{Place, band_numbered};
 use crate::levels::area_of;
 use planes::{NarrowBands, NarrowPlane, Rect};
 use slice_geometry::{Layout, Size};
+use std::simd::prelude::*;
 
 // Puts four numbers at the places from x on.
 #[inline(always)]
@@ -83,6 +84,7 @@ fn put_ones(values: &[i32], from: usize, row: &mut [i32], start: usize, end: usi
 }
 
 // Puts the values from one on at the places x0..x1 of a row.
+#[inline(always)]
 fn put_part(values: &[i32], from: usize, row: &mut [i32], x0: u32, x1: u32)
     requires order { x0 ≤ x1 }
     requires inside { x1 ≤ length row.old }
@@ -111,20 +113,11 @@ fn put_four_pairs(values: &[i32], from: usize, first: &mut [i32], second: &mut [
     ensures first_stays { StaysBeside x (x + 4) first.old first.new }
     ensures second_stays { StaysBeside x (x + 4) second.old second.new }
 {
-    let ones = [
-        values[from],
-        values[from + 2],
-        values[from + 4],
-        values[from + 6],
-    ];
-    let others = [
-        values[from + 1],
-        values[from + 3],
-        values[from + 5],
-        values[from + 7],
-    ];
-    put_all(first, x, ones);
-    put_all(second, x, others);
+    let front = i32x4::from_slice(&values[from..from + 4]);
+    let back = i32x4::from_slice(&values[from + 4..from + 8]);
+    let (ones, others) = front.deinterleave(back);
+    put_all(first, x, ones.to_array());
+    put_all(second, x, others.to_array());
 }
 
 // Puts the values from one on at the places of two rows from `start` on in turn, four places at a time, as long as four
@@ -188,6 +181,7 @@ fn put_pair_ones(
 }
 
 // Puts the values from one on at the places x0..x1 of two rows in turn.
+#[inline(always)]
 fn put_pair(values: &[i32], from: usize, first: &mut [i32], second: &mut [i32], x0: u32, x1: u32)
     requires order { x0 ≤ x1 }
     requires first_inside { x1 ≤ length first.old }
@@ -213,9 +207,11 @@ fn put_pair(values: &[i32], from: usize, first: &mut [i32], second: &mut [i32], 
     );
 }
 
-// Puts the values from one on at the places of a rectangle.
-fn put_rect(values: &[i32], from: usize, plane: &mut NarrowPlane, rect: Rect)
+// Puts the values from one on at the places of a rectangle that is so wide.
+#[inline(always)]
+fn put_rows(values: &[i32], from: usize, plane: &mut NarrowPlane, rect: Rect, w: u32)
     requires across { rect.x0 ≤ rect.x1 }
+    requires width { w ≡ rect.x1 - rect.x0 }
     requires down { rect.y0 ≤ rect.y1 }
     requires x_inside { rect.x1 ≤ plane.old.w }
     requires y_inside { rect.y1 ≤ height plane.old }
@@ -225,12 +221,61 @@ fn put_rect(values: &[i32], from: usize, plane: &mut NarrowPlane, rect: Rect)
 {
     let mut place = from;
     for y in rect.y0..rect.y1 {
-        put_part(values, place, plane.row_mut(y), rect.x0, rect.x1);
-        place += (rect.x1 - rect.x0) as usize;
+        put_part(values, place, plane.row_mut(y), rect.x0, rect.x0 + w);
+        place += w as usize;
     }
 }
 
-// Puts the values from one on at the places of a rectangle in two bands, which take them in turn.
+// The same of any width. For a width that is written out the compiler needs no loop over a row.
+fn put_rect(values: &[i32], from: usize, plane: &mut NarrowPlane, rect: Rect)
+    requires across { rect.x0 ≤ rect.x1 }
+    requires down { rect.y0 ≤ rect.y1 }
+    requires x_inside { rect.x1 ≤ plane.old.w }
+    requires y_inside { rect.y1 ≤ height plane.old }
+    requires room { from + area rect ≤ length values.now }
+    requires narrow { (k : ℕ) → IsNarrow (slice_index_or values.now k (pos 0)) }
+    ensures { HoldsRect 1 0 rect (drop from values.now) plane.old plane.new }
+{
+    match rect.x1 - rect.x0 {
+        8 => put_rows(values, from, plane, rect, 8),
+        4 => put_rows(values, from, plane, rect, 4),
+        2 => put_rows(values, from, plane, rect, 2),
+        w => put_rows(values, from, plane, rect, w),
+    }
+}
+
+// Puts the values from one on at the places of a rectangle that is so wide in two bands, which take them in turn.
+#[inline(always)]
+fn put_row_pairs(
+    values: &[i32],
+    from: usize,
+    first: &mut NarrowPlane,
+    second: &mut NarrowPlane,
+    rect: Rect,
+    w: u32,
+)
+    requires across { rect.x0 ≤ rect.x1 }
+    requires width { w ≡ rect.x1 - rect.x0 }
+    requires down { rect.y0 ≤ rect.y1 }
+    requires first_x_inside { rect.x1 ≤ first.old.w }
+    requires first_y_inside { rect.y1 ≤ height first.old }
+    requires second_x_inside { rect.x1 ≤ second.old.w }
+    requires second_y_inside { rect.y1 ≤ height second.old }
+    requires room { from + 2 * area rect ≤ length values.now }
+    requires narrow { (k : ℕ) → IsNarrow (slice_index_or values.now k (pos 0)) }
+    ensures first { HoldsRect 2 0 rect (drop from values.now) first.old first.new }
+    ensures second { HoldsRect 2 1 rect (drop from values.now) second.old second.new }
+{
+    let mut place = from;
+    for y in rect.y0..rect.y1 {
+        let one = first.row_mut(y);
+        let two = second.row_mut(y);
+        put_pair(values, place, one, two, rect.x0, rect.x0 + w);
+        place += 2 * w as usize;
+    }
+}
+
+// The same of any width.
 fn put_rects(
     values: &[i32],
     from: usize,
@@ -249,16 +294,16 @@ fn put_rects(
     ensures first { HoldsRect 2 0 rect (drop from values.now) first.old first.new }
     ensures second { HoldsRect 2 1 rect (drop from values.now) second.old second.new }
 {
-    let mut place = from;
-    for y in rect.y0..rect.y1 {
-        let one = first.row_mut(y);
-        let two = second.row_mut(y);
-        put_pair(values, place, one, two, rect.x0, rect.x1);
-        place += 2 * (rect.x1 - rect.x0) as usize;
+    match rect.x1 - rect.x0 {
+        4 => put_row_pairs(values, from, first, second, rect, 4),
+        2 => put_row_pairs(values, from, first, second, rect, 2),
+        1 => put_row_pairs(values, from, first, second, rect, 1),
+        w => put_row_pairs(values, from, first, second, rect, w),
     }
 }
 
 // Puts the values of a slice at its places in a component's subbands.
+#[inline(never)]
 pub fn put_luma(
     values: &[i32],
     bands: &mut NarrowBands,
@@ -287,6 +332,7 @@ pub fn put_luma(
 }
 
 // Puts the values of a slice at its places in the subbands of the two colour components, which take them in turn.
+#[inline(never)]
 pub fn put_colour(
     values: &[i32],
     first: &mut NarrowBands,

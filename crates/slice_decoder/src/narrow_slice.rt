@@ -10,10 +10,12 @@ ghost use Rattle.slice_geometry.specs.SliceOrder.{numbered};
 ghost use Rattle.slice_decoder.specs.Slice.{slice_at};
 ghost use Rattle.slice_decoder.specs.Components.{part_of};
 ghost use Rattle.slice_decoder.specs.Decoded.{AreReady, AllKeepOthers, IsDecoded, IsRefused};
+ghost use Rattle.slice_decoder.specs.Levels.{AreRects};
 ghost use Rattle.slice_decoder.specs.Narrow.{trio_of, AreNarrowBands, NeedsWide, IsReadNarrow, LowestKeeps, AreRestored, OneStops, AllKeepLowest};
 
 use crate::ahead::read_ahead;
 use crate::components::Place;
+use crate::levels::{level_rects, lowest_of};
 use crate::narrow::{read_colour, read_luma};
 use crate::{SliceFault, head_of};
 use bounded_blocks::{Block, CodeTable};
@@ -26,6 +28,8 @@ use slice_geometry::{Layout, PictureShape, SliceHead, length_bits};
 fn read_blocks(
     layout: &Layout,
     shape: &PictureShape,
+    luma_rects: &[Rect; 5],
+    colour_rects: &[Rect; 5],
     matrix: &Matrix,
     place: Place,
     bytes: &[u8],
@@ -41,6 +45,8 @@ fn read_blocks(
     requires down { place.sy < layout.now.slices_y }
     requires qindex { place.qindex ≤ 127 }
     requires entries { matrix.now.depth ≡ layout.now.depth }
+    requires luma_rects { AreRects layout.now shape.now.luma place.sx place.sy luma_rects.now }
+    requires colour_rects { AreRects layout.now shape.now.colour place.sx place.sy colour_rects.now }
     requires ready { AreReady layout.now shape.now place.sx place.sy (trio_of bands.old) }
     requires narrow { AreNarrowBands bands.old }
     ensures { let start = 7 + slicing.length_bits (length bytes.now) in
@@ -59,6 +65,7 @@ fn read_blocks(
         &luma,
         codes,
         &mut bands.luma,
+        luma_rects,
         layout,
         shape.luma,
         matrix,
@@ -72,6 +79,7 @@ fn read_blocks(
         codes,
         &mut bands.c1,
         &mut bands.c2,
+        colour_rects,
         layout,
         shape.colour,
         matrix,
@@ -161,9 +169,13 @@ pub fn decode_narrow(
         qindex: head.qindex,
     };
     read_ahead(bands, layout, shape, sx, sy, buffer);
+    let luma_rects = level_rects(layout, shape.luma, place);
+    let colour_rects = level_rects(layout, shape.colour, place);
     if !read_blocks(
         layout,
         shape,
+        &luma_rects,
+        &colour_rects,
         matrix,
         place,
         bytes,
@@ -174,8 +186,8 @@ pub fn decode_narrow(
     ) {
         return Ok(None);
     }
-    let luma = layout.band_rect(shape.luma, 0, sx, sy);
-    let colour = layout.band_rect(shape.colour, 0, sx, sy);
+    let luma = lowest_of(&luma_rects);
+    let colour = lowest_of(&colour_rects);
     if !restore_all(bands, luma, colour) {
         return Ok(None);
     }

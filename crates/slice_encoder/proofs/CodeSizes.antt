@@ -15,7 +15,7 @@ use Rattle.slice_encoder.specs.Gathering.{with_code}
 use Rattle.slice_encoder.proofs.CountedBits.{one_code-most}
 use Rattle.slice_encoder.proofs.Gathers.{value_small}
 use Rattle.slice_encoder.specs.CodeLengths.{code_length}
-use Rattle.slice_encoder.proofs.Reaches.{code_rises, code_long, with_some}
+use Rattle.slice_encoder.proofs.Reaches.{code_rises, code_long}
 
 same_length : (v w : ℤ) → unsigned_abs v ≡ unsigned_abs w → length (signed_code_of v) ≡ length (signed_code_of w)
 same_length v w e = omega (arith, code_rises v w (omega (arith, e)), code_rises w v (omega (arith, e)))
@@ -44,15 +44,6 @@ pub nothing_more : (bits : ℕ) (v : ℤ) → bits ≡ 1 → bits ≡ length (si
 nothing_more bits v one e =
     let none = one_bit v (sym e ∙ one) in
     grind (arith, nat_tests, none)
-
-pub more_behind : (bits behind : ℕ) (v : ℤ) → (behind ≡ 0 → ⊥) → bits ≡ length (signed_code_of v) → bits + behind ≡ with_code v behind
-more_behind bits behind v some e = omega (arith, e, with_some v behind (omega (arith, some)))
-
-pub more_bits : (bits behind : ℕ) (v : ℤ) → (bits ≡ 1 → ⊥) → bits ≡ length (signed_code_of v) → bits + behind ≡ with_code v behind
-more_bits bits behind v more e = elim (cases_eq (unsigned_abs v) 0) [
-  | inl none ↦ absurd (more (e ∙ zero_bits v none))
-  | inr some ↦ omega (arith, e, with_some v behind (omega (arith, some)))
-]
 
 -- ---- a row
 

@@ -3,7 +3,7 @@ use Rattle.std.proofs.Common.{◌≡◌, ◌∙◌, refl, sym, ap, subst, ℕ, z
 use Rattle.std.specs.Prelude.{unsigned_abs, slice_index}
 use Rattle.std.specs.List.{All, flat_map, range_with_len}
 use Rattle.std.proofs.Math.Seq.{take-append_seam, drop-append_seam}
-use Rattle.std.proofs.lemmas.List.{take_more, take_more_set, drop_more, take-append-le, length-append, length-set, map-append, drop-take}
+use Rattle.std.proofs.lemmas.List.{take_more, take_more_set, take-append-le, length-append, length-set, map-append, drop-take}
 use Rattle.planes.specs.Numbers.{Within}
 use Rattle.quant_factors.specs.Factors.{forward_of}
 use Rattle.slice_geometry.specs.declared.Size.{Size}
@@ -34,12 +34,6 @@ turn_append [] [] xs ys e = refl
 turn_append [] (w ∷ ws) xs ys e = absurd (omega (arith, e))
 turn_append (v ∷ vs) [] xs ys e = absurd (omega (arith, e))
 turn_append (v ∷ vs) (w ∷ ws) xs ys e = ap (λ (t : List ℤ). v ∷ w ∷ t) (turn_append vs ws xs ys (omega (arith, e)))
-
-pub length_turn : (vs ws : List ℤ) → length vs ≡ length ws → length (in_turn vs ws) ≡ 2 * length vs
-length_turn [] [] e = refl
-length_turn [] (w ∷ ws) e = absurd (omega (arith, e))
-length_turn (v ∷ vs) [] e = absurd (omega (arith, e))
-length_turn (v ∷ vs) (w ∷ ws) e = omega (arith, length_turn vs ws (omega (arith, e)))
 
 pub quantised_more : (q : ℕ) (vs : List ℤ) (p : ℕ) (d : ℤ) → p < length vs → quantised q (take (p + 1) vs) ≡ quantised q (take p vs) ++ forward_of (get_or vs p d) q ∷ []
 quantised_more q vs p d lt = ap (quantised q) (take_more vs p d lt) ∙ map-append (λ v. forward_of v q) (take p vs) (get_or vs p d ∷ [])
@@ -78,19 +72,6 @@ pair_more out vs ws q p v w d room lt same v_is w_is so_far =
 
 pub value_small : (v : ℤ) (q : ℕ) → q ≤ 127 → Within (2 ^ 27) v → unsigned_abs (forward_of v q) ≤ 2 ^ 36
 value_small v q le near = omega (arith, forward_small v q le, within_abs (2 ^ 27) v near)
-
--- one value more in front
-pub reach_more : (q behind bits p : ℕ) (vs : List ℤ) (r d : ℤ) → p < length vs → bits ≡ reach (quantised q (drop (length vs - p) vs)) behind → r ≡ forward_of (get_or vs (length vs - 1 - p) d) q
-    → with_code r bits ≡ reach (quantised q (drop (length vs - (p + 1)) vs)) behind
-reach_more q behind bits p vs r d lt so_far r_is =
-    let i : ℕ = length vs - 1 - p in
-    let here : length vs - (p + 1) ≡ i = omega arith in
-    let next : i + 1 ≡ length vs - p = omega arith in
-    ap (λ (n : ℕ). with_code r n) so_far
-    ∙ ap (λ (x : ℤ). with_code x (reach (quantised q (drop (length vs - p) vs)) behind)) r_is
-    ∙ sym (ap (λ (n : ℕ). reach (quantised q (drop n vs)) behind) here
-    ∙ ap (λ (t : List ℤ). reach (quantised q t) behind) (drop_more vs i d (omega (arith, lt)))
-    ∙ ap (λ (n : ℕ). with_code (forward_of (get_or vs i d) q) (reach (quantised q (drop n vs)) behind)) next)
 
 pub reach_append : (vs ws : List ℤ) (behind : ℕ) → reach (vs ++ ws) behind ≡ reach vs (reach ws behind)
 reach_append [] ws behind = refl

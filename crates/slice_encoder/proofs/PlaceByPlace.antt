@@ -137,13 +137,3 @@ module _ (g : Grid) (q : ℕ) (r : Rect) (y x : ℕ) (old new : Raster ℤ) (v :
     small = small_at;
     stays = stays_at;
   }
-
--- a row's end is the next one's start
-row_on : (r : Rect) (y j i : ℕ) → IsInRect r j i → Before (y + 1) r.x0 j i → Before y r.x1 j i
-row_on r y j i h before = elim before [
-  | inl less ↦ elim (cases_eq j y) [ inl e ↦ inr (e, h.right) | inr ne ↦ inl (omega arith) ]
-  | inr row ↦ absurd (omega (arith, row.1, h.left))
-]
-
-row_back : (r : Rect) (y x j i : ℕ) → IsInRect r j i → Before y x j i → Before (y + 1) r.x0 j i
-row_back r y x j i h before = elim before [ inl less ↦ inl (omega arith) | inr row ↦ inl (omega (arith, row.0)) ]

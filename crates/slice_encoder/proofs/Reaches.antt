@@ -139,13 +139,6 @@ lowest_rises n a b le = elim (cases_eq a 0) [
   | inr some ↦ omega (arith, lowest_some n a (omega arith), lowest_some n b (omega arith))
 ]
 
-pub reach_falls : (j : CodedPicture) (sx sy i k : ℕ) → i ≤ k → k ≤ 127 → ((reach_of j sx sy k).luma ≤ (reach_of j sx sy i).luma) × ((reach_of j sx sy k).colour ≤ (reach_of j sx sy i).colour)
-reach_falls j sx sy i k le most =
-    let one = lowest_rises (area (level_rect j.slicing j.frame.luma sx sy 0)) _ _ (high_falls (luma_of j) sx sy i k le most) in
-    let both : high_reach (c1_of j) k sx sy + high_reach (c2_of j) k sx sy ≤ high_reach (c1_of j) i sx sy + high_reach (c2_of j) i sx sy = omega (arith, high_falls (c1_of j) sx sy i k le most, high_falls (c2_of j) sx sy i k le most) in
-    let two = lowest_rises (2 * area (level_rect j.slicing j.frame.colour sx sy 0)) _ _ both in
-    (omega (arith, one), omega (arith, two))
-
 -- ---- what is reached is needed, but for the ones at the end of the last code
 
 reach_needs : (vs : List ℤ) → NeedsMost (reach vs 0) (need vs)

@@ -1,9 +1,7 @@
 // How many bits the codes of small coefficients take, quantised at each index.
 
-ghost use Rattle.std.specs.Prelude.{◌≡◌, ℕ, ◌+◌, ◌^◌, ◌<◌, ◌≤◌, pos, length, slice_index, IfOk};
+ghost use Rattle.std.specs.Prelude.{◌≡◌, ℕ, ◌^◌, ◌<◌, ◌≤◌, length, IfOk};
 ghost use Rattle.planes.specs.Numbers.{Within};
-ghost use Rattle.bit_codes.specs.Codes.{signed_code_of};
-ghost use Rattle.quant_factors.specs.Factors.{forward_of};
 ghost use Rattle.slice_encoder.specs.CodeLengths.{code_length, IsRow, AreRows};
 
 use bit_codes::sint_len;

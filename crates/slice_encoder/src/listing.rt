@@ -1,6 +1,6 @@
 // The values of a slice, listed.
 
-ghost use Rattle.std.specs.Prelude.{◌≡◌, ◌+◌, ◌-◌, ◌*◌, ◌^◌, ◌<◌, ◌≤◌, ◌++◌, length, take};
+ghost use Rattle.std.specs.Prelude.{◌≡◌, ◌+◌, ◌-◌, ◌*◌, ◌<◌, ◌≤◌, ◌++◌, length, take};
 ghost use Rattle.planes.specs.Rect.{IsInRect};
 ghost use Rattle.slice_geometry.specs.SliceOrder.{area};
 ghost use Rattle.slice_encoder.specs.Sources.{band_seen};

@@ -1,6 +1,6 @@
 // How much room the values of a slice take.
 
-ghost use Rattle.std.specs.Prelude.{◌≡◌, ℕ, ◌*◌, ◌^◌, ◌<◌, ◌≤◌};
+ghost use Rattle.std.specs.Prelude.{ℕ, ◌*◌, ◌^◌, ◌<◌, ◌≤◌};
 ghost use Rattle.slice_geometry.specs.Shape.{IsSize};
 ghost use Rattle.slice_geometry.specs.SliceOrder.{level_rect, area, place_count};
 

@@ -1,6 +1,6 @@
 // One index tried.
 
-ghost use Rattle.std.specs.Prelude.{◌≡◌, ℕ, ◌+◌, ◌*◌, ◌<◌, ◌≤◌, length, take};
+ghost use Rattle.std.specs.Prelude.{◌≡◌, ◌+◌, ◌*◌, ◌<◌, ◌≤◌, length, take};
 ghost use Rattle.planes.specs.Subbands.{orient_number};
 ghost use Rattle.planes.specs.Raster.{at};
 ghost use Rattle.slice_geometry.specs.SliceOrder.{level_of, orient_of};

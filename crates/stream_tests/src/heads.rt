@@ -5,7 +5,7 @@ use parse_info::{Code, ParseInfo};
 use std::alloc::Global;
 use std::process::Abort;
 use std::test::Fail;
-use stream_units::{HeadReader, Item, ReadStop, Reason, Refusal};
+use stream_units::{HeadReader, Item, ReadStop, Reason, Refusal, StreamReader};
 use vc2_io::MemSource;
 
 /// The heads of the smallest stream, each with its place.
@@ -154,7 +154,7 @@ fn expect_unread(
     let bytes = joined(alloc, units)?;
     let failing = [bytes.len() as u64];
     let mut src = MemSource::new(bytes.as_slice(), ONE_EACH, &failing);
-    expect(rt, alloc, &mut src, items, last)
+    expect(rt, StreamReader::new(alloc), &mut src, items, last)
 }
 
 #[test]

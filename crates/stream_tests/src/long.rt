@@ -1,12 +1,13 @@
 //! Units longer than one read.
 
-use crate::reading::{HEADER, assert_same, expect_items, expect_next, lend, repeated};
+use crate::reading::{HEADER, Units, assert_same, expect_items, expect_next, repeated};
 use slice_geometry::Component;
 use std::alloc::Global;
+use std::fmt::Debug;
 use std::process::Abort;
 use std::test::Fail;
 use stream_units::{Item, StreamReader};
-use vc2_io::{MemSource, Source};
+use vc2_io::MemSource;
 
 /// 256 by 256 samples, 4:4:4, 8 bits.
 const LARGE_HEADER: &[u8] =
@@ -43,28 +44,31 @@ fn expect_grey(rt: &impl Abort, samples: &[u16], last: u16) {
 }
 
 /// The picture that is shown is flat grey but for its last sample.
-fn expect_grey_picture(rt: &impl Abort, reader: &StreamReader) {
+fn expect_grey_picture<R: Units>(rt: &impl Abort, reader: &R) {
     let picture = reader.picture().expect(rt, "a picture");
     expect_grey(rt, picture.samples(Component::Luma), 0x80);
     expect_grey(rt, picture.samples(Component::C1), 0x80);
     expect_grey(rt, picture.samples(Component::C2), 0x7F);
 }
 
-fn expect_large<S: Source>(rt: &impl Abort, reader: &mut StreamReader, src: &mut S) {
-    expect_items(rt, reader, src, &[Item::Sequence, Item::Picture(0)]);
-    expect_grey_picture(rt, reader);
-    expect_next(rt, reader, src, Ok(Item::End));
+fn expect_large<R: Units + Drop, E: Debug + Drop>(
+    rt: &impl Abort,
+    made: Result<R, E>,
+    src: &mut MemSource,
+) -> Result<(), Fail> {
+    let mut reader = made?;
+    expect_items(rt, &mut reader, src, &[Item::Sequence, Item::Picture(0)]);
+    expect_grey_picture(rt, &reader);
+    expect_next(rt, &mut reader, src, Ok(Item::End));
     assert_same(rt, reader.taken(), 102457);
+    Ok(())
 }
 
 /// The large stream, in pieces of this length.
 fn read_large(rt: &impl Abort, alloc: Global, bytes: &[u8], piece: usize) -> Result<(), Fail> {
     let pieces = vec![in alloc; piece; 110000]?;
     let mut src = MemSource::new(bytes, pieces.as_slice(), &[]);
-    lend(
-        StreamReader::new(alloc),
-        |reader| expect_large(rt, reader, &mut src),
-    )
+    expect_large(rt, StreamReader::new(alloc), &mut src)
 }
 
 /// The picture is the same however its bytes come.
@@ -105,27 +109,26 @@ fn skipping_stream(alloc: Global) -> Result<Vec<u8>, Fail> {
 }
 
 /// Each item comes, and fewer bytes than one read gives are held behind it.
-fn expect_skipped<S: Source>(
+fn expect_skipped<R: Units + Drop, E: Debug + Drop>(
     rt: &impl Abort,
-    reader: &mut StreamReader,
-    src: &mut S,
+    made: Result<R, E>,
+    src: &mut MemSource,
     piece: usize,
-) {
+) -> Result<(), Fail> {
+    let mut reader = made?;
     for (item, taken) in &SKIPPED {
-        expect_next(rt, reader, src, Ok(*item));
+        expect_next(rt, &mut reader, src, Ok(*item));
         assert_same(rt, reader.taken(), *taken);
         assert!(rt; reader.held() < piece);
     }
+    Ok(())
 }
 
 /// The skipping stream, in pieces of this length.
 fn read_skipping(rt: &impl Abort, alloc: Global, bytes: &[u8], piece: usize) -> Result<(), Fail> {
     let pieces = vec![in alloc; piece; 11000]?;
     let mut src = MemSource::new(bytes, pieces.as_slice(), &[]);
-    lend(
-        StreamReader::new(alloc),
-        |reader| expect_skipped(rt, reader, &mut src, piece),
-    )
+    expect_skipped(rt, StreamReader::new(alloc), &mut src, piece)
 }
 
 /// Skipped units count as taken, and aren't held.

@@ -1,20 +1,21 @@
 //! Streams that stand, with the samples of their pictures.
 
 use crate::reading::{
-    END, FIELDS, HEADER, LINE, ONE_EACH, PICTURE, SQUARE, Samples, WHOLE, expect_next,
-    expect_samples, expect_units, joined, lend,
+    END, FIELDS, HEADER, LINE, ONE_EACH, PICTURE, SQUARE, Samples, Units, WHOLE, expect_next,
+    expect_samples, expect_units, joined,
 };
 use std::alloc::Global;
+use std::fmt::Debug;
 use std::process::Abort;
 use std::test::Fail;
 use stream_units::{Item, StreamReader};
-use vc2_io::{MemSource, Source};
+use vc2_io::MemSource;
 
 /// Pictures come in turn, with these samples.
-fn expect_pictures<S: Source>(
+fn expect_pictures<R: Units>(
     rt: &impl Abort,
-    reader: &mut StreamReader,
-    src: &mut S,
+    reader: &mut R,
+    src: &mut MemSource,
     wants: &[Samples],
 ) {
     for (number, want) in wants.iter().enumerate() {
@@ -25,30 +26,31 @@ fn expect_pictures<S: Source>(
 }
 
 /// A header comes, pictures with these samples, and the end.
-fn expect_stream<S: Source>(
+fn expect_stream<R: Units + Drop, E: Debug + Drop>(
     rt: &impl Abort,
-    reader: &mut StreamReader,
-    src: &mut S,
+    made: Result<R, E>,
+    src: &mut MemSource,
     wants: &[Samples],
-) {
-    expect_next(rt, reader, src, Ok(Item::Sequence));
-    expect_pictures(rt, reader, src, wants);
-    expect_next(rt, reader, src, Ok(Item::End));
+) -> Result<(), Fail> {
+    let mut reader = made?;
+    expect_next(rt, &mut reader, src, Ok(Item::Sequence));
+    expect_pictures(rt, &mut reader, src, wants);
+    expect_next(rt, &mut reader, src, Ok(Item::End));
+    Ok(())
 }
 
-/// The bytes of such a stream, in these pieces.
+/// The bytes of such a stream, whole and with one byte a read.
 fn read_stream(
     rt: &impl Abort,
     alloc: Global,
     bytes: &[u8],
-    pieces: &[usize],
     wants: &[Samples],
 ) -> Result<(), Fail> {
-    let mut src = MemSource::new(bytes, pieces, &[]);
-    lend(
-        StreamReader::new(alloc),
-        |reader| expect_stream(rt, reader, &mut src, wants),
-    )
+    for pieces in [WHOLE, ONE_EACH] {
+        let mut src = MemSource::new(bytes, pieces, &[]);
+        expect_stream(rt, StreamReader::new(alloc), &mut src, wants)?;
+    }
+    Ok(())
 }
 
 /// The units of a stream of pictures, and their samples.
@@ -57,10 +59,7 @@ type Row<'a> = (&'a [&'a [u8]], &'a [Samples<'a>]);
 fn expect_row(rt: &impl Abort, alloc: Global, row: &Row) -> Result<(), Fail> {
     let (units, wants) = row;
     let bytes = joined(alloc, units)?;
-    for pieces in [WHOLE, ONE_EACH] {
-        read_stream(rt, alloc, bytes.as_slice(), pieces, wants)?;
-    }
-    Ok(())
+    read_stream(rt, alloc, bytes.as_slice(), wants)
 }
 
 const GREY: &[u16] = &[0x80];

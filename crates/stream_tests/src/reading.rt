@@ -1,6 +1,8 @@
 //! Reads a stream, and compares what its units and its end come to.
 
-use slice_geometry::Component;
+use picture_codec::Picture;
+use sequence_header::SequenceHeader;
+use slice_geometry::{Component, UnitShapes};
 use std::alloc::Global;
 use std::fmt::Debug;
 use std::process::Abort;
@@ -74,22 +76,78 @@ pub(crate) fn assert_same<T: Copy + Debug + PartialEq>(rt: &impl Abort, found: T
     assert_eq!(rt; found, wanted);
 }
 
-/// Lends what was made, as a reader. Being generic, its proof doesn't look into what it owns.
-pub(crate) fn lend<R: Drop, E: Debug + Drop, F: FnOnce(&mut R)>(
-    made: Result<R, E>,
-    ask: F,
-) -> Result<(), Fail>
-    requires { F.IsAlwaysCallable ask }
-{
-    let mut owned = made?;
-    ask(&mut owned);
-    Ok(())
+/// What a test asks of a reader of units, with pictures or without. A function over any of them has a short proof, which
+/// doesn't look into what a reader owns.
+pub(crate) trait Units {
+    fn next<S: Source>(&mut self, src: &mut S) -> Result<Item, ReadStop>;
+
+    fn held(&self) -> usize;
+
+    fn taken(&self) -> u64;
+
+    fn header(&self) -> Option<&SequenceHeader>;
+
+    fn shapes(&self) -> &UnitShapes;
+
+    fn picture(&self) -> Option<&Picture>;
+}
+
+impl Units for StreamReader {
+    fn next<S: Source>(&mut self, src: &mut S) -> Result<Item, ReadStop> {
+        StreamReader::next(self, src)
+    }
+
+    fn held(&self) -> usize {
+        StreamReader::held(self)
+    }
+
+    fn taken(&self) -> u64 {
+        StreamReader::taken(self)
+    }
+
+    fn header(&self) -> Option<&SequenceHeader> {
+        StreamReader::header(self)
+    }
+
+    fn shapes(&self) -> &UnitShapes {
+        StreamReader::shapes(self)
+    }
+
+    fn picture(&self) -> Option<&Picture> {
+        StreamReader::picture(self)
+    }
+}
+
+impl Units for StreamChecker {
+    fn next<S: Source>(&mut self, src: &mut S) -> Result<Item, ReadStop> {
+        StreamChecker::next(self, src)
+    }
+
+    fn held(&self) -> usize {
+        StreamChecker::held(self)
+    }
+
+    fn taken(&self) -> u64 {
+        StreamChecker::taken(self)
+    }
+
+    fn header(&self) -> Option<&SequenceHeader> {
+        StreamChecker::header(self)
+    }
+
+    fn shapes(&self) -> &UnitShapes {
+        StreamChecker::shapes(self)
+    }
+
+    fn picture(&self) -> Option<&Picture> {
+        None
+    }
 }
 
 /// The next call answers this, and leaves at most 4096 bytes held.
-pub(crate) fn expect_next<S: Source>(
+pub(crate) fn expect_next<R: Units, S: Source>(
     rt: &impl Abort,
-    reader: &mut StreamReader,
+    reader: &mut R,
     src: &mut S,
     answer: Result<Item, ReadStop>,
 ) {
@@ -98,9 +156,9 @@ pub(crate) fn expect_next<S: Source>(
 }
 
 /// The next calls answer these items in order.
-pub(crate) fn expect_items<S: Source>(
+pub(crate) fn expect_items<R: Units, S: Source>(
     rt: &impl Abort,
-    reader: &mut StreamReader,
+    reader: &mut R,
     src: &mut S,
     items: &[Item],
 ) {
@@ -113,7 +171,7 @@ pub(crate) fn expect_items<S: Source>(
 pub(crate) type Samples<'a> = [&'a [u16]; 3];
 
 /// The picture that is shown has these samples.
-pub(crate) fn expect_samples(rt: &impl Abort, reader: &StreamReader, samples: &Samples) {
+pub(crate) fn expect_samples<R: Units>(rt: &impl Abort, reader: &R, samples: &Samples) {
     let picture = reader.picture().expect(rt, "a picture");
     let [luma, c1, c2] = samples;
     assert_same(rt, picture.samples(Component::Luma), *luma);
@@ -122,7 +180,7 @@ pub(crate) fn expect_samples(rt: &impl Abort, reader: &StreamReader, samples: &S
 }
 
 /// The last answer stays, and nothing more is read, from a source that fails or from one that has bytes.
-fn expect_stay(rt: &impl Abort, reader: &mut StreamReader, last: Result<Item, ReadStop>) {
+fn expect_stay<R: Units>(rt: &impl Abort, reader: &mut R, last: Result<Item, ReadStop>) {
     let mut failing = MemSource::new(&[], &[], &[0]);
     expect_next(rt, reader, &mut failing, last);
     let mut more = MemSource::new(HEADER, &[], &[]);
@@ -130,61 +188,18 @@ fn expect_stay(rt: &impl Abort, reader: &mut StreamReader, last: Result<Item, Re
 }
 
 /// The items come in order, and then the last answer, which stays.
-fn expect_all<S: Source>(
+pub(crate) fn expect<R: Units + Drop, E: Debug + Drop>(
     rt: &impl Abort,
-    reader: &mut StreamReader,
-    src: &mut S,
-    items: &[Item],
-    last: Result<Item, ReadStop>,
-) {
-    expect_items(rt, reader, src, items);
-    expect_next(rt, reader, src, last);
-    expect_stay(rt, reader, last);
-}
-
-/// The items come in order, and then the last answer, which stays.
-pub(crate) fn expect<S: Source>(
-    rt: &impl Abort,
-    alloc: Global,
-    src: &mut S,
+    made: Result<R, E>,
+    src: &mut MemSource,
     items: &[Item],
     last: Result<Item, ReadStop>,
 ) -> Result<(), Fail> {
-    lend(
-        StreamReader::new(alloc),
-        |reader| expect_all(rt, reader, src, items, last),
-    )
-}
-
-/// The items come in order, and then the last answer, which stays.
-fn expect_checked<S: Source>(
-    rt: &impl Abort,
-    checker: &mut StreamChecker,
-    src: &mut S,
-    items: &[Item],
-    last: Result<Item, ReadStop>,
-) {
-    for item in items {
-        assert_same(rt, checker.next(src), Ok(*item));
-    }
-    assert_same(rt, checker.next(src), last);
-    assert_same(rt, checker.next(src), last);
-}
-
-/// A reader that makes no pictures answers the same.
-fn expect_unshown(
-    rt: &impl Abort,
-    alloc: Global,
-    bytes: &[u8],
-    pieces: &[usize],
-    items: &[Item],
-    last: Result<Item, ReadStop>,
-) -> Result<(), Fail> {
-    let mut src = MemSource::new(bytes, pieces, &[]);
-    lend(
-        StreamChecker::new(alloc),
-        |checker| expect_checked(rt, checker, &mut src, items, last),
-    )
+    let mut reader = made?;
+    expect_items(rt, &mut reader, src, items);
+    expect_next(rt, &mut reader, src, last);
+    expect_stay(rt, &mut reader, last);
+    Ok(())
 }
 
 /// The verdict of the judge of bytes in memory is that of this last answer.
@@ -214,8 +229,9 @@ pub(crate) fn expect_twice(
 ) -> Result<(), Fail> {
     for pieces in [WHOLE, ONE_EACH] {
         let mut src = MemSource::new(bytes, pieces, &[]);
-        expect(rt, alloc, &mut src, items, last)?;
-        expect_unshown(rt, alloc, bytes, pieces, items, last)?;
+        expect(rt, StreamReader::new(alloc), &mut src, items, last)?;
+        let mut src = MemSource::new(bytes, pieces, &[]);
+        expect(rt, StreamChecker::new(alloc), &mut src, items, last)?;
     }
     expect_verdict(rt, alloc, bytes, last)
 }

@@ -18,23 +18,29 @@ const ENDED: &[Item] = &[Item::Sequence, Item::Picture(0), Item::SequenceEnd];
 /// The units of a stream, what stands of it, and where and why it is refused.
 type Row<'a> = (&'a [&'a [u8]], &'a [Item], u64, Reason);
 
-fn expect_refusal(rt: &impl Abort, alloc: Global, row: &Row) -> Result<(), Fail> {
-    let (units, items, place, reason) = row;
-    expect_units(rt, alloc, units, items, refused(*place, *reason))
+fn expect_refusals(rt: &impl Abort, alloc: Global, rows: &[Row]) -> Result<(), Fail> {
+    for (units, items, place, reason) in rows {
+        expect_units(rt, alloc, units, items, refused(*place, *reason))?;
+    }
+    Ok(())
 }
 
-/// A unit behind a header, and where and why it is refused.
-type SecondUnit<'a> = (&'a [u8], u64, Reason);
+/// A unit, and where and why it is refused.
+type LastUnit<'a> = (&'a [u8], u64, Reason);
 
-fn expect_second(rt: &impl Abort, alloc: Global, row: &SecondUnit) -> Result<(), Fail> {
-    let (unit, place, reason) = row;
-    expect_units(
-        rt,
-        alloc,
-        &[HEADER, unit],
-        SEQUENCE,
-        refused(*place, *reason),
-    )
+/// Each unit is refused behind another piece, of which these items stand.
+fn expect_last(
+    rt: &impl Abort,
+    alloc: Global,
+    front: &[u8],
+    items: &[Item],
+    rows: &[LastUnit],
+) -> Result<(), Fail> {
+    for (unit, place, reason) in rows {
+        let last = refused(*place, *reason);
+        expect_units(rt, alloc, &[front, unit], items, last)?;
+    }
+    Ok(())
 }
 
 const HEADS_AND_OFFSETS: [Row<'static>; 22] = [
@@ -170,13 +176,10 @@ const HEADS_AND_OFFSETS: [Row<'static>; 22] = [
 /// Prefixes, codes, offsets, repeated headers, skipped payloads, and what lies behind an end.
 #[test]
 fn heads_and_offsets(rt: HostRuntime) -> Result<(), Fail> {
-    for row in &HEADS_AND_OFFSETS {
-        expect_refusal(&rt, rt.alloc(), row)?;
-    }
-    Ok(())
+    expect_refusals(&rt, rt.alloc(), &HEADS_AND_OFFSETS)
 }
 
-const SECOND_HEADS_AND_OFFSETS: [SecondUnit<'static>; 13] = [
+const SECOND_HEADS_AND_OFFSETS: [LastUnit<'static>; 13] = [
     (
         b"CBCD\xC8\x00\x00\x00\x15\x00\x00\x00\x11\x00\x00\x00\x00\x0C\x92\x70\x01",
         17,
@@ -243,10 +246,7 @@ const SECOND_HEADS_AND_OFFSETS: [SecondUnit<'static>; 13] = [
 /// The same of the second unit.
 #[test]
 fn second_heads_and_offsets(rt: HostRuntime) -> Result<(), Fail> {
-    for row in &SECOND_HEADS_AND_OFFSETS {
-        expect_second(&rt, rt.alloc(), row)?;
-    }
-    Ok(())
+    expect_last(&rt, rt.alloc(), HEADER, SEQUENCE, &SECOND_HEADS_AND_OFFSETS)
 }
 
 const PICTURES: [Row<'static>; 12] = [
@@ -372,13 +372,10 @@ const PICTURES: [Row<'static>; 12] = [
 /// Numbers, transform parameters, slices, and the next offset behind them.
 #[test]
 fn pictures(rt: HostRuntime) -> Result<(), Fail> {
-    for row in &PICTURES {
-        expect_refusal(&rt, rt.alloc(), row)?;
-    }
-    Ok(())
+    expect_refusals(&rt, rt.alloc(), &PICTURES)
 }
 
-const FIRST_PICTURES: [SecondUnit<'static>; 16] = [
+const FIRST_PICTURES: [LastUnit<'static>; 16] = [
     (
         b"BBCD\xC8\x00\x00\x00\x16\x00\x00\x00\x11\x00\x00\x00\x00\x80\x92\x70\x01\x42",
         34,
@@ -464,16 +461,13 @@ const FIRST_PICTURES: [SecondUnit<'static>; 16] = [
 /// The same of a picture right behind the header.
 #[test]
 fn first_pictures(rt: HostRuntime) -> Result<(), Fail> {
-    for row in &FIRST_PICTURES {
-        expect_second(&rt, rt.alloc(), row)?;
-    }
-    Ok(())
+    expect_last(&rt, rt.alloc(), HEADER, SEQUENCE, &FIRST_PICTURES)
 }
 
 /// The head of a first unit, whose next offset is wrong.
 const HEAD: &[u8] = b"BBCD\x00\x00\x00\x00\x63\x00\x00\x00\x00";
 
-const HEADERS: [(&[u8], u64, Reason); 24] = [
+const HEADERS: [LastUnit<'static>; 24] = [
     (
         b"\x3F\x00\x00\x00\x00\x00\x00\x00\x00",
         14,
@@ -527,9 +521,5 @@ const HEADERS: [(&[u8], u64, Reason); 24] = [
 /// The first sequence header, by its rules. Each comes before that of the next offset.
 #[test]
 fn sequence_headers(rt: HostRuntime) -> Result<(), Fail> {
-    for (payload, place, reason) in &HEADERS {
-        let last = refused(*place, *reason);
-        expect_units(&rt, rt.alloc(), &[HEAD, payload], NOTHING, last)?;
-    }
-    Ok(())
+    expect_last(&rt, rt.alloc(), HEAD, NOTHING, &HEADERS)
 }

@@ -1,16 +1,17 @@
 //! The stream of one picture of one sample: whole, cut at each byte, and over a source that fails.
 
 use crate::reading::{
-    END, HEADER, ONE_EACH, PICTURE, assert_same, expect, expect_items, expect_next, expect_twice,
-    joined, lend, refused,
+    END, HEADER, ONE_EACH, PICTURE, Units, assert_same, expect, expect_items, expect_next,
+    expect_twice, joined, refused,
 };
 use sequence_header::{AspectField, ColourField, HeaderParts, RateField, SignalField};
 use slice_geometry::{UnitShape, UnitShapes};
 use std::alloc::Global;
+use std::fmt::Debug;
 use std::process::Abort;
 use std::test::Fail;
 use stream_units::{Item, ReadStop, Reason, StreamChecker, StreamReader, first_unit};
-use vc2_io::{MemSource, Source, SteadySource};
+use vc2_io::{MemSource, SteadySource};
 
 const ITEMS: [Item; 2] = [Item::Sequence, Item::Picture(0)];
 
@@ -43,7 +44,7 @@ fn plain(start: u64, head: u64) -> UnitShape {
 }
 
 /// Whether a header and a picture are shown, and the bytes taken and held.
-fn shown(reader: &StreamReader) -> (bool, bool, u64, usize) {
+fn shown<R: Units>(reader: &R) -> (bool, bool, u64, usize) {
     let has_header = reader.header().is_some();
     let has_picture = reader.picture().is_some();
     (has_header, has_picture, reader.taken(), reader.held())
@@ -56,26 +57,38 @@ const STEPS: [(Item, (bool, bool, u64, usize)); 3] = [
     (Item::End, (true, false, 51, 0)),
 ];
 
-/// What the reader shows before the first unit, behind each, and in the end.
+/// What a reader shows before the first unit, behind each, and in the end; pictures only where it makes them.
+fn expect_steps<R: Units + Drop, E: Debug + Drop>(
+    rt: &impl Abort,
+    made: Result<R, E>,
+    bytes: &[u8],
+    shows: bool,
+) -> Result<(), Fail> {
+    let mut reader = made?;
+    let mut src = SteadySource::new(bytes);
+    assert_same(rt, shown(&reader), (false, false, 0, 0));
+    for (item, (has_header, has_picture, taken, held)) in &STEPS {
+        expect_next(rt, &mut reader, &mut src, Ok(*item));
+        let want = (*has_header, *has_picture && shows, *taken, *held);
+        assert_same(rt, shown(&reader), want);
+    }
+    expect_sums(rt, &reader);
+    Ok(())
+}
+
 #[test]
 fn unit_by_unit(rt: HostRuntime) -> Result<(), Fail> {
     let bytes = joined(rt.alloc(), &[HEADER, PICTURE, END])?;
-    let mut src = SteadySource::new(bytes.as_slice());
-    lend(StreamReader::new(rt.alloc()), |reader| {
-        expect_shown(&rt, reader, &mut src);
-        expect_sums(&rt, reader);
-    })
+    expect_steps(&rt, StreamReader::new(rt.alloc()), bytes.as_slice(), true)
 }
 
-fn expect_shown<S: Source>(rt: &impl Abort, reader: &mut StreamReader, src: &mut S) {
-    assert_same(rt, shown(reader), (false, false, 0, 0));
-    for (item, want) in &STEPS {
-        expect_next(rt, reader, src, Ok(*item));
-        assert_same(rt, shown(reader), *want);
-    }
+#[test]
+fn unit_by_unit_without_pictures(rt: HostRuntime) -> Result<(), Fail> {
+    let bytes = joined(rt.alloc(), &[HEADER, PICTURE, END])?;
+    expect_steps(&rt, StreamChecker::new(rt.alloc()), bytes.as_slice(), false)
 }
 
-fn expect_sums(rt: &impl Abort, reader: &StreamReader) {
+fn expect_sums<R: Units>(rt: &impl Abort, reader: &R) {
     let header = reader.header().expect(rt, "a header");
     assert_same(rt, *header.parts(), PARTS);
     expect_shapes(rt, reader.shapes());
@@ -94,51 +107,29 @@ fn expect_shapes(rt: &impl Abort, shapes: &UnitShapes) {
     }
 }
 
-/// Whether a header is shown, and the bytes taken and held, by a reader that makes no pictures.
-fn checked(checker: &StreamChecker) -> (bool, u64, usize) {
-    (checker.header().is_some(), checker.taken(), checker.held())
-}
-
-/// The same but for the pictures.
-#[test]
-fn unit_by_unit_without_pictures(rt: HostRuntime) -> Result<(), Fail> {
-    let bytes = joined(rt.alloc(), &[HEADER, PICTURE, END])?;
-    let mut src = SteadySource::new(bytes.as_slice());
-    lend(
-        StreamChecker::new(rt.alloc()),
-        |checker| expect_checked(&rt, checker, &mut src),
-    )
-}
-
-fn expect_checked<S: Source>(rt: &impl Abort, checker: &mut StreamChecker, src: &mut S) {
-    assert_same(rt, checked(checker), (false, 0, 0));
-    for (item, (has_header, _, taken, held)) in &STEPS {
-        assert_same(rt, checker.next(src), Ok(*item));
-        assert_same(rt, checked(checker), (*has_header, *taken, *held));
-    }
-    expect_shapes(rt, checker.shapes());
-}
-
 /// Behind a refusal the header, the shapes and the bytes taken are those of the units that stand; no picture is shown.
+fn expect_stopped<R: Units + Drop, E: Debug + Drop>(
+    rt: &impl Abort,
+    made: Result<R, E>,
+    bytes: &[u8],
+) -> Result<(), Fail> {
+    let mut reader = made?;
+    let mut src = SteadySource::new(bytes);
+    expect_items(rt, &mut reader, &mut src, &ITEMS);
+    assert_same(rt, shown(&reader), (true, true, 38, 14));
+    expect_next(rt, &mut reader, &mut src, Ok(Item::SequenceEnd));
+    assert_same(rt, shown(&reader), (true, false, 51, 1));
+    expect_next(rt, &mut reader, &mut src, refused(51, Reason::Truncated));
+    let (has_header, has_picture, taken, _) = shown(&reader);
+    assert_same(rt, (has_header, has_picture, taken), (true, false, 51));
+    assert_same(rt, reader.shapes().len(), 3);
+    Ok(())
+}
+
 #[test]
 fn behind_a_refusal(rt: HostRuntime) -> Result<(), Fail> {
     let bytes = joined(rt.alloc(), &[HEADER, PICTURE, END, &[0]])?;
-    let mut src = SteadySource::new(bytes.as_slice());
-    lend(
-        StreamReader::new(rt.alloc()),
-        |reader| expect_stopped(&rt, reader, &mut src),
-    )
-}
-
-fn expect_stopped<S: Source>(rt: &impl Abort, reader: &mut StreamReader, src: &mut S) {
-    expect_items(rt, reader, src, &ITEMS);
-    assert_same(rt, shown(reader), (true, true, 38, 14));
-    expect_next(rt, reader, src, Ok(Item::SequenceEnd));
-    assert_same(rt, shown(reader), (true, false, 51, 1));
-    expect_next(rt, reader, src, refused(51, Reason::Truncated));
-    let (has_header, has_picture, taken, _) = shown(reader);
-    assert_same(rt, (has_header, has_picture, taken), (true, false, 51));
-    assert_same(rt, reader.shapes().len(), 3);
+    expect_stopped(&rt, StreamReader::new(rt.alloc()), bytes.as_slice())
 }
 
 /// The first unit alone.
@@ -206,7 +197,7 @@ fn expect_failing(
 ) -> Result<(), Fail> {
     let failing = [call];
     let mut src = MemSource::new(bytes, ONE_EACH, &failing);
-    expect(rt, alloc, &mut src, items, last)
+    expect(rt, StreamReader::new(alloc), &mut src, items, last)
 }
 
 /// Each read fails in turn: the units that stand whole before it come, and then the fault.

@@ -4,10 +4,6 @@ use Rattle.slice_geometry.specs.Frames.{Frame}
 use Rattle.raw_video.specs.RawParse.{luma_count, colour_count}
 use Rattle.trial_video.specs.Video.{state_at, video_sample, picture_count}
 
--- one step more
-pub next_state : (seed j : ℕ) → state_at seed (j + 1) ≡ (25173 * state_at seed j + 13849) % 65536
-next_state seed j = let next : j + 1 ≡ suc j = omega arith in ap (state_at seed) next
-
 -- steps behind others
 pub more_steps : (seed a b : ℕ) → state_at (state_at seed a) b ≡ state_at seed (a + b)
 more_steps seed a zero = let none : a ≡ a + 0 = omega arith in ap (state_at seed) none

@@ -1,5 +1,5 @@
 // How far two pictures are apart.
-ghost use Rattle.std.specs.Prelude.{◌≡◌, ◌≤◌};
+ghost use Rattle.std.specs.Prelude.{◌≡◌};
 ghost use Rattle.trial_video.specs.Worst.{farthest, worst};
 
 use picture_codec::Picture;

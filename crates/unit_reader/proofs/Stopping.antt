@@ -1,5 +1,5 @@
 -- How the reading of a unit stops, by where it stands.
-use Rattle.std.proofs.Common.{◌≡◌, ℕ, ◌+◌, ◌*◌, ◌/◌, ◌≤◌, ◌<◌, List, [], length, true, false, not, Option, Result, Err, refl, sym, ap, subst, ◌∙◌, arith}
+use Rattle.std.proofs.Common.{◌≡◌, ℕ, ◌+◌, ◌*◌, ◌/◌, ◌≤◌, ◌<◌, List, [], length, true, false, not, Option, Err, refl, sym, ap, subst, ◌∙◌, arith}
 use Rattle.std.specs.Io.KnownBytes.{IsAtEnd}
 use Rattle.vc2_run.specs.Ran.{within}
 use Rattle.field_rows.specs.Rows.{Rows, Fault, read}
@@ -12,7 +12,7 @@ use Rattle.unit_reader.specs.declared.stop.ReadStop.{ReadStop}
 use Rattle.unit_reader.specs.declared.stop.ReadStop.TheVariants as stops
 use Rattle.unit_reader.specs.declared.window.Halt.{Halt}
 use Rattle.unit_reader.specs.declared.window.Halt.TheVariants as halts
-use Rattle.unit_reader.specs.Stops.{limit, refusal_of, stop_of, StopsOver, StopCause}
+use Rattle.unit_reader.specs.Stops.{limit, refusal_of, stop_of, StopsOver}
 use Rattle.unit_reader.proofs.Gets.{got_nothing}
 
 -- ---- of what is left of the bytes alone
@@ -20,15 +20,6 @@ use Rattle.unit_reader.proofs.Gets.{got_nothing}
 pub lost_stops : {Z R U : Type 0} {g : Grammar Z R U} {z : Z} {held0 : List ℕ} {rest0 rest1 : Option (List ℕ)} (room top : ℕ) (halt : Halt) → Lost g z held0 rest0 rest1 top → top ≤ limit → StopsOver g z held0 rest0 rest1 room (stop_of halt)
 lost_stops room top halts.ReadFault lost most = (top, most, lost)
 lost_stops room top halts.NoMemory lost most = (top, most, lost_due lost)
-
--- the calls before this one found no failed read
-pub cause_behind : {X R : Type 0} (Y : Type 0) (before mid now : ℕ) (stop : ReadStop R) (result : Result X (ReadStop R)) → result ≡ Err stop → mid ≡ before → StopCause {X = Y} mid now (Err stop) → StopCause before now result
-cause_behind {X} {R} Y before mid now stop result e same h = subst (λ n. StopCause n now result) same (subst (StopCause mid now) (sym e) (by stop h))
-  where
-    by : (stop : ReadStop R) → StopCause {X = Y} mid now (Err stop) → StopCause {X = X} mid now (Err stop)
-    by (stops.Refused refusal) h = h
-    by stops.ReadFault h = h
-    by stops.NoMemory h = h
 
 -- ---- of a unit that was begun
 

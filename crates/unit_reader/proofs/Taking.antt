@@ -15,7 +15,6 @@ use Rattle.field_rows.proofs.Reading.{read-done}
 use Rattle.unit_table.specs.Grammar.{Grammar, Final, Inner, bytes_at, unit_at}
 use Rattle.unit_table.specs.Fronts.{nothing, Refuses, front_by}
 use Rattle.unit_table.specs.Begun.{Partway, Prompt, Begun, Needs, Got, Lost}
-use Rattle.unit_table.specs.Turn.{RestsHere}
 use Rattle.unit_table.proofs.GrammarLaws.{IsGrammar, unit-shorter}
 use Rattle.unit_table.proofs.FrontLaws.{stands_behind}
 use Rattle.unit_table.proofs.Begins.{begun_start, begun_held, begun_held-gone, begun_few, begun_short, begun_lost, lost_due}
@@ -64,12 +63,6 @@ got_none {held0} {held1} {rest0} {rest1} got none =
     let e1 = nil_from_length held1 (omega (arith, none)) in
     let total : length held0 + length got.read ≡ length held1 = sym (length-append held0 got.read) ∙ ap (λ (l : List ℕ). length l) got.parts in
     (nil_from_length held0 (omega (arith, total, none)), e1, subst (Consumes rest0 rest1) (nil_from_length got.read (omega (arith, total, none))) got.took)
-
--- nothing is left before a unit
-pub first_rests : {Z R U : Type 0} {g : Grammar Z R U} (z : Z) {held0 : List ℕ} {rest0 : Option (List ℕ)} (held1 : List ℕ) (rest1 rest2 : Option (List ℕ)) → g.rests z ≡ true → Got 1 held0 held1 rest0 rest1 [] → length held1 < 1 → Consumes rest1 rest2 [] → IsAtEnd rest2 → RestsHere g z held0 rest0 rest2 × (held1 ≡ [])
-first_rests z {held0} {rest0} held1 rest1 rest2 may got none took at_end =
-    let n = got_none got none in
-    (record { may = may; none = n.0; took = Consumes-then rest0 rest1 rest2 [] [] n.2 took; at_end = at_end }, n.1)
 
 -- ---- the rows of a unit were read
 

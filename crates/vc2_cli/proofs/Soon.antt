@@ -5,15 +5,14 @@ use Rattle.std.proofs.lemmas.List.{length-append, length-take, length-drop, take
 use Rattle.std.proofs.Math.Seq.{take-append-add}
 use Rattle.std.specs.Io.KnownBytes.{Consumes}
 use Rattle.vc2_io.proofs.Known.{Consumes-none, Consumes-then, Consumes-along}
-use Rattle.bit_codes.specs.Bits.{Cursor, bits_of}
+use Rattle.bit_codes.specs.Bits.{Cursor}
 use Rattle.field_rows.specs.Rows.{Rows, done, row, a_number, a_flag, some_bytes, to_byte_end, here, end_here, read, Fault, is_nil}
-use Rattle.field_rows.specs.Pieces.{with_more}
 use Rattle.field_rows.proofs.Shorter.{BeginsWithBytes}
 use Rattle.vc2_run.specs.Walk.{Machine, Step, Ends, Whole, after_step, IsMachine, NoneWhole, SoFar, answer_from, answer_to}
 use Rattle.vc2_run.proofs.Walks.{answer_step, behind_none, behind_more}
 use Rattle.unit_table.specs.Grammar.{Grammar, Behind, Inner, Final, ends_by, bytes_at, unit_at, is_settled_by, Waits}
 use Rattle.unit_table.specs.Fronts.{Front, Stands, Finishes, Rests, Refuses, size_to, front_behind, front_by, front_within, front_or_rest, Between, Command, step_by, machine_of}
-use Rattle.unit_table.proofs.GrammarLaws.{IsGrammar, unit-more, unit-refused, not_short}
+use Rattle.unit_table.proofs.GrammarLaws.{IsGrammar, unit-refused, not_short}
 use Rattle.unit_table.proofs.FrontLaws.{front_near, front_past, rest_none, machine_laws, none_whole}
 use Rattle.unit_table.proofs.Fields.{needs_row}
 use Rattle.stream_rows.specs.declared.reason.Reason.{Reason}
@@ -168,10 +167,10 @@ waits_nothing g laws z = record { waits = waits_row g laws (g.rows z) (laws.some
 
 -- ---- a refusal that is not of a short field is the same whatever follows
 
-behind_same : {U : Type 0} (b : Behind) (rest tail : List Bool) (cut : Bool) (size size' : ℕ) (unit : U) (fault : Fault Reason) → front_behind b (is_nil rest && true) size unit ≡ Refuses fault → front_behind b (is_nil (rest ++ tail) && not cut) size' unit ≡ Refuses fault
-behind_same Inner rest tail cut size size' unit fault h = absurd cc
-behind_same Final [] tail cut size size' unit fault h = absurd cc
-behind_same Final (b ∷ rest) tail cut size size' unit fault h = absurd cc
+never_refuses : {U : Type 0} (b : Behind) (empty : Bool) (size : ℕ) (unit : U) (fault : Fault Reason) → front_behind b empty size unit ≡ Refuses fault → ⊥
+never_refuses Inner empty size unit fault h = cc
+never_refuses Final true size unit fault h = cc
+never_refuses Final false size unit fault h = cc
 
 past_same : (fault : Fault Reason) (cut : Bool) → is_truncated fault.reason ≡ false → cond cut (past_limit fault) fault ≡ fault
 past_same fault true h = rw h refl
@@ -182,9 +181,7 @@ take_grows n bytes more le = ap (λ m. take m (bytes ++ more)) (omega (arith, le
 
 refused_by : {Z U : Type 0} (g : Grammar Z Reason U) → IsGrammar g → ((reason : Reason) → g.is_short reason ≡ is_truncated reason) → (z : Z) (bytes tail : List ℕ) (cut : Bool) (fault : Fault Reason) (r : Result (U × Cursor) (Fault Reason)) → unit_at g z bytes ≡ r → is_truncated fault.reason ≡ false
     → front_by g past_limit false bytes r ≡ Refuses fault → front_by g past_limit cut (bytes ++ tail) (unit_at g z (bytes ++ tail)) ≡ Refuses fault
-refused_by g laws short z bytes tail cut fault (Ok x) e other h =
-    ap (front_by g past_limit cut (bytes ++ tail)) (unit-more g laws z bytes tail x.0 x.1 e)
-    ∙ behind_same (g.behind x.0) x.1.rest (bits_of tail) cut (size_to bytes x.1) (size_to (bytes ++ tail) (with_more x.1 (bits_of tail))) x.0 fault h
+refused_by g laws short z bytes tail cut fault (Ok x) e other h = absurd (never_refuses (g.behind x.0) (is_nil x.1.rest && true) (size_to bytes x.1) x.0 fault h)
 refused_by {U = U} g laws short z bytes tail cut fault (Err found) e other h =
     let is : (let a : Front Reason U = Refuses found in a) ≡ Refuses fault = h in
     let same : found ≡ fault = cc in

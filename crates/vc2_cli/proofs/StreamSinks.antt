@@ -1,31 +1,15 @@
 -- A sink with room for one stream: it never fails, and what a writer stops for is want of memory.
-use Rattle.std.proofs.Common.{◌≡◌, ℕ, zero, suc, ◌+◌, ◌-◌, ◌^◌, ◌<◌, ◌≤◌, eqb, Bool, true, false, List, [], ◌∷◌, ◌++◌, length, take, Result, Ok, Err, refl, sym, ap, subst, ◌∙◌, arith}
-use Rattle.std.specs.Prelude.{not, ◌&&◌, is_err}
-use Rattle.std.proofs.Math.Dec.{T, eqb→eq}
-use Rattle.std.proofs.lemmas.Bool.Decides.{nat_tests}
+use Rattle.std.proofs.Common.{◌≡◌, ℕ, ◌+◌, ◌≤◌, List, ◌∷◌, ◌++◌, length, Err, ap, subst, ◌∙◌, arith}
 use Rattle.std.specs.Io.KnownBytes.{Appends}
 use Rattle.std.proofs.lemmas.List.{length-append}
 use Rattle.vc2_io.specs.Outside.{Rose, GrewShort}
-use Rattle.vc2_io.specs.Memory.{MemSinkSeen, is_named, fails_write, after_write}
+use Rattle.vc2_io.specs.Memory.{MemSinkSeen}
 use Rattle.vc2_io.proofs.Short.{IsProperPrefix-shorter}
-use Rattle.vc2_io.specs.declared.outside.Failed.{Failed}
 use Rattle.stream_units.specs.EncodedStream.{Settings, header_unit, end_unit}
 use Rattle.stream_units.specs.Writer.{StreamWriterSeen, next_previous, due_units, HasRoom, WritesPicture, WritesEnd, WriteCause, Starts, IsSteepUnder}
 use Rattle.stream_units.specs.declared.write_stop.WriteStop.{WriteStop}
 use Rattle.stream_units.specs.declared.write_stop.WriteStop.TheVariants as stops
 use Rattle.vc2_cli.specs.TrialTurn.{FailsWhenFull, told_of_sink, IsWant}
-
-abbrev top : ℕ
-top = 2 ^ 64 - 1
-
--- no call is named
-none_named : (calls : ℕ) → (not (eqb calls top) && is_named calls (top ∷ top ∷ top ∷ top ∷ [])) ≡ false
-none_named calls = by (eqb calls top) (eqb top calls) refl refl
-  where
-    by : (a b : Bool) → eqb calls top ≡ a → eqb top calls ≡ b → (not (eqb calls top) && is_named calls (top ∷ top ∷ top ∷ top ∷ [])) ≡ false
-    by true b e e' = rw e refl
-    by false false e e' = rw (e, e') refl
-    by false true e e' = absurd (let same : top ≡ calls = eqb→eq top calls (subst T (sym e') tt) in grind (arith, nat_tests, e, same))
 
 -- ---- what a call leaves
 
@@ -71,32 +55,3 @@ end_stop w w' s s' stops.OutFault full full' wrote why fits = absurd (never_shor
 end_stop w w' s s' stops.MatrixTooSteep full full' wrote why fits = absurd wrote.why
 end_stop w w' s s' stops.StreamTooLong full full' wrote why fits = absurd wrote.why
 end_stop w w' s s' stops.NoMemory full full' wrote why fits = tt
-
--- ---- a write keeps it
-
-pub written_keeps : (s s' : MemSinkSeen) (piece : List ℕ) (result : Result ℕ Failed) → FailsWhenFull s → is_err result ≡ fails_write s (length piece) → s' ≡ after_write s piece result → FailsWhenFull s'
-written_keeps s s' piece (Ok count) full fails after = record {
-  unnamed = ap (λ (x : MemSinkSeen). x.failing) after ∙ full.unnamed;
-  steady = λ less.
-      let room : s'.room ≡ s.room = ap (λ (x : MemSinkSeen). x.room) after in
-      let bytes : length s'.bytes ≡ length s.bytes + length (take count piece) = ap (λ (x : MemSinkSeen). length x.bytes) after ∙ length-append s.bytes (take count piece) in
-      ap (λ (x : MemSinkSeen). x.failures) after ∙ full.steady (omega (arith, less, room, bytes));
-}
-written_keeps s s' piece (Err failed) full fails after = record {
-  unnamed = ap (λ (x : MemSinkSeen). x.failing) after ∙ full.unnamed;
-  steady = λ less. absurd (never fails less);
-}
-  where
-    never : true ≡ fails_write s (length piece) → length s'.bytes < s'.room → ⊥
-    never told less =
-        let room : s'.room ≡ s.room = ap (λ (x : MemSinkSeen). x.room) after in
-        let bytes : s'.bytes ≡ s.bytes = ap (λ (x : MemSinkSeen). x.bytes) after in
-        let some : eqb (s.room - length s.bytes) 0 ≡ false = has_room (s.room - length s.bytes) (omega (arith, less, room, ap (λ (l : List ℕ). length l) bytes)) in
-        let unnamed : (not (eqb s.calls top) && is_named s.calls s.failing) ≡ false = ap (λ (l : List ℕ). not (eqb s.calls top) && is_named s.calls l) full.unnamed ∙ none_named s.calls in
-        let not_failing : fails_write s (length piece) ≡ false = rw (unnamed, some) refl in
-        let wrong : true ≡ false = told ∙ not_failing in
-        cc
-      where
-        has_room : (n : ℕ) → 0 < n → eqb n 0 ≡ false
-        has_room zero lt = absurd (omega (arith, lt))
-        has_room (suc n) lt = grind (arith, nat_tests)

@@ -1,7 +1,5 @@
 // The pictures of a stream beside those of a video.
 ghost use Rattle.std.specs.Prelude.{◌≡◌, ◌≤◌, ◌+◌, ◌^◌, ℕ, IfOk};
-ghost use Rattle.slice_geometry.specs.Frames.{frame_of};
-ghost use Rattle.stream_rows.specs.Streams.{frame_under};
 ghost use Rattle.stream_units.specs.Writer.{IsSteepUnder};
 ghost use Rattle.vc2_words.specs.Shown.{shown};
 ghost use Rattle.vc2_words.specs.Lawful.{IsTrial};

@@ -1,11 +1,8 @@
 // The command `encode`.
-ghost use Rattle.std.specs.Prelude.{◌≡◌, ◌+◌, ◌<◌, ◌≤◌, ◌^◌, ◌%◌, ◌++◌, ◌∷◌, [], None, false, true, Ok, ℕ, List, Option};
-ghost use Rattle.slice_geometry.specs.Frames.{frame_of};
+ghost use Rattle.std.specs.Prelude.{◌≡◌, ◌+◌, ◌<◌, ◌≤◌, ◌^◌, ◌%◌, None, false, Ok, ℕ, List, Option};
 ghost use Rattle.slice_geometry.specs.Slicing.{slice_count};
-ghost use Rattle.slice_geometry.specs.UnitLengths.{IsUnitAllowed};
 ghost use Rattle.sequence_header.specs.Coding.{IsShapeOf};
 ghost use Rattle.channel_schedule.specs.Rates.{IsRate};
-ghost use Rattle.vc2_words.specs.Settings.{Asked};
 ghost use Rattle.vc2_words.specs.Shown.{shown};
 ghost use Rattle.vc2_words.specs.Lawful.{AreLawful};
 ghost use Rattle.vc2_run.specs.Ran.{HaltHasCause};

@@ -1,7 +1,7 @@
 //! A command over the units that a reader takes, turn by turn.
 
 ghost use Rattle.vc2_io.specs.declared.TheConstants.{INPUT_LIMIT, READ_SIZE};
-ghost use Rattle.std.specs.Prelude.{◌≡◌, ◌≤◌, ◌+◌, ℕ, List, length, Option, None, false, OnOk};
+ghost use Rattle.std.specs.Prelude.{◌≡◌, ◌≤◌, ◌+◌, ℕ, List, length, None, false, OnOk};
 ghost use Rattle.field_rows.specs.Rows.{Fault};
 ghost use Rattle.vc2_run.specs.Ran.{HaltHasCause};
 ghost use Rattle.unit_table.specs.Grammar.{Grammar, Final};

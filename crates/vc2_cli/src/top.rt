@@ -1,6 +1,6 @@
 // The top call.
 ghost use Rattle.vc2_io.specs.declared.TheConstants.{INPUT_LIMIT};
-ghost use Rattle.std.specs.Prelude.{◌≡◌, ◌+◌, ℕ, List, map, string_bytes, Ok, Some, IfSome, IfOk, IfErr};
+ghost use Rattle.std.specs.Prelude.{◌≡◌, ◌+◌, ℕ, List, map, string_bytes, Ok, Some, IfOk, IfErr};
 ghost use Rattle.vc2_run.specs.Ran.{TakesAtMost};
 ghost use Rattle.channel_schedule.specs.declared.schedule.Schedule.{Schedule};
 ghost use Rattle.channel_schedule.specs.Rates.{IsSchedule};

@@ -1,8 +1,7 @@
 //! The settings of a written stream, and the rules on them.
 
-ghost use Rattle.std.specs.Prelude.{◌≡◌, ◌≤◌, ◌+◌, ◌*◌, ◌^◌, true, length, Some, None, IfOk, MatchResult};
+ghost use Rattle.std.specs.Prelude.{◌≡◌, ◌≤◌, ◌+◌, ◌*◌, ◌^◌, true, length, Some, None, MatchResult};
 ghost use Rattle.field_rows.specs.Rows.{first_broken};
-ghost use Rattle.slice_geometry.specs.Slicing.{Slicing};
 ghost use Rattle.transform_params.specs.Views as views;
 ghost use Rattle.vc2_words.specs.declared.keys.Key.TheVariants as of_key;
 ghost use Rattle.vc2_words.specs.Operands.{value_of};

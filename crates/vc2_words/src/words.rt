@@ -1,7 +1,6 @@
 //! What the words ask for.
 
-ghost use Rattle.std.specs.Prelude.{◌≡◌, ◌<◌, ◌^◌, Ok, Err, map, string_bytes, MatchResult};
-ghost use Rattle.vc2_words.specs.declared.keys.Key.TheVariants as of_key;
+ghost use Rattle.std.specs.Prelude.{◌≡◌, ◌<◌, Ok, Err, map, string_bytes, MatchResult};
 ghost use Rattle.vc2_words.specs.declared.keys.Name.TheVariants as names;
 ghost use Rattle.vc2_words.specs.Commands as commands;
 ghost use Rattle.vc2_words.specs.Commands.{seen, asked_by};

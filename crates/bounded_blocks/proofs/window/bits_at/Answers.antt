@@ -10,7 +10,8 @@ returns-then-left-lt64 c i lt =
     elim (cases_lt i left) [
       | inl inside ↦
           kept_bit _ left i c.if-left-lt64.true inside
-          ∙ placed_bit bytes c.eight_bytes.result c.from_be_bytes.result c.args.place i (λ j. omega (arith, c.type_inv.bytes j)) c.eight_bytes.ensures c.from_be_bytes.ensures lt
+          ∙ placed_bit bytes c.word_at.ensures.eight c.word_at.result c.args.place i
+          (λ j. omega (arith, c.type_inv.bytes j)) c.word_at.ensures.has c.word_at.ensures.is lt
           ∙ sym (block_bit bytes c.args.place c.args.end i inside)
       | inr past ↦ put_bit _ left i c.if-left-lt64.true past (omega arith) ∙ sym (block_bit_past bytes c.args.place c.args.end i past)
     ]
@@ -18,5 +19,6 @@ returns-then-left-lt64 c i lt =
 pub returns-else-left-lt64 : goal.returns-else-left-lt64
 returns-else-left-lt64 c i lt =
     let bytes = c.args.bytes.now in
-    placed_bit bytes c.eight_bytes.result c.from_be_bytes.result c.args.place i (λ j. omega (arith, c.type_inv.bytes j)) c.eight_bytes.ensures c.from_be_bytes.ensures lt
+    placed_bit bytes c.word_at.ensures.eight c.word_at.result c.args.place i
+    (λ j. omega (arith, c.type_inv.bytes j)) c.word_at.ensures.has c.word_at.ensures.is lt
     ∙ sym (block_bit bytes c.args.place c.args.end i (omega (arith, c.if-left-lt64.false)))

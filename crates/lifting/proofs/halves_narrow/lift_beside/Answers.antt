@@ -1,4 +1,4 @@
-use Rattle.std.proofs.Common.{◌∙◌, ap, ℕ, ◌+◌, ◌-◌, ◌^◌, ℤ, length, take, drop}
+use Rattle.std.proofs.Common.{◌∙◌, ap, ◌-◌, ◌^◌, ℤ, length, take, drop}
 use Rattle.lifting.specs.Places.{place}
 use Rattle.lifting.specs.Steps.{step}
 use Rattle.lifting.proofs.Neighbours.{front_len, back_len, front_place, back_place, front_small, back_small}

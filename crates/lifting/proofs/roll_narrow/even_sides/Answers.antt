@@ -1,4 +1,4 @@
-use Rattle.std.proofs.Common.{◌∙◌, sym, subst, ℕ, ◌+◌, ◌-◌, ◌*◌, ◌^◌, ◌<◌, ◌≤◌, length, take, drop, arith}
+use Rattle.std.proofs.Common.{◌∙◌, sym, subst, ℕ, ◌^◌, ◌<◌, ◌≤◌, length, take, drop, arith}
 use Rattle.lifting.specs.declared.PairStep.TheVariants.{EvenDown}
 use Rattle.lifting.specs.Places.{place}
 use Rattle.lifting.specs.Steps.{step}

@@ -1,11 +1,9 @@
-use Rattle.std.proofs.Common.{◌≡◌, ◌∙◌, sym, ap, subst, refl, ℕ, ◌+◌, ◌-◌, ◌*◌, ◌^◌, ◌<◌, arith, lit≤, ℤ}
-use Rattle.planes.specs.Numbers.{Within}
+use Rattle.std.proofs.Common.{◌≡◌, ◌∙◌, ap, subst, refl, ℕ, ◌+◌, ◌-◌, ◌*◌, ◌^◌, ◌<◌, arith, lit≤, ℤ}
 use Rattle.planes.specs.Raster.{Raster, at}
-use Rattle.planes.proofs.Floors.{wider}
 use Rattle.lifting.specs.Bands.{coefficients_of, lowest}
 use Rattle.lifting.specs.Ranges.{SameInside}
 use Rattle.lifting.specs.Transform.{synthesis}
-use Rattle.lifting.proofs.Levels.{half_fits, lowest_half, lowest_columns, lowest_rows, columns_of, rows_of, reach_narrow, level_up, level_small}
+use Rattle.lifting.proofs.Levels.{half_fits, lowest_half, lowest_columns, lowest_rows, columns_of, rows_of, reach_wide, level_up, level_small}
 use Rattle.lifting.proofs.synthesis_samples.synth_below.Goals as goal
 
 pub put_lowest-requires-clause-fits : goal.put_lowest-requires-clause-fits
@@ -23,16 +21,6 @@ put_lowest-requires-clause-high c =
     let w : ℕ = c.args.w in
     let h : ℕ = c.args.h in
     omega (arith, lowest_rows b w h q.whole_columns q.whole_rows q.bands c.band.result.now c.band.ensures, lowest_half h b.depth q.whole_rows c.requires.some, q.rows)
-
-pub put_lowest-requires-clause-small : goal.put_lowest-requires-clause-small
-put_lowest-requires-clause-small c y x ly lx =
-    let q = c.requires.room in
-    let b = c.args.bands.now in
-    let w : ℕ = c.args.w in
-    let h : ℕ = c.args.h in
-    wider (2 ^ 18) (2 ^ 29) (at c.band.result.now y x) (lit≤ tt)
-    (subst (λ (r : Raster ℤ). Within (2 ^ 18) (at r y x)) (sym c.band.ensures)
-    (c.requires.small.ll y x (omega (arith, ly, lowest_rows b w h q.whole_columns q.whole_rows q.bands c.band.result.now c.band.ensures)) (omega (arith, lx, lowest_columns b w h q.whole_columns q.whole_rows q.bands c.band.result.now c.band.ensures))))
 
 pub loop-n-init : goal.loop-n-init
 unfolding synthesis
@@ -106,7 +94,7 @@ synth_up-requires-clause-small c =
     let in_all : n < b.depth = omega arith in
     level_small c.args.wavelet (lowest b.depth h) (lowest b.depth w) b n c.loop-n.plane c.band-hl.result.now c.band-lh.result.now c.band-hh.result.now c.band-hl.ensures c.band-lh.ensures c.band-hh.ensures
     (rows_of b w h q.whole_columns q.whole_rows q.bands n 1 in_all (omega arith) (omega arith) c.band-hl.result.now c.band-hl.ensures) (columns_of b w h q.whole_columns q.whole_rows q.bands n 1 in_all (omega arith) (omega arith) c.band-hl.result.now c.band-hl.ensures)
-    c.loop-n.invariant.levels (2 ^ 18) (2 ^ 18) (2 ^ 26) b.depth reach_narrow (lit≤ tt) c.requires.small in_all (omega (arith, c.depth-n-end.ensures))
+    c.loop-n.invariant.levels (2 ^ 50) (2 ^ 36) (2 ^ 58) b.depth reach_wide (lit≤ tt) c.requires.small in_all (omega (arith, c.depth-n-end.ensures))
 
 pub loop-n-preserved : goal.loop-n-preserved
 loop-n-preserved c =

@@ -27,8 +27,8 @@ sample_lowest-requires-clause-small c y x ly lx =
     let q = c.requires.room in
     let b = c.args.bands.now in
     let r = c.band.result.now in
-    wider (2 ^ 18) (2 ^ 29) (at r y x) (lit≤ tt)
-    (subst (λ (p : Raster ℤ). Within (2 ^ 18) (at p y x)) (sym c.band.ensures)
+    wider (2 ^ 50) (2 ^ 61) (at r y x) (lit≤ tt)
+    (subst (λ (p : Raster ℤ). Within (2 ^ 50) (at p y x)) (sym c.band.ensures)
     (c.requires.small.ll y x (omega (arith, ly, lowest_rows b c.args.w c.args.h q.whole_columns q.whole_rows q.bands r c.band.ensures))
     (omega (arith, lx, lowest_columns b c.args.w c.args.h q.whole_columns q.whole_rows q.bands r c.band.ensures))))
 

@@ -11,8 +11,8 @@ use Rattle.picture_codec.specs.Samples.{SamplesSeen, PictureSeen, bits_of, with_
 use Rattle.picture_codec.proofs.Sizes as sizes
 use Rattle.picture_codec.proofs.decoded_bands.show_in_32_bits.Goals as goal
 
-pub synthesise-requires-clause-fits : goal.synthesise-requires-clause-fits
-synthesise-requires-clause-fits c =
+pub synthesise_narrow-requires-clause-fits : goal.synthesise_narrow-requires-clause-fits
+synthesise_narrow-requires-clause-fits c =
     let s = c.args.params.now.layout in
     let p = c.args.picture.now in
     let size : Size = size_of (frame_of p.shape) c.args.c in
@@ -23,8 +23,8 @@ synthesise-requires-clause-fits c =
     let is : IsSize size.w size.h = subst (λ (z : Size). IsSize z.w z.h) same c.size_of.ensures.allowed in
     subst (λ (z : Size). size.w ≤ z.w) (sym padded) (sizes.padded_covers s.depth size.w low)
 
-pub synthesise-requires-clause-high : goal.synthesise-requires-clause-high
-synthesise-requires-clause-high c =
+pub synthesise_narrow-requires-clause-high : goal.synthesise_narrow-requires-clause-high
+synthesise_narrow-requires-clause-high c =
     let s = c.args.params.now.layout in
     let p = c.args.picture.now in
     let size : Size = size_of (frame_of p.shape) c.args.c in
@@ -35,8 +35,8 @@ synthesise-requires-clause-high c =
     let is : IsSize size.w size.h = subst (λ (z : Size). IsSize z.w z.h) same c.size_of.ensures.allowed in
     subst (λ (z : Size). size.h ≤ z.h) (sym padded) (sizes.padded_covers s.depth size.h low)
 
-pub synthesise-requires-clause-room : goal.synthesise-requires-clause-room
-synthesise-requires-clause-room c =
+pub synthesise_narrow-requires-clause-room : goal.synthesise_narrow-requires-clause-room
+synthesise_narrow-requires-clause-room c =
     let s = c.args.params.now.layout in
     let p = c.args.picture.now in
     let size : Size = size_of (frame_of p.shape) c.args.c in
@@ -45,10 +45,10 @@ synthesise-requires-clause-room c =
     let low = c.depth.ensures.allowed.depth in
     let taken = c.requires.taken in
     let is : IsSize size.w size.h = subst (λ (z : Size). IsSize z.w z.h) same c.size_of.ensures.allowed in
-    subst (λ (z : Size). HaveRoom c.args.bands.now z.w z.h c.args.room.now.plane c.args.room.now.scratch) (sym padded) (sizes.narrow_room s size c.args.bands.now (slice_count s) taken low is c.args.room.now.plane c.args.room.now.scratch c.requires.room)
+    subst (λ (z : Size). HaveRoom c.args.bands.now z.w z.h c.args.room.now.plane c.args.room.now.scratch) (sym padded) (sizes.half_room s size c.args.bands.now (slice_count s) taken low is c.args.room.now.plane c.args.room.now.scratch c.requires.room)
 
-pub synthesise-requires-clause-small : goal.synthesise-requires-clause-small
-synthesise-requires-clause-small c =
+pub synthesise_narrow-requires-clause-small : goal.synthesise_narrow-requires-clause-small
+synthesise_narrow-requires-clause-small c =
     let s = c.args.params.now.layout in
     let p = c.args.picture.now in
     let size : Size = size_of (frame_of p.shape) c.args.c in
@@ -70,6 +70,6 @@ returns-clause-picture c =
     let taken = c.requires.taken in
     let is : IsSize size.w size.h = subst (λ (z : Size). IsSize z.w z.h) same c.size_of.ensures.allowed in
     let with_rows : SamplesSeen → PictureSeen = λ rows. record p { samples = with_component p.samples c.args.c rows } in
-    c.synthesise.ensures.samples
+    c.synthesise_narrow.ensures.samples
     ∙ ap (λ (z : Size). with_shown p c.args.c (synthesis_of c.args.params.now.wavelet c.args.bands.now z.w z.h)) padded
     ∙ ap with_rows (sizes.synthesised_is s size c.args.bands.now (slice_count s) taken low is c.args.params.now.wavelet (bits_of p c.args.c))

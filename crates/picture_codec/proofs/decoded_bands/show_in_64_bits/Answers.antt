@@ -1,29 +1,63 @@
-use Rattle.std.proofs.Common.{◌≡◌, refl, ap, subst, ◌∙◌}
+use Rattle.std.proofs.Common.{◌≡◌, ◌≤◌, refl, sym, ap, subst, ◌∙◌}
 use Rattle.slice_geometry.specs.declared.Size.{Size}
 use Rattle.slice_geometry.specs.declared.PictureShape.{PictureShape}
 use Rattle.slice_geometry.specs.Shape.{IsSize}
 use Rattle.slice_geometry.specs.Slicing.{slice_count}
-use Rattle.picture_codec.specs.Pictures.{size_of}
+use Rattle.slice_geometry.specs.Geometry.{padded_size}
 use Rattle.slice_geometry.specs.Frames.{frame_of}
-use Rattle.picture_codec.specs.Samples.{SamplesSeen, PictureSeen, bits_of, with_component}
+use Rattle.lifting.specs.SampleRoom.{HaveRoom, AreSmallIn, synthesis_of}
+use Rattle.picture_codec.specs.Pictures.{size_of}
+use Rattle.picture_codec.specs.Samples.{SamplesSeen, PictureSeen, bits_of, with_component, with_shown}
 use Rattle.picture_codec.proofs.Sizes as sizes
 use Rattle.picture_codec.proofs.decoded_bands.show_in_64_bits.Goals as goal
 
-pub synth-requires-clause-sizes : goal.synth-requires-clause-sizes
-synth-requires-clause-sizes c =
+pub synthesise-requires-clause-fits : goal.synthesise-requires-clause-fits
+synthesise-requires-clause-fits c =
     let s = c.args.params.now.layout in
-    let size : Size = size_of (frame_of c.args.picture.now.shape) c.args.c in
+    let p = c.args.picture.now in
+    let size : Size = size_of (frame_of p.shape) c.args.c in
     let same : c.size_of.result ≡ size = c.size_of.ensures.value ∙ ap (λ (sh : PictureShape). size_of (frame_of sh) c.args.c) c.shape.ensures in
+    let padded : c.padded_size-padded.result ≡ padded_size s.depth size = c.padded_size-padded.ensures.value ∙ ap (λ (z : Size). padded_size s.depth z) same in
+    let low = c.depth.ensures.allowed.depth in
+    let taken = c.requires.taken in
     let is : IsSize size.w size.h = subst (λ (z : Size). IsSize z.w z.h) same c.size_of.ensures.allowed in
-    sizes.agree s size c.args.bands.now c.make.new.self.room.plane c.make.new.self.room.scratch (slice_count s) c.requires.taken refl c.depth.ensures.allowed.slices c.depth.ensures.allowed.depth is (c.make.ensures s size c.requires.room).0
+    subst (λ (z : Size). size.w ≤ z.w) (sym padded) (sizes.padded_covers s.depth size.w low)
 
-pub synth-requires-clause-small : goal.synth-requires-clause-small
-synth-requires-clause-small c =
+pub synthesise-requires-clause-high : goal.synthesise-requires-clause-high
+synthesise-requires-clause-high c =
     let s = c.args.params.now.layout in
-    let size : Size = size_of (frame_of c.args.picture.now.shape) c.args.c in
+    let p = c.args.picture.now in
+    let size : Size = size_of (frame_of p.shape) c.args.c in
     let same : c.size_of.result ≡ size = c.size_of.ensures.value ∙ ap (λ (sh : PictureShape). size_of (frame_of sh) c.args.c) c.shape.ensures in
+    let padded : c.padded_size-padded.result ≡ padded_size s.depth size = c.padded_size-padded.ensures.value ∙ ap (λ (z : Size). padded_size s.depth z) same in
+    let low = c.depth.ensures.allowed.depth in
+    let taken = c.requires.taken in
     let is : IsSize size.w size.h = subst (λ (z : Size). IsSize z.w z.h) same c.size_of.ensures.allowed in
-    sizes.small s size c.args.bands.now c.make.new.self.room.plane c.make.new.self.room.scratch (slice_count s) c.requires.taken refl c.depth.ensures.allowed.slices c.depth.ensures.allowed.depth is (c.make.ensures s size c.requires.room).0
+    subst (λ (z : Size). size.h ≤ z.h) (sym padded) (sizes.padded_covers s.depth size.h low)
+
+pub synthesise-requires-clause-room : goal.synthesise-requires-clause-room
+synthesise-requires-clause-room c =
+    let s = c.args.params.now.layout in
+    let p = c.args.picture.now in
+    let size : Size = size_of (frame_of p.shape) c.args.c in
+    let same : c.size_of.result ≡ size = c.size_of.ensures.value ∙ ap (λ (sh : PictureShape). size_of (frame_of sh) c.args.c) c.shape.ensures in
+    let padded : c.padded_size-padded.result ≡ padded_size s.depth size = c.padded_size-padded.ensures.value ∙ ap (λ (z : Size). padded_size s.depth z) same in
+    let low = c.depth.ensures.allowed.depth in
+    let taken = c.requires.taken in
+    let is : IsSize size.w size.h = subst (λ (z : Size). IsSize z.w z.h) same c.size_of.ensures.allowed in
+    subst (λ (z : Size). HaveRoom c.args.bands.now z.w z.h c.make.new.self.room.plane c.make.new.self.room.scratch) (sym padded) (sizes.half_room s size c.args.bands.now (slice_count s) taken low is c.make.new.self.room.plane c.make.new.self.room.scratch (c.make.ensures s size c.requires.room).0)
+
+pub synthesise-requires-clause-small : goal.synthesise-requires-clause-small
+synthesise-requires-clause-small c =
+    let s = c.args.params.now.layout in
+    let p = c.args.picture.now in
+    let size : Size = size_of (frame_of p.shape) c.args.c in
+    let same : c.size_of.result ≡ size = c.size_of.ensures.value ∙ ap (λ (sh : PictureShape). size_of (frame_of sh) c.args.c) c.shape.ensures in
+    let padded : c.padded_size-padded.result ≡ padded_size s.depth size = c.padded_size-padded.ensures.value ∙ ap (λ (z : Size). padded_size s.depth z) same in
+    let low = c.depth.ensures.allowed.depth in
+    let taken = c.requires.taken in
+    let is : IsSize size.w size.h = subst (λ (z : Size). IsSize z.w z.h) same c.size_of.ensures.allowed in
+    subst (λ (z : Size). AreSmallIn c.args.bands.now z.w z.h) (sym padded) (sizes.small_in s size c.args.bands.now (slice_count s) taken low is refl c.depth.ensures.allowed.slices)
 
 pub returns-clause-picture : goal.returns-clause-picture
 returns-clause-picture c =
@@ -31,8 +65,11 @@ returns-clause-picture c =
     let p = c.args.picture.now in
     let size : Size = size_of (frame_of p.shape) c.args.c in
     let same : c.size_of.result ≡ size = c.size_of.ensures.value ∙ ap (λ (sh : PictureShape). size_of (frame_of sh) c.args.c) c.shape.ensures in
+    let padded : c.padded_size-padded.result ≡ padded_size s.depth size = c.padded_size-padded.ensures.value ∙ ap (λ (z : Size). padded_size s.depth z) same in
+    let low = c.depth.ensures.allowed.depth in
+    let taken = c.requires.taken in
     let is : IsSize size.w size.h = subst (λ (z : Size). IsSize z.w z.h) same c.size_of.ensures.allowed in
     let with_rows : SamplesSeen → PictureSeen = λ rows. record p { samples = with_component p.samples c.args.c rows } in
-    c.show.ensures
-    ∙ ap with_rows (sizes.shown_is s size c.args.bands.now c.make.new.self.room.plane c.make.new.self.room.scratch (slice_count s) c.requires.taken refl c.depth.ensures.allowed.slices c.depth.ensures.allowed.depth is (c.make.ensures s size c.requires.room).0
-    c.args.params.now.wavelet (bits_of p c.args.c) c.synth.new.plane c.synth.ensures.whole)
+    c.synthesise.ensures.samples
+    ∙ ap (λ (z : Size). with_shown p c.args.c (synthesis_of c.args.params.now.wavelet c.args.bands.now z.w z.h)) padded
+    ∙ ap with_rows (sizes.synthesised_is s size c.args.bands.now (slice_count s) taken low is c.args.params.now.wavelet (bits_of p c.args.c))

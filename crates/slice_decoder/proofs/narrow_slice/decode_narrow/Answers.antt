@@ -51,44 +51,56 @@ returns-then-not-read_blocks-clause-others c =
 
 pub restore_all-requires-clause-luma_x : goal.restore_all-requires-clause-luma_x
 restore_all-requires-clause-luma_x c =
-    let rect = c.band_rect-luma.result in
+    let rect = c.lowest_of-luma.result in
     let old = c.args.bands.now.luma in
-    let inside : FitsIn rect (numbered old 0) = fits c.args.layout.now c.args.shape.now.luma c.args.sx c.args.sy 0 rect old (numbered old 0) c.band_rect-luma.ensures refl (omega arith) c.requires.ready.luma.depth c.requires.across c.requires.down c.requires.ready.luma.sizes in
+    let inside : FitsIn rect (numbered old 0) = fits c.args.layout.now c.args.shape.now.luma c.args.sx c.args.sy 0 rect old (numbered old 0)
+    (c.lowest_of-luma.ensures c.args.layout.now c.args.shape.now.luma c.args.sx c.args.sy c.level_rects-luma_rects.ensures) refl
+    (omega arith) c.requires.ready.luma.depth c.requires.across c.requires.down c.requires.ready.luma.sizes in
     omega (arith, inside.x_inside, (c.read_blocks.ensures.luma_keeps.bands 0).same_width)
 
 pub restore_all-requires-clause-luma_y : goal.restore_all-requires-clause-luma_y
 restore_all-requires-clause-luma_y c =
-    let rect = c.band_rect-luma.result in
+    let rect = c.lowest_of-luma.result in
     let old = c.args.bands.now.luma in
-    let inside : FitsIn rect (numbered old 0) = fits c.args.layout.now c.args.shape.now.luma c.args.sx c.args.sy 0 rect old (numbered old 0) c.band_rect-luma.ensures refl (omega arith) c.requires.ready.luma.depth c.requires.across c.requires.down c.requires.ready.luma.sizes in
+    let inside : FitsIn rect (numbered old 0) = fits c.args.layout.now c.args.shape.now.luma c.args.sx c.args.sy 0 rect old (numbered old 0)
+    (c.lowest_of-luma.ensures c.args.layout.now c.args.shape.now.luma c.args.sx c.args.sy c.level_rects-luma_rects.ensures) refl
+    (omega arith) c.requires.ready.luma.depth c.requires.across c.requires.down c.requires.ready.luma.sizes in
     omega (arith, inside.y_inside, (c.read_blocks.ensures.luma_keeps.bands 0).same_height)
 
 pub restore_all-requires-clause-c1_x : goal.restore_all-requires-clause-c1_x
 restore_all-requires-clause-c1_x c =
-    let rect = c.band_rect-colour.result in
+    let rect = c.lowest_of-colour.result in
     let old = c.args.bands.now.c1 in
-    let inside : FitsIn rect (numbered old 0) = fits c.args.layout.now c.args.shape.now.colour c.args.sx c.args.sy 0 rect old (numbered old 0) c.band_rect-colour.ensures refl (omega arith) c.requires.ready.c1.depth c.requires.across c.requires.down c.requires.ready.c1.sizes in
+    let inside : FitsIn rect (numbered old 0) = fits c.args.layout.now c.args.shape.now.colour c.args.sx c.args.sy 0 rect old (numbered old 0)
+    (c.lowest_of-colour.ensures c.args.layout.now c.args.shape.now.colour c.args.sx c.args.sy c.level_rects-colour_rects.ensures) refl
+    (omega arith) c.requires.ready.c1.depth c.requires.across c.requires.down c.requires.ready.c1.sizes in
     omega (arith, inside.x_inside, (c.read_blocks.ensures.c1_keeps.bands 0).same_width)
 
 pub restore_all-requires-clause-c1_y : goal.restore_all-requires-clause-c1_y
 restore_all-requires-clause-c1_y c =
-    let rect = c.band_rect-colour.result in
+    let rect = c.lowest_of-colour.result in
     let old = c.args.bands.now.c1 in
-    let inside : FitsIn rect (numbered old 0) = fits c.args.layout.now c.args.shape.now.colour c.args.sx c.args.sy 0 rect old (numbered old 0) c.band_rect-colour.ensures refl (omega arith) c.requires.ready.c1.depth c.requires.across c.requires.down c.requires.ready.c1.sizes in
+    let inside : FitsIn rect (numbered old 0) = fits c.args.layout.now c.args.shape.now.colour c.args.sx c.args.sy 0 rect old (numbered old 0)
+    (c.lowest_of-colour.ensures c.args.layout.now c.args.shape.now.colour c.args.sx c.args.sy c.level_rects-colour_rects.ensures) refl
+    (omega arith) c.requires.ready.c1.depth c.requires.across c.requires.down c.requires.ready.c1.sizes in
     omega (arith, inside.y_inside, (c.read_blocks.ensures.c1_keeps.bands 0).same_height)
 
 pub restore_all-requires-clause-c2_x : goal.restore_all-requires-clause-c2_x
 restore_all-requires-clause-c2_x c =
-    let rect = c.band_rect-colour.result in
+    let rect = c.lowest_of-colour.result in
     let old = c.args.bands.now.c2 in
-    let inside : FitsIn rect (numbered old 0) = fits c.args.layout.now c.args.shape.now.colour c.args.sx c.args.sy 0 rect old (numbered old 0) c.band_rect-colour.ensures refl (omega arith) c.requires.ready.c2.depth c.requires.across c.requires.down c.requires.ready.c2.sizes in
+    let inside : FitsIn rect (numbered old 0) = fits c.args.layout.now c.args.shape.now.colour c.args.sx c.args.sy 0 rect old (numbered old 0)
+    (c.lowest_of-colour.ensures c.args.layout.now c.args.shape.now.colour c.args.sx c.args.sy c.level_rects-colour_rects.ensures) refl
+    (omega arith) c.requires.ready.c2.depth c.requires.across c.requires.down c.requires.ready.c2.sizes in
     omega (arith, inside.x_inside, (c.read_blocks.ensures.c2_keeps.bands 0).same_width)
 
 pub restore_all-requires-clause-c2_y : goal.restore_all-requires-clause-c2_y
 restore_all-requires-clause-c2_y c =
-    let rect = c.band_rect-colour.result in
+    let rect = c.lowest_of-colour.result in
     let old = c.args.bands.now.c2 in
-    let inside : FitsIn rect (numbered old 0) = fits c.args.layout.now c.args.shape.now.colour c.args.sx c.args.sy 0 rect old (numbered old 0) c.band_rect-colour.ensures refl (omega arith) c.requires.ready.c2.depth c.requires.across c.requires.down c.requires.ready.c2.sizes in
+    let inside : FitsIn rect (numbered old 0) = fits c.args.layout.now c.args.shape.now.colour c.args.sx c.args.sy 0 rect old (numbered old 0)
+    (c.lowest_of-colour.ensures c.args.layout.now c.args.shape.now.colour c.args.sx c.args.sy c.level_rects-colour_rects.ensures) refl
+    (omega arith) c.requires.ready.c2.depth c.requires.across c.requires.down c.requires.ready.c2.sizes in
     omega (arith, inside.y_inside, (c.read_blocks.ensures.c2_keeps.bands 0).same_height)
 
 pub returns-then-not-restore_all-clause-decoded : goal.returns-then-not-restore_all-clause-decoded
@@ -109,10 +121,13 @@ returns-then-not-restore_all-clause-decoded c =
     let answer = c.if-not-read_blocks.ensures.answer in
     let new = c.restore_all.new.bands in
     elim (c.restore_all.ensures.stopped c.if-not-restore_all.true) [
-      | inl at_luma ↦ inr (inr (inl (slice-stops 1 0 luma luma_block old.luma mid.luma new.luma c.band_rect-luma.result _ (omega arith) c.band_rect-luma.ensures are.of_luma answer.2 at_luma)))
+      | inl at_luma ↦ inr (inr (inl (slice-stops 1 0 luma luma_block old.luma mid.luma new.luma c.lowest_of-luma.result _ (omega arith)
+          (c.lowest_of-luma.ensures c.args.layout.now c.args.shape.now.luma c.args.sx c.args.sy c.level_rects-luma_rects.ensures) are.of_luma answer.2 at_luma)))
       | inr rest ↦ elim rest [
-        | inl at_c1 ↦ inr (inr (inr (inl (slice-stops 2 0 colour colour_block old.c1 mid.c1 new.c1 c.band_rect-colour.result _ (omega arith) c.band_rect-colour.ensures are.of_colour answer.3 at_c1))))
-        | inr at_c2 ↦ inr (inr (inr (inr (slice-stops 2 1 colour colour_block old.c2 mid.c2 new.c2 c.band_rect-colour.result _ (omega arith) c.band_rect-colour.ensures are.of_colour answer.4 at_c2))))
+        | inl at_c1 ↦ inr (inr (inr (inl (slice-stops 2 0 colour colour_block old.c1 mid.c1 new.c1 c.lowest_of-colour.result _ (omega arith)
+            (c.lowest_of-colour.ensures c.args.layout.now c.args.shape.now.colour c.args.sx c.args.sy c.level_rects-colour_rects.ensures) are.of_colour answer.3 at_c1))))
+        | inr at_c2 ↦ inr (inr (inr (inr (slice-stops 2 1 colour colour_block old.c2 mid.c2 new.c2 c.lowest_of-colour.result _ (omega arith)
+            (c.lowest_of-colour.ensures c.args.layout.now c.args.shape.now.colour c.args.sx c.args.sy c.level_rects-colour_rects.ensures) are.of_colour answer.4 at_c2))))
       ]
     ]
 
@@ -125,9 +140,12 @@ returns-then-not-restore_all-clause-others c =
     let new = c.restore_all.new.bands in
     let keeps = c.restore_all.ensures.keeps in
     record {
-      luma = keeps-others luma old.luma new.luma (bands-lowest luma old.luma mid.luma new.luma c.band_rect-luma.result c.band_rect-luma.ensures c.read_blocks.ensures.luma_keeps keeps.luma);
-      c1 = keeps-others colour old.c1 new.c1 (bands-lowest colour old.c1 mid.c1 new.c1 c.band_rect-colour.result c.band_rect-colour.ensures c.read_blocks.ensures.c1_keeps keeps.c1);
-      c2 = keeps-others colour old.c2 new.c2 (bands-lowest colour old.c2 mid.c2 new.c2 c.band_rect-colour.result c.band_rect-colour.ensures c.read_blocks.ensures.c2_keeps keeps.c2);
+      luma = keeps-others luma old.luma new.luma (bands-lowest luma old.luma mid.luma new.luma c.lowest_of-luma.result
+          (c.lowest_of-luma.ensures c.args.layout.now c.args.shape.now.luma c.args.sx c.args.sy c.level_rects-luma_rects.ensures) c.read_blocks.ensures.luma_keeps keeps.luma);
+      c1 = keeps-others colour old.c1 new.c1 (bands-lowest colour old.c1 mid.c1 new.c1 c.lowest_of-colour.result
+          (c.lowest_of-colour.ensures c.args.layout.now c.args.shape.now.colour c.args.sx c.args.sy c.level_rects-colour_rects.ensures) c.read_blocks.ensures.c1_keeps keeps.c1);
+      c2 = keeps-others colour old.c2 new.c2 (bands-lowest colour old.c2 mid.c2 new.c2 c.lowest_of-colour.result
+          (c.lowest_of-colour.ensures c.args.layout.now c.args.shape.now.colour c.args.sx c.args.sy c.level_rects-colour_rects.ensures) c.read_blocks.ensures.c2_keeps keeps.c2);
     }
 
 pub returns-clause-decoded : goal.returns-clause-decoded
@@ -154,9 +172,12 @@ returns-clause-decoded c =
       luma_bits = c.head_of-head.ensures.luma_bits;
       fits = fits_in;
       small = both-small _ _ _ _ true are.of_luma are.of_colour (both-true (block_values 1 luma luma_block) (block_values 2 colour colour_block) answer.0 answer.1);
-      luma = holds-slice 1 0 luma luma_block old.luma mid.luma new.luma c.band_rect-luma.result _ (omega arith) c.band_rect-luma.ensures are.of_luma answer.2 done.luma keeps.luma.others;
-      c1 = holds-slice 2 0 colour colour_block old.c1 mid.c1 new.c1 c.band_rect-colour.result _ (omega arith) c.band_rect-colour.ensures are.of_colour answer.3 done.c1 keeps.c1.others;
-      c2 = holds-slice 2 1 colour colour_block old.c2 mid.c2 new.c2 c.band_rect-colour.result _ (omega arith) c.band_rect-colour.ensures are.of_colour answer.4 done.c2 keeps.c2.others;
+      luma = holds-slice 1 0 luma luma_block old.luma mid.luma new.luma c.lowest_of-luma.result _ (omega arith)
+          (c.lowest_of-luma.ensures c.args.layout.now c.args.shape.now.luma c.args.sx c.args.sy c.level_rects-luma_rects.ensures) are.of_luma answer.2 done.luma keeps.luma.others;
+      c1 = holds-slice 2 0 colour colour_block old.c1 mid.c1 new.c1 c.lowest_of-colour.result _ (omega arith)
+          (c.lowest_of-colour.ensures c.args.layout.now c.args.shape.now.colour c.args.sx c.args.sy c.level_rects-colour_rects.ensures) are.of_colour answer.3 done.c1 keeps.c1.others;
+      c2 = holds-slice 2 1 colour colour_block old.c2 mid.c2 new.c2 c.lowest_of-colour.result _ (omega arith)
+          (c.lowest_of-colour.ensures c.args.layout.now c.args.shape.now.colour c.args.sx c.args.sy c.level_rects-colour_rects.ensures) are.of_colour answer.4 done.c2 keeps.c2.others;
     }
 
 pub returns-clause-others : goal.returns-clause-others
@@ -168,7 +189,10 @@ returns-clause-others c =
     let new = c.restore_all.new.bands in
     let keeps = c.restore_all.ensures.keeps in
     record {
-      luma = keeps-others luma old.luma new.luma (bands-lowest luma old.luma mid.luma new.luma c.band_rect-luma.result c.band_rect-luma.ensures c.read_blocks.ensures.luma_keeps keeps.luma);
-      c1 = keeps-others colour old.c1 new.c1 (bands-lowest colour old.c1 mid.c1 new.c1 c.band_rect-colour.result c.band_rect-colour.ensures c.read_blocks.ensures.c1_keeps keeps.c1);
-      c2 = keeps-others colour old.c2 new.c2 (bands-lowest colour old.c2 mid.c2 new.c2 c.band_rect-colour.result c.band_rect-colour.ensures c.read_blocks.ensures.c2_keeps keeps.c2);
+      luma = keeps-others luma old.luma new.luma (bands-lowest luma old.luma mid.luma new.luma c.lowest_of-luma.result
+          (c.lowest_of-luma.ensures c.args.layout.now c.args.shape.now.luma c.args.sx c.args.sy c.level_rects-luma_rects.ensures) c.read_blocks.ensures.luma_keeps keeps.luma);
+      c1 = keeps-others colour old.c1 new.c1 (bands-lowest colour old.c1 mid.c1 new.c1 c.lowest_of-colour.result
+          (c.lowest_of-colour.ensures c.args.layout.now c.args.shape.now.colour c.args.sx c.args.sy c.level_rects-colour_rects.ensures) c.read_blocks.ensures.c1_keeps keeps.c1);
+      c2 = keeps-others colour old.c2 new.c2 (bands-lowest colour old.c2 mid.c2 new.c2 c.lowest_of-colour.result
+          (c.lowest_of-colour.ensures c.args.layout.now c.args.shape.now.colour c.args.sx c.args.sy c.level_rects-colour_rects.ensures) c.read_blocks.ensures.c2_keeps keeps.c2);
     }

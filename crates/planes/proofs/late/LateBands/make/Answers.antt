@@ -18,8 +18,8 @@ make-requires c =
     c.index_mut-in-loop-k.ensures.value ∙ get_or_default c.loop-k.bands-inside.planes.items k c.index_mut-in-loop-k.result.now no_band inside ∙ c.loop-k.invariant.rest k (omega arith) in
     ap height here ∙ no_rows c.args.bands.now c.args.self.now.depth c.requires (omega (arith, count, c.bands.invariant.0, depth)) k (omega (arith, inside, c.loop-k.invariant.count))
 
-pub returns : goal.returns
-returns c =
+pub returns-clause-made : goal.returns-clause-made
+returns-clause-made c =
     let l = c.loop-k in
     let late_count = ap (λ (b : BandStack). length b.bands) c.self.view_is in
     let late_depth = ap (λ (b : BandStack). b.depth) c.self.view_is in
