@@ -6,8 +6,9 @@ use Rattle.bit_codes.proofs.CodeOf.{length-digits_below}
 use Rattle.bounded_blocks.specs.Reading.{magnitude_from, with_sign}
 use Rattle.bounded_blocks.specs.ShortCodes.{BeginsBits}
 use Rattle.bounded_blocks.specs.Parts.{IsSmall, Reads, AreWithin}
-use Rattle.bounded_blocks.specs.CodeTable.{IsSigned, Begin, no_codes}
+use Rattle.bounded_blocks.specs.CodeTable.{IsSigned, Begin, codes_of, no_head}
 use Rattle.bounded_blocks.specs.declared.code_table.Codes.{Codes}
+use Rattle.bounded_blocks.specs.declared.code_table.Head.{Head}
 use Rattle.bounded_blocks.proofs.ReadLemmas.{Reads-join, Reads-one}
 use Rattle.std.proofs.lemmas.List.{take_more_set, get_or-set_same, get_or-set_other}
 use Rattle.std.proofs.lemmas.Bool.{cases_eq}
@@ -117,11 +118,15 @@ one_code_more k n length_before word vs code v room is small le begins some read
     )
 
 -- one entry more
-pub entry_more : (entries : List Codes) (k : ℕ) (codes : Codes) → k < length entries → Begin codes (digits_below 12 k)
-    → ((j : ℕ) → j < k → Begin (get_or entries j no_codes) (digits_below 12 j))
-    → (j : ℕ) → j < k + 1 → Begin (get_or (slice_set entries k codes) j no_codes) (digits_below 12 j)
-entry_more entries k codes room here before j below = elim (cases_eq j k) [
-  | inl e ↦ subst (λ (i : ℕ). Begin (get_or (slice_set entries k codes) i no_codes) (digits_below 12 i)) (sym e)
-      (subst (λ (x : Codes). Begin x (digits_below 12 k)) (sym (get_or-set_same entries k codes no_codes room)) here)
-  | inr ne ↦ subst (λ (x : Codes). Begin x (digits_below 12 j)) (sym (get_or-set_other entries k j codes no_codes ne)) (before j (omega arith))
-]
+pub entry_more : (values : List (List ℤ)) (heads : List Head) (k : ℕ) (new : List ℤ) (head : Head) → k < length values → k < length heads
+    → Begin (codes_of new head) (digits_below 12 k)
+    → ((j : ℕ) → j < k → Begin (codes_of (get_or values j []) (get_or heads j no_head)) (digits_below 12 j))
+    → (j : ℕ) → j < k + 1 → Begin (codes_of (get_or (slice_set values k new) j []) (get_or (slice_set heads k head) j no_head)) (digits_below 12 j)
+entry_more values heads k new head room room' here before j below =
+    let begins = λ (vs : List ℤ) (h : Head) (i : ℕ). Begin (codes_of vs h) (digits_below 12 i) in elim (cases_eq j k) [
+      | inl e ↦ subst (λ (i : ℕ). begins (get_or (slice_set values k new) i []) (get_or (slice_set heads k head) i no_head) i) (sym e)
+          (subst (λ (vs : List ℤ). begins vs (get_or (slice_set heads k head) k no_head) k) (sym (get_or-set_same values k new [] room))
+          (subst (λ (h : Head). begins new h k) (sym (get_or-set_same heads k head no_head room')) here))
+      | inr ne ↦ subst (λ (vs : List ℤ). begins vs (get_or (slice_set heads k head) j no_head) j) (sym (get_or-set_other values k j new [] ne))
+          (subst (λ (h : Head). begins (get_or values j []) h j) (sym (get_or-set_other heads k j head no_head ne)) (before j (omega arith)))
+    ]

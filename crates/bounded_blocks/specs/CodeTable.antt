@@ -1,10 +1,11 @@
 -- Codes at the front of twelve bits.
-use Rattle.std.specs.Prelude.{◌≡◌, ◌≢◌, ◌-◌, ◌<◌, ◌≤◌, ◌++◌, ℕ, List, [], length, Bool, take, drop, slice_index_or}
+use Rattle.std.specs.Prelude.{◌≡◌, ◌≢◌, ◌-◌, ◌<◌, ◌≤◌, ◌++◌, ℕ, List, [], length, Bool, take, drop, slice_index_or, ℤ}
 use Rattle.bit_codes.specs.Bits.{digits_below}
 use Rattle.bounded_blocks.specs.Reading.{with_sign}
 use Rattle.bounded_blocks.specs.Parts.{Reads, AreWithin}
 use Rattle.bounded_blocks.specs.declared.short_codes.ShortCode.{ShortCode}
 use Rattle.bounded_blocks.specs.declared.code_table.Codes.{Codes}
+use Rattle.bounded_blocks.specs.declared.code_table.Head.{Head}
 
 -- a code with a length has this magnitude and the sign that follows in the last `left` of a number's last bits
 abbrev pub IsSigned : ℕ → ℕ → ℕ → ℕ → ShortCode → Type 0
@@ -19,10 +20,15 @@ Begin codes bits =
     (codes.count ≤ 8) × (codes.length ≤ length bits) × AreWithin 127 codes.values
     × ((rest : List Bool) → Reads codes.count (bits ++ rest) (take codes.count codes.values) (drop codes.length bits ++ rest))
 
-abbrev pub no_codes : Codes
-no_codes = record { values = []; count = 0; length = 0 }
+-- values with a head
+abbrev pub codes_of : List ℤ → Head → Codes
+codes_of values head = record { values = values; count = head.count; length = head.length }
 
--- an entry for each twelve bits
-pub record IsTable (entries : List Codes) : Type 0 where
-  pub count : length entries ≡ 4096
-  pub right : (k : ℕ) → k < 4096 → Begin (slice_index_or entries k no_codes) (digits_below 12 k)
+abbrev pub no_head : Head
+no_head = record { count = 0; length = 0 }
+
+-- values and a head for each twelve bits
+pub record IsTable (values : List (List ℤ)) (heads : List Head) : Type 0 where
+  pub values_count : length values ≡ 4096
+  pub heads_count : length heads ≡ 4096
+  pub right : (k : ℕ) → k < 4096 → Begin (codes_of (slice_index_or values k []) (slice_index_or heads k no_head)) (digits_below 12 k)

@@ -8,7 +8,7 @@ ghost use Rattle.bit_codes.specs.Bits.{digits_below};
 ghost use Rattle.bounded_blocks.specs.Reading.{with_sign};
 ghost use Rattle.bounded_blocks.specs.Parts.{block_of, Reads, AreWithin};
 ghost use Rattle.bounded_blocks.specs.ShortCodes.{BeginsBits};
-ghost use Rattle.bounded_blocks.specs.CodeTable.{IsSigned, Begin};
+ghost use Rattle.bounded_blocks.specs.CodeTable.{IsSigned, Begin, codes_of};
 ghost use Rattle.bounded_blocks.specs.Windows.{IsAt};
 
 use crate::short_codes::ShortCode;
@@ -43,10 +43,25 @@ const NO_CODES: Codes = Codes {
     length: 0,
 };
 
-/// The codes that begin each twelve bits, for blocks that are read whole.
+/// How many bits the codes of an entry have together, and how many codes they are. The length comes first, so that it
+/// is a shift without a step between.
+#[derive(Clone, Copy)]
+pub(crate) struct Head {
+    pub(crate) length: u8,
+    pub(crate) count: u8,
+}
+
+const NO_HEAD: Head = Head {
+    length: 0,
+    count: 0,
+};
+
+/// The codes that begin each twelve bits, for blocks that are read whole. The heads stand by themselves, since each
+/// look-up waits for the length of the one before: they are so few bytes that they stay at hand.
 #[derive(Drop)]
 pub struct CodeTable {
-    entries: Vec<Codes>,
+    values: Vec<[i8; 8]>,
+    heads: Vec<Head>,
 }
 
 impl Model for CodeTable {
@@ -56,7 +71,7 @@ impl Model for CodeTable {
 
     ghost view = { λ _. tt };
 
-    ghost invariant = { λ t. IsTable t.entries.items };
+    ghost invariant = { λ t. IsTable t.values.items t.heads.items };
 }
 
 /// A magnitude with its sign.
@@ -133,31 +148,38 @@ fn codes_in(word: u32) -> Codes
 impl CodeTable {
     /// The table, of 40 KB.
     pub fn new(alloc: Global) -> Result<CodeTable, AllocError> {
-        let mut entries = Vec::from_elem(alloc, NO_CODES, ENTRIES)?;
+        let mut values = Vec::from_elem(alloc, [0; 8], ENTRIES)?;
+        let mut heads = Vec::from_elem(alloc, NO_HEAD, ENTRIES)?;
         for k in 0..ENTRIES {
-            entries[k] = codes_in(k as u32);
+            let codes = codes_in(k as u32);
+            let eight = codes.values;
+            values[k] = eight;
+            heads[k] = Head {
+                length: codes.length,
+                count: codes.count,
+            };
         }
-        Ok(CodeTable { entries })
+        Ok(CodeTable { values, heads })
     }
 
-    /// The entry of twelve bits.
+    /// The entry of twelve bits: its values and its head.
     #[inline(always)]
-    fn entry(&self, bits: u64) -> &Codes
+    fn entry(&self, bits: u64) -> (&[i8; 8], Head)
         requires { bits < 4096 }
-        ensures { Begin result.now (digits_below 12 bits) }
+        ensures { Begin (codes_of result.0.now result.1) (digits_below 12 bits) }
     {
-        &self.entries[bits as usize]
+        (&self.values[bits as usize], self.heads[bits as usize])
     }
 
-    /// The codes at a window.
+    /// The codes at a window: their values, of which the first ones count, and their head.
     #[inline(always)]
-    pub(crate) fn codes_at(&self, window: Window) -> &Codes
+    pub(crate) fn codes_at(&self, window: Window) -> (&[i8; 8], Head)
         requires { 12 ≤ window.shown }
-        ensures few { result.now.count ≤ 8 }
-        ensures low { AreWithin 127 result.now.values }
-        ensures short { result.now.length ≤ 12 }
+        ensures few { result.1.count ≤ 8 }
+        ensures low { AreWithin 127 result.0.now }
+        ensures short { result.1.length ≤ 12 }
         ensures reads { (bytes : List ℕ) (end : ℕ) → IsAt bytes end window →
-            Reads result.now.count (block_of bytes window.place end) (take result.now.count result.now.values) (block_of bytes (window.place + result.now.length) end) }
+            Reads result.1.count (block_of bytes window.place end) (take result.1.count result.0.now) (block_of bytes (window.place + result.1.length) end) }
     {
         self.entry(window.word >> (64 - TABLE_BITS))
     }

@@ -76,10 +76,10 @@ fn look(table: &CodeTable, window: Window, done: usize, out: &mut [i32]) -> (Win
     ensures near { result.0.place ≤ window.place + 12 }
     ensures holds { (bytes : List ℕ) (start end : ℕ) → HoldsRead bytes start end done out.old window → HoldsRead bytes start end result.1 out.new result.0 }
 {
-    let codes = table.codes_at(window);
+    let (values, head) = table.codes_at(window);
     // All eight values are put, which is cheaper than a choice; the next ones go over what is beyond the count.
-    put_eight(out, done, &codes.values);
-    (behind(window, codes.length), done + codes.count as usize)
+    put_eight(out, done, values);
+    (behind(window, head.length), done + head.count as usize)
 }
 
 /// The same as long as fewer values than so many are there.

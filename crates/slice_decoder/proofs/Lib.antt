@@ -10,5 +10,6 @@ pub mod NarrowBands
 pub mod LevelLemmas
 pub mod LevelHalves
 pub mod Restores
+pub mod RestoredBands
 pub mod Placed
 pub mod PairLanes

@@ -83,18 +83,17 @@ fn put_ones(values: &[i32], from: usize, row: &mut [i32], start: usize, end: usi
     }
 }
 
-// Puts the values from one on at the places x0..x1 of a row.
+// Puts the values from one on at the places of a row from `start` to `end`.
 #[inline(always)]
-fn put_part(values: &[i32], from: usize, row: &mut [i32], x0: u32, x1: u32)
-    requires order { x0 ≤ x1 }
-    requires inside { x1 ≤ length row.old }
-    requires room { from + (x1 - x0) ≤ length values.now }
+fn put_part(values: &[i32], from: usize, row: &mut [i32], start: usize, end: usize)
+    requires order { start ≤ end }
+    requires inside { end ≤ length row.old }
+    requires room { from + (end - start) ≤ length values.now }
     requires narrow { (k : ℕ) → IsNarrow (slice_index_or values.now k (pos 0)) }
-    ensures inside { (x : ℕ) → x0 ≤ x → x < x1 →
-        slice_index_or row.new x (pos 0) ≡ slice_index_or values.now (from + (x - x0)) (pos 0) }
-    ensures outside { StaysBeside x0 x1 row.old row.new }
+    ensures inside { (x : ℕ) → start ≤ x → x < end →
+        slice_index_or row.new x (pos 0) ≡ slice_index_or values.now (from + (x - start)) (pos 0) }
+    ensures outside { StaysBeside start end row.old row.new }
 {
-    let (start, end) = (x0 as usize, x1 as usize);
     let middle = put_fours(values, from, row, start, end);
     put_ones(values, from + (middle - start), row, middle, end);
 }
@@ -180,22 +179,28 @@ fn put_pair_ones(
     }
 }
 
-// Puts the values from one on at the places x0..x1 of two rows in turn.
+// Puts the values from one on at the places of two rows from `start` to `end` in turn.
 #[inline(always)]
-fn put_pair(values: &[i32], from: usize, first: &mut [i32], second: &mut [i32], x0: u32, x1: u32)
-    requires order { x0 ≤ x1 }
-    requires first_inside { x1 ≤ length first.old }
-    requires second_inside { x1 ≤ length second.old }
-    requires room { from + 2 * (x1 - x0) ≤ length values.now }
+fn put_pair(
+    values: &[i32],
+    from: usize,
+    first: &mut [i32],
+    second: &mut [i32],
+    start: usize,
+    end: usize,
+)
+    requires order { start ≤ end }
+    requires first_inside { end ≤ length first.old }
+    requires second_inside { end ≤ length second.old }
+    requires room { from + 2 * (end - start) ≤ length values.now }
     requires narrow { (k : ℕ) → IsNarrow (slice_index_or values.now k (pos 0)) }
-    ensures first { (x : ℕ) → x0 ≤ x → x < x1 →
-        slice_index_or first.new x (pos 0) ≡ slice_index_or values.now (from + 2 * (x - x0)) (pos 0) }
-    ensures second { (x : ℕ) → x0 ≤ x → x < x1 →
-        slice_index_or second.new x (pos 0) ≡ slice_index_or values.now (from + (2 * (x - x0) + 1)) (pos 0) }
-    ensures first_stays { StaysBeside x0 x1 first.old first.new }
-    ensures second_stays { StaysBeside x0 x1 second.old second.new }
+    ensures first { (x : ℕ) → start ≤ x → x < end →
+        slice_index_or first.new x (pos 0) ≡ slice_index_or values.now (from + 2 * (x - start)) (pos 0) }
+    ensures second { (x : ℕ) → start ≤ x → x < end →
+        slice_index_or second.new x (pos 0) ≡ slice_index_or values.now (from + (2 * (x - start) + 1)) (pos 0) }
+    ensures first_stays { StaysBeside start end first.old first.new }
+    ensures second_stays { StaysBeside start end second.old second.new }
 {
-    let (start, end) = (x0 as usize, x1 as usize);
     let middle = put_pair_fours(values, from, first, second, start, end);
     put_pair_ones(
         values,
@@ -220,13 +225,15 @@ fn put_rows(values: &[i32], from: usize, plane: &mut NarrowPlane, rect: Rect, w:
     ensures { HoldsRect 1 0 rect (drop from values.now) plane.old plane.new }
 {
     let mut place = from;
+    let (start, w) = (rect.x0 as usize, w as usize);
     for y in rect.y0..rect.y1 {
-        put_part(values, place, plane.row_mut(y), rect.x0, rect.x0 + w);
-        place += w as usize;
+        put_part(values, place, plane.row_mut(y), start, start + w);
+        place += w;
     }
 }
 
-// The same of any width. For a width that is written out the compiler needs no loop over a row.
+// The same of any width. For a width that is written out the compiler needs no loop over a row: it sees that as many
+// places are left as the width says, since sums of `usize` from a `u32` don't wrap.
 fn put_rect(values: &[i32], from: usize, plane: &mut NarrowPlane, rect: Rect)
     requires across { rect.x0 ≤ rect.x1 }
     requires down { rect.y0 ≤ rect.y1 }
@@ -267,11 +274,12 @@ fn put_row_pairs(
     ensures second { HoldsRect 2 1 rect (drop from values.now) second.old second.new }
 {
     let mut place = from;
+    let (start, w) = (rect.x0 as usize, w as usize);
     for y in rect.y0..rect.y1 {
         let one = first.row_mut(y);
         let two = second.row_mut(y);
-        put_pair(values, place, one, two, rect.x0, rect.x0 + w);
-        place += 2 * w as usize;
+        put_pair(values, place, one, two, start, start + w);
+        place += 2 * w;
     }
 }
 

@@ -1,15 +1,17 @@
 //! The values of a block in 32 bits, read and dequantised in place.
 
 ghost use Rattle.bounded_blocks.specs.declared.TheConstants.{MAX_NARROW, SPARE};
-ghost use Rattle.std.specs.Prelude.{◌≡◌, ℕ, ◌+◌, ◌-◌, ◌*◌, ◌^◌, ◌<◌, ◌≤◌, true, false, length, slice_index_or, pos, unsigned_abs, MatchOption};
+ghost use Rattle.std.specs.Prelude.{◌≡◌, ℕ, ℤ, List, ◌+◌, ◌-◌, ◌*◌, ◌^◌, ◌<◌, ◌≤◌, true, false, length, slice_index_or, pos, unsigned_abs, MatchOption};
 ghost use Rattle.quant_factors.specs.Factors.{factor_of, offset_of, restored_of, inverse_of, signed};
-ghost use Rattle.slice_geometry.specs.SliceOrder.{place_count};
-ghost use Rattle.slice_decoder.specs.Components.{part_of, quantisers_before};
+ghost use Rattle.quant_factors.specs.Weights.{band_quantiser};
+ghost use Rattle.slice_geometry.specs.SliceOrder.{place_count, level_of, orient_of};
+ghost use Rattle.slice_decoder.specs.Components.{Part, part_of, quantisers_before};
 ghost use Rattle.slice_decoder.specs.Dealing.{dealt, StaysBeside};
 ghost use Rattle.slice_decoder.specs.Levels.{AreRects};
 ghost use Rattle.slice_decoder.specs.Restored.{restored_at, StayWithin, AreLow};
+ghost use Rattle.slice_decoder.specs.RestoredBands.{IsBand, AreBands, IsRestoredTo, OnePasses};
 
-use crate::components::{Place, band_numbered, orient_numbered};
+use crate::components::Place;
 use crate::levels::area_of;
 use bounded_blocks::{Block, CodeTable, MAX_NARROW};
 use planes::Rect;
@@ -82,6 +84,7 @@ fn inverse_low(q: i32, index: u32, factor: u32, offset: u32) -> i32
 }
 
 // Restores each number, all of them low.
+#[inline(always)]
 fn restore_low(values: &mut [i32], index: u32)
     requires index { index ≤ 127 }
     requires low { AreLow 0 values.old index }
@@ -106,6 +109,7 @@ fn inverse_any(q: i32, index: u32) -> Option<i32>
 }
 
 // Restores each number. It answers false where a magnitude passes 2^18.
+#[inline(never)]
 fn restore_any(values: &mut [i32], index: u32) -> bool
     requires index { index ≤ 127 }
     requires narrow { (k : ℕ) → unsigned_abs (slice_index_or values.old k (pos 0)) ≤ MAX_NARROW }
@@ -123,6 +127,7 @@ fn restore_any(values: &mut [i32], index: u32) -> bool
 }
 
 // Dequantises the values of one band. It answers false where a magnitude passes 2^18.
+#[inline(always)]
 fn restore_run(values: &mut [i32], index: u32, is_low: bool) -> bool
     requires index { index ≤ 127 }
     requires narrow { (k : ℕ) → unsigned_abs (slice_index_or values.old k (pos 0)) ≤ MAX_NARROW }
@@ -139,6 +144,7 @@ fn restore_run(values: &mut [i32], index: u32, is_low: bool) -> bool
 }
 
 // Dequantises the values from one place to another.
+#[inline(always)]
 fn restore_part(values: &mut [i32], from: usize, to: usize, index: u32, is_low: bool) -> bool
     requires index { index ≤ 127 }
     requires order { from ≤ to }
@@ -151,6 +157,74 @@ fn restore_part(values: &mut [i32], from: usize, to: usize, index: u32, is_low: 
     ensures outside { StaysBeside from to values.old values.new }
 {
     restore_run(&mut values[from..to], index, is_low)
+}
+
+// The quantisation index of band k.
+#[inline(always)]
+fn index_of_band(matrix: &Matrix, qindex: u32, k: u32) -> u32
+    requires band { k < 3 * matrix.now.depth + 1 }
+    ensures value { result ≡ band_quantiser matrix.now qindex (level_of k) (orient_of k) }
+    ensures most { result ≤ qindex }
+{
+    qindex.saturating_sub(matrix.entries()[k as usize])
+}
+
+// Dequantises the values of band k, so many from one place on. It answers false where a magnitude passes 2^18.
+#[inline(always)]
+fn restore_band(
+    values: &mut [i32],
+    from: usize,
+    count: usize,
+    k: u32,
+    matrix: &Matrix,
+    qindex: u32,
+    is_low: bool,
+) -> bool
+    requires band { k < 3 * matrix.now.depth + 1 }
+    requires qindex { qindex ≤ 127 }
+    requires inside { from + count ≤ length values.old }
+    requires narrow { (j : ℕ) → from ≤ j → unsigned_abs (slice_index_or values.old j (pos 0)) ≤ MAX_NARROW }
+    requires low { is_low ≡ true → (i : ℕ) → i ≤ qindex → AreLow from values.old i }
+    ensures rest { (j : ℕ) → from + count ≤ j → slice_index_or values.new j (pos 0) ≡ slice_index_or values.old j (pos 0) }
+    ensures more { result ≡ true → (each : ℕ) (p : Part) (vs : List ℤ) → IsBand matrix.now qindex each p k count →
+        IsRestoredTo each p k from vs values.old → IsRestoredTo each p (k + 1) (from + count) vs values.new }
+    ensures stopped { result ≡ false → (each : ℕ) (p : Part) (vs : List ℤ) → IsBand matrix.now qindex each p k count →
+        IsRestoredTo each p k from vs values.old → OnePasses each p vs }
+{
+    let index = index_of_band(matrix, qindex, k);
+    restore_part(values, from, from + count, index, is_low)
+}
+
+// The same of the three bands of a level, the first of them band k, with so many values each.
+#[inline(always)]
+fn restore_level(
+    values: &mut [i32],
+    from: usize,
+    count: usize,
+    k: u32,
+    matrix: &Matrix,
+    qindex: u32,
+    is_low: bool,
+) -> bool
+    requires band { k + 2 < 3 * matrix.now.depth + 1 }
+    requires few { k ≤ 10 }
+    requires qindex { qindex ≤ 127 }
+    requires inside { from + 3 * count ≤ length values.old }
+    requires narrow { (j : ℕ) → from ≤ j → unsigned_abs (slice_index_or values.old j (pos 0)) ≤ MAX_NARROW }
+    requires low { is_low ≡ true → (i : ℕ) → i ≤ qindex → AreLow from values.old i }
+    ensures more { result ≡ true → (each : ℕ) (p : Part) (vs : List ℤ) → AreBands matrix.now qindex each p k count →
+        IsRestoredTo each p k from vs values.old → IsRestoredTo each p (k + 3) (from + 3 * count) vs values.new }
+    ensures stopped { result ≡ false → (each : ℕ) (p : Part) (vs : List ℤ) → AreBands matrix.now qindex each p k count →
+        IsRestoredTo each p k from vs values.old → OnePasses each p vs }
+{
+    if !restore_band(values, from, count, k, matrix, qindex, is_low) {
+        return false;
+    }
+    let second = from + count;
+    if !restore_band(values, second, count, k + 1, matrix, qindex, is_low) {
+        return false;
+    }
+    restore_band(values, second + count, count, k + 2, matrix, qindex, is_low)
 }
 
 // Dequantises the values of a slice in one component, or of two that take them in turn: so many a place. It answers
@@ -176,15 +250,17 @@ fn restore_block(
         result ≡ true → (k : ℕ) → k < length values.old → slice_index_or values.new k (pos 0) ≡ restored_at values.old quantisers k }
 {
     let is_low = are_low(values, place.qindex);
-    let mut from = 0;
-    for k in 0..3 * layout.depth() + 1 {
-        let (level, orient) = band_numbered(k);
-        let index = matrix.quantiser(place.qindex, level, orient_numbered(orient));
-        let to = from + each * area_of(rects[level as usize]);
-        if !restore_part(values, from, to, index, is_low) {
+    let mut from = each * area_of(rects[0]);
+    if !restore_band(values, 0, from, 0, matrix, place.qindex, is_low) {
+        return false;
+    }
+    for level in 0..layout.depth() {
+        let count = each * area_of(rects[level as usize + 1]);
+        let k = 3 * level + 1;
+        if !restore_level(values, from, count, k, matrix, place.qindex, is_low) {
             return false;
         }
-        from = to;
+        from += 3 * count;
     }
     true
 }

@@ -13,20 +13,21 @@ returns-clause-holds c bytes start end held =
     let w = c.args.window in
     let n = c.args.done in
     let out = c.args.out.now in
-    let codes = c.codes_at-codes.result.now in
-    let q = c.codes_at-codes.ensures in
+    let values = c.codes_at.result.0.now in
+    let head = c.codes_at.result.1 in
+    let q = c.codes_at.ensures in
     let whole = block_of bytes start end in
     let new = c.put_eight.new.out in
     let room : n ≤ length out = omega (arith, c.requires.room) in
-    let read : Reads codes.count (block_of bytes w.place end) (take codes.count codes.values)
-    (block_of bytes (w.place + codes.length) end) = q.reads bytes end held.at in
-    let both = reads-some 8 n codes.count whole (block_of bytes w.place end)
-    (block_of bytes (w.place + codes.length) end) out new codes.values room q.few c.put_eight.ensures.values held.read read in
-    let low : AreWithin (2 ^ 18) (take codes.count codes.values) = all-take IsNarrow codes.count codes.values
-    (all-wider 127 (2 ^ 18) codes.values (omega arith) q.low) in
+    let read : Reads head.count (block_of bytes w.place end) (take head.count values)
+    (block_of bytes (w.place + head.length) end) = q.reads bytes end held.at in
+    let both = reads-some 8 n head.count whole (block_of bytes w.place end)
+    (block_of bytes (w.place + head.length) end) out new values room q.few c.put_eight.ensures.values held.read read in
+    let low : AreWithin (2 ^ 18) (take head.count values) = all-take IsNarrow head.count values
+    (all-wider 127 (2 ^ 18) values (omega arith) q.low) in
     record {
       at = c.behind.ensures.at bytes end held.at;
-      read = subst (λ (p : ℕ). Reads (n + codes.count) whole (take (n + codes.count) new) (block_of bytes p end)) (sym c.behind.ensures.place) both;
-      within = subst (AreWithin (2 ^ 18)) (sym (take-part 8 out new codes.values n codes.count room q.few c.put_eight.ensures.values))
-          (all-append IsNarrow (take n out) (take codes.count codes.values) held.within low);
+      read = subst (λ (p : ℕ). Reads (n + head.count) whole (take (n + head.count) new) (block_of bytes p end)) (sym c.behind.ensures.place) both;
+      within = subst (AreWithin (2 ^ 18)) (sym (take-part 8 out new values n head.count room q.few c.put_eight.ensures.values))
+          (all-append IsNarrow (take n out) (take head.count values) held.within low);
     }

@@ -4,8 +4,8 @@ use Rattle.slice_decoder.proofs.narrow_placing.put_row_pairs.Given as goal
 
 abbrev pub invariant-loop-y : goal.invariant-loop-y
 invariant-loop-y l = record {
-  begun : l.rect.y0 ≤ l.y;
-  place : l.place ≡ l.from + 2 * ((l.y - l.rect.y0) * (l.rect.x1 - l.rect.x0));
-  first : RowsHold 2 0 l.rect l.y (drop l.from l.values) l.fn.first l.first;
-  second : RowsHold 2 1 l.rect l.y (drop l.from l.values) l.fn.second l.second;
+  begun : l.fn.rect.y0 ≤ l.y;
+  place : l.place ≡ l.from + 2 * ((l.y - l.fn.rect.y0) * (l.fn.rect.x1 - l.fn.rect.x0));
+  first : RowsHold 2 0 l.fn.rect l.y (drop l.from l.values) l.fn.first l.first;
+  second : RowsHold 2 1 l.fn.rect l.y (drop l.from l.values) l.fn.second l.second;
 }

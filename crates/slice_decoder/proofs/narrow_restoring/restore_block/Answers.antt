@@ -1,111 +1,103 @@
-use Rattle.std.proofs.Common.{◌≡◌, ℕ, ◌+◌, ◌*◌, ◌^◌, ◌<◌, ◌≤◌, length, get_or, ℤ, pos, unsigned_abs, refl, sym, ap, subst, ◌∙◌, inl, inr, arith}
+use Rattle.std.proofs.Common.{◌≡◌, ℕ, ◌+◌, ◌*◌, ◌^◌, ◌<◌, ◌≤◌, length, refl, sym, ap, ◌∙◌, arith}
+use Rattle.std.proofs.Math.Nat.{mul-le-mul_right}
 use Rattle.slice_geometry.specs.SliceOrder.{place_count}
 use Rattle.slice_geometry.specs.declared.Size.{Size}
 use Rattle.slice_geometry.specs.Slicing.{Slicing}
 use Rattle.slice_decoder.specs.Levels.{places_in}
-use Rattle.slice_decoder.proofs.LevelLemmas.{count_few, places_all}
-use Rattle.std.proofs.Math.Nat.{mul-le-mul_right}
-use Rattle.std.proofs.lemmas.Bool.{cases_lt}
-use Rattle.quant_factors.specs.Factors.{factor_of, inverse_of}
-use Rattle.quant_factors.proofs.Quantisers.{index_here}
-use Rattle.slice_decoder.specs.Components.{Part, part_of, index_of, quantisers_before}
+use Rattle.slice_decoder.specs.Components.{Part, part_of, quantisers_before}
 use Rattle.slice_decoder.specs.Restored.{restored_at}
-use Rattle.slice_decoder.proofs.Restores.{BandMeets, band-meets, part-not, part-more, all-stay}
+use Rattle.slice_decoder.specs.RestoredBands.{IsBand, AreBands}
+use Rattle.slice_decoder.proofs.LevelLemmas.{count_few, places_all}
+use Rattle.slice_decoder.proofs.Restores.{all-stay}
+use Rattle.slice_decoder.proofs.RestoredBands.{is-band, are-bands, band_room, bands_room, none-restored, restored-at}
 use Rattle.slice_decoder.proofs.narrow_restoring.restore_block.Goals as goal
 
-none : (n : ℕ) → 0 ≡ n * 0
-none n = omega arith
-
-pub loop-k-init : goal.loop-k-init
-unfolding places_in
-loop-k-init c = record {
-  from = none c.args.each;
-  length = refl;
-  within = λ k low lt. absurd (omega arith);
-  done = λ j lt. absurd (omega arith);
-  rest = λ j le. refl;
-}
-
-pub overflow_add-to : goal.overflow_add-to
-overflow_add-to c =
+pub restore_band-requires-clause-inside : goal.restore_band-requires-clause-inside
+restore_band-requires-clause-inside c =
     let part : Part = part_of c.args.layout.now c.args.size c.args.place.sx c.args.place.sy c.args.matrix.now c.args.place.qindex in
-    let l = c.loop-k in
-    let index_is : c.quantiser-index.result ≡ index_of part l.k =
-    index_here part.matrix part.qindex c.band_numbered-level.result.0 _ c.band_numbered-level.result.1 _ _ c.quantiser-index.result
-    c.band_numbered-level.ensures.level c.band_numbered-level.ensures.orient c.orient_numbered.ensures c.quantiser-index.ensures in
-    let meets : BandMeets c.args.each part l.k l.from c.area_of.result c.quantiser-index.result (length c.args.values.now) =
-    band-meets c.args.each part c.args.rects.now l.k c.band_numbered-level.result.0 l.from c.area_of.result c.quantiser-index.result
-    (length c.args.values.now) c.requires.rects (omega (arith, c.loop-k-test.true, c.depth.ensures.value)) c.band_numbered-level.ensures.level
-    c.area_of.ensures.area index_is l.invariant.from c.requires.count in
+    let first : IsBand part.matrix part.qindex c.args.each part 0 (c.args.each * c.area_of.result) =
+    is-band c.args.each part c.args.rects.now 0 0 c.area_of.result c.requires.rects c.requires.entries (omega arith) (omega arith) c.area_of.ensures.area in
+    let room = band_room part.matrix part.qindex c.args.each part 0 0 (c.args.each * c.area_of.result) (length c.args.values.now) first (omega arith)
+    (none-restored c.args.each part c.args.values.now).from_is c.requires.count in
+    room.0
+
+pub returns-then-not-restore_band-clause-within : goal.returns-then-not-restore_band-clause-within
+returns-then-not-restore_band-clause-within c =
+    let part : Part = part_of c.args.layout.now c.args.size c.args.place.sx c.args.place.sy c.args.matrix.now c.args.place.qindex in
+    let first : IsBand part.matrix part.qindex c.args.each part 0 (c.args.each * c.area_of.result) =
+    is-band c.args.each part c.args.rects.now 0 0 c.area_of.result c.requires.rects c.requires.entries (omega arith) (omega arith) c.area_of.ensures.area in
+    c.restore_band.ensures.stopped c.if-not-restore_band.true c.args.each part c.args.values.now first (none-restored c.args.each part c.args.values.now)
+
+pub loop-level-init : goal.loop-level-init
+loop-level-init c =
+    let part : Part = part_of c.args.layout.now c.args.size c.args.place.sx c.args.place.sy c.args.matrix.now c.args.place.qindex in
+    let first : IsBand part.matrix part.qindex c.args.each part 0 (c.args.each * c.area_of.result) =
+    is-band c.args.each part c.args.rects.now 0 0 c.area_of.result c.requires.rects c.requires.entries (omega arith) (omega arith) c.area_of.ensures.area in
+    let count : ℕ = c.args.each * c.area_of.result in
+    let one : 0 + 1 ≡ 1 = omega arith in
+    let from : 0 + count ≡ count = omega arith in
+    record {
+      held = restored-at c.args.each part (0 + 1) 1 (0 + count) count c.args.values.now c.restore_band.new.values one from
+          (c.restore_band.ensures.more c.if-not-restore_band.false c.args.each part c.args.values.now first (none-restored c.args.each part c.args.values.now));
+    }
+
+pub restore_level-requires-clause-inside : goal.restore_level-requires-clause-inside
+restore_level-requires-clause-inside c =
+    let part : Part = part_of c.args.layout.now c.args.size c.args.place.sx c.args.place.sy c.args.matrix.now c.args.place.qindex in
+    let l = c.loop-level in
+    let n = c.area_of-in-loop-level.result in
+    let lt : l.level < c.args.layout.now.depth = omega (arith, c.loop-level-test.true, l.auto.level-end, c.depth-level-end.ensures.value) in
+    let are : AreBands part.matrix part.qindex c.args.each part (3 * l.level + 1) (c.args.each * n) =
+    are-bands c.args.each part c.args.rects.now l.level n c.requires.rects c.requires.entries lt c.area_of-in-loop-level.ensures.area in
+    let held = l.invariant.held in
+    omega (
+      arith,
+      bands_room part.matrix part.qindex c.args.each part (3 * l.level + 1) l.from (c.args.each * n) (length c.args.values.now) are (omega (arith, lt)) held.from_is c.requires.count,
+      held.same_length,
+    )
+
+pub returns-then-not-restore_level-clause-within : goal.returns-then-not-restore_level-clause-within
+returns-then-not-restore_level-clause-within c =
+    let part : Part = part_of c.args.layout.now c.args.size c.args.place.sx c.args.place.sy c.args.matrix.now c.args.place.qindex in
+    let l = c.loop-level in
+    let n = c.area_of-in-loop-level.result in
+    let lt : l.level < c.args.layout.now.depth = omega (arith, c.loop-level-test.true, l.auto.level-end, c.depth-level-end.ensures.value) in
+    let are : AreBands part.matrix part.qindex c.args.each part (3 * l.level + 1) (c.args.each * n) =
+    are-bands c.args.each part c.args.rects.now l.level n c.requires.rects c.requires.entries lt c.area_of-in-loop-level.ensures.area in
+    c.restore_level.ensures.stopped c.if-not-restore_level.true c.args.each part c.args.values.now are l.invariant.held
+
+pub overflow_add-from : goal.overflow_add-from
+overflow_add-from c =
+    let part : Part = part_of c.args.layout.now c.args.size c.args.place.sx c.args.place.sy c.args.matrix.now c.args.place.qindex in
+    let l = c.loop-level in
+    let n = c.area_of-in-loop-level.result in
+    let lt : l.level < c.args.layout.now.depth = omega (arith, c.loop-level-test.true, l.auto.level-end, c.depth-level-end.ensures.value) in
+    let are : AreBands part.matrix part.qindex c.args.each part (3 * l.level + 1) (c.args.each * n) =
+    are-bands c.args.each part c.args.rects.now l.level n c.requires.rects c.requires.entries lt c.area_of-in-loop-level.ensures.area in
     let s = c.args.layout.now in
     let count : ℕ = place_count s c.args.size c.args.place.sx c.args.place.sy in
     let most : c.args.each * count ≤ 2 * count = mul-le-mul_right count c.requires.few in
-    omega (arith, meets.room, c.requires.count, most, count_few s c.args.size c.args.place.sx c.args.place.sy c.args.rects.now c.requires.rects)
+    omega (
+      arith,
+      bands_room part.matrix part.qindex c.args.each part (3 * l.level + 1) l.from (c.args.each * n) (length c.args.values.now) are (omega (arith, lt)) l.invariant.held.from_is c.requires.count,
+      c.requires.count,
+      most,
+      count_few s c.args.size c.args.place.sx c.args.place.sy c.args.rects.now c.requires.rects,
+    )
 
-pub restore_part-requires-clause-inside : goal.restore_part-requires-clause-inside
-restore_part-requires-clause-inside c =
+pub loop-level-preserved : goal.loop-level-preserved
+loop-level-preserved c =
     let part : Part = part_of c.args.layout.now c.args.size c.args.place.sx c.args.place.sy c.args.matrix.now c.args.place.qindex in
-    let l = c.loop-k in
-    let index_is : c.quantiser-index.result ≡ index_of part l.k =
-    index_here part.matrix part.qindex c.band_numbered-level.result.0 _ c.band_numbered-level.result.1 _ _ c.quantiser-index.result
-    c.band_numbered-level.ensures.level c.band_numbered-level.ensures.orient c.orient_numbered.ensures c.quantiser-index.ensures in
-    let meets : BandMeets c.args.each part l.k l.from c.area_of.result c.quantiser-index.result (length c.args.values.now) =
-    band-meets c.args.each part c.args.rects.now l.k c.band_numbered-level.result.0 l.from c.area_of.result c.quantiser-index.result
-    (length c.args.values.now) c.requires.rects (omega (arith, c.loop-k-test.true, c.depth.ensures.value)) c.band_numbered-level.ensures.level
-    c.area_of.ensures.area index_is l.invariant.from c.requires.count in
-    omega (arith, meets.room, l.invariant.length)
-
-pub restore_part-requires-clause-narrow : goal.restore_part-requires-clause-narrow
-restore_part-requires-clause-narrow c k low = omega (arith, ap unsigned_abs (c.loop-k.invariant.rest k low), c.requires.narrow k)
-
-pub restore_part-requires-clause-low : goal.restore_part-requires-clause-low
-restore_part-requires-clause-low c low k le =
-    subst (λ (v : ℤ). (unsigned_abs v + 1) * factor_of c.quantiser-index.result ≤ 2 ^ 20) (sym (c.loop-k.invariant.rest k le))
-    (c.are_low-is_low.ensures low c.quantiser-index.result (omega (arith, c.quantiser-index.ensures)) k (omega arith))
-
-pub returns-then-not-restore_part-clause-within : goal.returns-then-not-restore_part-clause-within
-returns-then-not-restore_part-clause-within c =
-    let part : Part = part_of c.args.layout.now c.args.size c.args.place.sx c.args.place.sy c.args.matrix.now c.args.place.qindex in
-    let l = c.loop-k in
-    let index_is : c.quantiser-index.result ≡ index_of part l.k =
-    index_here part.matrix part.qindex c.band_numbered-level.result.0 _ c.band_numbered-level.result.1 _ _ c.quantiser-index.result
-    c.band_numbered-level.ensures.level c.band_numbered-level.ensures.orient c.orient_numbered.ensures c.quantiser-index.ensures in
-    let meets : BandMeets c.args.each part l.k l.from c.area_of.result c.quantiser-index.result (length c.args.values.now) =
-    band-meets c.args.each part c.args.rects.now l.k c.band_numbered-level.result.0 l.from c.area_of.result c.quantiser-index.result
-    (length c.args.values.now) c.requires.rects (omega (arith, c.loop-k-test.true, c.depth.ensures.value)) c.band_numbered-level.ensures.level
-    c.area_of.ensures.area index_is l.invariant.from c.requires.count in
-    let values = c.args.values.now in
-    let to : ℕ = l.from + c.args.each * c.area_of.result in
-    part-not (2 ^ 18) (restored_at values (quantisers_before c.args.each part (3 * c.args.layout.now.depth + 1)))
-    (λ j. inverse_of (get_or l.values j (pos 0)) c.quantiser-index.result) l.from to (length values) c.restore_part.result c.if-not-restore_part.true
-    meets.room (λ j low lt. meets.same values l.values j low lt (l.invariant.rest j low)) c.restore_part.ensures.within
-
-pub loop-k-preserved : goal.loop-k-preserved
-loop-k-preserved c =
-    let part : Part = part_of c.args.layout.now c.args.size c.args.place.sx c.args.place.sy c.args.matrix.now c.args.place.qindex in
-    let l = c.loop-k in
-    let index_is : c.quantiser-index.result ≡ index_of part l.k =
-    index_here part.matrix part.qindex c.band_numbered-level.result.0 _ c.band_numbered-level.result.1 _ _ c.quantiser-index.result
-    c.band_numbered-level.ensures.level c.band_numbered-level.ensures.orient c.orient_numbered.ensures c.quantiser-index.ensures in
-    let meets : BandMeets c.args.each part l.k l.from c.area_of.result c.quantiser-index.result (length c.args.values.now) =
-    band-meets c.args.each part c.args.rects.now l.k c.band_numbered-level.result.0 l.from c.area_of.result c.quantiser-index.result
-    (length c.args.values.now) c.requires.rects (omega (arith, c.loop-k-test.true, c.depth.ensures.value)) c.band_numbered-level.ensures.level
-    c.area_of.ensures.area index_is l.invariant.from c.requires.count in
-    let values = c.args.values.now in
-    let i = l.invariant in
-    let to : ℕ = l.from + c.args.each * c.area_of.result in
-    let good = c.if-not-restore_part.false in
-    let same = λ (j : ℕ) (low : l.from ≤ j) (lt : j < to). meets.same values l.values j low lt (i.rest j low) in
+    let l = c.loop-level in
+    let n = c.area_of-in-loop-level.result in
+    let lt : l.level < c.args.layout.now.depth = omega (arith, c.loop-level-test.true, l.auto.level-end, c.depth-level-end.ensures.value) in
+    let are : AreBands part.matrix part.qindex c.args.each part (3 * l.level + 1) (c.args.each * n) =
+    are-bands c.args.each part c.args.rects.now l.level n c.requires.rects c.requires.entries lt c.area_of-in-loop-level.ensures.area in
+    let next : 3 * l.level + 1 + 3 ≡ 3 * (l.level + 1) + 1 = omega arith in
+    let from : ℕ = l.from + 3 * (c.args.each * n) in
     record {
-      from = meets.next;
-      length = c.restore_part.auto.values ∙ i.length;
-      within = part-more (2 ^ 18) (restored_at values (quantisers_before c.args.each part (3 * c.args.layout.now.depth + 1)))
-          (λ j. inverse_of (get_or l.values j (pos 0)) c.quantiser-index.result) l.from to c.restore_part.result good same i.within c.restore_part.ensures.within;
-      done = λ j lt. elim (cases_lt j l.from) [
-        | inl old ↦ c.restore_part.ensures.outside j (inl old) ∙ i.done j old
-        | inr new ↦ c.restore_part.ensures.inside good j new lt ∙ same j new lt
-      ];
-      rest = λ j le. c.restore_part.ensures.outside j (inr le) ∙ i.rest j (omega arith);
+      held = restored-at c.args.each part (3 * l.level + 1 + 3) (3 * (l.level + 1) + 1) from from c.args.values.now c.restore_level.new.values next refl
+          (c.restore_level.ensures.more c.if-not-restore_level.false c.args.each part c.args.values.now are l.invariant.held);
     }
 
 all_places : (each : ℕ) (s : Slicing) (size : Size) (sx sy k from n : ℕ) → from ≡ each * places_in s size sx sy k → k ≡ 3 * s.depth + 1
@@ -116,16 +108,15 @@ all_places each s size sx sy k from n from_is k_is n_is =
 pub returns-clause-within : goal.returns-clause-within
 returns-clause-within c =
     let part : Part = part_of c.args.layout.now c.args.size c.args.place.sx c.args.place.sy c.args.matrix.now c.args.place.qindex in
-    let l = c.loop-k in
-    let n = length c.args.values.now in
-    let whole : length c.args.values.now ≡ l.from = all_places c.args.each c.args.layout.now c.args.size c.args.place.sx c.args.place.sy l.k l.from
-    (length c.args.values.now) l.invariant.from (omega (arith, c.loop-k-test.false, c.loop-k.auto.k-end, c.depth.ensures.value)) c.requires.count in
+    let l = c.loop-level in
+    let whole : length c.args.values.now ≡ l.from = all_places c.args.each c.args.layout.now c.args.size c.args.place.sx c.args.place.sy (3 * l.level + 1) l.from
+    (length c.args.values.now) l.invariant.held.from_is (omega (arith, c.loop-level-test.false, l.auto.level-end, c.depth-level-end.ensures.value)) c.requires.count in
     all-stay (2 ^ 18) (restored_at c.args.values.now (quantisers_before c.args.each part (3 * c.args.layout.now.depth + 1))) 0 (length c.args.values.now)
-    (λ k low lt. l.invariant.within k low (omega (arith, lt, whole)))
+    (λ k low lt. l.invariant.held.within k low (omega (arith, lt, whole)))
 
 pub returns-clause-values : goal.returns-clause-values
 returns-clause-values c good k lt =
-    let l = c.loop-k in
-    let whole : length c.args.values.now ≡ l.from = all_places c.args.each c.args.layout.now c.args.size c.args.place.sx c.args.place.sy l.k l.from
-    (length c.args.values.now) l.invariant.from (omega (arith, c.loop-k-test.false, c.loop-k.auto.k-end, c.depth.ensures.value)) c.requires.count in
-    l.invariant.done k (omega (arith, lt, whole))
+    let l = c.loop-level in
+    let whole : length c.args.values.now ≡ l.from = all_places c.args.each c.args.layout.now c.args.size c.args.place.sx c.args.place.sy (3 * l.level + 1) l.from
+    (length c.args.values.now) l.invariant.held.from_is (omega (arith, c.loop-level-test.false, l.auto.level-end, c.depth-level-end.ensures.value)) c.requires.count in
+    l.invariant.held.done k (omega (arith, lt, whole))

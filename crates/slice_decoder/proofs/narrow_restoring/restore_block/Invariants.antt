@@ -1,16 +1,9 @@
-use Rattle.std.proofs.Common.{◌≡◌, ℕ, ◌+◌, ◌*◌, ◌^◌, ◌<◌, ◌≤◌, length, get_or, pos}
-use Rattle.slice_decoder.specs.Components.{Part, quantisers_before}
-use Rattle.slice_decoder.specs.Levels.{places_in}
-use Rattle.slice_decoder.specs.Restored.{restored_at, AllWithin}
+use Rattle.std.proofs.Common.{◌+◌, ◌*◌}
+use Rattle.slice_decoder.specs.Components.{Part}
+use Rattle.slice_decoder.specs.RestoredBands.{IsRestoredTo}
 use Rattle.slice_decoder.proofs.narrow_restoring.restore_block.Given as goal
 
-abbrev pub invariant-loop-k : goal.invariant-loop-k
-invariant-loop-k l =
+abbrev pub invariant-loop-level : goal.invariant-loop-level
+invariant-loop-level l =
     let part : Part = record { slicing = l.layout; size = l.fn.size; sx = l.fn.place.sx; sy = l.fn.place.sy; matrix = l.matrix; qindex = l.fn.place.qindex } in
-    record {
-      from : l.from ≡ l.each * places_in l.layout l.fn.size l.fn.place.sx l.fn.place.sy l.k;
-      length : length l.values ≡ length l.fn.values;
-      within : AllWithin (2 ^ 18) (restored_at l.fn.values (quantisers_before l.each part (3 * l.layout.depth + 1))) 0 l.from;
-      done : (j : ℕ) → j < l.from → get_or l.values j (pos 0) ≡ restored_at l.fn.values (quantisers_before l.each part (3 * l.layout.depth + 1)) j;
-      rest : (j : ℕ) → l.from ≤ j → get_or l.values j (pos 0) ≡ get_or l.fn.values j (pos 0);
-    }
+    record { held : IsRestoredTo l.each part (3 * l.level + 1) l.from l.fn.values l.values }
