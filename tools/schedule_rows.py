@@ -4,8 +4,8 @@
 usage: tools/schedule_rows.py
 
 A stream is a list of units (head, slices, a, b). The plan is found by trying delays; how a schedule comes out, by going
-through slice after slice, and through the idle slots behind each picture. It prints the tables of
-crates/codec_tests/src/schedules.rt and idle_slots.rt.
+through slice after slice, and through the idle slots behind each picture. It prints the rows of both tables of
+crates/codec_tests/src/schedules.rt that were found by search: first those without idle slots, then those with them.
 """
 import random
 
@@ -105,20 +105,20 @@ BOUNDS = [
 
 def main():
     random_numbers = random.Random(7)
-    print("const PLANS:")
+    print("PLANS, without idle slots:")
     for row, rate in streams(random_numbers, 20):
-        print(f"    ({row}, {rate}, {plan(units_of(*row), rate, 0)}),")
-    print("const OUTCOMES:")
+        print(f"    ({row}, {rate}, 0, {plan(units_of(*row), rate, 0)}),")
+    print("OUTCOMES, without idle slots:")
     for row, rate in streams(random_numbers, 8):
         units = units_of(*row)
         delay, size = plan(units, rate, 0)
         for d, s in ((delay, size - 1), (max(delay, 1) - 1, size)):
-            print(f"    ({row}, {rate}, ({d}, {s}), {outcome_text(units, rate, 0, d, s)}),")
-    print("const IDLE_PLANS:")
+            print(f"    ({row}, {rate}, 0, ({d}, {s}), {outcome_text(units, rate, 0, d, s)}),")
+    print("PLANS, with idle slots:")
     rows = BOUNDS + [(row, rate, random_numbers.choice([1, 2, 3, 10, 100])) for row, rate in streams(random_numbers, 16)]
     for row, rate, idle in rows:
         print(f"    ({row}, {rate}, {idle}, {plan(units_of(*row), rate, idle)}),")
-    print("const IDLE_OUTCOMES:")
+    print("OUTCOMES, with idle slots:")
     for row, rate, idle in BOUNDS[:1] + [row for row in rows[len(BOUNDS):] if row[0][1] > 1][:4]:
         units = units_of(*row)
         delay, size = plan(units, rate, idle)

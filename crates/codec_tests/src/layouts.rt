@@ -2,9 +2,8 @@
 
 use crate::same::assert_same;
 use planes::Rect;
-use slice_geometry::{Layout, LayoutFault, Size, UnitShape, UnitShapes, length_bits};
+use slice_geometry::{Layout, LayoutFault, Size, length_bits};
 use std::process::Abort;
-use std::test::Fail;
 
 fn layout(rt: &impl Abort, depth: u32, across: u32, down: u32, a: u32, b: u32) -> Layout {
     Layout::check(depth, across, down, a, b)
@@ -12,22 +11,24 @@ fn layout(rt: &impl Abort, depth: u32, across: u32, down: u32, a: u32, b: u32) -
         .expect(rt, "a layout")
 }
 
-// Seven bytes for three slices: every third slice has three.
+// Seven bytes for three slices: every third slice has three. Another share makes another layout.
 #[test]
 fn shares_follow_the_fraction(rt: HostRuntime) {
     let thirds = layout(&rt, 0, 3, 2, 7, 3);
-    assert_same(&rt, (thirds.count(), thirds.total_bytes()), (6, 14));
-    for (n, bytes) in [(0, 2), (1, 2), (2, 3), (3, 2), (4, 2), (5, 3)] {
-        assert!(&rt; n < thirds.count());
-        assert_same(&rt, (n, thirds.share(n)), (n, bytes));
-    }
-}
-
-#[test]
-fn layouts_are_compared(rt: HostRuntime) {
-    let thirds = layout(&rt, 0, 3, 2, 7, 3);
-    assert_same(&rt, thirds, layout(&rt, 0, 3, 2, 7, 3));
-    assert!(&rt; thirds != layout(&rt, 0, 3, 2, 7, 2));
+    assert!(&rt; thirds.count() == 6);
+    let shares = [
+        thirds.share(0),
+        thirds.share(1),
+        thirds.share(2),
+        thirds.share(3),
+        thirds.share(4),
+        thirds.share(5),
+    ];
+    assert_same(&rt, shares, [2, 2, 3, 2, 2, 3]);
+    let same = thirds == layout(&rt, 0, 3, 2, 7, 3);
+    let other = thirds == layout(&rt, 0, 3, 2, 7, 2);
+    let found = (thirds.total_bytes(), same, other);
+    assert_same(&rt, found, (14, true, false));
 }
 
 #[test]
@@ -77,7 +78,7 @@ const FIVE_BY_THREE: Size = Size { w: 5, h: 3 };
 #[test]
 fn bands_have_their_sizes(rt: HostRuntime) {
     let three = layout(&rt, 2, 3, 1, 1, 1);
-    assert!(&rt; three.depth() == 2 && three.slices_x() == 3 && three.slices_y() == 1);
+    assert!(&rt; three.depth() == 2);
     let sizes = [
         three.padded_size(FIVE_BY_THREE),
         three.band_size(FIVE_BY_THREE, 0),
@@ -106,40 +107,18 @@ const PLACES: [(u32, u32, u32, u32, u32); 6] = [
 #[test]
 fn slices_have_their_places(rt: HostRuntime) {
     let three = layout(&rt, 2, 3, 1, 1, 1);
-    for place in &PLACES {
-        let (level, sx, x0, x1, y1) = *place;
-        assert!(&rt; level <= three.depth() && sx < three.slices_x());
-        let found = three.band_rect(FIVE_BY_THREE, level, sx, 0);
-        let wanted = Rect { x0, x1, y0: 0, y1 };
-        assert_same(&rt, (level, sx, found), (level, sx, wanted));
+    for (level, sx, x0, x1, y1) in &PLACES {
+        assert!(&rt; *level <= three.depth() && *sx < three.slices_x());
+        let found = three.band_rect(FIVE_BY_THREE, *level, *sx, 0);
+        assert_same(
+            &rt,
+            found,
+            Rect {
+                x0: *x0,
+                x1: *x1,
+                y0: 0,
+                y1: *y1,
+            },
+        );
     }
-}
-
-const HEADER: UnitShape = UnitShape {
-    start: 0,
-    head: 17,
-    slices: 0,
-    a: 1,
-    b: 1,
-};
-
-const PICTURE: UnitShape = UnitShape {
-    start: 17,
-    head: 20,
-    slices: 6,
-    a: 7,
-    b: 3,
-};
-
-#[test]
-fn units_are_kept_in_turn(rt: HostRuntime) -> Result<(), Fail> {
-    let mut shapes = UnitShapes::new(rt.alloc());
-    shapes.reserve(3)?;
-    shapes.push(HEADER);
-    assert!(&rt; shapes.total() == 17);
-    shapes.push(PICTURE);
-    assert!(&rt; shapes.len() == 2);
-    let found = (shapes.total(), shapes.get(0), shapes.get(1));
-    assert_same(&rt, found, (51, HEADER, PICTURE));
-    Ok(())
 }

@@ -20,10 +20,10 @@ const FACTORS_AND_OFFSETS: [(u32, u64, u64); 10] = [
 
 #[test]
 fn factors_and_offsets(rt: HostRuntime) {
-    for row in FACTORS_AND_OFFSETS {
+    for row in &FACTORS_AND_OFFSETS {
         let i = row.0;
         assert!(&rt; i <= 127);
-        assert_same(&rt, (i, factor(i), offset(i)), row);
+        assert_same(&rt, (i, factor(i), offset(i)), *row);
     }
 }
 
@@ -45,10 +45,10 @@ const RESTORED: [(i64, u32, Dequantised); 10] = [
 
 #[test]
 fn numbers_are_restored(rt: HostRuntime) {
-    for row in RESTORED {
-        let (q, i, _) = row;
+    for row in &RESTORED {
+        let (q, i, _) = *row;
         assert!(&rt; i <= 127 && q.unsigned_abs() <= 1 << 36);
-        assert_same(&rt, (q, i, inverse(q, i)), row);
+        assert_same(&rt, (q, i, inverse(q, i)), *row);
     }
 }
 
@@ -63,10 +63,10 @@ const QUANTISED: [(i64, u32, i64); 5] = [
 
 #[test]
 fn numbers_are_quantised(rt: HostRuntime) {
-    for row in QUANTISED {
-        let (c, i, _) = row;
+    for row in &QUANTISED {
+        let (c, i, _) = *row;
         assert!(&rt; i <= 127 && c.unsigned_abs() <= 1 << 40);
-        assert_same(&rt, (c, i, forward(c, i)), row);
+        assert_same(&rt, (c, i, forward(c, i)), *row);
     }
 }
 

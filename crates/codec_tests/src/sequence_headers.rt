@@ -1,5 +1,6 @@
 //! Worked headers: read, written, checked rule by rule, and the pictures that they make.
 
+use crate::same::assert_same;
 use sequence_header::{
     AspectField, CleanArea, ColourField, FieldName, HeaderFault, HeaderParts, HeaderReason,
     RateField, SequenceHeader, SignalField, SignalRange,
@@ -75,49 +76,93 @@ fn header_of(rt: &impl Abort, parts: HeaderParts) -> SequenceHeader {
     checked(rt, parts).ok().expect(rt, "parts that pass")
 }
 
-/// Headers, and the bit and the reason of their fault.
-const REFUSED: [(&[u8], u64, HeaderReason); 8] = [
-    (&[], 0, HeaderReason::Truncated),
+/// Headers, and where and why they are refused.
+const REFUSED: [(&[u8], HeaderFault); 8] = [
+    (
+        &[],
+        HeaderFault {
+            bit: 0,
+            reason: HeaderReason::Truncated,
+        },
+    ),
     (
         &[0x3F, 0, 0, 0, 0, 0, 0, 0, 0, 0],
-        8,
-        HeaderReason::NumberTooLarge,
+        HeaderFault {
+            bit: 8,
+            reason: HeaderReason::NumberTooLarge,
+        },
     ),
-    (&[0x3F, 0, 0, 0, 0, 0, 0, 0, 0], 8, HeaderReason::Truncated),
+    (
+        &[0x3F, 0, 0, 0, 0, 0, 0, 0, 0],
+        HeaderFault {
+            bit: 8,
+            reason: HeaderReason::Truncated,
+        },
+    ),
     (
         &[0x3E, 0x27, 0x42, 0x4A],
-        7,
-        HeaderReason::DefaultTaken(FieldName::Size),
+        HeaderFault {
+            bit: 7,
+            reason: HeaderReason::DefaultTaken(FieldName::Size),
+        },
     ),
-    (&[0xBF, 0x27, 0x42, 0x4A], 0, HeaderReason::VersionRefused),
-    (&[0x37, 0x27, 0x42, 0x4A], 4, HeaderReason::NotLowDelay),
-    (&[0x3F, 0xA7, 0x42, 0x4A], 8, HeaderReason::SizeRefused),
-    (&[0x3F, 0x27, 0x42, 0x52], 26, HeaderReason::SignalRefused),
+    (
+        &[0xBF, 0x27, 0x42, 0x4A],
+        HeaderFault {
+            bit: 0,
+            reason: HeaderReason::VersionRefused,
+        },
+    ),
+    (
+        &[0x37, 0x27, 0x42, 0x4A],
+        HeaderFault {
+            bit: 4,
+            reason: HeaderReason::NotLowDelay,
+        },
+    ),
+    (
+        &[0x3F, 0xA7, 0x42, 0x4A],
+        HeaderFault {
+            bit: 8,
+            reason: HeaderReason::SizeRefused,
+        },
+    ),
+    (
+        &[0x3F, 0x27, 0x42, 0x52],
+        HeaderFault {
+            bit: 26,
+            reason: HeaderReason::SignalRefused,
+        },
+    ),
 ];
 
-/// Asserts where and why a header is refused.
-fn assert_refused(rt: &impl Abort, bytes: &[u8], bit: u64, reason: HeaderReason) {
-    assert!(rt; bytes.len() <= 10);
-    let fault = HeaderFault { bit, reason };
-    assert_eq!(rt; SequenceHeader::read(bytes).err(), Some(fault));
-}
-
 #[test]
-fn headers_are_read_as_worked(rt: HostRuntime) {
-    for (bytes, bit, reason) in &REFUSED {
-        assert_refused(&rt, bytes, *bit, *reason);
+fn headers_are_refused_as_worked(rt: HostRuntime) {
+    for (bytes, fault) in &REFUSED {
+        assert!(&rt; bytes.len() <= 10);
+        let found = SequenceHeader::read(bytes).err();
+        assert_same(&rt, found, Some(*fault));
     }
 }
 
-/// Parts, and the bytes that they are written in.
-const WORKED: [(HeaderParts, &[u8]); 6] = [
-    (SMALLEST, &[0x3F, 0x27, 0x42, 0x4A]),
+/// Parts, and how many bytes they are written in, with 0xAA behind them.
+const WORKED: [(HeaderParts, usize, [u8; 12]); 6] = [
+    (
+        SMALLEST,
+        4,
+        [
+            0x3F, 0x27, 0x42, 0x4A, 0xAA, 0xAA, 0xAA, 0xAA, 0xAA, 0xAA, 0xAA, 0xAA,
+        ],
+    ),
     (
         HeaderParts {
             width: 2,
             ..SMALLEST
         },
-        &[0x3F, 0x67, 0x42, 0x4A],
+        4,
+        [
+            0x3F, 0x67, 0x42, 0x4A, 0xAA, 0xAA, 0xAA, 0xAA, 0xAA, 0xAA, 0xAA, 0xAA,
+        ],
     ),
     (
         HeaderParts {
@@ -125,7 +170,10 @@ const WORKED: [(HeaderParts, &[u8]); 6] = [
             height: 2,
             ..SMALLEST
         },
-        &[0x3F, 0x6F, 0x42, 0x4A],
+        4,
+        [
+            0x3F, 0x6F, 0x42, 0x4A, 0xAA, 0xAA, 0xAA, 0xAA, 0xAA, 0xAA, 0xAA, 0xAA,
+        ],
     ),
     (
         HeaderParts {
@@ -133,52 +181,48 @@ const WORKED: [(HeaderParts, &[u8]); 6] = [
             coding: 1,
             ..SMALLEST
         },
-        &[0x3F, 0x2F, 0x42, 0x48, 0x80],
+        5,
+        [
+            0x3F, 0x2F, 0x42, 0x48, 0x80, 0xAA, 0xAA, 0xAA, 0xAA, 0xAA, 0xAA, 0xAA,
+        ],
     ),
     (
         FULLEST,
-        &[0x7F, 0x2F, 0x9D, 0x9C, 0x99, 0x7F, 0x0B, 0x0F, 0x28, 0x48],
+        10,
+        [
+            0x7F, 0x2F, 0x9D, 0x9C, 0x99, 0x7F, 0x0B, 0x0F, 0x28, 0x48, 0xAA, 0xAA,
+        ],
     ),
     (
         LARGE,
-        &[0x3F, 0x54, 0x00, 0x18, 0x02, 0xA0, 0xE5, 0x09, 0x0A],
+        9,
+        [
+            0x3F, 0x54, 0x00, 0x18, 0x02, 0xA0, 0xE5, 0x09, 0x0A, 0xAA, 0xAA, 0xAA,
+        ],
     ),
 ];
 
-/// Asserts that a header is written as a text, behind which bytes stay.
-fn assert_written(rt: &impl Abort, header: &SequenceHeader, text: &[u8]) -> [u8; 237] {
-    let mut bytes = [0xAA; 237];
+/// A header as it is written, where 0xAA stands behind it, and its length.
+fn written(rt: &impl Abort, header: &SequenceHeader) -> (usize, [u8; 12]) {
+    let mut bytes = [0xAA; 12];
     let length = header.byte_len();
-    assert_eq!(rt; length, text.len());
+    assert!(rt; length <= 12);
     header.write(&mut bytes[..length]);
-    assert_eq!(rt; &bytes[..length], text);
-    bytes
-}
-
-/// Asserts that a header of these parts is in front of bytes, and takes so many of them.
-fn assert_read(
-    rt: &impl Abort,
-    bytes: &[u8; 237],
-    parts: &HeaderParts,
-    length: usize,
-) -> SequenceHeader {
-    let (header, taken) = SequenceHeader::read(bytes).ok().expect(rt, "a header");
-    assert_eq!(rt; (*header.parts(), taken), (*parts, length));
-    header
+    (length, bytes)
 }
 
 #[test]
 fn headers_are_written_and_read_again(rt: HostRuntime) {
-    for (parts, text) in &WORKED {
+    for (parts, length, text) in &WORKED {
         let header = header_of(&rt, *parts);
-        let bytes = assert_written(&rt, &header, text);
-        let again = assert_read(&rt, &bytes, parts, text.len());
-        assert_eq!(&rt; again, header);
+        assert_same(&rt, written(&rt, &header), (*length, *text));
+        let again = SequenceHeader::read(text).ok();
+        assert_same(&rt, again, Some((header, *length)));
+        assert_same(&rt, *header.parts(), *parts);
     }
 }
 
 /// What is changed of the smallest header.
-#[derive(Clone, Copy)]
 enum Change {
     /// The major version, the minor one and the level.
     Version(u32, u32, u32),
@@ -192,9 +236,9 @@ enum Change {
 }
 
 /// The smallest header, but for a change.
-fn changed(change: Change) -> HeaderParts {
+fn changed(change: &Change) -> HeaderParts {
     let mut parts = SMALLEST;
-    match change {
+    match *change {
         Change::Version(major, minor, level) => {
             parts.major = major;
             parts.minor = minor;
@@ -303,20 +347,39 @@ const RULES: [(Change, Option<HeaderReason>); 36] = [
 #[test]
 fn each_rule_is_checked(rt: HostRuntime) {
     for (change, reason) in &RULES {
-        let parts = changed(*change);
-        assert_eq!(&rt; checked(&rt, parts).err(), *reason);
+        let found = checked(&rt, changed(change)).err();
+        assert_same(&rt, found, *reason);
     }
 }
 
-/// Parts, the sizes of luma and of colour, and the depth of both.
-const SHAPES: [(HeaderParts, Size, Size, u32); 4] = [
-    (SMALLEST, Size { w: 1, h: 1 }, Size { w: 1, h: 1 }, 8),
-    (FULLEST, Size { w: 1, h: 1 }, Size { w: 1, h: 1 }, 2),
+/// Parts, and the picture that they make.
+const SHAPES: [(HeaderParts, PictureShape); 4] = [
+    (
+        SMALLEST,
+        PictureShape {
+            luma: Size { w: 1, h: 1 },
+            colour: Size { w: 1, h: 1 },
+            luma_depth: 8,
+            colour_depth: 8,
+        },
+    ),
+    (
+        FULLEST,
+        PictureShape {
+            luma: Size { w: 1, h: 1 },
+            colour: Size { w: 1, h: 1 },
+            luma_depth: 2,
+            colour_depth: 2,
+        },
+    ),
     (
         LARGE,
-        Size { w: 1920, h: 1080 },
-        Size { w: 960, h: 1080 },
-        10,
+        PictureShape {
+            luma: Size { w: 1920, h: 1080 },
+            colour: Size { w: 960, h: 1080 },
+            luma_depth: 10,
+            colour_depth: 10,
+        },
     ),
     (
         HeaderParts {
@@ -325,29 +388,19 @@ const SHAPES: [(HeaderParts, Size, Size, u32); 4] = [
             signal: SignalField::Index(4),
             ..LARGE
         },
-        Size { w: 1920, h: 540 },
-        Size { w: 960, h: 270 },
-        12,
+        PictureShape {
+            luma: Size { w: 1920, h: 540 },
+            colour: Size { w: 960, h: 270 },
+            luma_depth: 12,
+            colour_depth: 12,
+        },
     ),
 ];
 
-/// Asserts the sizes of luma and of colour, and their depths.
-fn assert_shape(rt: &impl Abort, shape: &PictureShape, want: (Size, Size, u32, u32)) {
-    assert_eq!(rt;
-        (
-            shape.luma,
-            shape.colour,
-            shape.luma_depth,
-            shape.colour_depth
-        ),
-        want
-    );
-}
-
 #[test]
 fn pictures_have_their_shapes(rt: HostRuntime) {
-    for (parts, luma, colour, depth) in &SHAPES {
-        let shape = header_of(&rt, *parts).picture_shape();
-        assert_shape(&rt, &shape, (*luma, *colour, *depth, *depth));
+    for (parts, shape) in &SHAPES {
+        let found = header_of(&rt, *parts).picture_shape();
+        assert_same(&rt, found, *shape);
     }
 }

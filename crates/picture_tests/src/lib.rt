@@ -5,6 +5,8 @@
 #[cfg(test)]
 mod analysis;
 #[cfg(test)]
+mod checks;
+#[cfg(test)]
 mod closed_loops;
 #[cfg(test)]
 mod picture_writing;
@@ -16,5 +18,3 @@ mod raw_pictures;
 mod raw_reading;
 #[cfg(test)]
 mod synthesis;
-#[cfg(test)]
-mod widths;

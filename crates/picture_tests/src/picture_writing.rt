@@ -5,9 +5,10 @@
 ghost use Rattle.std.specs.Prelude.{◌≡◌};
 ghost use Rattle.transform_params.specs.Views.{params_of};
 
+use crate::checks::assert_same;
 use crate::raw_pictures::picture_of;
 use lifting::Wavelet;
-use picture_codec::{EncoderFault, Picture, PictureEncoder, TransformParams};
+use picture_codec::{Picture, PictureEncoder, TransformParams};
 use quant_factors::Matrix;
 use slice_geometry::{Layout, PictureShape, Size};
 use std::alloc::Global;
@@ -57,6 +58,46 @@ pub(crate) fn payload(
 /// The samples of a picture, its number, and its payload.
 type Turn<'a> = ([&'a [u32]; 3], u32, &'a [u8]);
 
+/// Asserts the payload of a picture.
+fn assert_payload(
+    rt: &impl Abort,
+    alloc: Global,
+    encoder: &mut PictureEncoder,
+    params: &TransformParams,
+    picture: &Picture,
+    number: u32,
+    want: &[u8],
+) -> Result<(), Fail>
+    requires shape { picture.now.shape ≡ encoder.old.shape }
+    requires params { encoder.old.params ≡ params_of params.now }
+    ensures same { encoder.new ≡ encoder.old }
+{
+    let bytes = payload(rt, alloc, encoder, params, picture, number)?;
+    assert_same(rt, bytes.as_slice(), want);
+    Ok(())
+}
+
+/// Asserts what an encoder writes of pictures in turn.
+fn assert_turns(
+    rt: &impl Abort,
+    alloc: Global,
+    encoder: &mut PictureEncoder,
+    shape: &PictureShape,
+    params: &TransformParams,
+    turns: &[Turn<'_>],
+) -> Result<(), Fail>
+    requires shape { encoder.old.shape ≡ shape.now }
+    requires params { encoder.old.params ≡ params_of params.now }
+{
+    for (samples, number, want) in turns {
+        let picture = picture_of(rt, alloc, shape, *samples)?;
+        let done = assert_payload(rt, alloc, encoder, params, &picture, *number, want);
+        drop(picture);
+        done?;
+    }
+    Ok(())
+}
+
 /// Asserts what a new encoder writes of pictures in turn.
 fn expect_turns(
     rt: &impl Abort,
@@ -69,14 +110,9 @@ fn expect_turns(
     let mut encoder = PictureEncoder::new(alloc, shape, &params)
         .ok()
         .expect(rt, "an encoder");
-    for (samples, number, want) in turns {
-        let picture = picture_of(rt, alloc, shape, *samples)?;
-        let bytes = payload(rt, alloc, &mut encoder, &params, &picture, *number)?;
-        assert_eq!(rt; bytes.as_slice(), *want);
-        drop(picture);
-    }
+    let done = assert_turns(rt, alloc, &mut encoder, shape, &params, turns);
     drop(encoder);
-    Ok(())
+    done
 }
 
 const DOT: PictureShape = PictureShape {
@@ -159,31 +195,20 @@ const FOUR: [Turn<'static>; 1] = [(
     &[0, 0, 0, 0, 0x24, 0x91, 0x9F, 0x80, 0x07, 0x44, 0x62, 0x72],
 )];
 
-#[test]
-fn payloads_are_the_worked_ones(rt: HostRuntime) -> Result<(), Fail> {
-    let alloc = rt.alloc();
-    expect_turns(&rt, alloc, &DOT, (Wavelet::HaarFlat, 0, 1, 1, 1, 0), &DOTS)?;
-    expect_turns(
-        &rt,
-        alloc,
-        &LINE,
-        (Wavelet::HaarFlat, 0, 2, 1, 1, 0),
-        &LINES,
-    )?;
-    expect_turns(&rt, alloc, &SQUARE, (Wavelet::LeGall, 1, 1, 1, 5, 0), &FIVE)?;
-    expect_turns(&rt, alloc, &SQUARE, (Wavelet::LeGall, 1, 1, 1, 4, 0), &FOUR)
-}
+/// What a new encoder of this shape and coding writes of pictures in turn.
+type Case<'a> = (PictureShape, Coding, &'a [Turn<'a>]);
+
+const CASES: [Case<'static>; 4] = [
+    (DOT, (Wavelet::HaarFlat, 0, 1, 1, 1, 0), &DOTS),
+    (LINE, (Wavelet::HaarFlat, 0, 2, 1, 1, 0), &LINES),
+    (SQUARE, (Wavelet::LeGall, 1, 1, 1, 5, 0), &FIVE),
+    (SQUARE, (Wavelet::LeGall, 1, 1, 1, 4, 0), &FOUR),
+];
 
 #[test]
-fn a_matrix_may_be_too_steep(rt: HostRuntime) {
-    for (entry, is_steep) in &[(87, false), (88, true)] {
-        let params = params(&rt, (Wavelet::HaarFlat, 0, 1, 1, 1, *entry));
-        let found = PictureEncoder::new(rt.alloc(), &DOT, &params).err();
-        let want = if *is_steep {
-            Some(EncoderFault::MatrixTooSteep)
-        } else {
-            None
-        };
-        assert_eq!(&rt; found, want);
+fn payloads_are_the_worked_ones(rt: HostRuntime) -> Result<(), Fail> {
+    for (shape, coding, turns) in &CASES {
+        expect_turns(&rt, rt.alloc(), shape, *coding, turns)?;
     }
+    Ok(())
 }

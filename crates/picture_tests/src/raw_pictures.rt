@@ -3,10 +3,10 @@
 //! Owners are dropped by name, since the proof of that call is short.
 
 ghost use Rattle.std.specs.Prelude.{◌≡◌, IfOk};
-ghost use Rattle.slice_geometry.specs.Shape.{IsSize, IsDepth};
 ghost use Rattle.picture_codec.specs.Pictures.{size_of, depth_of};
 ghost use Rattle.slice_geometry.specs.Frames.{frame_of};
 
+use crate::checks::assert_same;
 use picture_codec::Picture;
 use raw_video::write_picture;
 use slice_geometry::{Component, PictureShape, Size};
@@ -66,40 +66,8 @@ pub(crate) fn picture_of(
     Ok(picture)
 }
 
-// The shape of two by two samples, with these depths.
-fn square(colour: Size, luma_depth: u32, colour_depth: u32) -> PictureShape
-    requires size { IsSize colour.w colour.h }
-    requires luma { IsDepth luma_depth }
-    requires colour { IsDepth colour_depth }
-{
-    PictureShape {
-        luma: Size { w: 2, h: 2 },
-        colour,
-        luma_depth,
-        colour_depth,
-    }
-}
-
-/// Asserts what a write of the picture answers, and what went out.
-fn assert_write(
-    rt: &impl Abort,
-    sink: &mut MemSink,
-    picture: &Picture,
-    answer: Result<(), Failed>,
-    want: &[u8],
-) {
-    let given = write_picture(sink, picture);
-    assert_eq!(rt; (given, sink.bytes()), (answer, want));
-}
-
 /// The room of a sink, the most that a call takes where that isn't 0, and the call that fails.
 type Limits = (usize, usize, u64);
-
-fn sink_of(alloc: Global, limits: Limits) -> Result<MemSink, Fail> {
-    let (room, most, failing) = limits;
-    let sink = MemSink::new(alloc, room, most, &[failing, u64::MAX, u64::MAX, u64::MAX])?;
-    Ok(sink)
-}
 
 /// Asserts what a write of the picture to a sink of these limits answers, and what goes out.
 fn assert_written(
@@ -110,8 +78,10 @@ fn assert_written(
     answer: Result<(), Failed>,
     want: &[u8],
 ) -> Result<(), Fail> {
-    let mut sink = sink_of(alloc, limits)?;
-    assert_write(rt, &mut sink, picture, answer, want);
+    let (room, most, failing) = limits;
+    let mut sink = MemSink::new(alloc, room, most, &[failing, u64::MAX, u64::MAX, u64::MAX])?;
+    let given = write_picture(&mut sink, picture);
+    assert_same(rt, (given, sink.bytes()), (answer, want));
     drop(sink);
     Ok(())
 }
@@ -130,36 +100,74 @@ fn expect_bytes(
     done
 }
 
+const ONE: Size = Size { w: 1, h: 1 };
+
+const TWO: Size = Size { w: 2, h: 2 };
+
+const SQUARES: PictureShape = PictureShape {
+    luma: TWO,
+    colour: TWO,
+    luma_depth: 8,
+    colour_depth: 8,
+};
+
+const BYTES: PictureShape = PictureShape {
+    luma: TWO,
+    colour: ONE,
+    luma_depth: 8,
+    colour_depth: 8,
+};
+
+const WORDS: PictureShape = PictureShape {
+    luma: TWO,
+    colour: ONE,
+    luma_depth: 10,
+    colour_depth: 10,
+};
+
+const WIDE_COLOUR: PictureShape = PictureShape {
+    luma: TWO,
+    colour: ONE,
+    luma_depth: 8,
+    colour_depth: 9,
+};
+
+const WIDE_LUMA: PictureShape = PictureShape {
+    luma: TWO,
+    colour: ONE,
+    luma_depth: 9,
+    colour_depth: 8,
+};
+
 /// One byte a sample where both depths are at most 8, else two.
 #[test]
 fn bytes_of_pictures(rt: HostRuntime) -> Result<(), Fail> {
     let alloc = rt.alloc();
-    let dot = Size { w: 1, h: 1 };
     expect_bytes(
         &rt,
         alloc,
-        &square(Size { w: 2, h: 2 }, 8, 8),
+        &SQUARES,
         [&[0x8B, 0x8C, 0x88, 0x8A], &[0, 1, 2, 0xFF], &[3, 4, 5, 6]],
         b"\x8B\x8C\x88\x8A\x00\x01\x02\xFF\x03\x04\x05\x06",
     )?;
     expect_bytes(
         &rt,
         alloc,
-        &square(dot, 10, 10),
+        &WORDS,
         [&[0x200, 0x3FF, 0, 1], &[0x101], &[0x2FE]],
         b"\x00\x02\xFF\x03\x00\x00\x01\x00\x01\x01\xFE\x02",
     )?;
     expect_bytes(
         &rt,
         alloc,
-        &square(dot, 8, 9),
+        &WIDE_COLOUR,
         [&[0xFF, 0, 1, 2], &[0x1FF], &[0x80]],
         b"\xFF\x00\x00\x00\x01\x00\x02\x00\xFF\x01\x80\x00",
     )?;
     expect_bytes(
         &rt,
         alloc,
-        &square(dot, 9, 8),
+        &WIDE_LUMA,
         [&[0x100, 0, 1, 2], &[0xFF], &[0x80]],
         b"\x00\x01\x00\x00\x01\x00\x02\x00\xFF\x00\x80\x00",
     )
@@ -184,51 +192,8 @@ fn assert_failures(rt: &impl Abort, alloc: Global, picture: &Picture) -> Result<
 
 #[test]
 fn failed_writes(rt: HostRuntime) -> Result<(), Fail> {
-    let shape = square(Size { w: 1, h: 1 }, 8, 8);
-    let picture = picture_of(&rt, rt.alloc(), &shape, [&[1, 2, 3, 4], &[5], &[6]])?;
+    let picture = picture_of(&rt, rt.alloc(), &BYTES, [&[1, 2, 3, 4], &[5], &[6]])?;
     let done = assert_failures(&rt, rt.alloc(), &picture);
-    drop(picture);
-    done
-}
-
-/// A picture of 5000 luma samples, of which two aren't 0.
-fn long_picture(alloc: Global) -> Result<Picture, Fail> {
-    let shape = PictureShape {
-        luma: Size { w: 5000, h: 1 },
-        colour: Size { w: 1, h: 1 },
-        luma_depth: 10,
-        colour_depth: 8,
-    };
-    let mut picture = Picture::new(alloc, &shape)?;
-    picture.set(Component::Luma, 0, 4095, 0x123);
-    picture.set(Component::Luma, 0, 4999, 0x3FE);
-    Ok(picture)
-}
-
-/// Asserts that bytes are those of the long picture: how many there are, and those around its two samples.
-fn assert_long(rt: &impl Abort, bytes: &[u8]) {
-    assert!(rt; bytes.len() == 10004);
-    assert_eq!(rt; &bytes[8190..8192], b"\x23\x01".as_slice());
-    assert_eq!(rt;
-        &bytes[9996..10004],
-        b"\x00\x00\xFE\x03\x00\x00\x00\x00".as_slice()
-    );
-}
-
-/// Asserts what goes out of the long picture.
-fn assert_long_write(rt: &impl Abort, alloc: Global, picture: &Picture) -> Result<(), Fail> {
-    let mut sink = sink_of(alloc, (10100, 0, u64::MAX))?;
-    assert_eq!(rt; write_picture(&mut sink, picture), Ok(()));
-    assert_long(rt, sink.bytes());
-    drop(sink);
-    Ok(())
-}
-
-/// More samples than go out in one piece.
-#[test]
-fn a_long_component(rt: HostRuntime) -> Result<(), Fail> {
-    let picture = long_picture(rt.alloc())?;
-    let done = assert_long_write(&rt, rt.alloc(), &picture);
     drop(picture);
     done
 }

@@ -1,12 +1,13 @@
 //! Levels of synthesis, against an independent model.
 
-ghost use Rattle.std.specs.Prelude.{◌≡◌, ℕ, ◌%◌, ◌^◌, ◌<◌, ◌≤◌, true};
+ghost use Rattle.std.specs.Prelude.{◌≡◌, ℕ, ◌^◌, ◌≤◌, true};
 ghost use Rattle.planes.specs.Numbers.{Within};
 ghost use Rattle.planes.specs.Raster.{height, at};
 ghost use Rattle.planes.specs.Subbands.{BandExists, band_of};
 ghost use Rattle.lifting.specs.Bands.{AgreeInSize, AreSmall};
 ghost use Rattle.lifting.specs.Places.{place};
 
+use crate::checks::assert_same;
 use lifting::{Wavelet, synth, synth_level};
 use planes::{Bands, NoMemory, Plane};
 use std::alloc::Global;
@@ -75,30 +76,32 @@ pub(crate) fn can_synth(bands: &Bands, plane: &Plane, scratch: &Plane) -> bool
     true
 }
 
-/// Asserts the first places of the first two rows, which are alike.
-fn assert_level(rt: &impl Abort, plane: &Plane, row: &[i64; 4]) {
-    assert!(rt; plane.w() == 5 && plane.h() == 3);
-    for y in 0..2u32 {
-        assert_eq!(rt; &plane.row(y)[..4], row.as_slice());
-    }
-    assert_eq!(rt; (plane.get(0, 4), plane.get(2, 0)), (70, 80));
+/// Asserts what a level of 4 by 2 makes of this first row and a second one of zeros: two rows that are alike.
+fn expect_level(
+    rt: &impl Abort,
+    alloc: Global,
+    wavelet: Wavelet,
+    first: &[i64; 4],
+    row: &[i64; 4],
+) -> Result<(), Fail> {
+    let mut plane = Plane::new(alloc, 4, 2)?;
+    plane.row_mut(0).copy_from_slice(first);
+    assert!(rt; is_band(&plane, 4, 2));
+    synth_level(wavelet, &mut plane, 4, 2);
+    assert_same(rt, (plane.row(0), plane.row(1)), (row, row));
+    drop(plane);
+    Ok(())
 }
 
-/// The levels of 4 by 2 by each wavelet, in place.
+/// One level in place, by each wavelet.
 #[test]
 fn levels_in_place(rt: HostRuntime) -> Result<(), Fail> {
-    for (wavelet, row) in [
+    for (wavelet, row) in &[
         (Wavelet::LeGall, [4, 5, 3, 2]),
         (Wavelet::HaarFlat, [8, 11, 7, 5]),
         (Wavelet::HaarShift, [4, 6, 4, 3]),
     ] {
-        let mut plane = Plane::new(rt.alloc(), 5, 3)?;
-        plane.row_mut(0)[..4].copy_from_slice(&[10, 3, 6, -2]);
-        plane.set(0, 4, 70);
-        plane.set(2, 0, 80);
-        assert!(&rt; is_small(&plane));
-        synth_level(wavelet, &mut plane, 4, 2);
-        assert_level(&rt, &plane, &row);
+        expect_level(&rt, rt.alloc(), *wavelet, &[10, 3, 6, -2], row)?;
     }
     Ok(())
 }
@@ -128,39 +131,21 @@ fn put(bands: &mut Bands, coefficients: &[Coefficient]) {
     }
 }
 
-/// Two values, where both were made. Its proof doesn't look into what they own, and so is short.
-pub(crate) fn both<A: Drop, B: Drop, E: Drop>(
-    first: Result<A, E>,
-    second: Result<B, E>,
-) -> Result<(A, B), E> {
-    let first = first?;
-    let second = second?;
-    Ok((first, second))
+/// The bands and the planes of two levels of 8 by 4.
+#[derive(Drop)]
+pub(crate) struct Planes {
+    pub(crate) bands: Bands,
+    pub(crate) plane: Plane,
+    pub(crate) scratch: Plane,
 }
 
-fn synthesised(
-    rt: &impl Abort,
-    alloc: Global,
-    wavelet: Wavelet,
-    coefficients: &[Coefficient],
-    depth: u32,
-    w: u32,
-    h: u32,
-) -> Result<Plane, NoMemory>
-    requires depth { depth ≤ 4 }
-    requires w_fits { w ≤ 8208 }
-    requires h_fits { h ≤ 8208 }
-    requires w_whole { w % 2 ^ depth ≡ 0 }
-    requires h_whole { h % 2 ^ depth ≡ 0 }
-{
-    let planes = both(Plane::new(alloc, w, h), Plane::new(alloc, w, h));
-    let (mut bands, (mut plane, mut scratch)) = both(Bands::new(alloc, depth, w, h), planes)?;
-    put(&mut bands, coefficients);
-    assert!(rt; can_synth(&bands, &plane, &scratch));
-    synth(wavelet, &bands, &mut plane, &mut scratch);
-    drop(bands);
-    drop(scratch);
-    Ok(plane)
+/// All of them zeros.
+pub(crate) fn zeros(alloc: Global) -> Result<Planes, NoMemory> {
+    Ok(Planes {
+        bands: Bands::new(alloc, 2, 8, 4)?,
+        plane: Plane::new(alloc, 8, 4)?,
+        scratch: Plane::new(alloc, 8, 4)?,
+    })
 }
 
 /// Two levels from a lowest band of one row and two columns, against an independent model.
@@ -215,55 +200,47 @@ const BY_HAAR_SHIFT: [[i64; 8]; 4] = [
     [10, 13, 14, 11, 3, 3, -3, -2],
 ];
 
-/// Asserts what coefficients of these sizes become, row by row.
-fn assert_synthesised(
-    rt: &impl Abort,
-    plane: Result<Plane, NoMemory>,
-    rows: &[&[i64]],
-) -> Result<(), Fail> {
-    let plane = plane?;
-    assert_eq!(rt; plane.h() as usize, rows.len());
+/// Asserts the rows of a plane.
+fn assert_rows(rt: &impl Abort, plane: &Plane, rows: &[[i64; 8]; 4]) {
     for (y, row) in rows.iter().enumerate() {
         assert!(rt; y < plane.h() as usize);
-        assert_eq!(rt; plane.row(y as u32), *row);
+        assert_same(rt, plane.row(y as u32), row);
     }
-    Ok(())
 }
 
-#[test]
-fn two_levels(rt: HostRuntime) -> Result<(), Fail> {
-    for (wavelet, [a, b, c, d]) in [
+/// Asserts what a wavelet makes of the coefficients.
+fn assert_synthesised(
+    rt: &impl Abort,
+    planes: &mut Planes,
+    wavelet: Wavelet,
+    rows: &[[i64; 8]; 4],
+) {
+    put(&mut planes.bands, &TWO_LEVELS);
+    assert!(rt; can_synth(&planes.bands, &planes.plane, &planes.scratch));
+    synth(
+        wavelet,
+        &planes.bands,
+        &mut planes.plane,
+        &mut planes.scratch,
+    );
+    assert_rows(rt, &planes.plane, rows);
+}
+
+/// What each wavelet makes of the coefficients.
+fn assert_wavelets(rt: &impl Abort, planes: &mut Planes) {
+    for (wavelet, rows) in [
         (Wavelet::LeGall, &BY_LEGALL),
         (Wavelet::HaarFlat, &BY_HAAR_FLAT),
         (Wavelet::HaarShift, &BY_HAAR_SHIFT),
     ] {
-        let plane = synthesised(&rt, rt.alloc(), wavelet, &TWO_LEVELS, 2, 8, 4);
-        assert_synthesised(&rt, plane, &[a, b, c, d])?;
+        assert_synthesised(rt, planes, wavelet, rows);
     }
-    Ok(())
 }
 
-/// One pair of rows and of columns.
-const PAIR: [Coefficient; 4] = [
-    (0, 0, 0, 0, 20),
-    (1, 1, 0, 0, 3),
-    (1, 2, 0, 0, -4),
-    (1, 3, 0, 0, 1),
-];
-
-/// One pair, and no level at all.
 #[test]
-fn smallest_planes(rt: HostRuntime) -> Result<(), Fail> {
-    let pair = synthesised(&rt, rt.alloc(), Wavelet::LeGall, &PAIR, 1, 2, 2);
-    assert_synthesised(&rt, pair, &[&[11, 12], &[8, 10]])?;
-    let one = synthesised(
-        &rt,
-        rt.alloc(),
-        Wavelet::LeGall,
-        &[(0, 0, 0, 0, -5)],
-        0,
-        1,
-        1,
-    );
-    assert_synthesised(&rt, one, &[&[-5]])
+fn two_levels(rt: HostRuntime) -> Result<(), Fail> {
+    let mut planes = zeros(rt.alloc())?;
+    assert_wavelets(&rt, &mut planes);
+    drop(planes);
+    Ok(())
 }

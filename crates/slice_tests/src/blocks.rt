@@ -1,91 +1,97 @@
-//! Short blocks, and the greatest magnitudes.
+//! Blocks and the values that they spell.
+
+ghost use Rattle.std.specs.Prelude.{◌≤◌, length};
 
 use bounded_blocks::{Block, CodeTable, SPARE, Sint};
 use planes::NoMemory;
 use std::process::Abort;
 
-/// Each block of at most three bits: its bits at the front of a byte, how many they are, and its first five values.
-#[rattlefmt::skip]
-const SHORT_BLOCKS: [(u8, u64, [i64; 5]); 15] = [
-    (0b0000_0000, 0, [0, 0, 0, 0, 0]),
-    (0b0000_0000, 1, [-2, 0, 0, 0, 0]),
-    (0b1000_0000, 1, [0, 0, 0, 0, 0]),
-    (0b0000_0000, 2, [-1, 0, 0, 0, 0]),
-    (0b0100_0000, 2, [-2, 0, 0, 0, 0]),
-    (0b1000_0000, 2, [0, -2, 0, 0, 0]),
-    (0b1100_0000, 2, [0, 0, 0, 0, 0]),
-    (0b0000_0000, 3, [-4, 0, 0, 0, 0]),
-    (0b0010_0000, 3, [-1, 0, 0, 0, 0]),
-    (0b0100_0000, 3, [-6, 0, 0, 0, 0]),
-    (0b0110_0000, 3, [-2, 0, 0, 0, 0]),
-    (0b1000_0000, 3, [0, -1, 0, 0, 0]),
-    (0b1010_0000, 3, [0, -2, 0, 0, 0]),
-    (0b1100_0000, 3, [0, 0, -2, 0, 0]),
-    (0b1110_0000, 3, [0, 0, 0, 0, 0]),
-];
-
-/// Asserts what a block's first values are in 32 bits.
-fn assert_narrow(rt: &impl Abort, table: &CodeTable, block: &Block<'_>, expected: &[i64]) {
-    assert!(rt; expected.len() <= 56);
-    let mut out = [7; 56 + SPARE];
-    assert!(rt; block.narrow_values(table, expected.len(), &mut out));
-    for k in 0..expected.len() {
-        assert_eq!(rt; i64::from(out[k]), expected[k]);
-    }
-}
-
-/// Asserts what a block's first values are, one by one, as a row, and in 32 bits.
-fn assert_block(
-    rt: &impl Abort,
-    table: &CodeTable,
-    bytes: &[u8; 2],
-    count: u64,
-    expected: [i64; 5],
-) {
-    assert!(rt; count <= 8);
-    let mut block = Block::new(bytes, 8, count);
-    for value in expected {
-        assert_eq!(rt; block.sint(), Sint::Is(value));
-    }
-    let mut out = [7; 5];
-    assert!(rt; Block::new(bytes, 8, count).fill(&mut out) && out == expected);
-    assert_narrow(rt, table, &Block::new(bytes, 8, count), &expected);
-}
-
-#[test]
-fn short_blocks(rt: HostRuntime) -> Result<(), NoMemory> {
-    let table = CodeTable::new(rt.alloc())?;
-    for (bits, count, expected) in SHORT_BLOCKS {
-        assert_block(&rt, &table, &[0b1010_0101, bits], count, expected);
-    }
-    Ok(())
-}
-
-/// Asserts what is read of a block in turn.
-fn assert_values(rt: &impl Abort, block: &mut Block<'_>, values: &[Sint]) {
-    for value in values {
-        assert_eq!(rt; block.sint(), *value);
-    }
-}
-
-/// 2^36, the greatest magnitude that is told, and 2^36 + 1; behind each a 1, of which three bits stand in the block.
-#[test]
-fn greatest_magnitudes(rt: HostRuntime) {
-    let told = [0, 0, 0, 0, 0, 0, 0, 0, 0b0000_0001, 0b1000_1011];
-    let mut block = Block::new(&told, 0, 77);
-    let greatest = Sint::Is(0x10_0000_0000);
-    assert_values(&rt, &mut block, &[greatest, Sint::Is(-1), Sint::Is(0)]);
-
-    let huge = [0, 0, 0, 0, 0, 0, 0, 0, 0b0000_0100, 0b1100_1011];
-    let mut block = Block::new(&huge, 0, 77);
-    assert!(&rt; !block.fill(&mut [7; 3]));
-    assert_values(&rt, &mut block, &[Sint::Huge, Sint::Is(-1), Sint::Is(0)]);
-}
+/// Bytes, the bit from which on they hold a block, how many bits it has, its first values, and whether these are read in
+/// 32 bits too.
+type Case<'a> = (&'a [u8], u64, u64, &'a [i64], bool);
 
 /// Bytes of codes of one to twenty bits.
-const MANY_CODES: [u8; 16] = [
+const MANY_CODES: &[u8] = &[
     0x49, 0x28, 0xC2, 0x27, 0x31, 0x77, 0xC9, 0x88, 0x18, 0x10, 0x04, 0x48, 0x06, 0x69, 0x14, 0x00,
 ];
+
+/// Each block of at most three bits; codes that run past the end; 2^36, the greatest magnitude that is told, and behind it
+/// -1, first in a block and last; and codes of 38 bits: 2^18, -2^18, 2^18 + 1 and -2^18 - 1.
+#[rattlefmt::skip]
+const CASES: [Case<'static>; 24] = [
+    (&[0xA5, 0b0000_0000], 8, 0, &[0, 0, 0, 0, 0], true),
+    (&[0xA5, 0b0000_0000], 8, 1, &[-2, 0, 0, 0, 0], true),
+    (&[0xA5, 0b1000_0000], 8, 1, &[0, 0, 0, 0, 0], true),
+    (&[0xA5, 0b0000_0000], 8, 2, &[-1, 0, 0, 0, 0], true),
+    (&[0xA5, 0b0100_0000], 8, 2, &[-2, 0, 0, 0, 0], true),
+    (&[0xA5, 0b1000_0000], 8, 2, &[0, -2, 0, 0, 0], true),
+    (&[0xA5, 0b1100_0000], 8, 2, &[0, 0, 0, 0, 0], true),
+    (&[0xA5, 0b0000_0000], 8, 3, &[-4, 0, 0, 0, 0], true),
+    (&[0xA5, 0b0010_0000], 8, 3, &[-1, 0, 0, 0, 0], true),
+    (&[0xA5, 0b0100_0000], 8, 3, &[-6, 0, 0, 0, 0], true),
+    (&[0xA5, 0b0110_0000], 8, 3, &[-2, 0, 0, 0, 0], true),
+    (&[0xA5, 0b1000_0000], 8, 3, &[0, -1, 0, 0, 0], true),
+    (&[0xA5, 0b1010_0000], 8, 3, &[0, -2, 0, 0, 0], true),
+    (&[0xA5, 0b1100_0000], 8, 3, &[0, 0, -2, 0, 0], true),
+    (&[0xA5, 0b1110_0000], 8, 3, &[0, 0, 0, 0, 0], true),
+    (MANY_CODES, 3, 56, &[5, 28, -41, 0, -1, -10, -2, 0, 0, 1, 2, -2, 0, 0], true),
+    (MANY_CODES, 3, 90, &[5, 28, -41, 0, -1, -10, -2, 0, 0, 1, 2, 1, 8, -2313, 0, 0], true),
+    (MANY_CODES, 3, 125, &[5, 28, -41, 0, -1, -10, -2, 0, 0, 1, 2, 1, 8, 2313, 16, 2, 0, 1, 1, 0, -31, 0], true),
+    (&[0, 0, 0, 0, 0, 0, 0, 0, 0b0000_0001, 0b1000_1011], 0, 77, &[0x10_0000_0000, -1, 0], false),
+    (&[0x80, 0, 0, 0, 0, 0, 0, 0, 0, 0xC7], 0, 80, &[0, 0x10_0000_0000, -1, 0], false),
+    (&[0x80, 0x00, 0x00, 0x00, 0x0D], 0, 40, &[0, 262144, 0, 0], true),
+    (&[0x80, 0x00, 0x00, 0x00, 0x0F], 0, 40, &[0, -262144, 0, 0], true),
+    (&[0x80, 0x00, 0x00, 0x00, 0x25], 0, 40, &[0, 262145, 0, 0], false),
+    (&[0x80, 0x00, 0x00, 0x00, 0x27], 0, 40, &[0, -262145, 0, 0], false),
+];
+
+/// Whether these are the first values of a block.
+fn is_filled(mut block: Block<'_>, values: &[i64]) -> bool
+    requires { length values.now ≤ 24 }
+{
+    let mut out = [7; 24];
+    let front = &mut out[..values.len()];
+    block.fill(front) && *front == *values
+}
+
+/// Whether they are read of it in 32 bits.
+fn is_filled_narrow(table: &CodeTable, block: &Block<'_>, values: &[i64]) -> bool
+    requires { length values.now ≤ 24 }
+{
+    let mut out = [7; 24 + SPARE];
+    if !block.narrow_values(table, values.len(), &mut out) {
+        return false;
+    }
+    for k in 0..values.len() {
+        if i64::from(out[k]) != values[k] {
+            return false;
+        }
+    }
+    true
+}
+
+fn block<'a>(rt: &impl Abort, bytes: &'a [u8], from: u64, bits: u64) -> Block<'a> {
+    assert!(rt; bytes.len() <= 16 && from <= 8 && bits <= 128);
+    assert!(rt; from + bits <= 8 * bytes.len() as u64);
+    Block::new(bytes, from, bits)
+}
+
+fn is_read(rt: &impl Abort, table: &CodeTable, case: &Case<'_>) -> bool {
+    let (bytes, from, bits, values, is_narrow) = *case;
+    assert!(rt; values.len() <= 24);
+    let narrow = is_filled_narrow(table, &block(rt, bytes, from, bits), values);
+    narrow == is_narrow && is_filled(block(rt, bytes, from, bits), values)
+}
+
+#[test]
+fn blocks_are_read(rt: HostRuntime) -> Result<(), NoMemory> {
+    let table = CodeTable::new(rt.alloc())?;
+    for case in &CASES {
+        assert!(&rt; is_read(&rt, &table, case));
+    }
+    drop(table);
+    Ok(())
+}
 
 /// Blocks of these bytes from bit 3 on, which end at the bits 58 to 128: of the first 24 values of each the sum of each
 /// value by its number, from 1 on.
@@ -110,82 +116,37 @@ fn weighed(values: &[i64; 24]) -> i64 {
     sum
 }
 
+/// Whether the first values of such a block have this sum, and are read in 32 bits too.
+fn has_sum(rt: &impl Abort, table: &CodeTable, bits: u64, sum: i64) -> bool {
+    let mut out = [7; 24];
+    let is_read = block(rt, MANY_CODES, 3, bits).fill(&mut out);
+    let narrow = is_filled_narrow(table, &block(rt, MANY_CODES, 3, bits), &out);
+    is_read && narrow && weighed(&out) == sum
+}
+
 /// Codes that run past the block at each of its last bits.
 #[test]
 fn codes_past_the_end(rt: HostRuntime) -> Result<(), NoMemory> {
     let table = CodeTable::new(rt.alloc())?;
     for k in 0..71 {
-        let mut out = [7; 24];
-        let read = Block::new(&MANY_CODES, 3, 55 + k as u64).fill(&mut out);
-        assert!(&rt; read);
-        assert_eq!(&rt; weighed(&out), WEIGHED[k]);
-        let block = Block::new(&MANY_CODES, 3, 55 + k as u64);
-        assert_narrow(&rt, &table, &block, &out);
+        assert!(&rt; has_sum(&rt, &table, 55 + k as u64, WEIGHED[k]));
     }
+    drop(table);
     Ok(())
 }
 
-/// 2^36, whose code has 74 bits, and -1 behind it, at each place from 1 to 49; zeros beside them.
+/// Asserts what is read of a block in turn.
+fn assert_values(rt: &impl Abort, block: &mut Block<'_>, values: &[Sint]) {
+    for value in values {
+        assert_eq!(rt; block.sint(), *value);
+    }
+}
+
+/// 2^36 + 1, which isn't told; behind it a 1, of which three bits stand in the block.
 #[test]
-fn the_longest_code(rt: HostRuntime) -> Result<(), NoMemory> {
-    let table = CodeTable::new(rt.alloc())?;
-    for zeros in 1..50usize {
-        let behind = u128::MAX >> (zeros + 78);
-        let codes = 0b0110_0011u128 << (50 - zeros);
-        let bytes = (u128::MAX << (128 - zeros) | codes | behind).to_be_bytes();
-        let mut out = [7; 56];
-        assert!(&rt; Block::new(&bytes, 0, 128).fill(&mut out));
-        let mut want = [0; 56];
-        want[zeros] = 0x10_0000_0000;
-        want[zeros + 1] = -1;
-        assert_eq!(&rt; out, want);
-        let block = Block::new(&bytes, 0, 128);
-        assert_narrow(&rt, &table, &block, &want[..zeros]);
-        assert!(&rt; !block.narrow_values(&table, zeros + 1, &mut [7; 64]));
-    }
-    Ok(())
-}
-
-/// Codes of 38 bits: 2^18, -2^18, 2^18 + 1 and -2^18 - 1, and which of them are told in 32 bits.
-const NEAR_THE_BOUND: [(u64, i64, bool); 4] = [
-    (0b00_0110, 262144, true),
-    (0b00_0111, -262144, true),
-    (0b01_0010, 262145, false),
-    (0b01_0011, -262145, false),
-];
-
-/// Asserts what is told of such a code behind so many zeros, with zeros behind.
-fn assert_near(
-    rt: &impl Abort,
-    table: &CodeTable,
-    zeros: usize,
-    code: u64,
-    value: i64,
-    is_narrow: bool,
-) {
-    assert!(rt; zeros >= 1 && zeros <= 25 && code < 64);
-    let bits = u64::MAX << (64 - zeros) | code << (26 - zeros) | u64::MAX >> (zeros + 38);
-    let bytes = bits.to_be_bytes();
-    let block = Block::new(&bytes, 0, 64);
-    let mut want = [0; 40];
-    assert_narrow(rt, table, &block, &want[..zeros]);
-    assert_eq!(rt;
-        block.narrow_values(table, zeros + 1, &mut [7; 64]),
-        is_narrow
-    );
-    if is_narrow {
-        want[zeros] = value;
-        assert_narrow(rt, table, &block, &want);
-    }
-}
-
-#[test]
-fn magnitudes_near_the_narrow_bound(rt: HostRuntime) -> Result<(), NoMemory> {
-    let table = CodeTable::new(rt.alloc())?;
-    for (code, value, is_narrow) in NEAR_THE_BOUND {
-        for zeros in 1..26usize {
-            assert_near(&rt, &table, zeros, code, value, is_narrow);
-        }
-    }
-    Ok(())
+fn past_the_greatest_magnitude(rt: HostRuntime) {
+    let huge = [0, 0, 0, 0, 0, 0, 0, 0, 0b0000_0100, 0b1100_1011];
+    let mut block = Block::new(&huge, 0, 77);
+    assert!(&rt; !block.fill(&mut [7; 3]));
+    assert_values(&rt, &mut block, &[Sint::Huge, Sint::Is(-1), Sint::Is(0)]);
 }

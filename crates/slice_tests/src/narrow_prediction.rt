@@ -5,6 +5,7 @@ ghost use Rattle.planes.specs.Raster.{height};
 ghost use Rattle.planes.specs.Bounded.{IsPlaneWithin};
 ghost use Rattle.dc_prediction.specs.Restoring.{IsNarrow};
 
+use crate::prediction::SLICES;
 use dc_prediction::restore_narrow;
 use planes::{NarrowPlane, NoMemory, Rect};
 use std::alloc::Global;
@@ -20,10 +21,6 @@ const VALUES: [[i32; 4]; 3] = [[-3, -2, -6, -4], [2, -3, -4, -12], [1, -1, 5, -1
 const RISING: [[i32; 4]; 3] = [[262142, 1, 1, 1], [5, 5, 5, 5], [7, 7, 7, 7]];
 
 const RISEN: [[i32; 4]; 3] = [[262142, 262143, 262144, 1], [5, 5, 5, 5], [7, 7, 7, 7]];
-
-const fn rect(x0: u32, x1: u32, y0: u32, y1: u32) -> Rect {
-    Rect { x0, x1, y0, y1 }
-}
 
 fn plane_of(alloc: Global, rows: &[[i32; 4]; 3]) -> Result<NarrowPlane, NoMemory>
     ensures width { IfOk result (λ p. p.w ≡ 4) }
@@ -69,40 +66,46 @@ fn restore_all(rt: &impl Abort, plane: &mut NarrowPlane, rects: &[Rect]) -> bool
     all
 }
 
-fn assert_rows(rt: &impl Abort, plane: &NarrowPlane, rows: &[[i32; 4]; 3]) {
-    assert_eq!(rt; plane.h(), 3);
-    for y in 0..3u32 {
-        assert_eq!(rt; plane.row(y), rows[y as usize].as_slice());
+/// Whether a band has these rows.
+fn has_rows(band: &NarrowPlane, rows: &[[i32; 4]; 3]) -> bool {
+    if band.h() != 3 {
+        return false;
     }
+    for y in 0..3u32 {
+        if band.row(y) != rows[y as usize].as_slice() {
+            return false;
+        }
+    }
+    true
 }
 
-/// The band whole, by rows of slices, and slice by slice.
+const WHOLE: Rect = Rect {
+    x0: 0,
+    x1: 4,
+    y0: 0,
+    y1: 3,
+};
+
+/// Whether a band is restored in these rectangles, and whether it has these values then.
+fn restored(
+    rt: &impl Abort,
+    alloc: Global,
+    residuals: &[[i32; 4]; 3],
+    rects: &[Rect],
+    values: &[[i32; 4]; 3],
+) -> Result<(bool, bool), NoMemory> {
+    let mut plane = plane_of(alloc, residuals)?;
+    let all = restore_all(rt, &mut plane, rects);
+    let has_values = has_rows(&plane, values);
+    drop(plane);
+    Ok((all, has_values))
+}
+
+/// The band slice by slice. A value that would pass 2^18 stops it, and nothing behind it is restored.
 #[test]
 fn narrow_bands_restored(rt: HostRuntime) -> Result<(), Fail> {
-    let partitions: [&[Rect]; 3] = [
-        &[rect(0, 4, 0, 3)],
-        &[rect(0, 4, 0, 1), rect(0, 4, 1, 3)],
-        &[
-            rect(0, 1, 0, 2),
-            rect(1, 1, 0, 2),
-            rect(1, 4, 0, 2),
-            rect(0, 2, 2, 3),
-            rect(2, 4, 2, 3),
-        ],
-    ];
-    for rects in partitions {
-        let mut plane = plane_of(rt.alloc(), &RESIDUALS)?;
-        assert!(&rt; restore_all(&rt, &mut plane, rects));
-        assert_rows(&rt, &plane, &VALUES);
-    }
-    Ok(())
-}
-
-/// A value that would pass 2^18 stops it, and nothing behind it is restored.
-#[test]
-fn narrow_band_stops(rt: HostRuntime) -> Result<(), Fail> {
-    let mut plane = plane_of(rt.alloc(), &RISING)?;
-    assert!(&rt; !restore_all(&rt, &mut plane, &[rect(0, 4, 0, 3)]));
-    assert_rows(&rt, &plane, &RISEN);
+    let whole = restored(&rt, rt.alloc(), &RESIDUALS, &SLICES, &VALUES)?;
+    let rising = restored(&rt, rt.alloc(), &RISING, &[WHOLE], &RISEN)?;
+    assert_eq!(&rt; (whole, rising), ((true, true), (false, true)));
     Ok(())
 }

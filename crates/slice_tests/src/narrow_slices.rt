@@ -53,9 +53,9 @@ fn decode_only(
     requires ready { AreReady layout.now shape.now 0 0 (trio_of bands.old) }
     requires narrow { AreNarrowBands bands.old }
 {
-    assert!(rt; bytes.len() >= 1 && bytes.len() <= 10 && room <= 4);
-    assert!(rt; layout.slices_x() > 0 && layout.slices_y() > 0 && layout.depth() <= 1);
     let depth = layout.depth();
+    let is_there = layout.slices_x() > 0 && layout.slices_y() > 0 && depth <= 1;
+    assert!(rt; is_there && bytes.len() >= 1 && bytes.len() <= 10 && room <= 4);
     let matrix = Matrix::new(depth, &[0; 4][..(1 + 3 * depth) as usize]);
     let mut buffer = [0; 4 + SPARE];
     let values = &mut buffer[..room + SPARE];

@@ -1,11 +1,13 @@
-//! The lowest subband restored, whole and by slices.
+//! The lowest subband restored.
+//!
+//! Owners are dropped by name, since the proof of that call is short.
 
 ghost use Rattle.std.specs.Prelude.{◌≡◌, ℕ, ◌^◌, ◌<◌, true, pos, slice_index_or, IfOk};
 ghost use Rattle.planes.specs.Numbers.{Within};
 ghost use Rattle.planes.specs.Raster.{height, at};
 ghost use Rattle.dc_prediction.specs.Restoring.{CanRestore};
 
-use dc_prediction::{predict, restore_rect};
+use dc_prediction::restore_rect;
 use planes::{NoMemory, Plane, Rect};
 use std::alloc::Global;
 use std::process::Abort;
@@ -15,13 +17,6 @@ use std::test::Fail;
 const RESIDUALS: [[i64; 4]; 3] = [[-3, 1, -4, 2], [5, -2, 0, -7], [-1, -1, 8, -6]];
 
 const VALUES: [[i64; 4]; 3] = [[-3, -2, -6, -4], [2, -3, -4, -12], [1, -1, 5, -10]];
-
-/// The predictions over the values.
-const PREDICTIONS: [[i64; 4]; 3] = [[0, -3, -2, -6], [-3, -1, -4, -5], [2, 0, -3, -4]];
-
-const fn rect(x0: u32, x1: u32, y0: u32, y1: u32) -> Rect {
-    Rect { x0, x1, y0, y1 }
-}
 
 fn plane_of(alloc: Global, rows: &[[i64; 4]; 3]) -> Result<Plane, NoMemory>
     ensures width { IfOk result (λ p. p.w ≡ 4) }
@@ -77,55 +72,35 @@ fn restore_all(rt: &impl Abort, plane: &mut Plane, rects: &[Rect]) {
     }
 }
 
-/// Asserts that a band has its values.
-fn assert_values(rt: &impl Abort, band: &Plane) {
-    assert_eq!(rt; band.h(), 3);
+/// Whether a band has these rows.
+fn has_rows(band: &Plane, rows: &[[i64; 4]; 3]) -> bool {
+    if band.h() != 3 {
+        return false;
+    }
     for y in 0..3u32 {
-        assert_eq!(rt; band.row(y), VALUES[y as usize].as_slice());
+        if band.row(y) != rows[y as usize].as_slice() {
+            return false;
+        }
     }
+    true
 }
 
-/// The band whole, by rows of slices, and slice by slice.
+/// The whole band, slice by slice; one of the slices has no place.
+#[rattlefmt::skip]
+pub(crate) const SLICES: [Rect; 5] = [
+    Rect { x0: 0, x1: 1, y0: 0, y1: 2 },
+    Rect { x0: 1, x1: 1, y0: 0, y1: 2 },
+    Rect { x0: 1, x1: 4, y0: 0, y1: 2 },
+    Rect { x0: 0, x1: 2, y0: 2, y1: 3 },
+    Rect { x0: 2, x1: 4, y0: 2, y1: 3 },
+];
+
 #[test]
-fn bands_restored(rt: HostRuntime) -> Result<(), Fail> {
-    let partitions: [&[Rect]; 3] = [
-        &[rect(0, 4, 0, 3)],
-        &[rect(0, 4, 0, 1), rect(0, 4, 1, 3)],
-        &[
-            rect(0, 1, 0, 2),
-            rect(1, 1, 0, 2),
-            rect(1, 4, 0, 2),
-            rect(0, 2, 2, 3),
-            rect(2, 4, 2, 3),
-        ],
-    ];
-    for rects in partitions {
-        let mut plane = plane_of(rt.alloc(), &RESIDUALS)?;
-        restore_all(&rt, &mut plane, rects);
-        assert_values(&rt, &plane);
-    }
-    Ok(())
-}
-
-/// Asserts the predictions of a row.
-fn assert_predictions(rt: &impl Abort, plane: &Plane, y: u32)
-    requires width { plane.now.w ≡ 4 }
-    requires height { height plane.now ≡ 3 }
-    requires row { y < 3 }
-    requires small { (j i : ℕ) → j < height plane.now → Within (2 ^ 36) (at plane.now j i) }
-{
-    for x in 0..4u32 {
-        assert_eq!(rt; predict(plane, y, x), PREDICTIONS[y as usize][x as usize]);
-    }
-}
-
-/// Each value is its residual on its prediction.
-#[test]
-fn worked_predictions(rt: HostRuntime) -> Result<(), Fail> {
-    let plane = plane_of(rt.alloc(), &VALUES)?;
-    assert!(&rt; is_small(&plane));
-    for y in 0..3u32 {
-        assert_predictions(&rt, &plane, y);
-    }
+fn a_band_restored(rt: HostRuntime) -> Result<(), Fail> {
+    let mut plane = plane_of(rt.alloc(), &RESIDUALS)?;
+    restore_all(&rt, &mut plane, &SLICES);
+    let restored = has_rows(&plane, &VALUES);
+    drop(plane);
+    assert!(&rt; restored);
     Ok(())
 }

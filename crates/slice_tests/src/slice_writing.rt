@@ -2,7 +2,7 @@
 //!
 //! Owners are dropped by name, since the proof of that call is short.
 
-ghost use Rattle.std.specs.Prelude.{◌≡◌, ℕ, ◌*◌, ◌+◌, ◌-◌, ◌^◌, ◌<◌, ◌≤◌, true, pos, slice_index_or, max};
+ghost use Rattle.std.specs.Prelude.{◌≡◌, ℕ, ◌*◌, ◌+◌, ◌-◌, ◌^◌, ◌<◌, ◌≤◌, true, length, pos, slice_index_or, max};
 ghost use Rattle.planes.specs.Numbers.{Within};
 ghost use Rattle.planes.specs.Raster.{height, at};
 ghost use Rattle.quant_factors.specs.Weights.{Weights};
@@ -12,10 +12,12 @@ ghost use Rattle.slice_encoder.specs.TrialLaws.{IsSteepOk};
 ghost use Rattle.slice_encoder.specs.Ready.{coded_picture, IsReady, AreReady, AreGiven};
 ghost use Rattle.slice_encoder.specs.Buffers.{coded_component};
 
+use crate::bounds::exists;
+use crate::slices::{layout, shape_at, zeros};
 use planes::{Bands, NoMemory, Plane, ThreePlanes, Trio};
 use quant_factors::Matrix;
-use slice_encoder::{Lower, SliceEncoder, Trial, steep_ok};
-use slice_geometry::{Layout, PictureShape, Size, SliceHead};
+use slice_encoder::{SliceEncoder, steep_ok};
+use slice_geometry::{Layout, PictureShape, Size};
 use std::alloc::Global;
 use std::process::Abort;
 use std::test::Fail;
@@ -117,7 +119,7 @@ fn can_try(
     is_ready(layout, shape.colour, &coefficients.c2, &kept.c2)
 }
 
-/// A picture of 8 bits in one row of slices, whose coefficients are zeros at first, and its encoder.
+/// A picture of 8 bits in one row of slices, and what is kept of those that were written.
 #[derive(Drop)]
 struct Picture {
     layout: Layout,
@@ -127,101 +129,127 @@ struct Picture {
     kept: ThreePlanes,
 }
 
-fn shape(size: Size) -> PictureShape
-    requires { IsSize size.w size.h }
+fn is_steep(picture: &Picture) -> bool
+    ensures { result ≡ true → IsSteepOk picture.now.layout.depth (max picture.now.shape.luma_depth picture.now.shape.colour_depth) picture.now.matrix }
 {
-    PictureShape {
-        luma: size,
-        colour: size,
-        luma_depth: 8,
-        colour_depth: 8,
-    }
-}
-
-fn planes(alloc: Global, size: Size) -> Result<ThreePlanes, NoMemory>
-    requires w { size.w ≤ 8192 }
-    requires h { size.h ≤ 8192 }
-{
-    let luma = Plane::new(alloc, size.w, size.h)?;
-    let c1 = Plane::new(alloc, size.w, size.h)?;
-    let c2 = Plane::new(alloc, size.w, size.h)?;
-    Ok(ThreePlanes { luma, c1, c2 })
-}
-
-fn bands(alloc: Global, layout: &Layout, size: Size) -> Result<Trio, NoMemory>
-    requires { IsSize size.w size.h }
-{
-    let padded = layout.padded_size(size);
-    let luma = Bands::new(alloc, layout.depth(), padded.w, padded.h)?;
-    let c1 = Bands::new(alloc, layout.depth(), padded.w, padded.h)?;
-    let c2 = Bands::new(alloc, layout.depth(), padded.w, padded.h)?;
-    Ok(Trio { luma, c1, c2 })
-}
-
-fn new_picture(
-    rt: &impl Abort,
-    alloc: Global,
-    depth: u32,
-    across: u32,
-    share: u32,
-    size: Size,
-    entry: u32,
-) -> Result<Picture, NoMemory>
-    requires { IsSize size.w size.h }
-{
-    let layout = Layout::check(depth, across, 1, share, 1)
-        .ok()
-        .expect(rt, "a layout");
-    assert!(rt; depth <= 1 && layout.depth() == depth);
-    let lowest = layout.band_size(size, 0);
-    assert!(rt; lowest.w <= 8192 && lowest.h <= 8192);
-    let coefficients = bands(alloc, &layout, size)?;
-    let kept = planes(alloc, lowest)?;
-    Ok(Picture {
-        layout,
-        shape: shape(size),
-        matrix: Matrix::new(depth, &[entry; 4][..(1 + 3 * depth) as usize]),
-        coefficients,
-        kept,
-    })
-}
-
-/// Puts a coefficient at the first column or further right in the first row of a band.
-fn put(rt: &impl Abort, bands: &mut Bands, level: u32, orient: u32, x: u32, value: i64) {
-    assert!(rt;
-        (level == 0 && orient == 0)
-            || (level == 1 && bands.depth() == 1 && 1 <= orient && orient <= 3)
-    );
-    let band = bands.band_mut(level, orient);
-    assert!(rt; band.h() > 0 && x < band.w());
-    band.set(0, x, value);
-}
-
-/// Writes a slice.
-fn encode(
-    rt: &impl Abort,
-    alloc: Global,
-    picture: &mut Picture,
-    sx: u32,
-    bytes: &mut [u8],
-) -> Result<SliceHead, NoMemory> {
-    assert!(rt; 1 <= bytes.len() && bytes.len() <= 8);
-    assert!(rt; picture.matrix.depth() == picture.layout.depth() && picture.layout.depth() <= 1);
     let bits = picture.shape.luma_depth.max(picture.shape.colour_depth);
-    assert!(rt; steep_ok(picture.layout.depth(), bits, &picture.matrix));
-    assert!(rt;
-        can_try(
+    picture.matrix.depth() == picture.layout.depth()
+        && steep_ok(picture.layout.depth(), bits, &picture.matrix)
+}
+
+// Whether a slice may be tried and written.
+fn can_write(picture: &Picture, sx: u32) -> bool
+    ensures ready { result ≡ true → AreReady (coded_picture picture.now.layout picture.now.shape picture.now.matrix picture.now.coefficients) sx 0 picture.now.kept }
+    ensures given { result ≡ true → AreGiven (coded_picture picture.now.layout picture.now.shape picture.now.matrix picture.now.coefficients) }
+    ensures steep { result ≡ true → IsSteepOk picture.now.layout.depth (max picture.now.shape.luma_depth picture.now.shape.colour_depth) picture.now.matrix }
+{
+    is_steep(picture)
+        && can_try(
             &picture.layout,
             &picture.shape,
             &picture.matrix,
             sx,
             0,
             &picture.coefficients,
-            &picture.kept
+            &picture.kept,
         )
-    );
+}
+
+/// A coefficient in the first row of a band: its level, orientation and column, and the value.
+pub(crate) type Put = (u32, u32, u32, i64);
+
+pub(crate) fn put_all(rt: &impl Abort, bands: &mut Bands, puts: &[Put]) {
+    for (level, orient, x, value) in puts {
+        assert!(rt; exists(bands.depth(), *level, *orient));
+        let band = bands.band_mut(*level, *orient);
+        assert!(rt; band.h() > 0 && *x < band.w());
+        band.set(0, *x, *value);
+    }
+}
+
+fn planes(rt: &impl Abort, alloc: Global, size: Size) -> Result<ThreePlanes, NoMemory> {
+    assert!(rt; size.w <= 8192 && size.h <= 8192);
+    let luma = Plane::new(alloc, size.w, size.h)?;
+    let c1 = Plane::new(alloc, size.w, size.h)?;
+    let c2 = Plane::new(alloc, size.w, size.h)?;
+    Ok(ThreePlanes { luma, c1, c2 })
+}
+
+/// A depth, how many slices a row has, the bytes of each, and each entry of the matrix.
+#[derive(Clone, Copy)]
+struct Row {
+    depth: u32,
+    across: u32,
+    share: u32,
+    entry: u32,
+}
+
+/// The coefficients of the three components that aren't 0, and the bytes of the first slices.
+struct Case<'a> {
+    row: Row,
+    luma: &'a [Put],
+    c1: &'a [Put],
+    c2: &'a [Put],
+    slices: &'a [&'a [u8]],
+}
+
+fn coefficients(
+    rt: &impl Abort,
+    alloc: Global,
+    layout: &Layout,
+    shape: &PictureShape,
+    case: &Case<'_>,
+) -> Result<Trio, NoMemory> {
+    let mut bands = zeros(alloc, layout, shape)?;
+    put_all(rt, &mut bands.luma, case.luma);
+    put_all(rt, &mut bands.c1, case.c1);
+    put_all(rt, &mut bands.c2, case.c2);
+    Ok(bands)
+}
+
+fn frame(rt: &impl Abort, row: Row) -> (Layout, PictureShape, Matrix) {
+    let layout = layout(rt, row.depth, row.across, row.share);
+    assert!(rt; row.depth <= 1);
+    let entries = [row.entry; 4];
+    (
+        layout,
+        shape_at(row.depth, row.across),
+        Matrix::new(row.depth, &entries[..(1 + 3 * row.depth) as usize]),
+    )
+}
+
+fn picture_of(rt: &impl Abort, alloc: Global, case: &Case<'_>) -> Result<Picture, NoMemory> {
+    let (layout, shape, matrix) = frame(rt, case.row);
+    let kept = planes(rt, alloc, layout.band_size(shape.luma, 0))?;
+    match coefficients(rt, alloc, &layout, &shape, case) {
+        Ok(coefficients) => Ok(Picture {
+            layout,
+            shape,
+            matrix,
+            coefficients,
+            kept,
+        }),
+        Err(error) => {
+            drop(kept);
+            Err(error)
+        }
+    }
+}
+
+/// Writes a slice.
+fn write(
+    rt: &impl Abort,
+    alloc: Global,
+    picture: &mut Picture,
+    sx: u32,
+    bytes: &mut [u8],
+) -> Result<(), NoMemory>
+    requires some { 1 ≤ length bytes.old }
+    requires most { length bytes.old ≤ 5 }
+{
+    assert!(rt; can_write(picture, sx));
     let mut encoder = SliceEncoder::new(alloc, &picture.layout, &picture.shape)?;
-    let head = encoder.encode_slice(
+    encoder.encode_slice(
         &picture.matrix,
         sx,
         0,
@@ -230,121 +258,155 @@ fn encode(
         bytes,
     );
     drop(encoder);
-    Ok(head)
+    Ok(())
 }
 
-const ONE: Size = Size { w: 1, h: 1 };
+/// Writes a slice, and tells whether these are its bytes.
+fn is_written(
+    rt: &impl Abort,
+    alloc: Global,
+    picture: &mut Picture,
+    sx: u32,
+    want: &[u8],
+) -> Result<bool, NoMemory> {
+    assert!(rt; 1 <= want.len() && want.len() <= 5);
+    let mut bytes = [0xFF; 5];
+    write(rt, alloc, picture, sx, &mut bytes[..want.len()])?;
+    Ok(&bytes[..want.len()] == want)
+}
 
-/// Slices of one place and one byte: the coefficients of luma and of C1, and the byte.
-const ONE_BYTE: [(i64, i64, u8); 5] = [
-    (0, 0, 0x01),
-    (0, -2, 0x00),
-    (-2, 0, 0x0B),
-    (127, 0, 0x39),
-    (0, -3, 0x02),
+/// Writes the first slices in turn, as long as each has its bytes.
+fn are_written(
+    rt: &impl Abort,
+    alloc: Global,
+    picture: &mut Picture,
+    slices: &[&[u8]],
+) -> Result<bool, NoMemory> {
+    for sx in 0..slices.len().min(2) {
+        if !is_written(rt, alloc, picture, sx as u32, slices[sx])? {
+            return Ok(false);
+        }
+    }
+    Ok(true)
+}
+
+fn is_case_written(rt: &impl Abort, alloc: Global, case: &Case<'_>) -> Result<bool, NoMemory> {
+    let mut picture = picture_of(rt, alloc, case)?;
+    let written = are_written(rt, alloc, &mut picture, case.slices);
+    drop(picture);
+    written
+}
+
+/// One place in one byte.
+#[rattlefmt::skip]
+const ONE_PLACE: Row = Row { depth: 0, across: 1, share: 1, entry: 0 };
+/// Two slices of one place.
+#[rattlefmt::skip]
+const TWO_PLACES: Row = Row { depth: 0, across: 2, share: 1, entry: 0 };
+/// More slices than places.
+#[rattlefmt::skip]
+const MORE_SLICES: Row = Row { depth: 0, across: 3, share: 2, entry: 0 };
+/// One level by the steepest matrix, in one byte.
+#[rattlefmt::skip]
+const STEEPEST: Row = Row { depth: 1, across: 1, share: 1, entry: 75 };
+/// One level in five bytes, in four, and in three.
+#[rattlefmt::skip]
+const FIVE_BYTES: Row = Row { depth: 1, across: 1, share: 5, entry: 0 };
+
+#[rattlefmt::skip]
+const FOUR_BYTES: Row = Row { depth: 1, across: 1, share: 4, entry: 0 };
+
+#[rattlefmt::skip]
+const THREE_BYTES: Row = Row { depth: 1, across: 1, share: 3, entry: 0 };
+
+/// LL 21, HL 3, LH -5 and HH 2.
+const ONE_LEVEL: &[Put] = &[(0, 0, 0, 21), (1, 1, 0, 3), (1, 2, 0, -5), (1, 3, 0, 2)];
+
+/// Coefficients at the bound.
+#[rattlefmt::skip]
+const GREATEST: &[Put] = &[(0, 0, 0, 1024), (1, 1, 0, -1024), (1, 2, 0, 1024), (1, 3, 0, -1024)];
+
+#[rattlefmt::skip]
+const LEAST: &[Put] = &[(0, 0, 0, -1024), (1, 1, 0, 1024), (1, 2, 0, -1024), (1, 3, 0, 1024)];
+
+#[rattlefmt::skip]
+const CASES: [Case<'static>; 10] = [
+    Case { row: ONE_PLACE, luma: &[], c1: &[], c2: &[], slices: &[&[0x01]] },
+    Case { row: ONE_PLACE, luma: &[], c1: &[(0, 0, 0, -2)], c2: &[], slices: &[&[0x00]] },
+    Case { row: ONE_PLACE, luma: &[(0, 0, 0, -2)], c1: &[], c2: &[], slices: &[&[0x0B]] },
+    Case { row: ONE_PLACE, luma: &[(0, 0, 0, 127)], c1: &[], c2: &[], slices: &[&[0x39]] },
+    Case { row: ONE_PLACE, luma: &[], c1: &[(0, 0, 0, -3)], c2: &[], slices: &[&[0x02]] },
+    Case { row: FIVE_BYTES, luma: ONE_LEVEL, c1: &[], c2: &[], slices: &[&[0x00, 0xD0, 0xA4, 0x12, 0x6D]] },
+    Case { row: FOUR_BYTES, luma: ONE_LEVEL, c1: &[], c2: &[], slices: &[&[0x07, 0x44, 0x62, 0x72]] },
+    // C1 is predicted in the second slice by what is restored in the first, which is -6 and not -7
+    Case { row: TWO_PLACES, luma: &[], c1: &[(0, 0, 0, -7), (0, 0, 1, -7)], c2: &[], slices: &[&[0x0A], &[0x03]] },
+    // a slice without places has index 0 and ones behind its length
+    Case { row: MORE_SLICES, luma: &[(0, 0, 0, 127)], c1: &[], c2: &[], slices: &[&[0x00, 0x1F]] },
+    // nothing is left of coefficients at the bound
+    Case { row: STEEPEST, luma: GREATEST, c1: LEAST, c2: GREATEST, slices: &[&[0xE9]] },
 ];
 
-fn one_place(rt: &impl Abort, alloc: Global, luma: i64, c1: i64) -> Result<Picture, NoMemory> {
-    let mut picture = new_picture(rt, alloc, 0, 1, 1, ONE, 0)?;
-    put(rt, &mut picture.coefficients.luma, 0, 0, 0, luma);
-    put(rt, &mut picture.coefficients.c1, 0, 0, 0, c1);
-    Ok(picture)
+fn all_written(rt: &impl Abort, alloc: Global, cases: &[Case<'_>]) -> Result<bool, NoMemory> {
+    for case in cases {
+        if !is_case_written(rt, alloc, case)? {
+            return Ok(false);
+        }
+    }
+    Ok(true)
 }
 
-fn assert_byte(
+#[test]
+fn slices_are_written(rt: HostRuntime) -> Result<(), Fail> {
+    let written = all_written(&rt, rt.alloc(), &CASES)?;
+    assert!(&rt; written);
+    Ok(())
+}
+
+/// What luma of the only slice of a picture needs at least at the indices from 0 to 10, and the first index at which it may
+/// fit.
+fn bounds(rt: &impl Abort, alloc: Global, picture: &Picture) -> Result<([u64; 11], u32), NoMemory> {
+    assert!(rt; can_write(picture, 0));
+    let encoder = SliceEncoder::new(alloc, &picture.layout, &picture.shape)?;
+    let mut luma = [0; 11];
+    for index in 0..11u32 {
+        let lower = encoder.lower(&picture.matrix, 0, 0, index, &picture.coefficients);
+        luma[index as usize] = lower.luma;
+    }
+    let first = encoder.first_candidate(&picture.matrix, 0, 0, &picture.coefficients);
+    drop(encoder);
+    Ok((luma, first))
+}
+
+#[rattlefmt::skip]
+const BOUNDED: Case<'static> = Case { row: THREE_BYTES, luma: ONE_LEVEL, c1: &[], c2: &[], slices: &[] };
+
+fn bounds_of(
     rt: &impl Abort,
     alloc: Global,
-    luma: i64,
-    c1: i64,
-    expected: u8,
-) -> Result<(), Fail> {
-    let mut picture = one_place(rt, alloc, luma, c1)?;
-    let mut bytes = [0xFF];
-    encode(rt, alloc, &mut picture, 0, &mut bytes)?;
+    case: &Case<'_>,
+) -> Result<([u64; 11], u32), NoMemory> {
+    let picture = picture_of(rt, alloc, case)?;
+    let found = bounds(rt, alloc, &picture);
     drop(picture);
-    assert_eq!(rt; bytes, [expected]);
-    Ok(())
+    found
 }
 
+/// In three bytes: the bound of luma falls with the index, and index 1 is the first that may do.
 #[test]
-fn slices_of_one_byte(rt: HostRuntime) -> Result<(), Fail> {
-    for (luma, c1, expected) in ONE_BYTE {
-        assert_byte(&rt, rt.alloc(), luma, c1, expected)?;
-    }
+fn bounds_of_one_level(rt: HostRuntime) -> Result<(), Fail> {
+    let (luma, first) = bounds_of(&rt, rt.alloc(), &BOUNDED)?;
+    assert!(&rt; luma == [13, 11, 11, 9, 9, 5, 5, 1, 1, 1, 0] && first == 1);
     Ok(())
 }
 
-/// C1 is predicted in the second slice by what is restored in the first, which is -6 and not -7.
-#[test]
-fn prediction_by_restored_values(rt: HostRuntime) -> Result<(), Fail> {
-    let mut picture = new_picture(&rt, rt.alloc(), 0, 2, 1, Size { w: 2, h: 1 }, 0)?;
-    put(&rt, &mut picture.coefficients.c1, 0, 0, 0, -7);
-    put(&rt, &mut picture.coefficients.c1, 0, 0, 1, -7);
-    let mut bytes = [[0; 1]; 2];
-    let first = encode(&rt, rt.alloc(), &mut picture, 0, &mut bytes[0])?;
-    let second = encode(&rt, rt.alloc(), &mut picture, 1, &mut bytes[1])?;
-    assert!(&rt; picture.kept.c1.w() == 2 && picture.kept.c1.h() == 1);
-    let kept = (picture.kept.c1.get(0, 0), picture.kept.c1.get(0, 1));
-    drop(picture);
-    assert_eq!(&rt; (first.qindex, second.qindex, kept), (5, 1, (-6, -6)));
-    assert_eq!(&rt; bytes, [[0x0A], [0x03]]);
-    Ok(())
-}
-
-/// LL 21, HL 3, LH -5 and HH 2 in one slice of so many bytes.
-fn one_level(rt: &impl Abort, alloc: Global, share: u32) -> Result<Picture, NoMemory> {
-    let mut picture = new_picture(rt, alloc, 1, 1, share, Size { w: 2, h: 2 }, 0)?;
-    for (level, orient, value) in [(0, 0, 21), (1, 1, 3), (1, 2, -5), (1, 3, 2)] {
-        put(rt, &mut picture.coefficients.luma, level, orient, 0, value);
-    }
-    Ok(picture)
-}
-
-fn encode_level(
-    rt: &impl Abort,
-    alloc: Global,
-    share: u32,
-    bytes: &mut [u8],
-) -> Result<SliceHead, NoMemory> {
-    let mut picture = one_level(rt, alloc, share)?;
-    let head = encode(rt, alloc, &mut picture, 0, bytes)?;
-    drop(picture);
-    Ok(head)
-}
-
-/// In five bytes, and in four.
-#[test]
-fn slices_of_one_level(rt: HostRuntime) -> Result<(), Fail> {
-    let mut five = [0; 5];
-    let head = encode_level(&rt, rt.alloc(), 5, &mut five)?;
-    assert_eq!(&rt; (head.qindex, head.luma_bits), (0, 26));
-    assert_eq!(&rt; five, [0x00, 0xD0, 0xA4, 0x12, 0x6D]);
-    let mut four = [0; 4];
-    let head = encode_level(&rt, rt.alloc(), 4, &mut four)?;
-    assert_eq!(&rt; (head.qindex, head.luma_bits), (3, 20));
-    assert_eq!(&rt; four, [0x07, 0x44, 0x62, 0x72]);
-    Ok(())
-}
-
-/// Tries the only slice of a picture at an index.
-fn tried(
+/// Tries the only slice of a picture at an index, and tells whether it fits.
+fn fits(
     rt: &impl Abort,
     alloc: Global,
     picture: &mut Picture,
     qindex: u32,
-) -> Result<Trial, NoMemory> {
-    assert!(rt; qindex <= 127);
-    assert!(rt;
-        can_try(
-            &picture.layout,
-            &picture.shape,
-            &picture.matrix,
-            0,
-            0,
-            &picture.coefficients,
-            &picture.kept
-        )
-    );
+) -> Result<bool, NoMemory> {
+    assert!(rt; qindex <= 127 && can_write(picture, 0));
     let mut encoder = SliceEncoder::new(alloc, &picture.layout, &picture.shape)?;
     let trial = encoder.trial(
         &picture.matrix,
@@ -355,108 +417,55 @@ fn tried(
         &mut picture.kept,
     );
     drop(encoder);
-    Ok(trial)
+    Ok(trial.fits)
 }
 
-/// What the only slice of a picture needs at least at an index, and the first index at which it may fit.
-fn bounds(
-    rt: &impl Abort,
-    alloc: Global,
-    picture: &Picture,
-    qindex: u32,
-) -> Result<(Lower, u32), NoMemory> {
-    assert!(rt; qindex <= 127);
-    assert!(rt; picture.matrix.depth() == picture.layout.depth() && picture.layout.depth() <= 1);
-    let bits = picture.shape.luma_depth.max(picture.shape.colour_depth);
-    assert!(rt; steep_ok(picture.layout.depth(), bits, &picture.matrix));
-    assert!(rt;
-        can_try(
-            &picture.layout,
-            &picture.shape,
-            &picture.matrix,
-            0,
-            0,
-            &picture.coefficients,
-            &picture.kept
-        )
-    );
-    let encoder = SliceEncoder::new(alloc, &picture.layout, &picture.shape)?;
-    let low = encoder.lower(&picture.matrix, 0, 0, qindex, &picture.coefficients);
-    let first = encoder.first_candidate(&picture.matrix, 0, 0, &picture.coefficients);
-    drop(encoder);
-    Ok((low, first))
-}
-
-/// In three bytes: the bound of luma falls with the index, and index 1 is the first that may do.
-#[test]
-fn bounds_of_one_level(rt: HostRuntime) -> Result<(), Fail> {
-    let picture = one_level(&rt, rt.alloc(), 3)?;
-    for (index, luma) in [(0, 13), (1, 11), (3, 9), (7, 1), (10, 0)] {
-        let found = bounds(&rt, rt.alloc(), &picture, index)?;
-        assert_eq!(&rt; found, (Lower { luma, colour: 0 }, 1));
+/// At which indices from 0 to 7 it fits.
+fn fitting(rt: &impl Abort, alloc: Global, picture: &mut Picture) -> Result<[bool; 8], NoMemory> {
+    let mut all = [false; 8];
+    for index in 0..8u32 {
+        all[index as usize] = fits(rt, alloc, picture, index)?;
     }
-    drop(picture);
-    Ok(())
+    Ok(all)
 }
+
+fn fitting_of(rt: &impl Abort, alloc: Global, case: &Case<'_>) -> Result<[bool; 8], NoMemory> {
+    let mut picture = picture_of(rt, alloc, case)?;
+    let found = fitting(rt, alloc, &mut picture);
+    drop(picture);
+    found
+}
+
+#[rattlefmt::skip]
+const TRIED: Case<'static> = Case { row: ONE_PLACE, luma: &[], c1: &[(0, 0, 0, -3)], c2: &[], slices: &[] };
 
 /// Whether a slice fits doesn't rise with the index: C1 is -3, and C2 is 0.
 #[test]
 fn fitting_is_not_monotone(rt: HostRuntime) -> Result<(), Fail> {
-    let mut picture = one_place(&rt, rt.alloc(), 0, -3)?;
-    let fits = [false, true, true, false, false, false, false, true];
-    for index in 0..8 {
-        let trial = tried(&rt, rt.alloc(), &mut picture, index)?;
-        assert_eq!(&rt; (trial.luma_need, trial.fits), (0, fits[index as usize]));
-    }
-    drop(picture);
+    let found = fitting_of(&rt, rt.alloc(), &TRIED)?;
+    assert!(&rt; found == [false, true, true, false, false, false, false, true]);
     Ok(())
+}
+
+/// Whether a matrix of such entries, of which the last is another, is steep enough.
+fn is_steep_enough(rt: &impl Abort, depth: u32, bits: u32, entry: u32, last: u32) -> bool {
+    assert!(rt; depth <= 4 && 1 <= bits && bits <= 16);
+    let mut entries = [entry; 13];
+    let end = 3 * depth as usize;
+    entries[end] = last;
+    steep_ok(depth, bits, &Matrix::new(depth, &entries[..end + 1]))
 }
 
 /// The steepest matrix that passes, and the first that doesn't, at the bounds of depth and bits.
 #[test]
 fn steepest_matrices(rt: HostRuntime) {
-    for (depth, bits, entry) in [(0, 1, 115), (0, 8, 87), (1, 8, 75), (4, 16, 7)] {
-        assert_steepest(&rt, depth, bits, entry);
+    for (depth, bits, entry, steeper) in [
+        (0, 1, 115, 116),
+        (0, 8, 87, 88),
+        (1, 8, 75, 76),
+        (4, 16, 7, 8),
+    ] {
+        assert!(&rt; is_steep_enough(&rt, depth, bits, entry, entry));
+        assert!(&rt; !is_steep_enough(&rt, depth, bits, entry, steeper));
     }
-}
-
-fn assert_steepest(rt: &impl Abort, depth: u32, bits: u32, entry: u32) {
-    assert!(rt; depth <= 4 && 1 <= bits && bits <= 16 && entry <= 127);
-    let mut entries = [entry; 13];
-    let count = (1 + 3 * depth) as usize;
-    assert!(rt; steep_ok(depth, bits, &Matrix::new(depth, &entries[..count])));
-    entries[count - 1] = entry + 1;
-    assert!(rt; !steep_ok(depth, bits, &Matrix::new(depth, &entries[..count])));
-}
-
-/// Coefficients at the bound, by the steepest matrix, in one byte: nothing is left of them.
-#[test]
-fn coefficients_at_the_bound(rt: HostRuntime) -> Result<(), Fail> {
-    let mut picture = new_picture(&rt, rt.alloc(), 1, 1, 1, Size { w: 2, h: 2 }, 75)?;
-    for (level, orient, value) in [(0, 0, 1024), (1, 1, -1024), (1, 2, 1024), (1, 3, -1024)] {
-        put(&rt, &mut picture.coefficients.luma, level, orient, 0, value);
-        put(&rt, &mut picture.coefficients.c1, level, orient, 0, -value);
-        put(&rt, &mut picture.coefficients.c2, level, orient, 0, value);
-    }
-    let mut bytes = [0];
-    let head = encode(&rt, rt.alloc(), &mut picture, 0, &mut bytes)?;
-    drop(picture);
-    assert!(&rt; head.qindex <= 127);
-    assert_eq!(&rt;
-        (head.luma_bits, u32::from(bytes[0])),
-        (0, 2 * head.qindex + 1)
-    );
-    Ok(())
-}
-
-/// Where there are more slices than places, a slice without any has index 0 and ones behind its length.
-#[test]
-fn slices_without_places(rt: HostRuntime) -> Result<(), Fail> {
-    let mut picture = new_picture(&rt, rt.alloc(), 0, 3, 2, ONE, 0)?;
-    put(&rt, &mut picture.coefficients.luma, 0, 0, 0, 127);
-    let mut bytes = [0; 2];
-    let head = encode(&rt, rt.alloc(), &mut picture, 0, &mut bytes)?;
-    drop(picture);
-    assert_eq!(&rt; (head.qindex, head.luma_bits, bytes), (0, 0, [0x00, 0x1F]));
-    Ok(())
 }

@@ -1,15 +1,18 @@
 //! Units by their heads alone, and how far a head is read.
 
-use crate::reading::{END, HEADER, ONE_EACH, PICTURE, WHOLE, assert_same, expect, joined, refused};
+use crate::reading::{END, HEADER, ONE_EACH, PICTURE, WHOLE, assert_same, joined};
 use parse_info::{Code, ParseInfo};
 use std::alloc::Global;
 use std::process::Abort;
 use std::test::Fail;
-use stream_units::{HeadReader, Item, ReadStop, Reason, Refusal, StreamReader};
+use stream_units::{HeadReader, ReadStop, Reason, Refusal};
 use vc2_io::MemSource;
 
-/// The heads of the smallest stream, each with its place.
-const HEADS: [(u64, ParseInfo); 3] = [
+/// A head with its place.
+type Head = (u64, ParseInfo);
+
+/// The heads of the smallest stream.
+const HEADS: [Head; 3] = [
     (
         0,
         ParseInfo {
@@ -36,40 +39,25 @@ const HEADS: [(u64, ParseInfo); 3] = [
     ),
 ];
 
-/// So many heads come in order.
-fn expect_first(rt: &impl Abort, reader: &mut HeadReader, src: &mut MemSource, count: usize) {
-    assert!(rt; count <= HEADS.len());
-    for (place, info) in &HEADS[..count] {
-        assert_same(rt, reader.place(), *place);
-        assert_same(rt, reader.next(src), Ok(Some(*info)));
+/// These heads come in order.
+fn expect_first(rt: &impl Abort, reader: &mut HeadReader, src: &mut MemSource, heads: &[Head]) {
+    for (place, info) in heads {
+        let found = (reader.place(), reader.next(src));
+        assert_same(rt, found, (*place, Ok(Some(*info))));
     }
 }
 
-/// The last answer comes and stays, and nothing more is read, from a source that fails or from one that has bytes.
-fn expect_last(
-    rt: &impl Abort,
-    reader: &mut HeadReader,
-    src: &mut MemSource,
-    last: Result<Option<ParseInfo>, ReadStop>,
-) {
-    assert_same(rt, reader.next(src), last);
-    let mut failing = MemSource::new(&[], &[], &[0]);
-    assert_same(rt, reader.next(&mut failing), last);
-    let mut more = MemSource::new(HEADER, &[], &[]);
-    assert_same(rt, reader.next(&mut more), last);
-}
-
-/// So many heads come in order, and then the last answer, which stays.
+/// These heads come in order, and then the last answer.
 fn expect_heads(
     rt: &impl Abort,
     alloc: Global,
     mut src: MemSource,
-    count: usize,
+    heads: &[Head],
     last: Result<Option<ParseInfo>, ReadStop>,
 ) {
     let mut reader = HeadReader::new(alloc);
-    expect_first(rt, &mut reader, &mut src, count);
-    expect_last(rt, &mut reader, &mut src, last);
+    expect_first(rt, &mut reader, &mut src, heads);
+    assert_same(rt, reader.next(&mut src), last);
 }
 
 /// What stands behind the three units, and the refusal there; none where the input is over.
@@ -86,6 +74,19 @@ const BEHIND: [(&[u8], Option<(u64, Reason)>); 6] = [
 ];
 
 /// The three heads come, however the bytes do, and then what comes of those behind them.
+fn expect_pieces(
+    rt: &impl Abort,
+    alloc: Global,
+    bytes: &[u8],
+    last: Result<Option<ParseInfo>, ReadStop>,
+) {
+    for pieces in [WHOLE, ONE_EACH] {
+        let src = MemSource::new(bytes, pieces, &[]);
+        expect_heads(rt, alloc, src, &HEADS, last);
+    }
+}
+
+/// The same of these bytes behind the three units.
 fn expect_behind(
     rt: &impl Abort,
     alloc: Global,
@@ -93,10 +94,7 @@ fn expect_behind(
     last: Result<Option<ParseInfo>, ReadStop>,
 ) -> Result<(), Fail> {
     let bytes = joined(alloc, &[HEADER, PICTURE, END, behind])?;
-    let whole = MemSource::new(bytes.as_slice(), WHOLE, &[]);
-    expect_heads(rt, alloc, whole, 3, last);
-    let one_each = MemSource::new(bytes.as_slice(), ONE_EACH, &[]);
-    expect_heads(rt, alloc, one_each, 3, last);
+    expect_pieces(rt, alloc, bytes.as_slice(), last);
     Ok(())
 }
 
@@ -112,58 +110,25 @@ fn heads_in_order(rt: HostRuntime) -> Result<(), Fail> {
     Ok(())
 }
 
-/// Each read fails in turn, where each byte comes alone.
+/// The heads that stand whole in so many bytes of the smallest stream.
+fn heads_within(count: u64) -> &'static [Head] {
+    let heads = usize::from(count >= 17) + usize::from(count >= 38) + usize::from(count >= 51);
+    &HEADS[..heads]
+}
+
+/// One read fails, where each byte comes alone.
+fn expect_failing(rt: &impl Abort, alloc: Global, bytes: &[u8], call: u64) {
+    let failing = [call];
+    let src = MemSource::new(bytes, ONE_EACH, &failing);
+    expect_heads(rt, alloc, src, heads_within(call), Err(ReadStop::ReadFault));
+}
+
+/// Each read fails in turn.
 #[test]
 fn each_read_fails(rt: HostRuntime) -> Result<(), Fail> {
     let bytes = joined(rt.alloc(), &[HEADER, PICTURE, END])?;
     for call in 0..52 {
-        let failing = [call];
-        let src = MemSource::new(bytes.as_slice(), ONE_EACH, &failing);
-        let count = usize::from(call >= 17) + usize::from(call >= 38) + usize::from(call >= 51);
-        expect_heads(&rt, rt.alloc(), src, count, Err(ReadStop::ReadFault));
+        expect_failing(&rt, rt.alloc(), bytes.as_slice(), call);
     }
     Ok(())
-}
-
-/// Heads behind the first unit that are refused in what was read: the next read would fail, and isn't made.
-const REFUSED: [(&[u8], u64, Reason); 6] = [
-    (b"BBCE", 17, Reason::BadPrefix),
-    (b"BBCD\xE8", 21, Reason::UnsupportedCode(0xE8)),
-    (b"BBCD\x20\x00\x00\x00\x0C", 22, Reason::OffsetShort),
-    (b"BBCD\x10\x00\x00\x00\x01", 22, Reason::OffsetWrong),
-    (
-        b"BBCD\x10\x00\x00\x00\x0D\x00\x00\x00\x10",
-        26,
-        Reason::PreviousWrong,
-    ),
-    (
-        b"BBCD\x00\x00\x00\x00\x00\x00\x00\x00\x11\x3F\x27\x42\x4B",
-        30,
-        Reason::HeaderDiffers,
-    ),
-];
-
-/// The stream is refused there, and no read is made behind its last byte: it would fail.
-fn expect_unread(
-    rt: &impl Abort,
-    alloc: Global,
-    units: &[&[u8]],
-    items: &[Item],
-    last: Result<Item, ReadStop>,
-) -> Result<(), Fail> {
-    let bytes = joined(alloc, units)?;
-    let failing = [bytes.len() as u64];
-    let mut src = MemSource::new(bytes.as_slice(), ONE_EACH, &failing);
-    expect(rt, StreamReader::new(alloc), &mut src, items, last)
-}
-
-#[test]
-fn nothing_is_read_behind_a_refusal(rt: HostRuntime) -> Result<(), Fail> {
-    for (behind, place, reason) in &REFUSED {
-        let last = refused(*place, *reason);
-        expect_unread(&rt, rt.alloc(), &[HEADER, behind], &[Item::Sequence], last)?;
-    }
-    // The first unit has to be a sequence header.
-    let last = refused(4, Reason::NoSequenceHeader);
-    expect_unread(&rt, rt.alloc(), &[b"BBCD\x30"], &[], last)
 }

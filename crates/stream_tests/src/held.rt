@@ -144,11 +144,15 @@ const CASES: [Case<'static>; 4] = [
     ),
 ];
 
+fn expect_cases(rt: &impl Abort, alloc: Global, cases: &[Case]) -> Result<(), Fail> {
+    for case in cases {
+        expect_case(rt, alloc, case)?;
+    }
+    Ok(())
+}
+
 /// A payload of a million bytes, and shares that come, are cut and never come.
 #[test]
 fn little_is_held(rt: HostRuntime) -> Result<(), Fail> {
-    for case in &CASES {
-        expect_case(&rt, rt.alloc(), case)?;
-    }
-    Ok(())
+    expect_cases(&rt, rt.alloc(), &CASES)
 }

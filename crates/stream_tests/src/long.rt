@@ -1,6 +1,6 @@
-//! Units longer than one read.
+//! A picture unit longer than one read.
 
-use crate::reading::{HEADER, Units, assert_same, expect_items, expect_next, repeated};
+use crate::reading::{Units, assert_same, expect_items, expect_next, repeated};
 use slice_geometry::Component;
 use std::alloc::Global;
 use std::fmt::Debug;
@@ -77,66 +77,6 @@ fn a_large_picture(rt: HostRuntime) -> Result<(), Fail> {
     let bytes = large_stream(rt.alloc())?;
     for piece in [1, 1000, 4096] {
         read_large(&rt, rt.alloc(), bytes.as_slice(), piece)?;
-    }
-    Ok(())
-}
-
-/// Each item with the bytes taken behind it.
-const SKIPPED: [(Item, u64); 7] = [
-    (Item::Sequence, 17),
-    (Item::Skipped, 30),
-    (Item::Skipped, 10043),
-    (Item::Picture(0), 10064),
-    (Item::Skipped, 10080),
-    (Item::Repeated, 10097),
-    (Item::End, 10110),
-];
-
-/// Auxiliary data without a payload and with 10000 bytes of it, a picture, padding, and the header once more.
-fn skipping_stream(alloc: Global) -> Result<Vec<u8>, Fail> {
-    let front: [&[u8]; 3] = [
-        HEADER,
-        b"BBCD\x20\x00\x00\x00\x0D\x00\x00\x00\x11",
-        b"BBCD\x20\x00\x00\x27\x1D\x00\x00\x00\x0D",
-    ];
-    let back: [&[u8]; 4] = [
-        b"BBCD\xC8\x00\x00\x00\x15\x00\x00\x27\x1D\x00\x00\x00\x00\x0C\x92\x70\x01",
-        b"BBCD\x30\x00\x00\x00\x10\x00\x00\x00\x15\x00\xFF\x42",
-        b"BBCD\x00\x00\x00\x00\x11\x00\x00\x00\x10\x3F\x27\x42\x4A",
-        b"BBCD\x10\x00\x00\x00\x00\x00\x00\x00\x11",
-    ];
-    repeated(alloc, &front, b"BBCD", 2500, &back)
-}
-
-/// Each item comes, and fewer bytes than one read gives are held behind it.
-fn expect_skipped<R: Units + Drop, E: Debug + Drop>(
-    rt: &impl Abort,
-    made: Result<R, E>,
-    src: &mut MemSource,
-    piece: usize,
-) -> Result<(), Fail> {
-    let mut reader = made?;
-    for (item, taken) in &SKIPPED {
-        expect_next(rt, &mut reader, src, Ok(*item));
-        assert_same(rt, reader.taken(), *taken);
-        assert!(rt; reader.held() < piece);
-    }
-    Ok(())
-}
-
-/// The skipping stream, in pieces of this length.
-fn read_skipping(rt: &impl Abort, alloc: Global, bytes: &[u8], piece: usize) -> Result<(), Fail> {
-    let pieces = vec![in alloc; piece; 11000]?;
-    let mut src = MemSource::new(bytes, pieces.as_slice(), &[]);
-    expect_skipped(rt, StreamReader::new(alloc), &mut src, piece)
-}
-
-/// Skipped units count as taken, and aren't held.
-#[test]
-fn skipped_units(rt: HostRuntime) -> Result<(), Fail> {
-    let bytes = skipping_stream(rt.alloc())?;
-    for piece in [1, 7, 1000, 4096] {
-        read_skipping(&rt, rt.alloc(), bytes.as_slice(), piece)?;
     }
     Ok(())
 }

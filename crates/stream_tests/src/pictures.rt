@@ -69,7 +69,7 @@ const GREYS: &[u16] = &[0x80, 0x80, 0x80, 0x80];
 /// The end behind a unit of 26 bytes.
 const END_26: &[u8] = b"BBCD\x10\x00\x00\x00\x00\x00\x00\x00\x1A";
 
-const ONE_PICTURE: [Row<'static>; 7] = [
+const PICTURES: [Row<'static>; 8] = [
     (&[HEADER, PICTURE, END], &[[GREY, GREY, GREY]]),
     (
         &[
@@ -119,44 +119,42 @@ const ONE_PICTURE: [Row<'static>; 7] = [
         ],
         &[[&[523, 524, 520, 522], &[512], &[512]]],
     ),
+    // Pictures in turn: twice the same parameters, then another wavelet, the first one again, another index, and a matrix that
+    // takes it back. Nothing is left of the picture before.
+    (
+        &[
+            SQUARE,
+            b"BBCD\xC8\x00\x00\x00\x1A\x00\x00\x00\x11\x00\x00\x00\x00\x24\x94\x9F\x80\x00\xD0\xA4\x12\x6D",
+            b"BBCD\xC8\x00\x00\x00\x1A\x00\x00\x00\x1A\x00\x00\x00\x01\x24\x94\x9F\x80\x00\x01\xFF\xFF\xFF",
+            b"BBCD\xC8\x00\x00\x00\x1A\x00\x00\x00\x1A\x00\x00\x00\x02\x09\x25\x27\xE0\x00\xD0\xA4\x12\x6D",
+            b"BBCD\xC8\x00\x00\x00\x1A\x00\x00\x00\x1A\x00\x00\x00\x03\x24\x94\x9F\x80\x00\xD0\xA4\x12\x6D",
+            b"BBCD\xC8\x00\x00\x00\x1A\x00\x00\x00\x1A\x00\x00\x00\x04\x24\x94\x9F\x80\x08\xD0\xA4\x12\x6D",
+            b"BBCD\xC8\x00\x00\x00\x1C\x00\x00\x00\x1A\x00\x00\x00\x05\x24\x94\x98\xC6\x31\x80\x08\xD0\xA4\x12\x6D",
+            b"BBCD\x10\x00\x00\x00\x00\x00\x00\x00\x1C",
+        ],
+        &[
+            [&[139, 140, 136, 138], GREYS, GREYS],
+            [GREYS, GREYS, GREYS],
+            [&[150, 152, 144, 148], GREYS, GREYS],
+            [&[139, 140, 136, 138], GREYS, GREYS],
+            [&[151, 153, 144, 149], GREYS, GREYS],
+            [&[139, 140, 136, 138], GREYS, GREYS],
+        ],
+    ),
 ];
 
-/// One picture: without a wavelet, with prediction from slice to slice, with one level, and with colour of half the size
-/// in 10 bits.
-#[test]
-fn one_picture(rt: HostRuntime) -> Result<(), Fail> {
-    for row in &ONE_PICTURE {
-        expect_row(&rt, rt.alloc(), row)?;
+fn expect_rows(rt: &impl Abort, alloc: Global, rows: &[Row]) -> Result<(), Fail> {
+    for row in rows {
+        expect_row(rt, alloc, row)?;
     }
     Ok(())
 }
 
-const IN_TURN: Row<'static> = (
-    &[
-        SQUARE,
-        b"BBCD\xC8\x00\x00\x00\x1A\x00\x00\x00\x11\x00\x00\x00\x00\x24\x94\x9F\x80\x00\xD0\xA4\x12\x6D",
-        b"BBCD\xC8\x00\x00\x00\x1A\x00\x00\x00\x1A\x00\x00\x00\x01\x24\x94\x9F\x80\x00\x01\xFF\xFF\xFF",
-        b"BBCD\xC8\x00\x00\x00\x1A\x00\x00\x00\x1A\x00\x00\x00\x02\x09\x25\x27\xE0\x00\xD0\xA4\x12\x6D",
-        b"BBCD\xC8\x00\x00\x00\x1A\x00\x00\x00\x1A\x00\x00\x00\x03\x24\x94\x9F\x80\x00\xD0\xA4\x12\x6D",
-        b"BBCD\xC8\x00\x00\x00\x1A\x00\x00\x00\x1A\x00\x00\x00\x04\x24\x94\x9F\x80\x08\xD0\xA4\x12\x6D",
-        b"BBCD\xC8\x00\x00\x00\x1C\x00\x00\x00\x1A\x00\x00\x00\x05\x24\x94\x98\xC6\x31\x80\x08\xD0\xA4\x12\x6D",
-        b"BBCD\x10\x00\x00\x00\x00\x00\x00\x00\x1C",
-    ],
-    &[
-        [&[139, 140, 136, 138], GREYS, GREYS],
-        [GREYS, GREYS, GREYS],
-        [&[150, 152, 144, 148], GREYS, GREYS],
-        [&[139, 140, 136, 138], GREYS, GREYS],
-        [&[151, 153, 144, 149], GREYS, GREYS],
-        [&[139, 140, 136, 138], GREYS, GREYS],
-    ],
-);
-
-/// Pictures in turn: twice the same parameters, then another wavelet, the first one again, another index, and a matrix
-/// that takes it back. Nothing is left of the picture before.
+/// One picture: without a wavelet, with prediction from slice to slice, with one level, and with colour of half the size
+/// in 10 bits. And pictures in turn.
 #[test]
-fn pictures_in_turn(rt: HostRuntime) -> Result<(), Fail> {
-    expect_row(&rt, rt.alloc(), &IN_TURN)
+fn samples_of_pictures(rt: HostRuntime) -> Result<(), Fail> {
+    expect_rows(&rt, rt.alloc(), &PICTURES)
 }
 
 const TWICE: &[Item] = &[
@@ -167,7 +165,10 @@ const TWICE: &[Item] = &[
     Item::Picture(0),
 ];
 
-const THAT_STAND: [(&[&[u8]], &[Item]); 7] = [
+/// The units of a stream, and what stands of it.
+type Standing<'a> = (&'a [&'a [u8]], &'a [Item]);
+
+const THAT_STAND: [Standing<'static>; 8] = [
     (
         &[HEADER, b"BBCD\x10\x00\x00\x00\x00\x00\x00\x00\x11"],
         &[Item::Sequence],
@@ -207,6 +208,25 @@ const THAT_STAND: [(&[&[u8]], &[Item]); 7] = [
             Item::Picture(1),
         ],
     ),
+    (
+        &[
+            HEADER,
+            b"BBCD\x20\x00\x00\x00\x0D\x00\x00\x00\x11",
+            b"BBCD\x20\x00\x00\x00\x11\x00\x00\x00\x0DBBCD",
+            b"BBCD\xC8\x00\x00\x00\x15\x00\x00\x00\x11\x00\x00\x00\x00\x0C\x92\x70\x01",
+            b"BBCD\x30\x00\x00\x00\x10\x00\x00\x00\x15\x00\xFF\x42",
+            b"BBCD\x00\x00\x00\x00\x11\x00\x00\x00\x10\x3F\x27\x42\x4A",
+            b"BBCD\x10\x00\x00\x00\x00\x00\x00\x00\x11",
+        ],
+        &[
+            Item::Sequence,
+            Item::Skipped,
+            Item::Skipped,
+            Item::Picture(0),
+            Item::Skipped,
+            Item::Repeated,
+        ],
+    ),
     (&[HEADER, PICTURE, END, HEADER, PICTURE, END], TWICE),
     (
         &[
@@ -238,12 +258,16 @@ const THAT_STAND: [(&[&[u8]], &[Item]); 7] = [
     ),
 ];
 
-/// Units that stand: no picture, next offsets of 0, numbers of frames and of fields past 2^32 - 1, and later sequences,
-/// whose first unit points back or not, with any number.
-#[test]
-fn units_that_stand(rt: HostRuntime) -> Result<(), Fail> {
-    for (units, items) in &THAT_STAND {
-        expect_units(&rt, rt.alloc(), units, items, Ok(Item::End))?;
+fn expect_standing(rt: &impl Abort, alloc: Global, rows: &[Standing]) -> Result<(), Fail> {
+    for (units, items) in rows {
+        expect_units(rt, alloc, units, items, Ok(Item::End))?;
     }
     Ok(())
+}
+
+/// Units that stand: no picture, next offsets of 0, numbers of frames and of fields past 2^32 - 1, units that are skipped, and
+/// later sequences, whose first unit points back or not, with any number.
+#[test]
+fn units_that_stand(rt: HostRuntime) -> Result<(), Fail> {
+    expect_standing(&rt, rt.alloc(), &THAT_STAND)
 }

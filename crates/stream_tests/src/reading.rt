@@ -179,15 +179,7 @@ pub(crate) fn expect_samples<R: Units>(rt: &impl Abort, reader: &R, samples: &Sa
     assert_same(rt, picture.samples(Component::C2), *c2);
 }
 
-/// The last answer stays, and nothing more is read, from a source that fails or from one that has bytes.
-fn expect_stay<R: Units>(rt: &impl Abort, reader: &mut R, last: Result<Item, ReadStop>) {
-    let mut failing = MemSource::new(&[], &[], &[0]);
-    expect_next(rt, reader, &mut failing, last);
-    let mut more = MemSource::new(HEADER, &[], &[]);
-    expect_next(rt, reader, &mut more, last);
-}
-
-/// The items come in order, and then the last answer, which stays.
+/// The items come in order, and then the last answer.
 pub(crate) fn expect<R: Units + Drop, E: Debug + Drop>(
     rt: &impl Abort,
     made: Result<R, E>,
@@ -198,7 +190,6 @@ pub(crate) fn expect<R: Units + Drop, E: Debug + Drop>(
     let mut reader = made?;
     expect_items(rt, &mut reader, src, items);
     expect_next(rt, &mut reader, src, last);
-    expect_stay(rt, &mut reader, last);
     Ok(())
 }
 

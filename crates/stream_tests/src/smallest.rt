@@ -1,8 +1,8 @@
 //! The stream of one picture of one sample: whole, cut at each byte, and over a source that fails.
 
 use crate::reading::{
-    END, HEADER, ONE_EACH, PICTURE, Units, assert_same, expect, expect_items, expect_next,
-    expect_twice, joined, refused,
+    END, HEADER, ONE_EACH, PICTURE, Units, assert_same, expect, expect_next, expect_twice, joined,
+    refused,
 };
 use sequence_header::{AspectField, ColourField, HeaderParts, RateField, SignalField};
 use slice_geometry::{UnitShape, UnitShapes};
@@ -10,7 +10,7 @@ use std::alloc::Global;
 use std::fmt::Debug;
 use std::process::Abort;
 use std::test::Fail;
-use stream_units::{Item, ReadStop, Reason, StreamChecker, StreamReader, first_unit};
+use stream_units::{Item, ReadStop, Reason, StreamReader, first_unit};
 use vc2_io::{MemSource, SteadySource};
 
 const ITEMS: [Item; 2] = [Item::Sequence, Item::Picture(0)];
@@ -32,104 +32,79 @@ const PARTS: HeaderParts = HeaderParts {
     coding: 0,
 };
 
-/// A unit without slices.
-fn plain(start: u64, head: u64) -> UnitShape {
-    UnitShape {
-        start,
-        head,
-        slices: 0,
-        a: 1,
-        b: 1,
-    }
-}
-
 /// Whether a header and a picture are shown, and the bytes taken and held.
-fn shown<R: Units>(reader: &R) -> (bool, bool, u64, usize) {
+type Shown = (bool, bool, u64, usize);
+
+fn shown<R: Units>(reader: &R) -> Shown {
     let has_header = reader.header().is_some();
     let has_picture = reader.picture().is_some();
     (has_header, has_picture, reader.taken(), reader.held())
 }
 
 /// Each item with what is shown behind it.
-const STEPS: [(Item, (bool, bool, u64, usize)); 3] = [
+const STEPS: [(Item, Shown); 3] = [
     (Item::Sequence, (true, false, 17, 34)),
     (Item::Picture(0), (true, true, 38, 13)),
     (Item::End, (true, false, 51, 0)),
 ];
 
-/// What a reader shows before the first unit, behind each, and in the end; pictures only where it makes them.
-fn expect_steps<R: Units + Drop, E: Debug + Drop>(
+fn expect_steps<R: Units>(rt: &impl Abort, reader: &mut R, bytes: &[u8], steps: &[(Item, Shown)]) {
+    let mut src = SteadySource::new(bytes);
+    for (item, want) in steps {
+        expect_next(rt, reader, &mut src, Ok(*item));
+        assert_same(rt, shown(reader), *want);
+    }
+}
+
+/// A header, a picture of one slice, which begins 20 bytes behind its unit's first, and the end.
+const SHAPES: [UnitShape; 3] = [
+    UnitShape {
+        start: 0,
+        head: 17,
+        slices: 0,
+        a: 1,
+        b: 1,
+    },
+    UnitShape {
+        start: 17,
+        head: 20,
+        slices: 1,
+        a: 1,
+        b: 1,
+    },
+    UnitShape {
+        start: 38,
+        head: 13,
+        slices: 0,
+        a: 1,
+        b: 1,
+    },
+];
+
+fn expect_shapes(rt: &impl Abort, shapes: &UnitShapes, wants: &[UnitShape]) {
+    assert_same(rt, (shapes.len(), shapes.total()), (3, 51));
+    for (number, shape) in wants.iter().enumerate() {
+        assert!(rt; number < shapes.len());
+        assert_same(rt, shapes.get(number), *shape);
+    }
+}
+
+/// What a reader shows behind each unit, and the shapes of all.
+fn expect_shown<R: Units + Drop, E: Debug + Drop>(
     rt: &impl Abort,
     made: Result<R, E>,
     bytes: &[u8],
-    shows: bool,
 ) -> Result<(), Fail> {
     let mut reader = made?;
-    let mut src = SteadySource::new(bytes);
-    assert_same(rt, shown(&reader), (false, false, 0, 0));
-    for (item, (has_header, has_picture, taken, held)) in &STEPS {
-        expect_next(rt, &mut reader, &mut src, Ok(*item));
-        let want = (*has_header, *has_picture && shows, *taken, *held);
-        assert_same(rt, shown(&reader), want);
-    }
-    expect_sums(rt, &reader);
+    expect_steps(rt, &mut reader, bytes, &STEPS);
+    expect_shapes(rt, reader.shapes(), &SHAPES);
     Ok(())
 }
 
 #[test]
 fn unit_by_unit(rt: HostRuntime) -> Result<(), Fail> {
     let bytes = joined(rt.alloc(), &[HEADER, PICTURE, END])?;
-    expect_steps(&rt, StreamReader::new(rt.alloc()), bytes.as_slice(), true)
-}
-
-#[test]
-fn unit_by_unit_without_pictures(rt: HostRuntime) -> Result<(), Fail> {
-    let bytes = joined(rt.alloc(), &[HEADER, PICTURE, END])?;
-    expect_steps(&rt, StreamChecker::new(rt.alloc()), bytes.as_slice(), false)
-}
-
-fn expect_sums<R: Units>(rt: &impl Abort, reader: &R) {
-    let header = reader.header().expect(rt, "a header");
-    assert_same(rt, *header.parts(), PARTS);
-    expect_shapes(rt, reader.shapes());
-}
-
-/// A header, a picture of one slice, which begins 20 bytes behind its unit's first, and the end.
-fn expect_shapes(rt: &impl Abort, shapes: &UnitShapes) {
-    let picture = UnitShape {
-        slices: 1,
-        ..plain(17, 20)
-    };
-    assert_same(rt, (shapes.len(), shapes.total()), (3, 51));
-    for (number, shape) in [plain(0, 17), picture, plain(38, 13)].iter().enumerate() {
-        assert!(rt; number < shapes.len());
-        assert_same(rt, (number, shapes.get(number)), (number, *shape));
-    }
-}
-
-/// Behind a refusal the header, the shapes and the bytes taken are those of the units that stand; no picture is shown.
-fn expect_stopped<R: Units + Drop, E: Debug + Drop>(
-    rt: &impl Abort,
-    made: Result<R, E>,
-    bytes: &[u8],
-) -> Result<(), Fail> {
-    let mut reader = made?;
-    let mut src = SteadySource::new(bytes);
-    expect_items(rt, &mut reader, &mut src, &ITEMS);
-    assert_same(rt, shown(&reader), (true, true, 38, 14));
-    expect_next(rt, &mut reader, &mut src, Ok(Item::SequenceEnd));
-    assert_same(rt, shown(&reader), (true, false, 51, 1));
-    expect_next(rt, &mut reader, &mut src, refused(51, Reason::Truncated));
-    let (has_header, has_picture, taken, _) = shown(&reader);
-    assert_same(rt, (has_header, has_picture, taken), (true, false, 51));
-    assert_same(rt, reader.shapes().len(), 3);
-    Ok(())
-}
-
-#[test]
-fn behind_a_refusal(rt: HostRuntime) -> Result<(), Fail> {
-    let bytes = joined(rt.alloc(), &[HEADER, PICTURE, END, &[0]])?;
-    expect_stopped(&rt, StreamReader::new(rt.alloc()), bytes.as_slice())
+    expect_shown(&rt, StreamReader::new(rt.alloc()), bytes.as_slice())
 }
 
 /// The first unit alone.
@@ -177,38 +152,45 @@ fn expect_cut(rt: &impl Abort, alloc: Global, bytes: &[u8], cut: Cut) -> Result<
     Ok(())
 }
 
-#[test]
-fn cut_at_each_byte(rt: HostRuntime) -> Result<(), Fail> {
-    let bytes = joined(rt.alloc(), &[HEADER, PICTURE, END])?;
-    for cut in &CUTS {
-        expect_cut(&rt, rt.alloc(), bytes.as_slice(), *cut)?;
+fn expect_cuts(rt: &impl Abort, alloc: Global, bytes: &[u8], cuts: &[Cut]) -> Result<(), Fail> {
+    for cut in cuts {
+        expect_cut(rt, alloc, bytes, *cut)?;
     }
     Ok(())
 }
 
-/// One read fails, where each byte comes alone.
-fn expect_failing(
-    rt: &impl Abort,
-    alloc: Global,
-    bytes: &[u8],
-    call: u64,
-    items: &[Item],
-    last: Result<Item, ReadStop>,
-) -> Result<(), Fail> {
-    let failing = [call];
-    let mut src = MemSource::new(bytes, ONE_EACH, &failing);
-    expect(rt, StreamReader::new(alloc), &mut src, items, last)
+#[test]
+fn cut_at_each_byte(rt: HostRuntime) -> Result<(), Fail> {
+    let bytes = joined(rt.alloc(), &[HEADER, PICTURE, END])?;
+    expect_cuts(&rt, rt.alloc(), bytes.as_slice(), &CUTS)
 }
 
-/// Each read fails in turn: the units that stand whole before it come, and then the fault.
+/// The items that stand whole in so many bytes.
+fn items_within(count: u64) -> &'static [Item] {
+    let items = usize::from(count >= 17) + usize::from(count >= 38);
+    &ITEMS[..items]
+}
+
+/// One read fails, where each byte comes alone: the units that stand whole before it come, and then the fault.
+fn expect_failing(rt: &impl Abort, alloc: Global, bytes: &[u8], call: u64) -> Result<(), Fail> {
+    let failing = [call];
+    let mut src = MemSource::new(bytes, ONE_EACH, &failing);
+    let fault = Err(ReadStop::ReadFault);
+    expect(
+        rt,
+        StreamReader::new(alloc),
+        &mut src,
+        items_within(call),
+        fault,
+    )
+}
+
+/// Each read fails in turn.
 #[test]
 fn each_read_fails(rt: HostRuntime) -> Result<(), Fail> {
     let bytes = joined(rt.alloc(), &[HEADER, PICTURE, END])?;
     for call in 0..52 {
-        let count = usize::from(call >= 17) + usize::from(call >= 38);
-        let (items, fault) = (&ITEMS[..count], Err(ReadStop::ReadFault));
-        expect_failing(&rt, rt.alloc(), bytes.as_slice(), call, items, fault)?;
+        expect_failing(&rt, rt.alloc(), bytes.as_slice(), call)?;
     }
-    // There are no more reads.
-    expect_failing(&rt, rt.alloc(), bytes.as_slice(), 52, &ITEMS, Ok(Item::End))
+    Ok(())
 }

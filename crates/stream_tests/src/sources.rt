@@ -1,11 +1,11 @@
-//! Sources and sinks over real streams, and the calls that take memory.
+//! Sources and sinks over real streams.
 
 use crate::reading::assert_same;
 use std::fs;
 use std::fs::File;
 use std::process::Abort;
 use std::test::Fail;
-use vc2_io::{Failed, MemSink, NullSink, Sink, Source, StdSink, StdSource, fill, write_whole};
+use vc2_io::{Failed, Sink, Source, StdSink, StdSource, fill, write_whole};
 
 /// Asserts that the next bytes that fill a buffer are these.
 fn assert_filled<S: Source>(rt: &impl Abort, source: &mut S, buffer: &mut [u8], bytes: &[u8]) {
@@ -50,37 +50,4 @@ fn std_sink_writes_a_file(rt: HostRuntime) -> Result<(), Fail> {
     assert_same(&rt, unwritten, Err(Failed));
     fs::remove_file(&rt, "sink")?;
     Ok(())
-}
-
-/// A piece, and what writing it answers.
-type Write<'a> = (&'a [u8], Result<usize, Failed>);
-
-/// Asserts what the next writes answer.
-fn assert_writes<K: Sink>(rt: &impl Abort, sink: &mut K, writes: &[Write]) {
-    for (piece, answer) in writes {
-        assert_same(rt, (*piece, sink.write(piece)), (*piece, *answer));
-    }
-}
-
-#[test]
-fn memory_is_found_for_a_sink(rt: HostRuntime) -> Result<(), Fail> {
-    let mut sink = MemSink::new(rt.alloc(), 6, 4, &[1, u64::MAX, u64::MAX, u64::MAX])?;
-    let writes: [Write; 5] = [
-        (b"some bytes", Ok(4)),
-        (b" bytes", Err(Failed)),
-        (b" bytes", Ok(2)),
-        (b"tes", Err(Failed)),
-        (b"", Ok(0)),
-    ];
-    assert_writes(&rt, &mut sink, &writes);
-    assert_same(&rt, sink.bytes(), b"some b".as_slice());
-    Ok(())
-}
-
-#[test]
-fn null_sink_takes_all(rt: HostRuntime) {
-    let mut sink = NullSink::new();
-    let writes: [Write; 2] = [(b"some bytes", Ok(10)), (b"", Ok(0))];
-    assert_writes(&rt, &mut sink, &writes);
-    assert_same(&rt, write_whole(&mut sink, b"some bytes"), Ok(()));
 }

@@ -1,6 +1,6 @@
 //! Streams that are written, to sinks that take all, single bytes, or fail.
 
-ghost use Rattle.std.specs.Prelude.{◌≡◌, false, None};
+ghost use Rattle.std.specs.Prelude.{◌≡◌, ◌%◌, false, None};
 ghost use Rattle.sequence_header.specs.Coding.{IsShapeOf};
 
 use crate::reading::{END, HEADER, PICTURE, assert_same, joined};
@@ -50,7 +50,29 @@ fn write_units<K: Sink>(
     writer.end(sink)
 }
 
-/// Writes a stream of two pictures from this number on. Gives its units, or the first stop.
+/// Writes a stream of the picture, twice. Gives how many units it has, or the first stop.
+fn write_twice<K: Sink>(
+    alloc: Global,
+    header: &SequenceHeader,
+    params: &TransformParams,
+    picture: &Picture,
+    first: u32,
+    sink: &mut K,
+) -> Result<usize, WriteStop>
+    requires shape { IsShapeOf picture.now.shape header.now }
+    requires even { header.now.coding ≡ 1 → first % 2 ≡ 0 }
+{
+    let mut writer = StreamWriter::start(alloc, header, params, first, None, sink)?;
+    let done = write_units(&mut writer, picture, sink);
+    let units = writer.shapes().len();
+    drop(writer);
+    match done {
+        Ok(()) => Ok(units),
+        Err(stop) => Err(stop),
+    }
+}
+
+/// Writes a stream of two blank pictures from this number on.
 fn write_stream<K: Sink>(
     rt: &impl Abort,
     alloc: Global,
@@ -61,14 +83,9 @@ fn write_stream<K: Sink>(
     assert!(rt; header.parts().coding != 1 || first % 2 == 0);
     let shape = header.picture_shape();
     let picture = Picture::new(alloc, &shape)?;
-    let mut writer = match StreamWriter::start(alloc, &header, &params, first, None, sink) {
-        Ok(started) => started,
-        Err(stop) => return Ok(Err(stop)),
-    };
-    match write_units(&mut writer, &picture, sink) {
-        Ok(()) => Ok(Ok(writer.shapes().len())),
-        Err(stop) => Ok(Err(stop)),
-    }
+    let done = write_twice(alloc, &header, &params, &picture, first, sink);
+    drop(picture);
+    Ok(done)
 }
 
 /// No call of a sink fails but this.
@@ -82,17 +99,19 @@ const STREAMS: [(u32, [&[u8]; 4]); 2] = [
     (u32::MAX, [HEADER, LAST_NUMBER, FIRST_NUMBER, END]),
 ];
 
+/// Asserts that a stream is written from this number on.
+fn expect_written(rt: &impl Abort, alloc: Global, first: u32, wanted: &[u8]) -> Result<(), Fail> {
+    let mut sink = MemSink::new(alloc, 72, 0, &failing(u64::MAX))?;
+    assert_same(rt, write_stream(rt, alloc, first, &mut sink)?, Ok(4));
+    assert_same(rt, sink.bytes(), wanted);
+    Ok(())
+}
+
 #[test]
 fn streams_are_written(rt: HostRuntime) -> Result<(), Fail> {
     for (first, units) in &STREAMS {
         let wanted = joined(rt.alloc(), units)?;
-        let mut sink = MemSink::new(rt.alloc(), 72, 0, &failing(u64::MAX))?;
-        assert_same(
-            &rt,
-            write_stream(&rt, rt.alloc(), *first, &mut sink)?,
-            Ok(4),
-        );
-        assert_same(&rt, sink.bytes(), wanted.as_slice());
+        expect_written(&rt, rt.alloc(), *first, wanted.as_slice())?;
     }
     Ok(())
 }
@@ -115,93 +134,26 @@ fn expect_failed(
     Ok(())
 }
 
+/// Each call of one byte fails in turn.
+fn expect_bytes(rt: &impl Abort, alloc: Global, wanted: &[u8]) -> Result<(), Fail> {
+    for call in 0..wanted.len() {
+        expect_failed(rt, alloc, 1, call as u64, &wanted[..call])?;
+    }
+    Ok(())
+}
+
+/// Each call of a whole unit fails in turn, behind so many bytes.
+fn expect_wholes(rt: &impl Abort, alloc: Global, wanted: &[u8]) -> Result<(), Fail> {
+    for (call, written) in [0, 17, 38, 59].iter().enumerate() {
+        assert!(rt; *written <= wanted.len());
+        expect_failed(rt, alloc, 0, call as u64, &wanted[..*written])?;
+    }
+    Ok(())
+}
+
 #[test]
 fn each_call_of_the_sink_fails_in_turn(rt: HostRuntime) -> Result<(), Fail> {
     let wanted = joined(rt.alloc(), &[HEADER, FIRST, SECOND, END])?;
-    for (call, written) in [0, 17, 38, 59].iter().enumerate() {
-        assert!(&rt; *written <= wanted.len());
-        expect_failed(
-            &rt,
-            rt.alloc(),
-            0,
-            call as u64,
-            &wanted.as_slice()[..*written],
-        )?;
-    }
-    for call in 0..wanted.len() {
-        expect_failed(&rt, rt.alloc(), 1, call as u64, &wanted.as_slice()[..call])?;
-    }
-    Ok(())
-}
-
-/// What a call answers.
-type Answer = Result<(), WriteStop>;
-
-/// What a picture to a sink answers, and behind it a picture and the end to another.
-fn answers<K: Sink>(
-    writer: &mut StreamWriter,
-    picture: &Picture,
-    sink: &mut K,
-    other: &mut K,
-) -> (Answer, Answer, Answer)
-    requires open { writer.old.ended ≡ false }
-    requires running { writer.old.stop ≡ None }
-    requires shape { IsShapeOf picture.now.shape writer.old.settings.parts }
-{
-    let first = writer.picture(picture, sink);
-    let second = writer.picture(picture, other);
-    let last = writer.end(other);
-    (first, second, last)
-}
-
-/// The three answers of a new writer, and its units.
-type Found = Option<((Answer, Answer, Answer), usize)>;
-
-/// What a writer that is started on one sink answers there and on another; none where it can't be started.
-fn answers_of<K: Sink>(
-    alloc: Global,
-    header: &SequenceHeader,
-    params: &TransformParams,
-    picture: &Picture,
-    sink: &mut K,
-    other: &mut K,
-) -> Found
-    requires shape { IsShapeOf picture.now.shape header.now }
-{
-    match StreamWriter::start(alloc, header, params, 0, None, sink) {
-        Ok(mut writer) => {
-            let found = answers(&mut writer, picture, sink, other);
-            let units = writer.shapes().len();
-            drop(writer);
-            Some((found, units))
-        }
-        Err(_) => None,
-    }
-}
-
-/// The same of the smallest stream.
-fn smallest_answers<K: Sink>(
-    rt: &impl Abort,
-    alloc: Global,
-    sink: &mut K,
-    other: &mut K,
-) -> Result<Found, Fail> {
-    let (header, params) = settings(rt);
-    let shape = header.picture_shape();
-    let picture = Picture::new(alloc, &shape)?;
-    let found = answers_of(alloc, &header, &params, &picture, sink, other);
-    drop(picture);
-    Ok(found)
-}
-
-/// A stop is answered again by each call, to any sink, and leaves the units.
-#[test]
-fn a_stop_is_kept(rt: HostRuntime) -> Result<(), Fail> {
-    let mut sink = MemSink::new(rt.alloc(), 72, 0, &failing(1))?;
-    let mut other = MemSink::new(rt.alloc(), 72, 0, &failing(u64::MAX))?;
-    let found = smallest_answers(&rt, rt.alloc(), &mut sink, &mut other)?;
-    let stop = Err(WriteStop::OutFault);
-    assert_same(&rt, found, Some(((stop, stop, stop), 1)));
-    assert_same(&rt, (sink.bytes(), other.bytes()), (HEADER, &[]));
-    Ok(())
+    expect_bytes(&rt, rt.alloc(), wanted.as_slice())?;
+    expect_wholes(&rt, rt.alloc(), wanted.as_slice())
 }

@@ -1,15 +1,16 @@
-//! Whether bands keep a bound.
+//! Whether bands keep a bound, and places of narrow planes.
 
 ghost use Rattle.std.specs.Prelude.{◌≡◌, true};
 ghost use Rattle.planes.specs.Subbands.{BandExists};
 
+use crate::slice_writing::put_all;
 use planes::{Bands, NarrowPlane, NoMemory};
 use std::alloc::Global;
 use std::process::Abort;
 use std::test::Fail;
 
 // Whether a band is there.
-fn exists(depth: u32, level: u32, orient: u32) -> bool
+pub(crate) fn exists(depth: u32, level: u32, orient: u32) -> bool
     ensures { result ≡ true → BandExists depth level orient }
 {
     if level == 0 {
@@ -44,41 +45,39 @@ const CASES: [Case; 13] = [
     ),
 ];
 
-fn assert_within(rt: &impl Abort, bands: Result<Bands, NoMemory>, case: &Case) -> Result<(), Fail> {
-    let (level, orient, value, bound, want) = *case;
-    let mut bands = bands?;
-    assert!(rt; exists(bands.depth(), level, orient));
-    let band = bands.band_mut(level, orient);
-    assert!(rt; 0 < band.h() && 1 < band.w());
-    let last = band.h() - 1;
-    band.set(last, 1, value);
-    assert_eq!(rt; bands.within(bound), want);
-    Ok(())
+fn is_within(rt: &impl Abort, alloc: Global, case: &Case) -> Result<bool, NoMemory> {
+    let (level, orient, value, bound, _) = *case;
+    let mut bands = Bands::new(alloc, 2, 8, 4)?;
+    put_all(rt, &mut bands, &[(level, orient, 1, value)]);
+    let within = bands.within(bound);
+    drop(bands);
+    Ok(within)
 }
 
 /// One value in bands of zeros.
 #[test]
 fn bounds_of_bands(rt: HostRuntime) -> Result<(), Fail> {
     for case in &CASES {
-        assert_within(&rt, Bands::new(rt.alloc(), 2, 8, 4), case)?;
+        assert_eq!(&rt; is_within(&rt, rt.alloc(), case)?, case.4);
     }
     Ok(())
 }
 
-fn assert_rows(rt: &impl Abort, plane: Result<NarrowPlane, NoMemory>) -> Result<(), Fail> {
-    let mut plane = plane?;
+/// Places of a plane, after a place was set, a row written, and a place of another row made of both.
+fn places(rt: &impl Abort, plane: &mut NarrowPlane) -> [i32; 3] {
     assert!(rt; plane.w() == 3 && plane.h() == 3);
     plane.set(1, 2, -7);
     plane.row_mut(2).copy_from_slice(&[4, 5, 6]);
     let three = plane.rows_three(0, 1, 2);
     three.dst[1] = three.a[2] + three.b[0];
-    assert_eq!(rt; plane.row(0), [0i32, -3, 0].as_slice());
-    assert_eq!(rt; (plane.get(1, 2), plane.get(2, 2)), (-7, 6));
-    Ok(())
+    [plane.get(0, 1), plane.get(1, 2), plane.get(2, 2)]
 }
 
-/// Places and rows of a narrow plane.
 #[test]
 fn narrow_planes(rt: HostRuntime) -> Result<(), Fail> {
-    assert_rows(&rt, NarrowPlane::new(rt.alloc(), 3, 3))
+    let mut plane = NarrowPlane::new(rt.alloc(), 3, 3)?;
+    let found = places(&rt, &mut plane);
+    drop(plane);
+    assert_eq!(&rt; found, [-3, -7, 6]);
+    Ok(())
 }

@@ -1,4 +1,6 @@
 //! Pictures whose bands are at the greatest magnitude that is synthesised in 32 bits, and past it.
+//!
+//! Owners are dropped by name, since the proof of that call is short.
 
 ghost use Rattle.std.specs.Prelude.{◌≡◌, false, OnOk};
 
@@ -8,6 +10,7 @@ use planes::NoMemory;
 use quant_factors::Matrix;
 use slice_decoder::SliceFault;
 use slice_geometry::{Component, Layout, PictureShape, Size};
+use std::alloc::Global;
 use std::process::Abort;
 use std::test::Fail;
 
@@ -112,41 +115,36 @@ fn take(rt: &impl Abort, decoder: &mut PictureDecoder, bytes: &[u8]) -> Result<(
     decoder.slice(bytes)
 }
 
-fn assert_samples(
-    rt: &impl Abort,
-    decoder: &mut PictureDecoder,
-    bytes: &[u8],
-    want: &[u16; 4],
-) -> Result<(), Fail>
+/// Takes the only slice, and tells whether the picture has these samples of luma and grey ones of C2.
+fn has_samples(rt: &impl Abort, decoder: &mut PictureDecoder, bytes: &[u8], want: &[u16; 4]) -> bool
     requires { decoder.old.refused ≡ false }
 {
-    take(rt, decoder, bytes)
-        .ok()
-        .expect(rt, "the slice is taken");
-    assert!(rt; decoder.wanted().is_none());
+    match take(rt, decoder, bytes) {
+        Ok(()) => {}
+        Err(_) => return false,
+    }
+    if decoder.wanted().is_some() {
+        return false;
+    }
     let picture = decoder.finish();
-    assert_eq!(rt; picture.samples(Component::Luma), want.as_slice());
-    assert_eq!(rt; picture.samples(Component::C2), [0x8000u16; 4].as_slice());
-    Ok(())
+    picture.samples(Component::Luma) == want.as_slice()
+        && picture.samples(Component::C2) == [0x8000u16; 4].as_slice()
 }
 
-fn assert_picture(
-    rt: &impl Abort,
-    decoder: Result<PictureDecoder, NoMemory>,
-    bytes: &[u8],
-    want: &[u16; 4],
-) -> Result<(), Fail> {
-    let mut decoder = decoder?;
+fn is_decoded(rt: &impl Abort, alloc: Global, case: &Case<'_>) -> Result<bool, NoMemory> {
+    let (wavelet, bytes, want) = *case;
+    let mut decoder = PictureDecoder::new(alloc, &SHAPE, &params(rt, wavelet))?;
     decoder.restart();
-    assert_samples(rt, &mut decoder, bytes, want)
+    let found = has_samples(rt, &mut decoder, bytes, &want);
+    drop(decoder);
+    Ok(found)
 }
 
 /// One value more than 2^18 in a band changes the width, and no sample but by that one.
 #[test]
 fn both_widths(rt: HostRuntime) -> Result<(), Fail> {
-    for (wavelet, bytes, want) in &CASES {
-        let decoder = PictureDecoder::new(rt.alloc(), &SHAPE, &params(&rt, *wavelet));
-        assert_picture(&rt, decoder, bytes, want)?;
+    for case in &CASES {
+        assert!(&rt; is_decoded(&rt, rt.alloc(), case)?);
     }
     Ok(())
 }

@@ -1,15 +1,10 @@
 //! Words of idle slots: of `check`, beside a schedule, and of `encode` and `trial`.
 
-use crate::settings_words::{BASE, Instead, NOTHING, settings};
-use crate::words::{Row, add_words, expect_rows, expect_words, words_of};
+use crate::words::{Answer, Row, Value, expect_rows, expect_values};
 use channel_schedule::{Rate, Schedule};
-use std::alloc::Global;
-use std::process::Abort;
-use std::test::Fail;
-use vc2_words::{Command, Key, WordFault, read_words};
+use vc2_words::{Command, Key, WordFault};
 
-/// An operand, and whether its value stands.
-const VALUES: [(&str, bool); 25] = [
+const VALUES: [Value<'static>; 25] = [
     ("idle=", false),
     ("idle=00", false),
     ("idle=01", false),
@@ -37,43 +32,32 @@ const VALUES: [(&str, bool); 25] = [
     ("idle=10000000000000000000000", false),
 ];
 
-/// Asserts which values stand; where one does, this key is missed.
-fn expect_idle(rt: &impl Abort, alloc: Global, command: &str, missed: Key) -> Result<(), Fail> {
-    for (operand, stands) in &VALUES {
-        let fault = if *stands {
-            WordFault::MissingKey(missed)
-        } else {
-            WordFault::BadValue(1)
-        };
-        expect_words(rt, alloc, &[command, operand], Err(fault))?;
-    }
-    Ok(())
-}
-
 #[test]
-fn values_of_idle(rt: HostRuntime) -> Result<(), Fail> {
-    expect_idle(&rt, rt.alloc(), "check", Key::Rate)?;
-    expect_idle(&rt, rt.alloc(), "encode", Key::Size)?;
-    expect_idle(&rt, rt.alloc(), "trial", Key::Size)
+fn values_of_idle(rt: HostRuntime) {
+    expect_values(&rt, rt.alloc(), "check", Key::Rate, &VALUES);
+    expect_values(&rt, rt.alloc(), "encode", Key::Size, &VALUES);
+    expect_values(&rt, rt.alloc(), "trial", Key::Size, &VALUES);
 }
 
 /// A schedule without idle slots, and the same with as many as there may be.
-const NONE: Result<Command, WordFault> = Ok(Command::Check(Some(Schedule {
+const NONE: Answer = Ok(Command::Check(Some(Schedule {
     rate: Rate { num: 1, den: 2 },
     delay: 3,
     size: 4,
     idle: 0,
 })));
 
-const MOST: Result<Command, WordFault> = Ok(Command::Check(Some(Schedule {
+const MOST: Answer = Ok(Command::Check(Some(Schedule {
     rate: Rate { num: 1, den: 2 },
     delay: 3,
     size: 4,
     idle: 1048576,
 })));
 
-/// Idle slots at each place among a schedule's operands.
-const SCHEDULES: [Row<'static>; 9] = [
+/// Idle slots at each place among a schedule's operands; the rest of a schedule that they ask for, also where there are none;
+/// a key of no other command, and one that is not quite this one; and two wrong words in both orders: the first of them is told,
+/// and of a word the key before the value.
+const ROWS: [Row<'static>; 36] = [
     (&["check", "rate=1/2", "delay=3", "buffer=4"], NONE),
     (
         &["check", "rate=1/2", "delay=3", "buffer=4", "idle=0"],
@@ -107,10 +91,6 @@ const SCHEDULES: [Row<'static>; 9] = [
         &["check", "delay=3", "buffer=4", "idle=1048576", "rate=1/2"],
         MOST,
     ),
-];
-
-/// Idle slots ask for the rest of a schedule, also where there are none.
-const MISSING: [Row<'static>; 9] = [
     (&["check", "idle=1"], Err(WordFault::MissingKey(Key::Rate))),
     (&["check", "idle=0"], Err(WordFault::MissingKey(Key::Rate))),
     (
@@ -141,10 +121,6 @@ const MISSING: [Row<'static>; 9] = [
         &["check", "rate=1/1", "delay=1", "idle=0"],
         Err(WordFault::MissingKey(Key::Buffer)),
     ),
-];
-
-/// A key of no other command, and one that is not quite this one.
-const KEYS: [Row<'static>; 8] = [
     (&["chain", "idle=1"], Err(WordFault::UnknownKey(1))),
     (&["header", "idle=1"], Err(WordFault::UnknownKey(1))),
     (&["decode", "idle=1"], Err(WordFault::UnknownKey(1))),
@@ -156,10 +132,6 @@ const KEYS: [Row<'static>; 8] = [
         &["check", "idle=1", "pictures=1"],
         Err(WordFault::UnknownKey(2)),
     ),
-];
-
-/// Two words are wrong, in both orders: the first of them is told, and of a word the key before the value.
-const TWICE_WRONG: [Row<'static>; 10] = [
     (
         &["check", "idle=1", "idle=01"],
         Err(WordFault::RepeatedKey(2)),
@@ -202,69 +174,6 @@ const TWICE_WRONG: [Row<'static>; 10] = [
 ];
 
 #[test]
-fn words_of_idle(rt: HostRuntime) -> Result<(), Fail> {
-    expect_rows(&rt, rt.alloc(), &SCHEDULES)?;
-    expect_rows(&rt, rt.alloc(), &MISSING)?;
-    expect_rows(&rt, rt.alloc(), &KEYS)?;
-    expect_rows(&rt, rt.alloc(), &TWICE_WRONG)
-}
-
-/// What is other than the base, what stands behind it, and the rate and the idle slots of the settings. A picture unit of the
-/// base has 26 bytes; with 1048576 slices of one byte each it has 1048601.
-const SETTINGS: [(Instead<'static>, &[&str], Rate, u32); 8] = [
-    (NOTHING, &[], Rate { num: 26, den: 1 }, 0),
-    (NOTHING, &["idle=0"], Rate { num: 26, den: 1 }, 0),
-    (NOTHING, &["idle=1"], Rate { num: 26, den: 2 }, 1),
-    (NOTHING, &["idle=3"], Rate { num: 26, den: 4 }, 3),
-    (
-        NOTHING,
-        &["idle=1048576"],
-        Rate {
-            num: 26,
-            den: 1048577,
-        },
-        1 << 20,
-    ),
-    (NOTHING, &["idle=3", "rate=5/6"], Rate { num: 5, den: 6 }, 3),
-    (
-        NOTHING,
-        &["rate=4294967295/1", "idle=1048576"],
-        Rate {
-            num: 4294967295,
-            den: 1,
-        },
-        1 << 20,
-    ),
-    (
-        [(6, "slices=8192x128"), (7, "bytes=1/1")],
-        &["idle=1048576"],
-        Rate {
-            num: 1048601,
-            den: 2097152,
-        },
-        1 << 20,
-    ),
-];
-
-#[test]
-fn settings_with_idle_slots(rt: HostRuntime) -> Result<(), Fail> {
-    for (instead, more, rate, idle) in &SETTINGS {
-        let found = settings(&rt, rt.alloc(), *instead, more)?;
-        assert_eq!(&rt; (found.rate, found.idle), (*rate, *idle), "at {more:?}");
-    }
-    Ok(())
-}
-
-#[test]
-fn trial_with_idle_slots(rt: HostRuntime) -> Result<(), Fail> {
-    let mut words = words_of(rt.alloc(), &["trial"])?;
-    add_words(rt.alloc(), &mut words, &BASE)?;
-    add_words(rt.alloc(), &mut words, &["pictures=1", "idle=3", "seed=0"])?;
-    let found = match read_words(&words) {
-        Ok(Command::Trial(settings, _)) => Some((settings.rate, settings.idle)),
-        _ => None,
-    };
-    drop(words);
-    assert_eq!(&rt; found, Some((Rate { num: 26, den: 4 }, 3)));
-    Ok(())
+fn words_of_idle(rt: HostRuntime) {
+    expect_rows(&rt, rt.alloc(), &ROWS);
 }
