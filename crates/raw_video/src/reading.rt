@@ -20,7 +20,7 @@ use vc2_io::{Source, fill};
 const PIECE: usize = 2048;
 
 /// Why the samples of a picture did not come whole. Numbers are counted from the picture's first.
-#[derive(Clone, Copy, Debug, PartialEq, Eq)]
+#[derive(Clone, Copy)]
 pub enum Halt {
     /// No more than so many bytes of the picture came.
     Ended(u64),

@@ -5,7 +5,7 @@ ghost use Rattle.bit_codes.specs.Bits.{bits_of, digits_below};
 ghost use Rattle.slice_encoder.specs.BitQueues.{bits_so_far, IsQueue};
 
 /// How far some bytes are written: whole bytes, and the bits behind them that wait in a number until they fill some.
-#[derive(Clone, Copy, Debug, PartialEq, Eq)]
+#[derive(Clone, Copy)]
 pub struct BitQueue {
     pub whole: usize,
     pub count: u32,

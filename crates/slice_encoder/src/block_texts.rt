@@ -13,7 +13,7 @@ use crate::bit_queues::{BitQueue, put_bits};
 use crate::short_texts::short_text;
 
 /// A block that is filled through a queue, and how many of its bits are left.
-#[derive(Clone, Copy, Debug, PartialEq, Eq)]
+#[derive(Clone, Copy)]
 pub struct Block {
     pub queue: BitQueue,
     pub left: u64,

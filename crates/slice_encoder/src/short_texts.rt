@@ -4,7 +4,7 @@ ghost use Rattle.std.specs.Prelude.{◌<◌, ◌-ℤ◌, pos, unsigned_abs};
 ghost use Rattle.slice_encoder.specs.BitQueues.{IsTextOf};
 
 /// The last `length` binary digits of a number are a text.
-#[derive(Clone, Copy, Debug, PartialEq, Eq)]
+#[derive(Clone, Copy)]
 pub struct ShortText {
     pub number: u16,
     pub length: u8,

@@ -18,7 +18,7 @@ use vc2_run::Halt;
 const MOST: usize = 250;
 
 /// What stands in front of the source.
-#[derive(Clone, Copy, Debug, PartialEq, Eq)]
+#[derive(Clone, Copy)]
 pub(crate) enum First {
     Header(SequenceHeader),
     Refused(Refusal),

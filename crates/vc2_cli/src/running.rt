@@ -22,7 +22,7 @@ use vc2_io::{Sink, Source};
 use vc2_run::Halt;
 
 /// What a turn of a reader gives.
-#[derive(Clone, Copy, Debug, PartialEq, Eq, Drop)]
+#[derive(Drop)]
 pub(crate) enum Turn<I> {
     /// A unit.
     Unit(I),

@@ -30,7 +30,7 @@ use vc2_run::Halt;
 use vc2_words::{Settings, TrialPart, later_sequences};
 
 /// What a trial finds: the bytes of its stream, the least schedule with which that runs, and the greatest difference.
-#[derive(Clone, Copy, Debug, PartialEq, Eq)]
+#[derive(Clone, Copy)]
 struct Found {
     bytes: u64,
     schedule: Schedule,

@@ -1,4 +1,5 @@
 use Rattle.std.proofs.Common.{◌≡◌, ◌+◌, ◌-◌, ◌*◌, ◌^◌, ℕ, Option, List, ◌++◌, length, refl, ap, sym, subst, ◌∙◌, Err, arith}
+use Rattle.std.proofs.lemmas.Grind.{common_steps}
 use Rattle.slice_geometry.specs.declared.PictureShape.{PictureShape}
 use Rattle.slice_geometry.specs.Frames.{frame_of}
 use Rattle.raw_video.specs.RawText.{is_wide}
@@ -58,3 +59,24 @@ returns-in-Err-Ended-clause-front g c =
     let cells = p.luma.cells ++ (p.c1.cells ++ p.c2.cells) in
     c.without_picture.ensures.front f (rest c.args.src.now) cells p
     (subst (λ (h : Halt). ReadsSamples (is_wide f) 0 (2 ^ 40 - c.args.place) (sample_bounds f) (rest c.args.src.now) (rest c.read_samples.new.src) cells (Err h)) c.in-Err-Ended.field-0-is c.in-Err-Ended.ensures.read)
+
+pub returns-in-Err-ReadFault-clause-front : goal.returns-in-Err-ReadFault-clause-front
+returns-in-Err-ReadFault-clause-front c = grind (arith, common_steps)
+
+pub returns-in-Err-Large-clause-cause : goal.returns-in-Err-Large-clause-cause
+returns-in-Err-Large-clause-cause c = grind (arith, common_steps)
+
+pub returns-in-Ok-clause-cause : goal.returns-in-Ok-clause-cause
+returns-in-Ok-clause-cause c = grind (arith, common_steps)
+
+pub returns-in-Err-Ended-clause-cause : goal.returns-in-Err-Ended-clause-cause
+returns-in-Err-Ended-clause-cause c = grind (arith, common_steps)
+
+pub returns-in-Err-ReadFault-clause-cause : goal.returns-in-Err-ReadFault-clause-cause
+returns-in-Err-ReadFault-clause-cause c = grind (arith, common_steps)
+
+pub without_picture-requires : goal.without_picture-requires
+without_picture-requires c = grind (arith, common_steps)
+
+pub overflow_sub-place : goal.overflow_sub-place
+overflow_sub-place c = omega arith

@@ -1,4 +1,5 @@
 use Rattle.std.proofs.Common.{◌≡◌, ◌+◌, ◌*◌, ◌^◌, ◌<◌, ℕ, All, length, take, replicate, min, Ok, Err, sym, ap, subst, ◌∙◌, arith}
+use Rattle.std.proofs.lemmas.Grind.{common_steps}
 use Rattle.std.proofs.lemmas.List.{length-take}
 use Rattle.std.proofs.lemmas.Result.{err_from_is_err_and}
 use Rattle.slice_geometry.specs.declared.PictureShape.{PictureShape}
@@ -71,3 +72,45 @@ loop-piece-preserved g c =
       others = λ other ne. ap (λ (p : PictureSeen). shown p other) is ∙ put_others old.samples c.args.c other (with_run rows from samples) ne ∙ i.others other ne;
       steady = c.in_ok-read_piece.ensures.cause ∙ i.steady;
     }
+
+pub returns-clause-read : goal.returns-clause-read
+returns-clause-read c = grind (arith, common_steps)
+
+pub read_piece-requires-clause-inside : goal.read_piece-requires-clause-inside
+read_piece-requires-clause-inside c = grind (arith, common_steps)
+
+pub slice_bounds-put_samples-end : goal.slice_bounds-put_samples-end
+slice_bounds-put_samples-end c = grind (arith, common_steps)
+
+pub put_samples-requires-clause-inside : goal.put_samples-requires-clause-inside
+put_samples-requires-clause-inside c = grind (arith, common_steps)
+
+pub read_piece-requires-clause-start_few : goal.read_piece-requires-clause-start_few
+read_piece-requires-clause-start_few c = grind (arith, common_steps)
+
+pub returns-in_err-read_piece-clause-cause : goal.returns-in_err-read_piece-clause-cause
+returns-in_err-read_piece-clause-cause c = grind (arith, common_steps)
+
+pub slice_bounds-samples-end : goal.slice_bounds-samples-end
+slice_bounds-samples-end c = grind (arith, common_steps)
+
+pub returns-clause-cause : goal.returns-clause-cause
+returns-clause-cause c = grind (arith, common_steps)
+
+pub overflow_add-start : goal.overflow_add-start
+overflow_add-start c = grind (arith, common_steps)
+
+pub overflow_mul-from : goal.overflow_mul-from
+overflow_mul-from c = grind (arith, common_steps)
+
+pub overflow_sub-count : goal.overflow_sub-count
+overflow_sub-count c = grind (arith, common_steps)
+
+pub read_piece-requires-clause-bytes_long : goal.read_piece-requires-clause-bytes_long
+read_piece-requires-clause-bytes_long c = grind (arith, common_steps)
+
+pub slice_bounds-read_piece-end-in-loop-piece : goal.slice_bounds-read_piece-end-in-loop-piece
+slice_bounds-read_piece-end-in-loop-piece c = grind (arith, common_steps)
+
+pub read_piece-requires-clause-long : goal.read_piece-requires-clause-long
+read_piece-requires-clause-long c = grind (arith, common_steps)

@@ -1,4 +1,5 @@
 use Rattle.std.proofs.Common.{◌≡◌, ◌+◌, ◌^◌, ℕ, List, ◌++◌, length, replicate, Option, Result, sym, subst, ◌∙◌, arith}
+use Rattle.std.proofs.lemmas.Grind.{common_steps}
 use Rattle.std.proofs.lemmas.Result.{err_from_is_err_and}
 use Rattle.slice_geometry.specs.declared.Component.TheVariants.{Luma, C1, C2}
 use Rattle.slice_geometry.specs.declared.PictureShape.{PictureShape}
@@ -53,3 +54,21 @@ returns-clause-read g c =
     let all = c2_read (frame_of shape) c.args.room (rest c.args.src.now) (rest c.read_component.new.src) (shown p1 Luma).cells c.in_ok-read_component.ensures.read (rest c.read_component-2.new.src) (rest c.read_component-3.new.src) (shown p2 C1).cells (shown p3 C2).cells c.read_component-3.result second third in
     subst (λ (r : SamplesSeen). ReadsSamples (is_wide (frame_of shape)) 0 c.args.room (sample_bounds (frame_of shape)) (rest c.args.src.now) (rest c.read_component-3.new.src) (r.cells ++ (p3.samples.c1.cells ++ p3.samples.c2.cells)) c.read_component-3.result) (sym luma)
     (subst (λ (r : SamplesSeen). ReadsSamples (is_wide (frame_of shape)) 0 c.args.room (sample_bounds (frame_of shape)) (rest c.args.src.now) (rest c.read_component-3.new.src) ((shown p1 Luma).cells ++ (r.cells ++ p3.samples.c2.cells)) c.read_component-3.result) (sym c1) all)
+
+pub read_component-requires-3-clause-inside : goal.read_component-requires-3-clause-inside
+read_component-requires-3-clause-inside c = grind (arith, common_steps)
+
+pub read_component-requires-2-clause-inside : goal.read_component-requires-2-clause-inside
+read_component-requires-2-clause-inside c = grind (arith, common_steps)
+
+pub returns-clause-cause : goal.returns-clause-cause
+returns-clause-cause c = grind (arith, common_steps)
+
+pub returns-in_err-read_component-2-clause-cause : goal.returns-in_err-read_component-2-clause-cause
+returns-in_err-read_component-2-clause-cause c = grind (arith, common_steps)
+
+pub read_component-requires-3-clause-start_few : goal.read_component-requires-3-clause-start_few
+read_component-requires-3-clause-start_few c = grind (arith, common_steps)
+
+pub returns-in_err-read_component-clause-cause : goal.returns-in_err-read_component-clause-cause
+returns-in_err-read_component-clause-cause c = grind (arith, common_steps)

@@ -1,11 +1,67 @@
 use Rattle.std.proofs.Common.{arith}
+use Rattle.std.proofs.lemmas.Result.{err_from_is_err_and}
 use Rattle.sequence_header.proofs.Groups.{rate_pass, rate_pass_pair}
+use Rattle.std.proofs.lemmas.Bool.{ne_eqb}
+use Rattle.field_rows.proofs.Reading.{then_ok, then_err, read-done}
+use Rattle.sequence_header.proofs.Readings.{then_as}
+use Rattle.sequence_header.specs.Header.{rate_rows}
 use Rattle.sequence_header.proofs.reading.rate.Goals as goal
+
+pub returns-in_err-flag_set-clause-read : goal.returns-in_err-flag_set-clause-read
+unfolding rate_rows
+returns-in_err-flag_set-clause-read c =
+    let p = err_from_is_err_and c.from_residual.result c.from_residual.ensures.1 in
+    rw (p.1, p.2) (then_err _ _ _ _ _ c.in_err-flag_set.ensures)
+
+pub returns-in_err-flag_set-clause-passes : goal.returns-in_err-flag_set-clause-passes
+returns-in_err-flag_set-clause-passes c =
+    let p = err_from_is_err_and c.from_residual.result c.from_residual.ensures.1 in
+    rw p.1 tt
+
+pub returns-in_err-index-clause-read : goal.returns-in_err-index-clause-read
+unfolding rate_rows
+returns-in_err-index-clause-read c =
+    let p = err_from_is_err_and c.from_residual-in_err-index.result c.from_residual-in_err-index.ensures.1 in
+    rw (p.1, p.2) (then_ok _ _ _ _ _ _ _ c.in_ok-flag_set.ensures (then_err _ _ _ _ _ c.in_err-index.ensures.read))
+
+pub returns-in_err-index-clause-passes : goal.returns-in_err-index-clause-passes
+returns-in_err-index-clause-passes c =
+    let p = err_from_is_err_and c.from_residual-in_err-index.result c.from_residual-in_err-index.ensures.1 in
+    rw p.1 tt
+
+pub returns-in_err-numerator-clause-read : goal.returns-in_err-numerator-clause-read
+unfolding rate_rows
+returns-in_err-numerator-clause-read c =
+    let p = err_from_is_err_and c.from_residual-in_err-numerator.result c.from_residual-in_err-numerator.ensures.1 in
+    rw (p.1, p.2) (then_ok _ _ _ _ _ _ _ c.in_ok-flag_set.ensures (then_as _ _ _ _ _ _ _ _ c.in_ok-index.ensures.read c.if-index-ne0.false (then_err _ _ _ _ _ c.in_err-numerator.ensures.read)))
+
+pub returns-in_err-numerator-clause-passes : goal.returns-in_err-numerator-clause-passes
+returns-in_err-numerator-clause-passes c =
+    let p = err_from_is_err_and c.from_residual-in_err-numerator.result c.from_residual-in_err-numerator.ensures.1 in
+    rw p.1 tt
+
+pub returns-in_err-denominator-clause-read : goal.returns-in_err-denominator-clause-read
+unfolding rate_rows
+returns-in_err-denominator-clause-read c =
+    let p = err_from_is_err_and c.from_residual-in_err-denominator.result c.from_residual-in_err-denominator.ensures.1 in
+    rw (p.1, p.2) (then_ok _ _ _ _ _ _ _ c.in_ok-flag_set.ensures (then_as _ _ _ _ _ _ _ _ c.in_ok-index.ensures.read c.if-index-ne0.false (then_ok _ _ _ _ _ _ _ c.in_ok-numerator.ensures.read (then_err _ _ _ _ _ c.in_err-denominator.ensures.read))))
+
+pub returns-in_err-denominator-clause-passes : goal.returns-in_err-denominator-clause-passes
+returns-in_err-denominator-clause-passes c =
+    let p = err_from_is_err_and c.from_residual-in_err-denominator.result c.from_residual-in_err-denominator.ensures.1 in
+    rw p.1 tt
+
+pub returns-then-index-ne0-clause-read : goal.returns-then-index-ne0-clause-read
+unfolding rate_rows
+returns-then-index-ne0-clause-read c = then_ok _ _ _ _ _ _ _ c.in_ok-flag_set.ensures (then_ok _ _ _ _ _ _ _ c.in_ok-index.ensures.read (rw (ne_eqb c.in_ok-index.index 0 c.if-index-ne0.true) (read-done _ _ _)))
 
 pub returns-then-index-ne0-clause-passes : goal.returns-then-index-ne0-clause-passes
 returns-then-index-ne0-clause-passes c = rate_pass c.in_ok-index.index (omega arith) c.in_ok-index.ensures.range.1
 
+pub returns-clause-read : goal.returns-clause-read
+unfolding rate_rows
+returns-clause-read c = then_ok _ _ _ _ _ _ _ c.in_ok-flag_set.ensures (then_as _ _ _ _ _ _ _ _ c.in_ok-index.ensures.read c.if-index-ne0.false (then_ok _ _ _ _ _ _ _ c.in_ok-numerator.ensures.read (then_ok _ _ _ _ _ _ _ c.in_ok-denominator.ensures.read (read-done _ _ _))))
+
 pub returns-clause-passes : goal.returns-clause-passes
-returns-clause-passes c =
-    rate_pass_pair c.in_ok-numerator.numerator c.in_ok-denominator.denominator c.in_ok-numerator.ensures.range.0 c.in_ok-denominator.ensures.range.0
+returns-clause-passes c = rate_pass_pair c.in_ok-numerator.numerator c.in_ok-denominator.denominator c.in_ok-numerator.ensures.range.0 c.in_ok-denominator.ensures.range.0
     (omega (arith, c.in_ok-numerator.ensures.range.1)) (omega (arith, c.in_ok-denominator.ensures.range.1))

@@ -1,5 +1,6 @@
 use Rattle.std.proofs.Common.{◌≡◌, ℕ, ◌+◌, ◌*◌, ◌^◌, ◌<◌, ◌≤◌, length, refl, sym, ap, ◌∙◌, arith}
 use Rattle.std.proofs.Math.Nat.{mul-le-mul_right}
+use Rattle.std.proofs.lemmas.Grind.{common_steps}
 use Rattle.slice_geometry.specs.SliceOrder.{place_count}
 use Rattle.slice_geometry.specs.declared.Size.{Size}
 use Rattle.slice_geometry.specs.Slicing.{Slicing}
@@ -55,6 +56,16 @@ restore_level-requires-clause-inside c =
       bands_room part.matrix part.qindex c.args.each part (3 * l.level + 1) l.from (c.args.each * n) (length c.args.values.now) are (omega (arith, lt)) held.from_is c.requires.count,
       held.same_length,
     )
+
+-- these two are found by search too, in half a minute
+pub restore_level-requires-clause-narrow : goal.restore_level-requires-clause-narrow
+restore_level-requires-clause-narrow c = grind (arith, common_steps)
+
+pub overflow_mul-from-in-loop-level : goal.overflow_mul-from-in-loop-level
+overflow_mul-from-in-loop-level c =
+    let n = c.area_of-in-loop-level.result in
+    let most : c.args.each * n ≤ 2 * n = mul-le-mul_right n c.requires.few in
+    omega (arith, most, c.area_of-in-loop-level.ensures.few)
 
 pub returns-then-not-restore_level-clause-within : goal.returns-then-not-restore_level-clause-within
 returns-then-not-restore_level-clause-within c =

@@ -14,6 +14,9 @@ pub restore_band-requires-2-clause-low : goal.restore_band-requires-2-clause-low
 restore_band-requires-2-clause-low c low i most j le =
     subst (λ (v : ℤ). (unsigned_abs v + 1) * factor_of i ≤ 2 ^ 20) (sym (c.restore_band.ensures.rest j le)) (c.requires.low low i most j (omega (arith, le)))
 
+pub returns-then-not-restore_band-clause-stopped : goal.returns-then-not-restore_band-clause-stopped
+returns-then-not-restore_band-clause-stopped c e each p vs are held = c.restore_band.ensures.stopped c.if-not-restore_band.true each p vs are.first held
+
 pub returns-then-not-restore_band-2-clause-stopped : goal.returns-then-not-restore_band-2-clause-stopped
 returns-then-not-restore_band-2-clause-stopped c e each p vs are held =
     c.restore_band-2.ensures.stopped c.if-not-restore_band-2.true each p vs are.second

@@ -1,4 +1,5 @@
 use Rattle.std.proofs.Common.{◌≡◌, ℕ, sym, ap, subst, ◌∙◌, arith, List}
+use Rattle.std.proofs.lemmas.Grind.{common_steps}
 use Rattle.slice_geometry.specs.declared.PictureShape.{PictureShape}
 use Rattle.slice_geometry.specs.Slicing.{slice_count, slice_bytes}
 use Rattle.slice_geometry.specs.Frames.{frame_of}
@@ -47,3 +48,6 @@ returns-clause-unit c =
     let all : n ≡ slice_count s = omega (arith, taken.few, wanted_none n (slice_count s) (slice_bytes s.a s.b n) none) in
     subst (λ (d : PictureDecoderSeen). (slices : List (List ℕ)) → HasTaken slices d → synthesised_picture d ≡ picture_of (frame_of d.shape) d.params slices) c.self.view_is
     (λ slices has. unit_is _ slices n c.show.ensures.allowed taken has (sym has.number ∙ all))
+
+pub invariant_of-self : goal.invariant_of-self
+invariant_of-self c = grind (arith, common_steps)

@@ -1,4 +1,5 @@
 use Rattle.std.proofs.Common.{◌≡◌, ◌∙◌, ℕ, ◌++◌, List, length, take, ℤ, sym, ap, subst, arith}
+use Rattle.std.proofs.lemmas.Grind.{common_steps}
 use Rattle.std.proofs.Math.Seq.{take-append_seam}
 use Rattle.bit_codes.specs.Bits.{bits_of}
 use Rattle.slice_geometry.specs.declared.SliceHead.{SliceHead}
@@ -6,7 +7,7 @@ use Rattle.slice_encoder.specs.Trials.{CodedPicture}
 use Rattle.slice_encoder.specs.Tries.{AreTried, tried_lists}
 use Rattle.slice_encoder.specs.Choice.{IsLeast, slice_bits}
 use Rattle.slice_encoder.specs.TrialLaws.{AreSmall}
-use Rattle.slice_encoder.specs.Ready.{coded_picture}
+use Rattle.slice_encoder.specs.Ready.{AreReady, coded_picture}
 use Rattle.slice_encoder.specs.Sources.{trio_seen}
 use Rattle.slice_encoder.specs.Encoded.{IsEncoded, SliceEncoderSeen}
 use Rattle.slice_encoder.proofs.Encoding.{encoded_after, bits_as}
@@ -59,3 +60,46 @@ returns-clause-after c = λ indices next kept.
     let head : SliceHead = record { qindex = found.result.index; luma_bits = found.result.trying.luma_need } in
     let tries = subst (λ (s : SliceEncoderSeen). AreTried (coded_picture s.slicing s.shape a.matrix.now (trio_seen a.coefficients)) a.sx a.sy found.result.index a.kept.now found.new.kept) c.self.view_is found.ensures.kept in
     encoded_after (coded_picture a.self.now.slicing a.self.now.shape a.matrix.now (trio_seen a.coefficients)) indices a.sx a.sy c.put_slice.new.bytes head a.kept.now found.new.kept c.requires.ready (returns-clause-slice c) tries next kept
+
+pub put_slice-requires-clause-need : goal.put_slice-requires-clause-need
+put_slice-requires-clause-need c = grind (arith, common_steps)
+
+pub put_slice-requires-clause-fits : goal.put_slice-requires-clause-fits
+put_slice-requires-clause-fits c = grind (arith, common_steps)
+
+pub find_least-found-requires-clause-room : goal.find_least-found-requires-clause-room
+find_least-found-requires-clause-room c = grind (arith, common_steps)
+
+pub find_least-found-requires-clause-steep : goal.find_least-found-requires-clause-steep
+find_least-found-requires-clause-steep c = grind (arith, common_steps)
+
+pub find_least-found-requires-clause-ready : goal.find_least-found-requires-clause-ready
+find_least-found-requires-clause-ready c = grind (arith, common_steps)
+
+pub gather-requires-clause-down : goal.gather-requires-clause-down
+gather-requires-clause-down c = grind (arith, common_steps)
+
+pub slice_bounds-put_slice-end-2 : goal.slice_bounds-put_slice-end-2
+slice_bounds-put_slice-end-2 c = grind (arith, common_steps)
+
+pub slice_bounds-put_slice-end : goal.slice_bounds-put_slice-end
+slice_bounds-put_slice-end c = grind (arith, common_steps)
+
+pub gather-requires-clause-across : goal.gather-requires-clause-across
+gather-requires-clause-across c = grind (arith, common_steps)
+
+pub gather-requires-clause-room : goal.gather-requires-clause-room
+gather-requires-clause-room c = grind (arith, common_steps)
+
+pub gather-requires-clause-given : goal.gather-requires-clause-given
+gather-requires-clause-given c =
+    let a = c.args in
+    let ready = subst (λ (s : SliceEncoderSeen). AreReady (coded_picture s.slicing s.shape a.matrix.now (trio_seen a.coefficients)) a.sx a.sy a.kept.now) (sym c.self.view_is) c.requires.ready in
+    record {
+      entries = ready.entries;
+      luma_bits = grind (arith, common_steps);
+      colour_bits = grind (arith, common_steps);
+      luma = record { depth = ready.luma.depth; sizes = ready.luma.sizes; small = ready.luma.small };
+      c1 = record { depth = ready.c1.depth; sizes = ready.c1.sizes; small = ready.c1.small };
+      c2 = record { depth = ready.c2.depth; sizes = ready.c2.sizes; small = ready.c2.small };
+    }

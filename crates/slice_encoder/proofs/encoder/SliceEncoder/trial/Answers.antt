@@ -1,7 +1,8 @@
-use Rattle.std.proofs.Common.{◌≡◌, ◌∙◌, ap, subst}
+use Rattle.std.proofs.Common.{◌≡◌, ◌∙◌, ap, subst, arith, sym}
+use Rattle.std.proofs.lemmas.Grind.{common_steps}
 use Rattle.slice_encoder.specs.Trials.{CodedPicture, Lists}
 use Rattle.slice_encoder.specs.Tries.{AreTried, tried_lists}
-use Rattle.slice_encoder.specs.Ready.{coded_picture}
+use Rattle.slice_encoder.specs.Ready.{AreReady, coded_picture}
 use Rattle.slice_encoder.specs.Encoded.{SliceEncoderSeen, share_of, trial_of}
 use Rattle.slice_encoder.proofs.Continues.{lists_go_on, go_on}
 use Rattle.slice_encoder.proofs.Encoding.{sizes_of, trial_is}
@@ -24,4 +25,38 @@ returns-clause-after c = λ indices next kept.
     record {
       answer = returns-clause-answer c ∙ ap (λ (l : Lists). trial_of (share_of j.slicing a.sx a.sy) l) (lists_go_on j indices a.sx a.sy a.qindex a.kept.now next sizes kept);
       values = (go_on j indices a.sx a.sy a.qindex a.kept.now c.try_at-trying.new.kept next sizes kept tries).1;
+    }
+
+pub try_at-trying-requires-clause-room : goal.try_at-trying-requires-clause-room
+try_at-trying-requires-clause-room c = grind (arith, common_steps)
+
+pub try_at-trying-requires-clause-ready : goal.try_at-trying-requires-clause-ready
+try_at-trying-requires-clause-ready c = grind (arith, common_steps)
+
+pub share_of-bytes-requires-clause-down : goal.share_of-bytes-requires-clause-down
+share_of-bytes-requires-clause-down c = grind (arith, common_steps)
+
+pub gather-requires-clause-across : goal.gather-requires-clause-across
+gather-requires-clause-across c = grind (arith, common_steps)
+
+pub gather-requires-clause-down : goal.gather-requires-clause-down
+gather-requires-clause-down c = grind (arith, common_steps)
+
+pub share_of-bytes-requires-clause-across : goal.share_of-bytes-requires-clause-across
+share_of-bytes-requires-clause-across c = grind (arith, common_steps)
+
+pub gather-requires-clause-room : goal.gather-requires-clause-room
+gather-requires-clause-room c = grind (arith, common_steps)
+
+pub gather-requires-clause-given : goal.gather-requires-clause-given
+gather-requires-clause-given c =
+    let a = c.args in
+    let ready = subst (λ (s : SliceEncoderSeen). AreReady (coded_picture s.slicing s.shape a.matrix.now a.coefficients.now) a.sx a.sy a.kept.now) (sym c.self.view_is) c.requires.ready in
+    record {
+      entries = ready.entries;
+      luma_bits = grind (arith, common_steps);
+      colour_bits = grind (arith, common_steps);
+      luma = record { depth = ready.luma.depth; sizes = ready.luma.sizes; small = ready.luma.small };
+      c1 = record { depth = ready.c1.depth; sizes = ready.c1.sizes; small = ready.c1.small };
+      c2 = record { depth = ready.c2.depth; sizes = ready.c2.sizes; small = ready.c2.small };
     }

@@ -1,4 +1,5 @@
 use Rattle.std.proofs.Common.{◌≡◌, ◌∙◌, ◌+◌, ◌*◌, ◌^◌, ◌≤◌, ◌++◌, List, length, take, drop, sym, ap, subst, arith, ℤ}
+use Rattle.std.proofs.lemmas.Grind.{common_steps}
 use Rattle.std.specs.List.{All}
 use Rattle.planes.specs.Numbers.{Within}
 use Rattle.slice_encoder.specs.Sources.{stack_seen}
@@ -30,3 +31,6 @@ returns-clause-gathered c =
     in
     filled_gathers a.layout.now a.size (stack_seen a.bands) a.sx a.sy g c.depth-self-inside.ensures.value c.gather_bands-self-inside.ensures.ends room
     (ap (take (length (raw_before a.layout.now a.size (stack_seen a.bands) a.sx a.sy (3 * a.layout.now.depth + 1)))) whole ∙ c.gather_bands-self-inside.ensures.gathered)
+
+pub returns-clause-room : goal.returns-clause-room
+returns-clause-room c = grind (arith, common_steps)
