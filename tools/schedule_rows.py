@@ -4,7 +4,7 @@
 usage: tools/schedule_rows.py
 
 A stream is a list of units (head, slices, a, b). The plan is found by trying delays; how a schedule comes out, by going
-through slice after slice, and through the idle slots behind each picture. It prints the rows of both tables of
+through slice after slice, and through the idle slots behind each picture. It prints the rows of both texts of
 crates/codec_tests/src/schedules.rt that were found by search: first those without idle slots, then those with them.
 """
 import random
@@ -78,13 +78,21 @@ def streams(random_numbers, count):
         yield (17, pictures, head, slices, a, b), rate
 
 
-def outcome_text(units, rate, idle, delay, size):
+def told(units, rate, idle, delay, size):
     kind, *numbers = outcome(units, rate, idle, delay, size)
-    if kind == "Runs":
-        return "Outcome::Runs"
     names = ("slot", "have", "need") if kind == "Late" else ("slot", "fill", "size")
     fields = ", ".join(f"{name}: {number}" for name, number in zip(names, numbers))
-    return f"Outcome::{kind} {{ {fields} }}"
+    return f"({delay}, {size}, {kind})" if kind == "Runs" else f"({delay}, {size}, {kind} {{ {fields} }})"
+
+
+def plan_row(row, rate, idle):
+    units = units_of(*row)
+    return told(units, rate, idle, *plan(units, rate, idle)) + "|" + " ".join(map(str, (*row, *rate, idle, 0)))
+
+
+def outcome_row(row, rate, idle, delay, size):
+    text = " ".join(map(str, (*row, *rate, idle, 1, delay, 0, size)))
+    return told(units_of(*row), rate, idle, delay, size) + "|" + text
 
 
 # The smallest stream and one of two pictures, at the default rates and at the rates' bounds, with idle slots up to their bound.
@@ -107,23 +115,21 @@ def main():
     random_numbers = random.Random(7)
     print("PLANS, without idle slots:")
     for row, rate in streams(random_numbers, 20):
-        print(f"    ({row}, {rate}, 0, {plan(units_of(*row), rate, 0)}),")
+        print(plan_row(row, rate, 0))
     print("OUTCOMES, without idle slots:")
     for row, rate in streams(random_numbers, 8):
-        units = units_of(*row)
-        delay, size = plan(units, rate, 0)
+        delay, size = plan(units_of(*row), rate, 0)
         for d, s in ((delay, size - 1), (max(delay, 1) - 1, size)):
-            print(f"    ({row}, {rate}, 0, ({d}, {s}), {outcome_text(units, rate, 0, d, s)}),")
+            print(outcome_row(row, rate, 0, d, s))
     print("PLANS, with idle slots:")
     rows = BOUNDS + [(row, rate, random_numbers.choice([1, 2, 3, 10, 100])) for row, rate in streams(random_numbers, 16)]
     for row, rate, idle in rows:
-        print(f"    ({row}, {rate}, {idle}, {plan(units_of(*row), rate, idle)}),")
+        print(plan_row(row, rate, idle))
     print("OUTCOMES, with idle slots:")
     for row, rate, idle in BOUNDS[:1] + [row for row in rows[len(BOUNDS):] if row[0][1] > 1][:4]:
-        units = units_of(*row)
-        delay, size = plan(units, rate, idle)
+        delay, size = plan(units_of(*row), rate, idle)
         for d, s, i in ((delay, size, idle - 1), (delay, size, idle + 1), (delay, size - 1, idle), (max(delay, 1) - 1, size, idle)):
-            print(f"    ({row}, {rate}, {i}, ({d}, {s}), {outcome_text(units, rate, i, d, s)}),")
+            print(outcome_row(row, rate, i, d, s))
 
 
 if __name__ == "__main__":

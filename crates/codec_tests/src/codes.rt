@@ -1,81 +1,80 @@
 //! Worked codes, and the faults at the bounds.
 
-use crate::same::assert_same;
-use bit_codes::{BitReader, BitWriter, CodeFault, Short, intlog2, sint_len, uint_len};
+ghost use Rattle.std.specs.Prelude.{◌≤◌, length};
+
+use crate::told::{assert_same, assert_told, behind, bytes_of};
+use bit_codes::{BitReader, BitWriter, CodeFault, Short, sint_len, uint_len};
 use std::process::Abort;
 
-/// Asserts that the first bits of bytes are those of a text of 0 and 1.
-fn assert_bits(rt: &impl Abort, bytes: &[u8; 12], text: &str) {
+/// The number whose code begins bytes, and how many bits it has: codes among 0xAA. Then why no number is read. After 31 pairs with
+/// a 1 in them one more 0 is too large already; after zeros alone it is not.
+const CODES: &str = "\
+(Ok(0), 1)|AAAAAAAAAAAAAAAAAA
+(Ok(1), 3)|2AAAAAAAAAAAAAAAAA
+(Ok(2), 3)|6AAAAAAAAAAAAAAAAA
+(Ok(3), 5)|0AAAAAAAAAAAAAAAAA
+(Ok(4), 5)|1AAAAAAAAAAAAAAAAA
+(Ok(4294967295), 65)|0000000000000000AA
+(Err(Short), 0)|
+(Err(Short), 0)|00000000
+(Err(Short), 0)|0000000000000000
+(Err(TooLarge), 0)|000000000000000000
+(Err(TooLarge), 0)|0000000000000004
+(Err(TooLarge), 0)|4000000000000000
+(Err(Short), 0)|40000000000000
+";
+
+/// The number whose code begins bytes, and how many bits were taken.
+fn read(bytes: &[u8]) -> (Result<u32, CodeFault>, u64)
+    requires { length bytes.now ≤ 48 }
+{
     let mut reader = BitReader::new(bytes);
-    for digit in text.as_bytes() {
-        assert_same(rt, reader.flag(), Ok(*digit == b'1'));
-    }
+    let found = reader.uint();
+    (found, reader.place())
 }
 
-/// Numbers and their codes.
-const CODES: [(u32, &str); 6] = [
-    (0, "1"),
-    (1, "001"),
-    (2, "011"),
-    (3, "00001"),
-    (4, "00011"),
-    (
-        u32::MAX,
-        "00000000000000000000000000000000000000000000000000000000000000001",
-    ),
-];
+/// Asserts that a number's code is written as it stood, among 0xAA.
+fn expect_written(rt: &impl Abort, number: u32, bits: u64, want: &[u8; 48]) {
+    let mut bytes = [0xAA; 9];
+    let mut writer = BitWriter::new(&mut bytes);
+    assert!(rt; uint_len(number) <= 65);
+    writer.put_uint(number);
+    let place = writer.place();
+    assert!(rt; place == bits && bytes.as_slice() == &want[..9]);
+}
 
-/// Each is written, and read back with any bits behind it.
 #[test]
 fn unsigned_codes(rt: HostRuntime) {
-    for (v, text) in &CODES {
-        let mut bytes = [0xAA; 12];
-        let mut writer = BitWriter::new(&mut bytes);
-        assert!(&rt; uint_len(*v) <= 65);
-        writer.put_uint(*v);
-        let written = writer.place();
-        assert_bits(&rt, &bytes, text);
-        let mut reader = BitReader::new(&bytes);
-        let found = (written, reader.uint(), reader.place());
-        let length = text.len() as u64;
-        assert_same(&rt, found, (length, Ok(*v), length));
+    for row in CODES.lines() {
+        let (bytes, count) = bytes_of(&rt, behind(&rt, row));
+        let (found, bits) = read(&bytes[..count]);
+        assert_told(&rt, row, (found, bits));
+        if let Ok(number) = found {
+            expect_written(&rt, number, bits, &bytes);
+        }
     }
 }
 
-/// Numbers with a sign, and their codes.
-const SIGNED_CODES: [(i64, &str); 5] = [
-    (0, "1"),
-    (-1, "0011"),
-    (1, "0010"),
-    (2, "0110"),
-    (-4, "000111"),
+/// Numbers with a sign, how many bits their codes have, and these codes in 0x55.
+const SIGNED_CODES: [(i64, u64, u8); 5] = [
+    (0, 1, 0b1_1010101),
+    (-1, 4, 0b0011_0101),
+    (1, 4, 0b0010_0101),
+    (2, 4, 0b0110_0101),
+    (-4, 6, 0b000111_01),
 ];
 
 #[test]
 fn signed_codes(rt: HostRuntime) {
-    for (v, text) in &SIGNED_CODES {
-        let mut bytes = [0x55; 12];
+    for row in &SIGNED_CODES {
+        let number = row.0;
+        let mut bytes = [0x55];
         let mut writer = BitWriter::new(&mut bytes);
-        assert!(&rt; v.unsigned_abs() <= 4 && sint_len(*v) <= 6);
-        writer.put_sint(*v);
-        assert_same(&rt, writer.place(), text.len() as u64);
-        assert_bits(&rt, &bytes, text);
+        assert!(&rt; number.unsigned_abs() <= 4 && sint_len(number) <= 6);
+        writer.put_sint(number);
+        let place = writer.place();
+        assert_same(&rt, (number, place, bytes[0]), *row);
     }
-}
-
-#[test]
-fn logarithms(rt: HostRuntime) {
-    let logs = [
-        intlog2(1),
-        intlog2(2),
-        intlog2(3),
-        intlog2(4),
-        intlog2(5),
-        intlog2(256),
-        intlog2(65_536),
-        intlog2(u32::MAX),
-    ];
-    assert_same(&rt, logs, [0, 1, 2, 2, 3, 8, 16, 32]);
 }
 
 /// Bits that other calls write stay, and zeros fill a byte.
@@ -101,26 +100,4 @@ fn read_bits(rt: HostRuntime) {
     assert_same(&rt, first, [Ok(0), Ok(0xA9), Err(Short)]);
     assert_same(&rt, last, [Ok(0xFF), Err(Short), Ok(0)]);
     assert_same(&rt, reader.place(), 24);
-}
-
-/// The first so many of nine bytes, and why no number is read of them. After 31 pairs with a 1 in them one more 0 is too
-/// large already; after zeros alone it is not.
-const FAULTS: [([u8; 9], usize, CodeFault); 7] = [
-    ([0; 9], 0, CodeFault::Short),
-    ([0; 9], 4, CodeFault::Short),
-    ([0; 9], 8, CodeFault::Short),
-    ([0; 9], 9, CodeFault::TooLarge),
-    ([0, 0, 0, 0, 0, 0, 0, 4, 0], 8, CodeFault::TooLarge),
-    ([0x40, 0, 0, 0, 0, 0, 0, 0, 0], 8, CodeFault::TooLarge),
-    ([0x40, 0, 0, 0, 0, 0, 0, 0, 0], 7, CodeFault::Short),
-];
-
-#[test]
-fn faults_of_numbers(rt: HostRuntime) {
-    for (bytes, count, fault) in &FAULTS {
-        assert!(&rt; *count <= 9);
-        let mut reader = BitReader::new(&bytes[..*count]);
-        let found = (reader.uint(), reader.place());
-        assert_same(&rt, found, (Err(*fault), 0));
-    }
 }

@@ -1,6 +1,6 @@
 //! Shares, rectangles, and the units of a stream.
 
-use crate::same::assert_same;
+use crate::told::assert_same;
 use planes::Rect;
 use slice_geometry::{Layout, LayoutFault, Size, length_bits};
 use std::process::Abort;
@@ -11,7 +11,7 @@ fn layout(rt: &impl Abort, depth: u32, across: u32, down: u32, a: u32, b: u32) -
         .expect(rt, "a layout")
 }
 
-// Seven bytes for three slices: every third slice has three. Another share makes another layout.
+// Seven bytes for three slices: every third slice has three. Another share makes another layout. Lengths have their bits.
 #[test]
 fn shares_follow_the_fraction(rt: HostRuntime) {
     let thirds = layout(&rt, 0, 3, 2, 7, 3);
@@ -29,10 +29,6 @@ fn shares_follow_the_fraction(rt: HostRuntime) {
     let other = thirds == layout(&rt, 0, 3, 2, 7, 2);
     let found = (thirds.total_bytes(), same, other);
     assert_same(&rt, found, (14, true, false));
-}
-
-#[test]
-fn lengths_have_their_bits(rt: HostRuntime) {
     let bits = [
         length_bits(1),
         length_bits(2),

@@ -2,13 +2,15 @@
 #![tactic(auto)]
 
 #[cfg(test)]
+mod check_rows;
+#[cfg(test)]
 mod codes;
 #[cfg(test)]
-mod group_words;
+mod group_rows;
 #[cfg(test)]
 mod heads;
 #[cfg(test)]
-mod idle_words;
+mod idle_rows;
 #[cfg(test)]
 mod layouts;
 #[cfg(test)]
@@ -16,12 +18,14 @@ mod parameters;
 #[cfg(test)]
 mod quantisers;
 #[cfg(test)]
-mod same;
-#[cfg(test)]
 mod schedules;
 #[cfg(test)]
 mod sequence_headers;
 #[cfg(test)]
-mod settings_words;
+mod settings;
+#[cfg(test)]
+mod settings_rows;
+#[cfg(test)]
+mod told;
 #[cfg(test)]
 mod words;

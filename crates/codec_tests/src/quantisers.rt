@@ -1,6 +1,6 @@
 //! Factors, offsets, quantised numbers, and a matrix.
 
-use crate::same::assert_same;
+use crate::told::assert_same;
 use planes::Orient;
 use quant_factors::{Dequantised, Matrix, factor, forward, inverse, offset};
 

@@ -1,20 +1,9 @@
-//! Tests of wavelets, of pictures, read and written, and of their raw text. What is expected was worked out apart from the
-//! program.
+//! Tests of wavelets and of raw video. What is expected was worked out apart from the program.
 #![tactic(auto)]
 
 #[cfg(test)]
-mod analysis;
-#[cfg(test)]
 mod checks;
 #[cfg(test)]
-mod closed_loops;
+mod raw;
 #[cfg(test)]
-mod picture_writing;
-#[cfg(test)]
-mod pictures;
-#[cfg(test)]
-mod raw_pictures;
-#[cfg(test)]
-mod raw_reading;
-#[cfg(test)]
-mod synthesis;
+mod wavelets;

@@ -3,7 +3,6 @@
 ghost use Rattle.std.specs.Prelude.{◌≤◌, length};
 
 use bounded_blocks::{Block, CodeTable, SPARE, Sint};
-use planes::NoMemory;
 use std::process::Abort;
 
 /// Bytes, the bit from which on they hold a block, how many bits it has, its first values, and whether these are read in
@@ -84,13 +83,12 @@ fn is_read(rt: &impl Abort, table: &CodeTable, case: &Case<'_>) -> bool {
 }
 
 #[test]
-fn blocks_are_read(rt: HostRuntime) -> Result<(), NoMemory> {
-    let table = CodeTable::new(rt.alloc())?;
+fn blocks_are_read(rt: HostRuntime) {
+    let table = CodeTable::new(rt.alloc()).expect(&rt, "memory");
     for case in &CASES {
         assert!(&rt; is_read(&rt, &table, case));
     }
     drop(table);
-    Ok(())
 }
 
 /// Blocks of these bytes from bit 3 on, which end at the bits 58 to 128: of the first 24 values of each the sum of each
@@ -126,20 +124,12 @@ fn has_sum(rt: &impl Abort, table: &CodeTable, bits: u64, sum: i64) -> bool {
 
 /// Codes that run past the block at each of its last bits.
 #[test]
-fn codes_past_the_end(rt: HostRuntime) -> Result<(), NoMemory> {
-    let table = CodeTable::new(rt.alloc())?;
+fn codes_past_the_end(rt: HostRuntime) {
+    let table = CodeTable::new(rt.alloc()).expect(&rt, "memory");
     for k in 0..71 {
         assert!(&rt; has_sum(&rt, &table, 55 + k as u64, WEIGHED[k]));
     }
     drop(table);
-    Ok(())
-}
-
-/// Asserts what is read of a block in turn.
-fn assert_values(rt: &impl Abort, block: &mut Block<'_>, values: &[Sint]) {
-    for value in values {
-        assert_eq!(rt; block.sint(), *value);
-    }
 }
 
 /// 2^36 + 1, which isn't told; behind it a 1, of which three bits stand in the block.
@@ -147,6 +137,7 @@ fn assert_values(rt: &impl Abort, block: &mut Block<'_>, values: &[Sint]) {
 fn past_the_greatest_magnitude(rt: HostRuntime) {
     let huge = [0, 0, 0, 0, 0, 0, 0, 0, 0b0000_0100, 0b1100_1011];
     let mut block = Block::new(&huge, 0, 77);
-    assert!(&rt; !block.fill(&mut [7; 3]));
-    assert_values(&rt, &mut block, &[Sint::Huge, Sint::Is(-1), Sint::Is(0)]);
+    let is_told = block.fill(&mut [7; 3]);
+    let values = [block.sint(), block.sint(), block.sint()];
+    assert!(&rt; !is_told && values == [Sint::Huge, Sint::Is(-1), Sint::Is(0)]);
 }

@@ -7,15 +7,11 @@ mod block_writing;
 #[cfg(test)]
 mod blocks;
 #[cfg(test)]
-mod bounds;
-#[cfg(test)]
 mod lanes;
 #[cfg(test)]
 mod narrow_prediction;
 #[cfg(test)]
 mod narrow_slices;
-#[cfg(test)]
-mod planes_and_bands;
 #[cfg(test)]
 mod prediction;
 #[cfg(test)]

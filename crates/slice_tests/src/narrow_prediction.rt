@@ -1,16 +1,15 @@
 //! The lowest subband restored in 32 bits.
 
-ghost use Rattle.std.specs.Prelude.{◌≡◌, ℕ, ◌^◌, true, pos, slice_index_or, IfOk};
+ghost use Rattle.std.specs.Prelude.{◌≡◌, ℕ, ◌^◌, true, pos, slice_index_or};
 ghost use Rattle.planes.specs.Raster.{height};
 ghost use Rattle.planes.specs.Bounded.{IsPlaneWithin};
 ghost use Rattle.dc_prediction.specs.Restoring.{IsNarrow};
 
 use crate::prediction::SLICES;
 use dc_prediction::restore_narrow;
-use planes::{NarrowPlane, NoMemory, Rect};
+use planes::{NarrowPlane, Rect};
 use std::alloc::Global;
 use std::process::Abort;
-use std::test::Fail;
 
 /// The residuals of a band of four columns and three rows, and its values, worked out by hand.
 const RESIDUALS: [[i32; 4]; 3] = [[-3, 1, -4, 2], [5, -2, 0, -7], [-1, -1, 8, -6]];
@@ -22,15 +21,15 @@ const RISING: [[i32; 4]; 3] = [[262142, 1, 1, 1], [5, 5, 5, 5], [7, 7, 7, 7]];
 
 const RISEN: [[i32; 4]; 3] = [[262142, 262143, 262144, 1], [5, 5, 5, 5], [7, 7, 7, 7]];
 
-fn plane_of(alloc: Global, rows: &[[i32; 4]; 3]) -> Result<NarrowPlane, NoMemory>
-    ensures width { IfOk result (λ p. p.w ≡ 4) }
-    ensures height { IfOk result (λ p. height p ≡ 3) }
+fn plane_of(rt: &impl Abort, alloc: Global, rows: &[[i32; 4]; 3]) -> NarrowPlane
+    ensures width { result.w ≡ 4 }
+    ensures height { height result ≡ 3 }
 {
-    let mut plane = NarrowPlane::new(alloc, 4, 3)?;
+    let mut plane = NarrowPlane::new(alloc, 4, 3).expect(rt, "memory");
     for y in 0..3u32 {
         plane.row_mut(y).copy_from_slice(&rows[y as usize]);
     }
-    Ok(plane)
+    plane
 }
 
 // Whether no magnitude passes 2^18.
@@ -68,15 +67,10 @@ fn restore_all(rt: &impl Abort, plane: &mut NarrowPlane, rects: &[Rect]) -> bool
 
 /// Whether a band has these rows.
 fn has_rows(band: &NarrowPlane, rows: &[[i32; 4]; 3]) -> bool {
-    if band.h() != 3 {
-        return false;
-    }
-    for y in 0..3u32 {
-        if band.row(y) != rows[y as usize].as_slice() {
-            return false;
-        }
-    }
-    true
+    band.h() == 3
+        && band.row(0) == rows[0].as_slice()
+        && band.row(1) == rows[1].as_slice()
+        && band.row(2) == rows[2].as_slice()
 }
 
 const WHOLE: Rect = Rect {
@@ -93,19 +87,18 @@ fn restored(
     residuals: &[[i32; 4]; 3],
     rects: &[Rect],
     values: &[[i32; 4]; 3],
-) -> Result<(bool, bool), NoMemory> {
-    let mut plane = plane_of(alloc, residuals)?;
+) -> (bool, bool) {
+    let mut plane = plane_of(rt, alloc, residuals);
     let all = restore_all(rt, &mut plane, rects);
     let has_values = has_rows(&plane, values);
     drop(plane);
-    Ok((all, has_values))
+    (all, has_values)
 }
 
 /// The band slice by slice. A value that would pass 2^18 stops it, and nothing behind it is restored.
 #[test]
-fn narrow_bands_restored(rt: HostRuntime) -> Result<(), Fail> {
-    let whole = restored(&rt, rt.alloc(), &RESIDUALS, &SLICES, &VALUES)?;
-    let rising = restored(&rt, rt.alloc(), &RISING, &[WHOLE], &RISEN)?;
-    assert_eq!(&rt; (whole, rising), ((true, true), (false, true)));
-    Ok(())
+fn narrow_bands_restored(rt: HostRuntime) {
+    let whole = restored(&rt, rt.alloc(), &RESIDUALS, &SLICES, &VALUES);
+    let rising = restored(&rt, rt.alloc(), &RISING, &[WHOLE], &RISEN);
+    assert!(&rt; whole == (true, true) && rising == (false, true));
 }

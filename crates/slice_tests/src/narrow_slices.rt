@@ -2,7 +2,7 @@
 //!
 //! Owners are dropped by name, since the proof of that call is short.
 
-ghost use Rattle.std.specs.Prelude.{◌≡◌, ℕ, ◌^◌, pos, IfOk};
+ghost use Rattle.std.specs.Prelude.{◌≡◌, ℕ, ◌^◌, pos};
 ghost use Rattle.planes.specs.Bounded.{AreBandsWithin};
 ghost use Rattle.slice_geometry.specs.Shape.{IsSize};
 ghost use Rattle.slice_decoder.specs.Decoded.{IsReady, AreReady};
@@ -10,34 +10,34 @@ ghost use Rattle.slice_decoder.specs.Narrow.{trio_of, AreNarrowBands};
 
 use crate::slices::{layout, shape};
 use bounded_blocks::{CodeTable, SPARE};
-use planes::{NarrowBands, NarrowTrio, NoMemory};
+use planes::{NarrowBands, NarrowTrio};
 use quant_factors::Matrix;
 use slice_decoder::{SliceFault, decode_narrow};
 use slice_geometry::{Layout, PictureShape, Size, SliceHead};
 use std::alloc::Global;
 use std::process::Abort;
-use std::test::Fail;
 
 const TWO: Size = Size { w: 2, h: 1 };
 
 // New subbands for a component, which are ready for every slice.
-fn zero_bands(alloc: Global, layout: &Layout, size: Size) -> Result<NarrowBands, NoMemory>
+fn zero_bands(rt: &impl Abort, alloc: Global, layout: &Layout, size: Size) -> NarrowBands
     requires { IsSize size.w size.h }
-    ensures ready { IfOk result (λ b. (sx sy : ℕ) → IsReady layout.now size sx sy b) }
-    ensures narrow { IfOk result (λ b. AreBandsWithin (pos (2 ^ 18)) b) }
+    ensures ready { (sx sy : ℕ) → IsReady layout.now size sx sy result }
+    ensures narrow { AreBandsWithin (pos (2 ^ 18)) result }
 {
     let padded = layout.padded_size(size);
-    NarrowBands::new(alloc, layout.depth(), padded.w, padded.h)
+    NarrowBands::new(alloc, layout.depth(), padded.w, padded.h).expect(rt, "memory")
 }
 
-fn zeros(alloc: Global, layout: &Layout, shape: &PictureShape) -> Result<NarrowTrio, NoMemory>
-    ensures ready { IfOk result (λ bands. (sx sy : ℕ) → AreReady layout.now shape.now sx sy (trio_of bands)) }
-    ensures narrow { IfOk result (λ bands. AreNarrowBands bands) }
+fn zeros(rt: &impl Abort, alloc: Global, layout: &Layout, shape: &PictureShape) -> NarrowTrio
+    ensures ready { (sx sy : ℕ) → AreReady layout.now shape.now sx sy (trio_of result) }
+    ensures narrow { AreNarrowBands result }
 {
-    let luma = zero_bands(alloc, layout, shape.luma)?;
-    let c1 = zero_bands(alloc, layout, shape.colour)?;
-    let c2 = zero_bands(alloc, layout, shape.colour)?;
-    Ok(NarrowTrio { luma, c1, c2 })
+    NarrowTrio {
+        luma: zero_bands(rt, alloc, layout, shape.luma),
+        c1: zero_bands(rt, alloc, layout, shape.colour),
+        c2: zero_bands(rt, alloc, layout, shape.colour),
+    }
 }
 
 /// Decodes the only slice, by a matrix of zeros, where a block may have so many values.
@@ -154,21 +154,20 @@ fn expect_two_places(
     bytes: &[u8],
     room: usize,
     want: &Result<Option<[[i32; 2]; 3]>, SliceFault>,
-) -> Result<(), Fail> {
+) {
     assert!(rt; bytes.len() <= 10);
     let (layout, shape) = (layout(rt, 0, 1, bytes.len() as u32), shape(TWO));
-    let mut bands = zeros(alloc, &layout, &shape)?;
+    let mut bands = zeros(rt, alloc, &layout, &shape);
     let values = values_of(rt, &layout, &shape, bytes, codes, &mut bands, room);
     drop(bands);
     assert_eq!(rt; values, *want);
-    Ok(())
 }
 
 #[test]
-fn slices_of_two_places(rt: HostRuntime) -> Result<(), Fail> {
-    let codes = CodeTable::new(rt.alloc())?;
+fn slices_of_two_places(rt: HostRuntime) {
+    let codes = CodeTable::new(rt.alloc()).expect(&rt, "memory");
     for (bytes, room, want) in &TWO_PLACES {
-        expect_two_places(&rt, rt.alloc(), &codes, bytes, *room, want)?;
+        expect_two_places(&rt, rt.alloc(), &codes, bytes, *room, want);
     }
-    Ok(())
+    drop(codes);
 }

@@ -1,32 +1,31 @@
-//! The lowest subband restored.
+//! The lowest subband restored, and the edges of a plane.
 //!
 //! Owners are dropped by name, since the proof of that call is short.
 
-ghost use Rattle.std.specs.Prelude.{◌≡◌, ℕ, ◌^◌, ◌<◌, true, pos, slice_index_or, IfOk};
+ghost use Rattle.std.specs.Prelude.{◌≡◌, ℕ, ◌^◌, ◌<◌, true, pos, slice_index_or};
 ghost use Rattle.planes.specs.Numbers.{Within};
 ghost use Rattle.planes.specs.Raster.{height, at};
 ghost use Rattle.dc_prediction.specs.Restoring.{CanRestore};
 
 use dc_prediction::restore_rect;
-use planes::{NoMemory, Plane, Rect};
+use planes::{Plane, Rect};
 use std::alloc::Global;
 use std::process::Abort;
-use std::test::Fail;
 
 /// The residuals of a band of four columns and three rows, and its values, worked out by hand.
 const RESIDUALS: [[i64; 4]; 3] = [[-3, 1, -4, 2], [5, -2, 0, -7], [-1, -1, 8, -6]];
 
 const VALUES: [[i64; 4]; 3] = [[-3, -2, -6, -4], [2, -3, -4, -12], [1, -1, 5, -10]];
 
-fn plane_of(alloc: Global, rows: &[[i64; 4]; 3]) -> Result<Plane, NoMemory>
-    ensures width { IfOk result (λ p. p.w ≡ 4) }
-    ensures height { IfOk result (λ p. height p ≡ 3) }
+fn plane_of(rt: &impl Abort, alloc: Global, rows: &[[i64; 4]; 3]) -> Plane
+    ensures width { result.w ≡ 4 }
+    ensures height { height result ≡ 3 }
 {
-    let mut plane = Plane::new(alloc, 4, 3)?;
+    let mut plane = Plane::new(alloc, 4, 3).expect(rt, "memory");
     for y in 0..3u32 {
         plane.row_mut(y).copy_from_slice(&rows[y as usize]);
     }
-    Ok(plane)
+    plane
 }
 
 // Whether each value is as small as a residual.
@@ -74,15 +73,10 @@ fn restore_all(rt: &impl Abort, plane: &mut Plane, rects: &[Rect]) {
 
 /// Whether a band has these rows.
 fn has_rows(band: &Plane, rows: &[[i64; 4]; 3]) -> bool {
-    if band.h() != 3 {
-        return false;
-    }
-    for y in 0..3u32 {
-        if band.row(y) != rows[y as usize].as_slice() {
-            return false;
-        }
-    }
-    true
+    band.h() == 3
+        && band.row(0) == rows[0].as_slice()
+        && band.row(1) == rows[1].as_slice()
+        && band.row(2) == rows[2].as_slice()
 }
 
 /// The whole band, slice by slice; one of the slices has no place.
@@ -96,11 +90,22 @@ pub(crate) const SLICES: [Rect; 5] = [
 ];
 
 #[test]
-fn a_band_restored(rt: HostRuntime) -> Result<(), Fail> {
-    let mut plane = plane_of(rt.alloc(), &RESIDUALS)?;
+fn a_band_restored(rt: HostRuntime) {
+    let mut plane = plane_of(&rt, rt.alloc(), &RESIDUALS);
     restore_all(&rt, &mut plane, &SLICES);
     let restored = has_rows(&plane, &VALUES);
     drop(plane);
     assert!(&rt; restored);
-    Ok(())
+}
+
+/// What is left of the residuals where the edges behind two columns and two rows are filled.
+const FILLED: [[i64; 4]; 3] = [[-3, 1, 1, 1], [5, -2, -2, -2], [5, -2, -2, -2]];
+
+#[test]
+fn edges_are_filled(rt: HostRuntime) {
+    let mut plane = plane_of(&rt, rt.alloc(), &RESIDUALS);
+    plane.fill_edges(2, 2);
+    let filled = has_rows(&plane, &FILLED);
+    drop(plane);
+    assert!(&rt; filled);
 }

@@ -12,15 +12,13 @@ ghost use Rattle.slice_encoder.specs.TrialLaws.{IsSteepOk};
 ghost use Rattle.slice_encoder.specs.Ready.{coded_picture, IsReady, AreReady, AreGiven};
 ghost use Rattle.slice_encoder.specs.Buffers.{coded_component};
 
-use crate::bounds::exists;
-use crate::slices::{layout, shape_at, zeros};
-use planes::{Bands, NoMemory, Plane, ThreePlanes, Trio};
+use crate::slices::{exists, layout, shape_at, zeros};
+use planes::{Bands, Plane, ThreePlanes, Trio};
 use quant_factors::Matrix;
 use slice_encoder::{SliceEncoder, steep_ok};
 use slice_geometry::{Layout, PictureShape, Size};
 use std::alloc::Global;
 use std::process::Abort;
-use std::test::Fail;
 
 // Whether each magnitude is at most so much.
 fn is_row_within(row: &[i64], most: u32) -> bool
@@ -129,21 +127,15 @@ struct Picture {
     kept: ThreePlanes,
 }
 
-fn is_steep(picture: &Picture) -> bool
-    ensures { result ≡ true → IsSteepOk picture.now.layout.depth (max picture.now.shape.luma_depth picture.now.shape.colour_depth) picture.now.matrix }
-{
-    let bits = picture.shape.luma_depth.max(picture.shape.colour_depth);
-    picture.matrix.depth() == picture.layout.depth()
-        && steep_ok(picture.layout.depth(), bits, &picture.matrix)
-}
-
 // Whether a slice may be tried and written.
 fn can_write(picture: &Picture, sx: u32) -> bool
     ensures ready { result ≡ true → AreReady (coded_picture picture.now.layout picture.now.shape picture.now.matrix picture.now.coefficients) sx 0 picture.now.kept }
     ensures given { result ≡ true → AreGiven (coded_picture picture.now.layout picture.now.shape picture.now.matrix picture.now.coefficients) }
     ensures steep { result ≡ true → IsSteepOk picture.now.layout.depth (max picture.now.shape.luma_depth picture.now.shape.colour_depth) picture.now.matrix }
 {
-    is_steep(picture)
+    let bits = picture.shape.luma_depth.max(picture.shape.colour_depth);
+    picture.matrix.depth() == picture.layout.depth()
+        && steep_ok(picture.layout.depth(), bits, &picture.matrix)
         && can_try(
             &picture.layout,
             &picture.shape,
@@ -155,100 +147,83 @@ fn can_write(picture: &Picture, sx: u32) -> bool
         )
 }
 
-/// A coefficient in the first row of a band: its level, orientation and column, and the value.
-pub(crate) type Put = (u32, u32, u32, i64);
-
-pub(crate) fn put_all(rt: &impl Abort, bands: &mut Bands, puts: &[Put]) {
-    for (level, orient, x, value) in puts {
-        assert!(rt; exists(bands.depth(), *level, *orient));
-        let band = bands.band_mut(*level, *orient);
-        assert!(rt; band.h() > 0 && *x < band.w());
-        band.set(0, *x, *value);
-    }
+/// A picture's slices, the coefficients of the three components, and the bytes of the slices that are written.
+struct Case {
+    /// The depth, how many slices a row has, the bytes of each, each entry of the matrix, and how many slices are written.
+    row: [u32; 5],
+    /// At depth 0 the first two of the lowest band, and at depth 1 the first of LL, HL, LH and HH.
+    luma: [i64; 4],
+    c1: [i64; 4],
+    c2: [i64; 4],
+    /// With 0xFF behind them.
+    bytes: [u8; 5],
 }
 
-fn planes(rt: &impl Abort, alloc: Global, size: Size) -> Result<ThreePlanes, NoMemory> {
-    assert!(rt; size.w <= 8192 && size.h <= 8192);
-    let luma = Plane::new(alloc, size.w, size.h)?;
-    let c1 = Plane::new(alloc, size.w, size.h)?;
-    let c2 = Plane::new(alloc, size.w, size.h)?;
-    Ok(ThreePlanes { luma, c1, c2 })
-}
-
-/// A depth, how many slices a row has, the bytes of each, and each entry of the matrix.
-#[derive(Clone, Copy)]
-struct Row {
-    depth: u32,
-    across: u32,
-    share: u32,
-    entry: u32,
-}
-
-/// The coefficients of the three components that aren't 0, and the bytes of the first slices.
-struct Case<'a> {
-    row: Row,
-    luma: &'a [Put],
-    c1: &'a [Put],
-    c2: &'a [Put],
-    slices: &'a [&'a [u8]],
-}
-
-fn coefficients(
-    rt: &impl Abort,
-    alloc: Global,
-    layout: &Layout,
-    shape: &PictureShape,
-    case: &Case<'_>,
-) -> Result<Trio, NoMemory> {
-    let mut bands = zeros(alloc, layout, shape)?;
-    put_all(rt, &mut bands.luma, case.luma);
-    put_all(rt, &mut bands.c1, case.c1);
-    put_all(rt, &mut bands.c2, case.c2);
-    Ok(bands)
-}
-
-fn frame(rt: &impl Abort, row: Row) -> (Layout, PictureShape, Matrix) {
-    let layout = layout(rt, row.depth, row.across, row.share);
-    assert!(rt; row.depth <= 1);
-    let entries = [row.entry; 4];
-    (
-        layout,
-        shape_at(row.depth, row.across),
-        Matrix::new(row.depth, &entries[..(1 + 3 * row.depth) as usize]),
-    )
-}
-
-fn picture_of(rt: &impl Abort, alloc: Global, case: &Case<'_>) -> Result<Picture, NoMemory> {
-    let (layout, shape, matrix) = frame(rt, case.row);
-    let kept = planes(rt, alloc, layout.band_size(shape.luma, 0))?;
-    match coefficients(rt, alloc, &layout, &shape, case) {
-        Ok(coefficients) => Ok(Picture {
-            layout,
-            shape,
-            matrix,
-            coefficients,
-            kept,
-        }),
-        Err(error) => {
-            drop(kept);
-            Err(error)
+/// Puts the coefficients that aren't 0 into their bands.
+fn put(rt: &impl Abort, bands: &mut Bands, coefficients: &[i64; 4]) {
+    let is_level = bands.depth() > 0;
+    for k in 0..4u32 {
+        let value = coefficients[k as usize];
+        let (level, orient, x) = if is_level {
+            (k.min(1), k, 0)
+        } else {
+            (0, 0, k)
+        };
+        assert!(rt; exists(bands.depth(), level, orient));
+        let band = bands.band_mut(level, orient);
+        if value != 0 {
+            assert!(rt; band.h() > 0 && x < band.w());
+            band.set(0, x, value);
         }
     }
 }
 
-/// Writes a slice.
-fn write(
+fn coefficients_of(
     rt: &impl Abort,
     alloc: Global,
-    picture: &mut Picture,
-    sx: u32,
-    bytes: &mut [u8],
-) -> Result<(), NoMemory>
+    layout: &Layout,
+    shape: &PictureShape,
+    case: &Case,
+) -> Trio {
+    let mut bands = zeros(rt, alloc, layout, shape);
+    put(rt, &mut bands.luma, &case.luma);
+    put(rt, &mut bands.c1, &case.c1);
+    put(rt, &mut bands.c2, &case.c2);
+    bands
+}
+
+fn planes(rt: &impl Abort, alloc: Global, size: Size) -> ThreePlanes {
+    assert!(rt; size.w <= 8192 && size.h <= 8192);
+    ThreePlanes {
+        luma: Plane::new(alloc, size.w, size.h).expect(rt, "memory"),
+        c1: Plane::new(alloc, size.w, size.h).expect(rt, "memory"),
+        c2: Plane::new(alloc, size.w, size.h).expect(rt, "memory"),
+    }
+}
+
+fn picture_of(rt: &impl Abort, alloc: Global, case: &Case) -> Picture {
+    let [depth, across, share, entry, _] = case.row;
+    assert!(rt; depth <= 1);
+    let layout = layout(rt, depth, across, share);
+    let shape = shape_at(depth, across);
+    let entries = [entry; 4];
+    Picture {
+        layout,
+        shape,
+        matrix: Matrix::new(depth, &entries[..(1 + 3 * depth) as usize]),
+        coefficients: coefficients_of(rt, alloc, &layout, &shape, case),
+        kept: planes(rt, alloc, layout.band_size(shape.luma, 0)),
+    }
+}
+
+/// Writes a slice.
+fn write(rt: &impl Abort, alloc: Global, picture: &mut Picture, sx: u32, bytes: &mut [u8])
     requires some { 1 ≤ length bytes.old }
     requires most { length bytes.old ≤ 5 }
 {
     assert!(rt; can_write(picture, sx));
-    let mut encoder = SliceEncoder::new(alloc, &picture.layout, &picture.shape)?;
+    let made = SliceEncoder::new(alloc, &picture.layout, &picture.shape);
+    let mut encoder = made.expect(rt, "memory");
     encoder.encode_slice(
         &picture.matrix,
         sx,
@@ -258,115 +233,86 @@ fn write(
         bytes,
     );
     drop(encoder);
-    Ok(())
 }
 
-/// Writes a slice, and tells whether these are its bytes.
-fn is_written(
+/// The bytes of the first slices, with 0xFF behind them.
+fn written(
     rt: &impl Abort,
     alloc: Global,
     picture: &mut Picture,
-    sx: u32,
-    want: &[u8],
-) -> Result<bool, NoMemory> {
-    assert!(rt; 1 <= want.len() && want.len() <= 5);
+    share: u32,
+    count: u32,
+) -> [u8; 5] {
     let mut bytes = [0xFF; 5];
-    write(rt, alloc, picture, sx, &mut bytes[..want.len()])?;
-    Ok(&bytes[..want.len()] == want)
-}
-
-/// Writes the first slices in turn, as long as each has its bytes.
-fn are_written(
-    rt: &impl Abort,
-    alloc: Global,
-    picture: &mut Picture,
-    slices: &[&[u8]],
-) -> Result<bool, NoMemory> {
-    for sx in 0..slices.len().min(2) {
-        if !is_written(rt, alloc, picture, sx as u32, slices[sx])? {
-            return Ok(false);
-        }
+    let share = share as usize;
+    assert!(rt; 1 <= share && count as usize * share <= 5);
+    for sx in 0..count {
+        let start = sx as usize * share;
+        write(rt, alloc, picture, sx, &mut bytes[start..start + share]);
     }
-    Ok(true)
+    bytes
 }
 
-fn is_case_written(rt: &impl Abort, alloc: Global, case: &Case<'_>) -> Result<bool, NoMemory> {
-    let mut picture = picture_of(rt, alloc, case)?;
-    let written = are_written(rt, alloc, &mut picture, case.slices);
+fn expect_written(rt: &impl Abort, alloc: Global, case: &Case) {
+    let mut picture = picture_of(rt, alloc, case);
+    let bytes = written(rt, alloc, &mut picture, case.row[2], case.row[4]);
     drop(picture);
-    written
+    assert_eq!(rt; bytes, case.bytes);
 }
 
 /// One place in one byte.
-#[rattlefmt::skip]
-const ONE_PLACE: Row = Row { depth: 0, across: 1, share: 1, entry: 0 };
+const ONE_PLACE: [u32; 5] = [0, 1, 1, 0, 1];
 /// Two slices of one place.
-#[rattlefmt::skip]
-const TWO_PLACES: Row = Row { depth: 0, across: 2, share: 1, entry: 0 };
+const TWO_PLACES: [u32; 5] = [0, 2, 1, 0, 2];
 /// More slices than places.
-#[rattlefmt::skip]
-const MORE_SLICES: Row = Row { depth: 0, across: 3, share: 2, entry: 0 };
+const MORE_SLICES: [u32; 5] = [0, 3, 2, 0, 1];
 /// One level by the steepest matrix, in one byte.
-#[rattlefmt::skip]
-const STEEPEST: Row = Row { depth: 1, across: 1, share: 1, entry: 75 };
+const STEEPEST: [u32; 5] = [1, 1, 1, 75, 1];
 /// One level in five bytes, in four, and in three.
-#[rattlefmt::skip]
-const FIVE_BYTES: Row = Row { depth: 1, across: 1, share: 5, entry: 0 };
+const FIVE_BYTES: [u32; 5] = [1, 1, 5, 0, 1];
 
-#[rattlefmt::skip]
-const FOUR_BYTES: Row = Row { depth: 1, across: 1, share: 4, entry: 0 };
+const FOUR_BYTES: [u32; 5] = [1, 1, 4, 0, 1];
 
-#[rattlefmt::skip]
-const THREE_BYTES: Row = Row { depth: 1, across: 1, share: 3, entry: 0 };
+const THREE_BYTES: [u32; 5] = [1, 1, 3, 0, 1];
 
-/// LL 21, HL 3, LH -5 and HH 2.
-const ONE_LEVEL: &[Put] = &[(0, 0, 0, 21), (1, 1, 0, 3), (1, 2, 0, -5), (1, 3, 0, 2)];
+const ZEROS: [i64; 4] = [0, 0, 0, 0];
 
+const ONE_LEVEL: [i64; 4] = [21, 3, -5, 2];
 /// Coefficients at the bound.
-#[rattlefmt::skip]
-const GREATEST: &[Put] = &[(0, 0, 0, 1024), (1, 1, 0, -1024), (1, 2, 0, 1024), (1, 3, 0, -1024)];
+const GREATEST: [i64; 4] = [1024, -1024, 1024, -1024];
+
+const LEAST: [i64; 4] = [-1024, 1024, -1024, 1024];
 
 #[rattlefmt::skip]
-const LEAST: &[Put] = &[(0, 0, 0, -1024), (1, 1, 0, 1024), (1, 2, 0, -1024), (1, 3, 0, 1024)];
-
-#[rattlefmt::skip]
-const CASES: [Case<'static>; 10] = [
-    Case { row: ONE_PLACE, luma: &[], c1: &[], c2: &[], slices: &[&[0x01]] },
-    Case { row: ONE_PLACE, luma: &[], c1: &[(0, 0, 0, -2)], c2: &[], slices: &[&[0x00]] },
-    Case { row: ONE_PLACE, luma: &[(0, 0, 0, -2)], c1: &[], c2: &[], slices: &[&[0x0B]] },
-    Case { row: ONE_PLACE, luma: &[(0, 0, 0, 127)], c1: &[], c2: &[], slices: &[&[0x39]] },
-    Case { row: ONE_PLACE, luma: &[], c1: &[(0, 0, 0, -3)], c2: &[], slices: &[&[0x02]] },
-    Case { row: FIVE_BYTES, luma: ONE_LEVEL, c1: &[], c2: &[], slices: &[&[0x00, 0xD0, 0xA4, 0x12, 0x6D]] },
-    Case { row: FOUR_BYTES, luma: ONE_LEVEL, c1: &[], c2: &[], slices: &[&[0x07, 0x44, 0x62, 0x72]] },
+const CASES: [Case; 10] = [
+    Case { row: ONE_PLACE, luma: ZEROS, c1: ZEROS, c2: ZEROS, bytes: [0x01, 0xFF, 0xFF, 0xFF, 0xFF] },
+    Case { row: ONE_PLACE, luma: ZEROS, c1: [-2, 0, 0, 0], c2: ZEROS, bytes: [0x00, 0xFF, 0xFF, 0xFF, 0xFF] },
+    Case { row: ONE_PLACE, luma: [-2, 0, 0, 0], c1: ZEROS, c2: ZEROS, bytes: [0x0B, 0xFF, 0xFF, 0xFF, 0xFF] },
+    Case { row: ONE_PLACE, luma: [127, 0, 0, 0], c1: ZEROS, c2: ZEROS, bytes: [0x39, 0xFF, 0xFF, 0xFF, 0xFF] },
+    Case { row: ONE_PLACE, luma: ZEROS, c1: [-3, 0, 0, 0], c2: ZEROS, bytes: [0x02, 0xFF, 0xFF, 0xFF, 0xFF] },
+    Case { row: FIVE_BYTES, luma: ONE_LEVEL, c1: ZEROS, c2: ZEROS, bytes: [0x00, 0xD0, 0xA4, 0x12, 0x6D] },
+    Case { row: FOUR_BYTES, luma: ONE_LEVEL, c1: ZEROS, c2: ZEROS, bytes: [0x07, 0x44, 0x62, 0x72, 0xFF] },
     // C1 is predicted in the second slice by what is restored in the first, which is -6 and not -7
-    Case { row: TWO_PLACES, luma: &[], c1: &[(0, 0, 0, -7), (0, 0, 1, -7)], c2: &[], slices: &[&[0x0A], &[0x03]] },
+    Case { row: TWO_PLACES, luma: ZEROS, c1: [-7, -7, 0, 0], c2: ZEROS, bytes: [0x0A, 0x03, 0xFF, 0xFF, 0xFF] },
     // a slice without places has index 0 and ones behind its length
-    Case { row: MORE_SLICES, luma: &[(0, 0, 0, 127)], c1: &[], c2: &[], slices: &[&[0x00, 0x1F]] },
+    Case { row: MORE_SLICES, luma: [127, 0, 0, 0], c1: ZEROS, c2: ZEROS, bytes: [0x00, 0x1F, 0xFF, 0xFF, 0xFF] },
     // nothing is left of coefficients at the bound
-    Case { row: STEEPEST, luma: GREATEST, c1: LEAST, c2: GREATEST, slices: &[&[0xE9]] },
+    Case { row: STEEPEST, luma: GREATEST, c1: LEAST, c2: GREATEST, bytes: [0xE9, 0xFF, 0xFF, 0xFF, 0xFF] },
 ];
 
-fn all_written(rt: &impl Abort, alloc: Global, cases: &[Case<'_>]) -> Result<bool, NoMemory> {
-    for case in cases {
-        if !is_case_written(rt, alloc, case)? {
-            return Ok(false);
-        }
-    }
-    Ok(true)
-}
-
 #[test]
-fn slices_are_written(rt: HostRuntime) -> Result<(), Fail> {
-    let written = all_written(&rt, rt.alloc(), &CASES)?;
-    assert!(&rt; written);
-    Ok(())
+fn slices_are_written(rt: HostRuntime) {
+    for case in &CASES {
+        expect_written(&rt, rt.alloc(), case);
+    }
 }
 
 /// What luma of the only slice of a picture needs at least at the indices from 0 to 10, and the first index at which it may
 /// fit.
-fn bounds(rt: &impl Abort, alloc: Global, picture: &Picture) -> Result<([u64; 11], u32), NoMemory> {
+fn bounds(rt: &impl Abort, alloc: Global, picture: &Picture) -> ([u64; 11], u32) {
     assert!(rt; can_write(picture, 0));
-    let encoder = SliceEncoder::new(alloc, &picture.layout, &picture.shape)?;
+    let made = SliceEncoder::new(alloc, &picture.layout, &picture.shape);
+    let encoder = made.expect(rt, "memory");
     let mut luma = [0; 11];
     for index in 0..11u32 {
         let lower = encoder.lower(&picture.matrix, 0, 0, index, &picture.coefficients);
@@ -374,40 +320,26 @@ fn bounds(rt: &impl Abort, alloc: Global, picture: &Picture) -> Result<([u64; 11
     }
     let first = encoder.first_candidate(&picture.matrix, 0, 0, &picture.coefficients);
     drop(encoder);
-    Ok((luma, first))
+    (luma, first)
 }
 
 #[rattlefmt::skip]
-const BOUNDED: Case<'static> = Case { row: THREE_BYTES, luma: ONE_LEVEL, c1: &[], c2: &[], slices: &[] };
-
-fn bounds_of(
-    rt: &impl Abort,
-    alloc: Global,
-    case: &Case<'_>,
-) -> Result<([u64; 11], u32), NoMemory> {
-    let picture = picture_of(rt, alloc, case)?;
-    let found = bounds(rt, alloc, &picture);
-    drop(picture);
-    found
-}
+const BOUNDED: Case = Case { row: THREE_BYTES, luma: ONE_LEVEL, c1: ZEROS, c2: ZEROS, bytes: [0xFF; 5] };
 
 /// In three bytes: the bound of luma falls with the index, and index 1 is the first that may do.
 #[test]
-fn bounds_of_one_level(rt: HostRuntime) -> Result<(), Fail> {
-    let (luma, first) = bounds_of(&rt, rt.alloc(), &BOUNDED)?;
+fn bounds_of_one_level(rt: HostRuntime) {
+    let picture = picture_of(&rt, rt.alloc(), &BOUNDED);
+    let (luma, first) = bounds(&rt, rt.alloc(), &picture);
+    drop(picture);
     assert!(&rt; luma == [13, 11, 11, 9, 9, 5, 5, 1, 1, 1, 0] && first == 1);
-    Ok(())
 }
 
 /// Tries the only slice of a picture at an index, and tells whether it fits.
-fn fits(
-    rt: &impl Abort,
-    alloc: Global,
-    picture: &mut Picture,
-    qindex: u32,
-) -> Result<bool, NoMemory> {
+fn fits(rt: &impl Abort, alloc: Global, picture: &mut Picture, qindex: u32) -> bool {
     assert!(rt; qindex <= 127 && can_write(picture, 0));
-    let mut encoder = SliceEncoder::new(alloc, &picture.layout, &picture.shape)?;
+    let made = SliceEncoder::new(alloc, &picture.layout, &picture.shape);
+    let mut encoder = made.expect(rt, "memory");
     let trial = encoder.trial(
         &picture.matrix,
         0,
@@ -417,34 +349,28 @@ fn fits(
         &mut picture.kept,
     );
     drop(encoder);
-    Ok(trial.fits)
+    trial.fits
 }
 
-/// At which indices from 0 to 7 it fits.
-fn fitting(rt: &impl Abort, alloc: Global, picture: &mut Picture) -> Result<[bool; 8], NoMemory> {
+/// At which indices from 0 to 7 the only slice of a picture fits.
+fn fitting(rt: &impl Abort, alloc: Global, picture: &mut Picture) -> [bool; 8] {
     let mut all = [false; 8];
     for index in 0..8u32 {
-        all[index as usize] = fits(rt, alloc, picture, index)?;
+        all[index as usize] = fits(rt, alloc, picture, index);
     }
-    Ok(all)
-}
-
-fn fitting_of(rt: &impl Abort, alloc: Global, case: &Case<'_>) -> Result<[bool; 8], NoMemory> {
-    let mut picture = picture_of(rt, alloc, case)?;
-    let found = fitting(rt, alloc, &mut picture);
-    drop(picture);
-    found
+    all
 }
 
 #[rattlefmt::skip]
-const TRIED: Case<'static> = Case { row: ONE_PLACE, luma: &[], c1: &[(0, 0, 0, -3)], c2: &[], slices: &[] };
+const TRIED: Case = Case { row: ONE_PLACE, luma: ZEROS, c1: [-3, 0, 0, 0], c2: ZEROS, bytes: [0xFF; 5] };
 
 /// Whether a slice fits doesn't rise with the index: C1 is -3, and C2 is 0.
 #[test]
-fn fitting_is_not_monotone(rt: HostRuntime) -> Result<(), Fail> {
-    let found = fitting_of(&rt, rt.alloc(), &TRIED)?;
+fn fitting_is_not_monotone(rt: HostRuntime) {
+    let mut picture = picture_of(&rt, rt.alloc(), &TRIED);
+    let found = fitting(&rt, rt.alloc(), &mut picture);
+    drop(picture);
     assert!(&rt; found == [false, true, true, false, false, false, false, true]);
-    Ok(())
 }
 
 /// Whether a matrix of such entries, of which the last is another, is steep enough.

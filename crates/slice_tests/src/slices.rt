@@ -2,18 +2,17 @@
 //!
 //! Owners are dropped by name, since the proof of that call is short.
 
-ghost use Rattle.std.specs.Prelude.{◌≡◌, ℕ, ◌<◌, IfOk};
+ghost use Rattle.std.specs.Prelude.{◌≡◌, ℕ, ◌<◌, true};
+ghost use Rattle.planes.specs.Subbands.{BandExists};
 ghost use Rattle.slice_geometry.specs.Shape.{IsSize};
 ghost use Rattle.slice_decoder.specs.Decoded.{IsReady, AreReady};
 
-use crate::bounds::exists;
-use planes::{Bands, NoMemory, Trio};
+use planes::{Bands, Trio};
 use quant_factors::Matrix;
 use slice_decoder::{SliceFault, decode_slice};
 use slice_geometry::{Layout, PictureShape, Size};
 use std::alloc::Global;
 use std::process::Abort;
-use std::test::Fail;
 
 /// One row of slices.
 pub fn layout(rt: &impl Abort, depth: u32, across: u32, a: u32) -> Layout {
@@ -26,21 +25,22 @@ pub fn layout(rt: &impl Abort, depth: u32, across: u32, a: u32) -> Layout {
 }
 
 // New subbands for a component, which are ready for every slice.
-fn zero_bands(alloc: Global, layout: &Layout, size: Size) -> Result<Bands, NoMemory>
+fn zero_bands(rt: &impl Abort, alloc: Global, layout: &Layout, size: Size) -> Bands
     requires { IsSize size.w size.h }
-    ensures { IfOk result (λ b. (sx sy : ℕ) → IsReady layout.now size sx sy b) }
+    ensures { (sx sy : ℕ) → IsReady layout.now size sx sy result }
 {
     let padded = layout.padded_size(size);
-    Bands::new(alloc, layout.depth(), padded.w, padded.h)
+    Bands::new(alloc, layout.depth(), padded.w, padded.h).expect(rt, "memory")
 }
 
-pub fn zeros(alloc: Global, layout: &Layout, shape: &PictureShape) -> Result<Trio, NoMemory>
-    ensures { IfOk result (λ bands. (sx sy : ℕ) → AreReady layout.now shape.now sx sy bands) }
+pub fn zeros(rt: &impl Abort, alloc: Global, layout: &Layout, shape: &PictureShape) -> Trio
+    ensures { (sx sy : ℕ) → AreReady layout.now shape.now sx sy result }
 {
-    let luma = zero_bands(alloc, layout, shape.luma)?;
-    let c1 = zero_bands(alloc, layout, shape.colour)?;
-    let c2 = zero_bands(alloc, layout, shape.colour)?;
-    Ok(Trio { luma, c1, c2 })
+    Trio {
+        luma: zero_bands(rt, alloc, layout, shape.luma),
+        c1: zero_bands(rt, alloc, layout, shape.colour),
+        c2: zero_bands(rt, alloc, layout, shape.colour),
+    }
 }
 
 /// Components of this size, of 8 bits.
@@ -65,6 +65,17 @@ pub fn shape_at(depth: u32, across: u32) -> PictureShape {
         shape(Size { w: 2, h: 1 })
     } else {
         shape(Size { w: 1, h: 1 })
+    }
+}
+
+// Whether a band is there.
+pub(crate) fn exists(depth: u32, level: u32, orient: u32) -> bool
+    ensures { result ≡ true → BandExists depth level orient }
+{
+    if level == 0 {
+        orient == 0
+    } else {
+        level <= depth && 1 <= orient && orient <= 3
     }
 }
 
@@ -144,24 +155,20 @@ const CASES: [Case<'static>; 9] = [
     (0, 3, &[0x14, 0x5F], Ok((10, 2, [0, 0, 0, 0, 0, 0]))),
 ];
 
-fn expect_slice(rt: &impl Abort, alloc: Global, case: &Case<'_>) -> Result<(), Fail> {
+fn expect_slice(rt: &impl Abort, alloc: Global, case: &Case<'_>) {
     let (depth, across, bytes, want) = *case;
     assert!(rt; bytes.len() <= 5);
-    let (layout, shape) = (
-        layout(rt, depth, across, bytes.len() as u32),
-        shape_at(depth, across),
-    );
-    let mut bands = zeros(alloc, &layout, &shape)?;
+    let layout = layout(rt, depth, across, bytes.len() as u32);
+    let shape = shape_at(depth, across);
+    let mut bands = zeros(rt, alloc, &layout, &shape);
     let found = decode_first(rt, &layout, &shape, bytes, &mut bands);
     drop(bands);
     assert_eq!(rt; found, want);
-    Ok(())
 }
 
 #[test]
-fn slices_are_decoded(rt: HostRuntime) -> Result<(), Fail> {
+fn slices_are_decoded(rt: HostRuntime) {
     for case in &CASES {
-        expect_slice(&rt, rt.alloc(), case)?;
+        expect_slice(&rt, rt.alloc(), case);
     }
-    Ok(())
 }

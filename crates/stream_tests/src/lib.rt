@@ -3,12 +3,6 @@
 #![tactic(auto)]
 
 #[cfg(test)]
-mod heads;
-#[cfg(test)]
-mod held;
-#[cfg(test)]
-mod long;
-#[cfg(test)]
 mod pictures;
 #[cfg(test)]
 mod reading;
@@ -20,5 +14,7 @@ mod smallest;
 mod sources;
 #[cfg(test)]
 mod std_streams;
+#[cfg(test)]
+mod words;
 #[cfg(test)]
 mod writing;

@@ -1,273 +1,206 @@
 //! Streams that stand, with the samples of their pictures.
 
-use crate::reading::{
-    END, FIELDS, HEADER, LINE, ONE_EACH, PICTURE, SQUARE, Samples, Units, WHOLE, expect_next,
-    expect_samples, expect_units, joined,
-};
-use std::alloc::Global;
-use std::fmt::Debug;
-use std::process::Abort;
+use crate::reading::{By, expect_rows};
 use std::test::Fail;
-use stream_units::{Item, StreamReader};
-use vc2_io::MemSource;
 
-/// Pictures come in turn, with these samples.
-fn expect_pictures<R: Units>(
-    rt: &impl Abort,
-    reader: &mut R,
-    src: &mut MemSource,
-    wants: &[Samples],
-) {
-    for (number, want) in wants.iter().enumerate() {
-        assert!(rt; number < 100);
-        expect_next(rt, reader, src, Ok(Item::Picture(number as u32)));
-        expect_samples(rt, reader, want);
-    }
-}
+/// One picture: without a wavelet, with prediction from slice to slice, with one level, with colour of half the size in 10 and in
+/// 8 bits, and padded. Then pictures in turn: of slices of two bytes; and twice with the same parameters, then with another
+/// wavelet, the first one again, another index, and a matrix that takes it back. Nothing is left of the picture before.
+const PICTURES: &str = "\
+header picture end = Sequence Picture(0) : 128 : 128 : 128 End
+header unit C8 00000015 00000011 00000000 0C927000 end = Sequence Picture(0) : 128 : 126 : 128 End
+header unit C8 00000015 00000011 00000000 0C9270FE end = Sequence Picture(0) : 128 : 0 : 128 End
+line unit C8 00000016 00000011 00000000 0D92700A03 unit 10 00000000 00000016 = Sequence \
+    Picture(0) : 128*2 : 122*2 : 128*2 End
+square unit C8 0000001A 00000011 00000000 24949F8000D0A4126D unit 10 00000000 0000001A = Sequence \
+    Picture(0) : 139 140 136 138 : 128*4 : 128*4 End
+square unit C8 00000019 00000011 00000000 24919F8007446272 unit 10 00000000 00000019 = Sequence \
+    Picture(0) : 140*2 137 139 : 128*4 : 128*4 End
+unit 00 00000012 00000000 3F6ED090A0 unit C8 0000001A 00000012 00000000 24949F8000D0A4126D \
+    unit 10 00000000 0000001A = Sequence Picture(0) : 523 524 520 522 : 512 : 512 End
+unit 00 00000012 00000000 3F6ED09280 unit C8 0000001A 00000012 00000000 24949F8000D0A4126D \
+    unit 10 00000000 0000001A = Sequence Picture(0) : 139 140 136 138 : 128 : 128 End
+unit 00 00000012 00000000 3F66509280 unit C8 0000001A 00000012 00000000 24949F8000D0A4126D \
+    unit 10 00000000 0000001A = Sequence Picture(0) : 139 140 : 128 : 128 End
+header unit C8 00000016 00000011 00000000 0C9670001F unit C8 00000016 00000016 00000001 0C96700005 \
+    unit 10 00000000 00000016 = Sequence Picture(0) : 128 : 128 : 128 Picture(1) : 128 : 129 : 128 End
+square unit C8 0000001A 00000011 00000000 24949F8000D0A4126D unit C8 0000001A 0000001A 00000001 24949F800001FFFFFF \
+    unit C8 0000001A 0000001A 00000002 092527E000D0A4126D unit C8 0000001A 0000001A 00000003 24949F8000D0A4126D \
+    unit C8 0000001A 0000001A 00000004 24949F8008D0A4126D \
+    unit C8 0000001C 0000001A 00000005 249498C6318008D0A4126D unit 10 00000000 0000001C = Sequence \
+    Picture(0) : 139 140 136 138 : 128*4 : 128*4 Picture(1) : 128*4 : 128*4 : 128*4 \
+    Picture(2) : 150 152 144 148 : 128*4 : 128*4 Picture(3) : 139 140 136 138 : 128*4 : 128*4 \
+    Picture(4) : 151 153 144 149 : 128*4 : 128*4 Picture(5) : 139 140 136 138 : 128*4 : 128*4 End";
 
-/// A header comes, pictures with these samples, and the end.
-fn expect_stream<R: Units + Drop, E: Debug + Drop>(
-    rt: &impl Abort,
-    made: Result<R, E>,
-    src: &mut MemSource,
-    wants: &[Samples],
-) -> Result<(), Fail> {
-    let mut reader = made?;
-    expect_next(rt, &mut reader, src, Ok(Item::Sequence));
-    expect_pictures(rt, &mut reader, src, wants);
-    expect_next(rt, &mut reader, src, Ok(Item::End));
-    Ok(())
-}
-
-/// The bytes of such a stream, whole and with one byte a read.
-fn read_stream(
-    rt: &impl Abort,
-    alloc: Global,
-    bytes: &[u8],
-    wants: &[Samples],
-) -> Result<(), Fail> {
-    for pieces in [WHOLE, ONE_EACH] {
-        let mut src = MemSource::new(bytes, pieces, &[]);
-        expect_stream(rt, StreamReader::new(alloc), &mut src, wants)?;
-    }
-    Ok(())
-}
-
-/// The units of a stream of pictures, and their samples.
-type Row<'a> = (&'a [&'a [u8]], &'a [Samples<'a>]);
-
-fn expect_row(rt: &impl Abort, alloc: Global, row: &Row) -> Result<(), Fail> {
-    let (units, wants) = row;
-    let bytes = joined(alloc, units)?;
-    read_stream(rt, alloc, bytes.as_slice(), wants)
-}
-
-const GREY: &[u16] = &[0x80];
-
-const GREYS: &[u16] = &[0x80, 0x80, 0x80, 0x80];
-
-/// The end behind a unit of 26 bytes.
-const END_26: &[u8] = b"BBCD\x10\x00\x00\x00\x00\x00\x00\x00\x1A";
-
-const PICTURES: [Row<'static>; 8] = [
-    (&[HEADER, PICTURE, END], &[[GREY, GREY, GREY]]),
-    (
-        &[
-            HEADER,
-            b"BBCD\xC8\x00\x00\x00\x15\x00\x00\x00\x11\x00\x00\x00\x00\x0C\x92\x70\x00",
-            END,
-        ],
-        &[[GREY, &[0x7E], GREY]],
-    ),
-    (
-        &[
-            HEADER,
-            b"BBCD\xC8\x00\x00\x00\x15\x00\x00\x00\x11\x00\x00\x00\x00\x0C\x92\x70\xFE",
-            END,
-        ],
-        &[[GREY, &[0x00], GREY]],
-    ),
-    (
-        &[
-            LINE,
-            b"BBCD\xC8\x00\x00\x00\x16\x00\x00\x00\x11\x00\x00\x00\x00\x0D\x92\x70\x0A\x03",
-            b"BBCD\x10\x00\x00\x00\x00\x00\x00\x00\x16",
-        ],
-        &[[&[0x80, 0x80], &[0x7A, 0x7A], &[0x80, 0x80]]],
-    ),
-    (
-        &[
-            SQUARE,
-            b"BBCD\xC8\x00\x00\x00\x1A\x00\x00\x00\x11\x00\x00\x00\x00\x24\x94\x9F\x80\x00\xD0\xA4\x12\x6D",
-            END_26,
-        ],
-        &[[&[0x8B, 0x8C, 0x88, 0x8A], GREYS, GREYS]],
-    ),
-    (
-        &[
-            SQUARE,
-            b"BBCD\xC8\x00\x00\x00\x19\x00\x00\x00\x11\x00\x00\x00\x00\x24\x91\x9F\x80\x07\x44\x62\x72",
-            b"BBCD\x10\x00\x00\x00\x00\x00\x00\x00\x19",
-        ],
-        &[[&[0x8C, 0x8C, 0x89, 0x8B], GREYS, GREYS]],
-    ),
-    (
-        &[
-            b"BBCD\x00\x00\x00\x00\x12\x00\x00\x00\x00\x3F\x6E\xD0\x90\xA0",
-            b"BBCD\xC8\x00\x00\x00\x1A\x00\x00\x00\x12\x00\x00\x00\x00\x24\x94\x9F\x80\x00\xD0\xA4\x12\x6D",
-            END_26,
-        ],
-        &[[&[523, 524, 520, 522], &[512], &[512]]],
-    ),
-    // Pictures in turn: twice the same parameters, then another wavelet, the first one again, another index, and a matrix that
-    // takes it back. Nothing is left of the picture before.
-    (
-        &[
-            SQUARE,
-            b"BBCD\xC8\x00\x00\x00\x1A\x00\x00\x00\x11\x00\x00\x00\x00\x24\x94\x9F\x80\x00\xD0\xA4\x12\x6D",
-            b"BBCD\xC8\x00\x00\x00\x1A\x00\x00\x00\x1A\x00\x00\x00\x01\x24\x94\x9F\x80\x00\x01\xFF\xFF\xFF",
-            b"BBCD\xC8\x00\x00\x00\x1A\x00\x00\x00\x1A\x00\x00\x00\x02\x09\x25\x27\xE0\x00\xD0\xA4\x12\x6D",
-            b"BBCD\xC8\x00\x00\x00\x1A\x00\x00\x00\x1A\x00\x00\x00\x03\x24\x94\x9F\x80\x00\xD0\xA4\x12\x6D",
-            b"BBCD\xC8\x00\x00\x00\x1A\x00\x00\x00\x1A\x00\x00\x00\x04\x24\x94\x9F\x80\x08\xD0\xA4\x12\x6D",
-            b"BBCD\xC8\x00\x00\x00\x1C\x00\x00\x00\x1A\x00\x00\x00\x05\x24\x94\x98\xC6\x31\x80\x08\xD0\xA4\x12\x6D",
-            b"BBCD\x10\x00\x00\x00\x00\x00\x00\x00\x1C",
-        ],
-        &[
-            [&[139, 140, 136, 138], GREYS, GREYS],
-            [GREYS, GREYS, GREYS],
-            [&[150, 152, 144, 148], GREYS, GREYS],
-            [&[139, 140, 136, 138], GREYS, GREYS],
-            [&[151, 153, 144, 149], GREYS, GREYS],
-            [&[139, 140, 136, 138], GREYS, GREYS],
-        ],
-    ),
-];
-
-fn expect_rows(rt: &impl Abort, alloc: Global, rows: &[Row]) -> Result<(), Fail> {
-    for row in rows {
-        expect_row(rt, alloc, row)?;
-    }
-    Ok(())
-}
-
-/// One picture: without a wavelet, with prediction from slice to slice, with one level, and with colour of half the size
-/// in 10 bits. And pictures in turn.
 #[test]
 fn samples_of_pictures(rt: HostRuntime) -> Result<(), Fail> {
-    expect_rows(&rt, rt.alloc(), &PICTURES)
+    expect_rows(
+        &rt,
+        rt.alloc(),
+        PICTURES,
+        &By::Pictures(&[0, 1], true, 4096),
+    )
 }
 
-const TWICE: &[Item] = &[
-    Item::Sequence,
-    Item::Picture(0),
-    Item::SequenceEnd,
-    Item::Sequence,
-    Item::Picture(0),
-];
+/// A picture of 3 by 3 samples of noise, in one slice without loss, by each wavelet at each depth. It is padded in both
+/// directions at every depth but 0. The streams were made of the samples apart from the program, by FORMATS.md.
+const LOSSLESS: &str = "\
+unit 00 00000012 00000000 3F087424A0 unit C8 00000045 00000012 00000000 325019C0 \
+    007A052141D552015344751310424570409153004D124421416110D0108051944D057409418441C511D50201D003100B \
+    unit 10 00000000 00000045 = Sequence Picture(0) : 165 77 202 24 37 48 187 29 109 \
+    : 19 44 222 214 35 123 46 217 30 : 63 114 31 203 25 113 23 68 148 End
+unit 00 00000012 00000000 3F087424A0 unit C8 00000048 00000012 00000000 2494427E \
+    008015080403157145C440E8A0504344F100414D44D41814D045615121048414944D45F4421053C00125013106413F1060057F \
+    unit 10 00000000 00000048 = Sequence Picture(0) : 214 73 60 157 92 52 96 190 49 \
+    : 32 30 105 254 218 160 238 232 185 \
+    : 153 127 92 124 41 153 253 175 229 End
+unit 00 00000012 00000000 3F087424A0 unit C8 0000004C 00000012 00000000 2C94567FC0 \
+    008A406016411185551800578201414216C0041240495520046480518415574411950D514B1547056C0458101310059111BC4560107F \
+    unit 10 00000000 0000004C = Sequence Picture(0) : 147 37 60 214 84 175 77 250 215 \
+    : 20 39 160 174 179 254 233 35 47 : 138 242 33 31 158 228 145 197 177 End
+unit 00 00000012 00000000 3F087424A0 unit C8 0000008A 00000012 00000000 21254427FF80 \
+    00958A24A2004A0A18AA2E22015151A88B882FA2BF144BA21F152E2A5D54C40614061406FFF4000054084565124513414081054D0015 \
+    85501715D506D45180547D512414A2203F80E8087F88048A3FE8A0C2B7E220C087F8883021FE22892AB008AEAAB080AE029080AE0297 \
+    FFFFFA00128217 unit 10 00000000 0000008A = Sequence \
+    Picture(0) : 11 236 181 86 59 252 30 111 147 \
+    : 66 126 203 200 254 41 85 229 205 : 142 70 220 142 212 183 194 118 77 End
+unit 00 00000012 00000000 3F087424A0 unit C8 00000127 00000012 00000000 232404067FFF \
+    005A42886022A602AA1280B002870104E802B20A8DA23F051F80227D411FA823F44120509412504BFFC111FFFF82837F0503FE808FFD \
+    011FFA023FF4047FE808FFD011FF8230289A081A081A081A081A081A081FFFFFFFFFFFFFF8A29080A32E8AAA3088C80A0C2A00B82088 \
+    3288238AAB00A3600A830000F80AE8201A00A1088A3F8808B0002FFAA2E82DFA02A4A88FF888248A0FF888248A0FFA8388818AA2CA88 \
+    60AAB222B82AAC88AFFFFFFEA2ACA09FFFFFFFE821A2A7FFF8A8B82207FFFAA21AA03FFFEA886A80FFFFAA21AA03FFFEA886A80FFFFA \
+    A21AA03FFFEA886A80FFFF88804A0B828C0204212001084800421200108480042120010848005FFFFFFFFFFFFFFFFFFFFFFFFFFFEA0A \
+    48AA unit 10 00000000 00000127 = Sequence Picture(0) : 42 90 77 118 119 6 248 93 134 \
+    : 144 2 74 214 189 163 64 27 233 : 200 203 204 201 53 246 205 31 97 End
+unit 00 00000012 00000000 3F087424A0 unit C8 00000040 00000012 00000000 0C914270 \
+    0069155C1065409048171525130C55221A0922E240204A0C003A886862218042810A210A030EAA92830005 \
+    unit 10 00000000 00000040 = Sequence Picture(0) : 34 106 225 83 56 174 26 52 0 \
+    : 77 51 186 13 36 106 192 76 129 : 177 186 242 62 59 249 238 245 247 End
+unit 00 00000012 00000000 3F087424A0 unit C8 0000003F 00000012 00000000 0924449F80 \
+    006811C7506505C68821D4955B540257A298242AC024A18A1A2AC227A2B0A27AAB889AA62AFEA848A5 \
+    unit 10 00000000 0000003F = Sequence Picture(0) : 159 43 73 52 175 135 245 82 11 \
+    : 105 185 75 13 152 46 133 187 85 : 182 114 168 114 99 122 205 116 102 End
+unit 00 00000012 00000000 3F087424A0 unit C8 00000043 00000012 00000000 0B24549FF0 \
+    0072561181840655A02701175042D0408085241350584900D44C01242144B551816D55700C015C103F54481512 \
+    unit 10 00000000 00000043 = Sequence Picture(0) : 252 182 14*2 143 241 132 99 176 \
+    : 228 178 186 41 112 52 116 240 100 : 172 104 247 0 245 176 43 61 198 End
+unit 00 00000012 00000000 3F087424A0 unit C8 00000077 00000012 00000000 08494019FFE0 \
+    007D22B08EA0489002F00E22B0089682B7152E085C10B821740900D00D00FFFD004A24A982308608920CAC2EA84A3E22B203E008CA2C \
+    200C205EA04207FAE887F882382817E208E0A05F882382817E2BAA0E2E018B8062E01FFFFFF8A268097F \
+    unit 10 00000000 00000077 = Sequence Picture(0) : 102 244 91 222 170 44 202 237 205 \
+    : 43 81 87 65 14 77 238 74 242 : 179 79 67 10 7 52 71 222 99 End
+unit 00 00000012 00000000 3F087424A0 unit C8 000000EE 00000012 00000000 08C945027FFF \
+    00870046008460946803440851B12E80DC012E0097004B82042830A0C2837FF80B7FFF45FF80BFF017FE02FFC05FF80BFF017FE02FFC \
+    0464D34D34D34FFFFFFFFFFFFFFC04080164084095610A8C402128962A12A368B50582F4125BF1149146FC5159506FC5159506FC5159 \
+    506FC25D0520241480905202FFFFFF404244BFFFFFFF50D14FFFF011D57FFFC04755FFFF011D57FFFC04755FFFF011D57FFFC04755FF \
+    FF011D57FFFC50180194431056510C41594431056510C41594431056510C41594431056FFFFFFFFFFFFFFFFFFFFFFFFFFFF048142F \
+    unit 10 00000000 000000EE = Sequence Picture(0) : 108 14 128 108 149 123 166 132 214 \
+    : 67 31 181 234 215 66 77 9 225 : 93 2 76 88 72 242 61 31 166 End
+unit 00 00000012 00000000 3F087424A0 unit C8 00000042 00000012 00000000 1C915270 \
+    007A5409004D13541C55C412445C01C0409417181654D00595560506557002500852541C012001605580120475 \
+    unit 10 00000000 00000042 = Sequence Picture(0) : 247 54 29 127 97 141 21 50 231 \
+    : 14 32 226 166 102 141 231 244 126 \
+    : 132 103 229 70 213 62 200 226 161 End
+unit 00 00000012 00000000 3F087424A0 unit C8 00000045 00000012 00000000 1925009F80 \
+    0077440D15491C1408154A02D00C001F5429003080182210A012EA23898206009E2A30823608A42A0428E2FE28ABBF \
+    unit 10 00000000 00000045 = Sequence Picture(0) : 37 123 219 37 108 155 62 79 187 \
+    : 73 129 70 239 112 48 203 249 83 : 114 82 220 206 173 215 100 182 163 End
+unit 00 00000012 00000000 3F087424A0 unit C8 00000049 00000012 00000000 1B25109FF0 \
+    00870521564745419044A2A2B445491406C1548A0E82902A06860A482902A2E22C2A060AF830A02DA9A8ACA380A2DE8AB0008F \
+    unit 10 00000000 00000049 = Sequence Picture(0) : 47 187 9 173 234 225 9 196 169 \
+    : 151 32 57 117 53 43 135 139 20 : 92 138 66 216 132 207 76 253 167 End
+unit 00 00000012 00000000 3F087424A0 unit C8 00000088 00000012 00000000 18495049FFE0 \
+    00928228988AB80E000CA2AF455E203A036000374552E000BF0005F8002FD5420180601BFFD1591420444710520541C1012551D11610 \
+    750181043D14584147D451910311158101FD1118417FC5906FD4057441BF5015D106FD4057441BF5D055D05711D05711D05711FFFFFF \
+    D00061401B unit 10 00000000 00000088 = Sequence Picture(0) : 45 142 29 93 217 37 137 8 45 \
+    : 133 42 113 34 135 62 232 5 173 : 213 137 66 22 122 56 82 134 25 End
+unit 00 00000012 00000000 3F087424A0 unit C8 00000111 00000012 00000000 18C955167FFF \
+    0099D150941C01D51D1388AF3557D517E08DC457E22BF115FAA32ABAABAABFFFAA23FFFF107FE020BFF0105FF8082FFC0417FE020BFF \
+    0105FF8082FFC01615C5715C5715C5715FFFFFFFFFFFFFFD5408AE2200C08AE8A24000308A6A8EA2CA838AA96288EA8AD80AACA09A80 \
+    B283FAA0EA0B7EA8600A5F8A23AA2B7E288EA8ADF8A23AA2B7E22A10889A80B283A80B283A80B283FFFFFFAA0BA80B7FFFFFFE2886A0 \
+    2FFFF8208CADFFF8208CADFFF8208CADFFF8208CADFFF8208CADFFF8208CADFFF8208CADFFF880988A328AB8003A8AB8003A8AB8003A \
+    8AB8003A8AB8003A8AB8003A8AB8003FFFFFFFFFFFFFFFFFFFFFFFFFFFF82A2CA88D unit 10 00000000 00000111 = Sequence \
+    Picture(0) : 92 103 159 156 105 148 228 91 138 \
+    : 177 9 128 18 7 9 97 243 125 : 228 54 221 253 201 157 110 117 175 End";
 
-/// The units of a stream, and what stands of it.
-type Standing<'a> = (&'a [&'a [u8]], &'a [Item]);
+#[test]
+fn lossless_pictures(rt: HostRuntime) -> Result<(), Fail> {
+    expect_rows(
+        &rt,
+        rt.alloc(),
+        LOSSLESS,
+        &By::Pictures(&[0, 1], true, 4096),
+    )
+}
 
-const THAT_STAND: [Standing<'static>; 8] = [
-    (
-        &[HEADER, b"BBCD\x10\x00\x00\x00\x00\x00\x00\x00\x11"],
-        &[Item::Sequence],
-    ),
-    (
-        &[
-            b"BBCD\x00\x00\x00\x00\x00\x00\x00\x00\x00\x3F\x27\x42\x4A",
-            b"BBCD\xC8\x00\x00\x00\x00\x00\x00\x00\x11\x00\x00\x00\x00\x0C\x92\x70\x01",
-            b"BBCD\x00\x00\x00\x00\x00\x00\x00\x00\x15\x3F\x27\x42\x4A",
-            b"BBCD\x10\x00\x00\x00\x0D\x00\x00\x00\x11",
-        ],
-        &[Item::Sequence, Item::Picture(0), Item::Repeated],
-    ),
-    (
-        &[
-            HEADER,
-            b"BBCD\xC8\x00\x00\x00\x15\x00\x00\x00\x11\xFF\xFF\xFF\xFF\x0C\x92\x70\x01",
-            b"BBCD\xC8\x00\x00\x00\x15\x00\x00\x00\x15\x00\x00\x00\x00\x0C\x92\x70\x01",
-            END,
-        ],
-        &[Item::Sequence, Item::Picture(u32::MAX), Item::Picture(0)],
-    ),
-    (
-        &[
-            FIELDS,
-            b"BBCD\xC8\x00\x00\x00\x15\x00\x00\x00\x12\xFF\xFF\xFF\xFE\x0C\x92\x70\x01",
-            b"BBCD\xC8\x00\x00\x00\x15\x00\x00\x00\x15\xFF\xFF\xFF\xFF\x0C\x92\x70\x01",
-            b"BBCD\xC8\x00\x00\x00\x15\x00\x00\x00\x15\x00\x00\x00\x00\x0C\x92\x70\x01",
-            b"BBCD\xC8\x00\x00\x00\x15\x00\x00\x00\x15\x00\x00\x00\x01\x0C\x92\x70\x01",
-            END,
-        ],
-        &[
-            Item::Sequence,
-            Item::Picture(u32::MAX - 1),
-            Item::Picture(u32::MAX),
-            Item::Picture(0),
-            Item::Picture(1),
-        ],
-    ),
-    (
-        &[
-            HEADER,
-            b"BBCD\x20\x00\x00\x00\x0D\x00\x00\x00\x11",
-            b"BBCD\x20\x00\x00\x00\x11\x00\x00\x00\x0DBBCD",
-            b"BBCD\xC8\x00\x00\x00\x15\x00\x00\x00\x11\x00\x00\x00\x00\x0C\x92\x70\x01",
-            b"BBCD\x30\x00\x00\x00\x10\x00\x00\x00\x15\x00\xFF\x42",
-            b"BBCD\x00\x00\x00\x00\x11\x00\x00\x00\x10\x3F\x27\x42\x4A",
-            b"BBCD\x10\x00\x00\x00\x00\x00\x00\x00\x11",
-        ],
-        &[
-            Item::Sequence,
-            Item::Skipped,
-            Item::Skipped,
-            Item::Picture(0),
-            Item::Skipped,
-            Item::Repeated,
-        ],
-    ),
-    (&[HEADER, PICTURE, END, HEADER, PICTURE, END], TWICE),
-    (
-        &[
-            HEADER,
-            PICTURE,
-            END,
-            b"BBCD\x00\x00\x00\x00\x11\x00\x00\x00\x0D\x3F\x27\x42\x4A",
-            PICTURE,
-            END,
-        ],
-        TWICE,
-    ),
-    (
-        &[
-            HEADER,
-            b"BBCD\x10\x00\x00\x00\x00\x00\x00\x00\x11",
-            HEADER,
-            b"BBCD\xC8\x00\x00\x00\x15\x00\x00\x00\x11\x00\x00\x00\x07\x0C\x92\x70\x01",
-            b"BBCD\x00\x00\x00\x00\x11\x00\x00\x00\x15\x3F\x27\x42\x4A",
-            b"BBCD\x10\x00\x00\x00\x00\x00\x00\x00\x11",
-        ],
-        &[
-            Item::Sequence,
-            Item::SequenceEnd,
-            Item::Sequence,
-            Item::Picture(7),
-            Item::Repeated,
-        ],
-    ),
-];
+/// A picture unit of 102423 bytes, longer than one read: 256 by 256 samples, 4:4:4, 64 by 64 slices of 25 bytes, all of them
+/// zeros but the last place, which has -1.
+const LARGE: &str = "\
+unit 00 00000015 00000000 3F00018000F424A0 unit C8 00019017 00000015 00000000 0C006003449C \
+    0001FFFFFFFFFFFFFFFFFFFFFFFFFFFFFFFFFFFFFFFFFFFFFF*4095 0001FFFFFFFCFFFFFFFFFFFFFFFFFFFFFFFFFFFFFFFFFFFFFF \
+    unit 10 00000000 00019017 = Sequence Picture(0) : 128*65536 : 128*65536 : 128*65535 127 End";
 
-fn expect_standing(rt: &impl Abort, alloc: Global, rows: &[Standing]) -> Result<(), Fail> {
-    for (units, items) in rows {
-        expect_units(rt, alloc, units, items, Ok(Item::End))?;
-    }
-    Ok(())
+/// The picture is the same however its bytes come.
+#[test]
+fn a_large_picture(rt: HostRuntime) -> Result<(), Fail> {
+    expect_rows(
+        &rt,
+        rt.alloc(),
+        LARGE,
+        &By::Pictures(&[0, 1, 1000], true, 4096),
+    )
+}
+
+/// Auxiliary data with a payload of a million bytes.
+const LONG: &str = "\
+header unit 20 000F424D 00000011 0000000000000000*125000 unit C8 00000015 000F424D 00000000 0C927001 end \
+    = Sequence Skipped Picture(0) : 128 : 128 : 128 End";
+
+/// A payload is skipped, and never held.
+#[test]
+fn a_long_payload(rt: HostRuntime) -> Result<(), Fail> {
+    expect_rows(&rt, rt.alloc(), LONG, &By::Pictures(&[0, 1], true, 4096))
 }
 
 /// Units that stand: no picture, next offsets of 0, numbers of frames and of fields past 2^32 - 1, units that are skipped, and
 /// later sequences, whose first unit points back or not, with any number.
+const THAT_STAND: &str = "\
+header unit 10 00000000 00000011 = Sequence End
+unit 00 00000000 00000000 3F27424A unit C8 00000000 00000011 00000000 0C927001 unit 00 00000000 00000015 3F27424A \
+    unit 10 0000000D 00000011 = Sequence Picture(0) Repeated End
+header unit C8 00000015 00000011 FFFFFFFF 0C927001 unit C8 00000015 00000015 00000000 0C927001 end = Sequence \
+    Picture(4294967295) Picture(0) End
+fields unit C8 00000015 00000012 FFFFFFFE 0C927001 unit C8 00000015 00000015 FFFFFFFF 0C927001 \
+    unit C8 00000015 00000015 00000000 0C927001 unit C8 00000015 00000015 00000001 0C927001 end = Sequence \
+    Picture(4294967294) Picture(4294967295) Picture(0) Picture(1) End
+header unit 20 0000000D 00000011 unit 20 00000011 0000000D 42424344 unit C8 00000015 00000011 00000000 0C927001 \
+    unit 30 00000010 00000015 00FF42 unit 00 00000011 00000010 3F27424A unit 10 00000000 00000011 \
+    = Sequence Skipped Skipped Picture(0) Skipped Repeated End
+header picture end header picture end = Sequence Picture(0) SequenceEnd Sequence Picture(0) End
+header picture end unit 00 00000011 0000000D 3F27424A picture end = Sequence Picture(0) SequenceEnd Sequence \
+    Picture(0) End
+header unit 10 00000000 00000011 header unit C8 00000015 00000011 00000007 0C927001 \
+    unit 00 00000011 00000015 3F27424A unit 10 00000000 00000011 = Sequence SequenceEnd Sequence \
+    Picture(7) Repeated End";
+
 #[test]
 fn units_that_stand(rt: HostRuntime) -> Result<(), Fail> {
-    expect_standing(&rt, rt.alloc(), &THAT_STAND)
+    expect_rows(&rt, rt.alloc(), THAT_STAND, &By::Items)
+}
+
+/// A picture of one slice of 2^20 bytes whose values are 0: whole, and cut short.
+const WIDE: &str = "\
+header unit C8 00100019 00000011 00000000 0C900000000019C0 00000003 FFFFFFFF*262143 unit 10 00000000 00100019 \
+    = Sequence Picture(0) End
+header unit C8 00100019 00000011 00000000 0C900000000019C0 00000003 FFFFFFFF*262142 = Sequence 42 Truncated";
+
+/// A slice is held whole, and little beside it.
+#[test]
+fn a_wide_slice(rt: HostRuntime) -> Result<(), Fail> {
+    expect_rows(
+        &rt,
+        rt.alloc(),
+        WIDE,
+        &By::Pictures(&[0, 1000], false, 8192 + (1 << 20)),
+    )
 }

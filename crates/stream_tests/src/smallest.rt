@@ -1,58 +1,152 @@
-//! The stream of one picture of one sample: whole, cut at each byte, and over a source that fails.
+//! The stream of one picture of one sample: its heads, cut at each byte, over a source that fails, and unit by unit.
 
-use crate::reading::{
-    END, HEADER, ONE_EACH, PICTURE, Units, assert_same, expect, expect_next, expect_twice, joined,
-    refused,
-};
+use crate::reading::{By, assert_same, expect_bytes, expect_piece, expect_rows};
+use crate::words::bytes_of;
 use sequence_header::{AspectField, ColourField, HeaderParts, RateField, SignalField};
 use slice_geometry::{UnitShape, UnitShapes};
 use std::alloc::Global;
-use std::fmt::Debug;
 use std::process::Abort;
 use std::test::Fail;
-use stream_units::{Item, ReadStop, Reason, StreamReader, first_unit};
-use vc2_io::{MemSource, SteadySource};
+use stream_units::{HeadReader, Item, StreamReader, first_unit};
+use vc2_io::SteadySource;
 
-const ITEMS: [Item; 2] = [Item::Sequence, Item::Picture(0)];
+/// Its heads, and what comes of the bytes behind them.
+const HEADS: &str = "\
+header picture end = 0 SequenceHeader 17 0 17 LowDelayPicture 21 17 38 EndOfSequence 0 21 End
+header picture end 424243 = 0 SequenceHeader 17 0 17 LowDelayPicture 21 17 38 EndOfSequence 0 21 51 Truncated
+header picture end 42424345 = 0 SequenceHeader 17 0 17 LowDelayPicture 21 17 38 EndOfSequence 0 21 51 BadPrefix
+header picture end unit E8 = 0 SequenceHeader 17 0 17 LowDelayPicture 21 17 \
+    38 EndOfSequence 0 21 55 UnsupportedCode(232)
+header picture end unit 30 0000000C = 0 SequenceHeader 17 0 17 LowDelayPicture 21 17 \
+    38 EndOfSequence 0 21 56 OffsetShort
+header picture end unit 30 0000000E 00000000 = 0 SequenceHeader 17 0 17 LowDelayPicture 21 17 \
+    38 EndOfSequence 0 21 64 Truncated";
 
-/// What its sequence header holds.
-const PARTS: HeaderParts = HeaderParts {
-    major: 1,
-    minor: 0,
-    level: 0,
-    width: 1,
-    height: 1,
-    sampling: 0,
-    scan: None,
-    rate: RateField::Index(3),
-    aspect: AspectField::Default,
-    clean: None,
-    signal: SignalField::Index(1),
-    colour: ColourField::Default,
-    coding: 0,
-};
-
-/// Whether a header and a picture are shown, and the bytes taken and held.
-type Shown = (bool, bool, u64, usize);
-
-fn shown<R: Units>(reader: &R) -> Shown {
-    let has_header = reader.header().is_some();
-    let has_picture = reader.picture().is_some();
-    (has_header, has_picture, reader.taken(), reader.held())
+#[test]
+fn heads_in_order(rt: HostRuntime) -> Result<(), Fail> {
+    expect_rows(&rt, rt.alloc(), HEADS, &By::Heads)
 }
 
-/// Each item with what is shown behind it.
-const STEPS: [(Item, Shown); 3] = [
-    (Item::Sequence, (true, false, 17, 34)),
-    (Item::Picture(0), (true, true, 38, 13)),
-    (Item::End, (true, false, 51, 0)),
+/// What is told of its first bytes, from none of them to all but one.
+const CUTS: &str = "\
+= 0 Truncated
+= 0 Truncated
+= 0 Truncated
+= 0 Truncated
+= 4 Truncated
+= 5 Truncated
+= 5 Truncated
+= 5 Truncated
+= 5 Truncated
+= 9 Truncated
+= 9 Truncated
+= 9 Truncated
+= 9 Truncated
+= 13 Truncated
+= 14 Truncated
+= 15 Truncated
+= 16 Truncated
+= Sequence 17 Truncated
+= Sequence 17 Truncated
+= Sequence 17 Truncated
+= Sequence 17 Truncated
+= Sequence 21 Truncated
+= Sequence 22 Truncated
+= Sequence 22 Truncated
+= Sequence 22 Truncated
+= Sequence 22 Truncated
+= Sequence 26 Truncated
+= Sequence 26 Truncated
+= Sequence 26 Truncated
+= Sequence 26 Truncated
+= Sequence 30 Truncated
+= Sequence 30 Truncated
+= Sequence 30 Truncated
+= Sequence 30 Truncated
+= Sequence 34 Truncated
+= Sequence 34 Truncated
+= Sequence 35 Truncated
+= Sequence 37 Truncated
+= Sequence Picture(0) 38 Truncated
+= Sequence Picture(0) 38 Truncated
+= Sequence Picture(0) 38 Truncated
+= Sequence Picture(0) 38 Truncated
+= Sequence Picture(0) 42 Truncated
+= Sequence Picture(0) 43 Truncated
+= Sequence Picture(0) 43 Truncated
+= Sequence Picture(0) 43 Truncated
+= Sequence Picture(0) 43 Truncated
+= Sequence Picture(0) 47 Truncated
+= Sequence Picture(0) 47 Truncated
+= Sequence Picture(0) 47 Truncated
+= Sequence Picture(0) 47 Truncated";
+
+/// The bytes cut at each length.
+fn expect_cuts(rt: &impl Abort, alloc: Global, bytes: &[u8]) -> Result<(), Fail> {
+    for (length, line) in CUTS.lines().enumerate() {
+        let (_, told) = line.split_once('=').expect(rt, "a line");
+        assert!(rt; length < bytes.len());
+        expect_bytes(rt, alloc, &bytes[..length], told, &By::Items)?;
+    }
+    Ok(())
+}
+
+#[test]
+fn cut_at_each_byte(rt: HostRuntime) -> Result<(), Fail> {
+    let bytes = bytes_of(rt.alloc(), "header picture end")?;
+    expect_cuts(&rt, rt.alloc(), bytes.as_slice())
+}
+
+/// What is told where a read fails, by the units that stand whole before.
+const FAULTS: [&str; 3] = [
+    " ReadFault",
+    " Sequence ReadFault",
+    " Sequence Picture(0) ReadFault",
 ];
 
-fn expect_steps<R: Units>(rt: &impl Abort, reader: &mut R, bytes: &[u8], steps: &[(Item, Shown)]) {
+const HEAD_FAULTS: [&str; 4] = [
+    " ReadFault",
+    " 0 SequenceHeader 17 0 ReadFault",
+    " 0 SequenceHeader 17 0 17 LowDelayPicture 21 17 ReadFault",
+    " 0 SequenceHeader 17 0 17 LowDelayPicture 21 17 38 EndOfSequence 0 21 ReadFault",
+];
+
+/// One read fails, where each byte comes alone.
+fn expect_failing(rt: &impl Abort, alloc: Global, bytes: &[u8], call: u64) -> Result<(), Fail> {
+    let units = usize::from(call >= 17) + usize::from(call >= 38);
+    let want = (FAULTS[units], false, 4096);
+    expect_piece::<StreamReader>(rt, alloc, bytes, 1, call, want)?;
+    let want = (HEAD_FAULTS[units + usize::from(call >= 51)], false, 0);
+    expect_piece::<HeadReader>(rt, alloc, bytes, 1, call, want)
+}
+
+/// Each read fails in turn.
+#[test]
+fn each_read_fails(rt: HostRuntime) -> Result<(), Fail> {
+    let bytes = bytes_of(rt.alloc(), "header picture end")?;
+    for call in 0..52 {
+        expect_failing(&rt, rt.alloc(), bytes.as_slice(), call)?;
+    }
+    Ok(())
+}
+
+/// An item, whether a header and a picture are shown behind it, and the bytes taken and held.
+type Step = (Item, bool, bool, u64, usize);
+
+const STEPS: [Step; 3] = [
+    (Item::Sequence, true, false, 17, 34),
+    (Item::Picture(0), true, true, 38, 13),
+    (Item::End, true, false, 51, 0),
+];
+
+fn expect_steps(rt: &impl Abort, reader: &mut StreamReader, bytes: &[u8], steps: &[Step]) {
     let mut src = SteadySource::new(bytes);
-    for (item, want) in steps {
-        expect_next(rt, reader, &mut src, Ok(*item));
-        assert_same(rt, shown(reader), *want);
+    for step in steps {
+        let item = reader.next(&mut src).ok().expect(rt, "an item");
+        let has_header = reader.header().is_some();
+        let has_picture = reader.picture().is_some();
+        let found = (item, has_header, has_picture, reader.taken(), reader.held());
+        assert_same(rt, found, *step);
     }
 }
 
@@ -90,107 +184,37 @@ fn expect_shapes(rt: &impl Abort, shapes: &UnitShapes, wants: &[UnitShape]) {
 }
 
 /// What a reader shows behind each unit, and the shapes of all.
-fn expect_shown<R: Units + Drop, E: Debug + Drop>(
-    rt: &impl Abort,
-    made: Result<R, E>,
-    bytes: &[u8],
-) -> Result<(), Fail> {
-    let mut reader = made?;
-    expect_steps(rt, &mut reader, bytes, &STEPS);
-    expect_shapes(rt, reader.shapes(), &SHAPES);
+#[test]
+fn unit_by_unit(rt: HostRuntime) -> Result<(), Fail> {
+    let bytes = bytes_of(rt.alloc(), "header picture end")?;
+    let mut reader = StreamReader::new(rt.alloc())?;
+    expect_steps(&rt, &mut reader, bytes.as_slice(), &STEPS);
+    expect_shapes(&rt, reader.shapes(), &SHAPES);
     Ok(())
 }
 
-#[test]
-fn unit_by_unit(rt: HostRuntime) -> Result<(), Fail> {
-    let bytes = joined(rt.alloc(), &[HEADER, PICTURE, END])?;
-    expect_shown(&rt, StreamReader::new(rt.alloc()), bytes.as_slice())
-}
+/// What its sequence header holds.
+const PARTS: HeaderParts = HeaderParts {
+    major: 1,
+    minor: 0,
+    level: 0,
+    width: 1,
+    height: 1,
+    sampling: 0,
+    scan: None,
+    rate: RateField::Index(3),
+    aspect: AspectField::Default,
+    clean: None,
+    signal: SignalField::Index(1),
+    colour: ColourField::Default,
+    coding: 0,
+};
 
 /// The first unit alone.
 #[test]
 fn its_first_unit(rt: HostRuntime) -> Result<(), Fail> {
-    let (header, length) = first_unit(HEADER).ok().expect(&rt, "a header unit");
+    let bytes = b"BBCD\x00\x00\x00\x00\x11\x00\x00\x00\x00\x3F\x27\x42\x4A";
+    let (header, length) = first_unit(bytes).ok().expect(&rt, "a header unit");
     assert_same(&rt, (*header.parts(), length), (PARTS, 17));
-    Ok(())
-}
-
-/// The first and the last length of the cut stream, how many items stand, and the place of the field that is short.
-type Cut = (usize, usize, usize, u64);
-
-const CUTS: [Cut; 20] = [
-    (0, 3, 0, 0),
-    (4, 4, 0, 4),
-    (5, 8, 0, 5),
-    (9, 12, 0, 9),
-    (13, 13, 0, 13),
-    (14, 14, 0, 14),
-    (15, 15, 0, 15),
-    (16, 16, 0, 16),
-    (17, 20, 1, 17),
-    (21, 21, 1, 21),
-    (22, 25, 1, 22),
-    (26, 29, 1, 26),
-    (30, 33, 1, 30),
-    (34, 35, 1, 34),
-    (36, 36, 1, 35),
-    (37, 37, 1, 37),
-    (38, 41, 2, 38),
-    (42, 42, 2, 42),
-    (43, 46, 2, 43),
-    (47, 50, 2, 47),
-];
-
-/// The stream cut at each of these lengths.
-fn expect_cut(rt: &impl Abort, alloc: Global, bytes: &[u8], cut: Cut) -> Result<(), Fail> {
-    let (first, last, count, place) = cut;
-    let short = refused(place, Reason::Truncated);
-    for length in first..=last {
-        assert!(rt; length <= bytes.len() && count <= ITEMS.len());
-        expect_twice(rt, alloc, &bytes[..length], &ITEMS[..count], short)?;
-    }
-    Ok(())
-}
-
-fn expect_cuts(rt: &impl Abort, alloc: Global, bytes: &[u8], cuts: &[Cut]) -> Result<(), Fail> {
-    for cut in cuts {
-        expect_cut(rt, alloc, bytes, *cut)?;
-    }
-    Ok(())
-}
-
-#[test]
-fn cut_at_each_byte(rt: HostRuntime) -> Result<(), Fail> {
-    let bytes = joined(rt.alloc(), &[HEADER, PICTURE, END])?;
-    expect_cuts(&rt, rt.alloc(), bytes.as_slice(), &CUTS)
-}
-
-/// The items that stand whole in so many bytes.
-fn items_within(count: u64) -> &'static [Item] {
-    let items = usize::from(count >= 17) + usize::from(count >= 38);
-    &ITEMS[..items]
-}
-
-/// One read fails, where each byte comes alone: the units that stand whole before it come, and then the fault.
-fn expect_failing(rt: &impl Abort, alloc: Global, bytes: &[u8], call: u64) -> Result<(), Fail> {
-    let failing = [call];
-    let mut src = MemSource::new(bytes, ONE_EACH, &failing);
-    let fault = Err(ReadStop::ReadFault);
-    expect(
-        rt,
-        StreamReader::new(alloc),
-        &mut src,
-        items_within(call),
-        fault,
-    )
-}
-
-/// Each read fails in turn.
-#[test]
-fn each_read_fails(rt: HostRuntime) -> Result<(), Fail> {
-    let bytes = joined(rt.alloc(), &[HEADER, PICTURE, END])?;
-    for call in 0..52 {
-        expect_failing(&rt, rt.alloc(), bytes.as_slice(), call)?;
-    }
     Ok(())
 }

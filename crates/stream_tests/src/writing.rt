@@ -3,7 +3,8 @@
 ghost use Rattle.std.specs.Prelude.{◌≡◌, ◌%◌, false, None};
 ghost use Rattle.sequence_header.specs.Coding.{IsShapeOf};
 
-use crate::reading::{END, HEADER, PICTURE, assert_same, joined};
+use crate::reading::assert_same;
+use crate::words::bytes_of;
 use picture_codec::Picture;
 use sequence_header::SequenceHeader;
 use std::alloc::Global;
@@ -13,23 +14,10 @@ use stream_units::{StreamWriter, WriteStop};
 use transform_params::TransformParams;
 use vc2_io::{MemSink, Sink};
 
-/// The unit of a blank picture behind the header. At index 28 its one coefficient is still 1, at 29 it is 0.
-const FIRST: &[u8] = b"BBCD\xC8\x00\x00\x00\x15\x00\x00\x00\x11\x00\x00\x00\x00\x0C\x92\x70\x3B";
-
-/// The unit behind that.
-const SECOND: &[u8] = b"BBCD\xC8\x00\x00\x00\x15\x00\x00\x00\x15\x00\x00\x00\x01\x0C\x92\x70\x3B";
-
-/// Two units behind the first one, whose numbers are the last and the first.
-const LAST_NUMBER: &[u8] =
-    b"BBCD\xC8\x00\x00\x00\x15\x00\x00\x00\x11\xFF\xFF\xFF\xFF\x0C\x92\x70\x3B";
-
-const FIRST_NUMBER: &[u8] =
-    b"BBCD\xC8\x00\x00\x00\x15\x00\x00\x00\x15\x00\x00\x00\x00\x0C\x92\x70\x3B";
-
 /// The header and the parameters of the smallest stream.
 fn settings(rt: &impl Abort) -> (SequenceHeader, TransformParams) {
-    let header = SequenceHeader::read(&HEADER[13..]).ok();
-    let params = TransformParams::read(&PICTURE[17..20]).ok();
+    let header = SequenceHeader::read(b"\x3F\x27\x42\x4A").ok();
+    let params = TransformParams::read(b"\x0C\x92\x70").ok();
     let (header, _) = header.expect(rt, "a header");
     let (params, _) = params.expect(rt, "parameters");
     (header, params)
@@ -88,56 +76,59 @@ fn write_stream<K: Sink>(
     Ok(done)
 }
 
-/// No call of a sink fails but this.
-fn failing(call: u64) -> [u64; 4] {
-    [call, u64::MAX, u64::MAX, u64::MAX]
-}
-
-/// The number of the first picture, and the units.
-const STREAMS: [(u32, [&[u8]; 4]); 2] = [
-    (0, [HEADER, FIRST, SECOND, END]),
-    (u32::MAX, [HEADER, LAST_NUMBER, FIRST_NUMBER, END]),
+/// The number of the first picture, and the units, of two blank pictures. At index 28 the one coefficient of such a picture is
+/// still 1, at 29 it is 0.
+const STREAMS: [(u32, &str); 2] = [
+    (
+        0,
+        "header unit C8 00000015 00000011 00000000 0C92703B unit C8 00000015 00000015 00000001 0C92703B end",
+    ),
+    (
+        u32::MAX,
+        "header unit C8 00000015 00000011 FFFFFFFF 0C92703B unit C8 00000015 00000015 00000000 0C92703B end",
+    ),
 ];
 
-/// Asserts that a stream is written from this number on.
-fn expect_written(rt: &impl Abort, alloc: Global, first: u32, wanted: &[u8]) -> Result<(), Fail> {
-    let mut sink = MemSink::new(alloc, 72, 0, &failing(u64::MAX))?;
-    assert_same(rt, write_stream(rt, alloc, first, &mut sink)?, Ok(4));
-    assert_same(rt, sink.bytes(), wanted);
+/// Writes to a sink whose calls take at most so many bytes where that isn't 0, and of which this one fails; and compares the
+/// answer and what went out.
+fn expect_write(
+    rt: &impl Abort,
+    alloc: Global,
+    first: u32,
+    most: usize,
+    call: u64,
+    answer: Result<usize, WriteStop>,
+    wanted: &[u8],
+) -> Result<(), Fail> {
+    let mut sink = MemSink::new(alloc, 72, most, &[call, u64::MAX, u64::MAX, u64::MAX])?;
+    let found = write_stream(rt, alloc, first, &mut sink)?;
+    assert_same(rt, (found, sink.bytes()), (answer, wanted));
     Ok(())
 }
 
 #[test]
 fn streams_are_written(rt: HostRuntime) -> Result<(), Fail> {
     for (first, units) in &STREAMS {
-        let wanted = joined(rt.alloc(), units)?;
-        expect_written(&rt, rt.alloc(), *first, wanted.as_slice())?;
+        let wanted = bytes_of(rt.alloc(), units)?;
+        expect_write(
+            &rt,
+            rt.alloc(),
+            *first,
+            0,
+            u64::MAX,
+            Ok(4),
+            wanted.as_slice(),
+        )?;
     }
     Ok(())
 }
 
-/// Writes to a sink one of whose calls fails, and compares what went out.
-fn expect_failed(
-    rt: &impl Abort,
-    alloc: Global,
-    most: usize,
-    call: u64,
-    wanted: &[u8],
-) -> Result<(), Fail> {
-    let mut sink = MemSink::new(alloc, 72, most, &failing(call))?;
-    assert_same(
-        rt,
-        write_stream(rt, alloc, 0, &mut sink)?,
-        Err(WriteStop::OutFault),
-    );
-    assert_same(rt, sink.bytes(), wanted);
-    Ok(())
-}
+const FAULT: Result<usize, WriteStop> = Err(WriteStop::OutFault);
 
 /// Each call of one byte fails in turn.
 fn expect_bytes(rt: &impl Abort, alloc: Global, wanted: &[u8]) -> Result<(), Fail> {
     for call in 0..wanted.len() {
-        expect_failed(rt, alloc, 1, call as u64, &wanted[..call])?;
+        expect_write(rt, alloc, 0, 1, call as u64, FAULT, &wanted[..call])?;
     }
     Ok(())
 }
@@ -146,14 +137,14 @@ fn expect_bytes(rt: &impl Abort, alloc: Global, wanted: &[u8]) -> Result<(), Fai
 fn expect_wholes(rt: &impl Abort, alloc: Global, wanted: &[u8]) -> Result<(), Fail> {
     for (call, written) in [0, 17, 38, 59].iter().enumerate() {
         assert!(rt; *written <= wanted.len());
-        expect_failed(rt, alloc, 0, call as u64, &wanted[..*written])?;
+        expect_write(rt, alloc, 0, 0, call as u64, FAULT, &wanted[..*written])?;
     }
     Ok(())
 }
 
 #[test]
 fn each_call_of_the_sink_fails_in_turn(rt: HostRuntime) -> Result<(), Fail> {
-    let wanted = joined(rt.alloc(), &[HEADER, FIRST, SECOND, END])?;
+    let wanted = bytes_of(rt.alloc(), STREAMS[0].1)?;
     expect_bytes(&rt, rt.alloc(), wanted.as_slice())?;
     expect_wholes(&rt, rt.alloc(), wanted.as_slice())
 }

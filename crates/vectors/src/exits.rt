@@ -1,6 +1,10 @@
 // The exit code of each status.
-use crate::runs::refused;
-use vc2_cli::{Reason, ScheduleFault, Status, WordFault, exit_code};
+use vc2_cli::{Reason, Refusal, ScheduleFault, Status, WordFault, exit_code};
+
+const TRUNCATED: Refusal = Refusal {
+    place: 0,
+    reason: Reason::Truncated,
+};
 
 const LATE: ScheduleFault = ScheduleFault::Late {
     slot: 1,
@@ -12,7 +16,7 @@ const LATE: ScheduleFault = ScheduleFault::Late {
 fn each_status_has_its_exit(rt: HostRuntime) {
     let table = [
         (Status::Done, 0),
-        (refused(0, Reason::Truncated), 1),
+        (Status::Refused(TRUNCATED), 1),
         (Status::Schedule(LATE), 1),
         (Status::Usage(WordFault::NoCommand), 2),
         (Status::ReadFault, 3),

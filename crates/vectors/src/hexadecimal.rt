@@ -9,7 +9,6 @@ fn digit(glyph: u8) -> u8
     match glyph {
         b'0'..=b'9' => glyph - b'0',
         b'a'..=b'f' => glyph - b'a' + 10,
-        b'A'..=b'F' => glyph - b'A' + 10,
         _ => 0,
     }
 }

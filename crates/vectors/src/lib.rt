@@ -4,21 +4,19 @@
 #[cfg(test)]
 mod chain_rows;
 #[cfg(test)]
-mod decode_failing;
+mod cut_streams;
 #[cfg(test)]
 mod decode_rows;
 #[cfg(test)]
-mod encode_failing;
-#[cfg(test)]
 mod encode_rows;
-#[cfg(test)]
-mod encode_words;
 #[cfg(test)]
 mod exits;
 #[cfg(test)]
-mod field_forms;
+mod failing_reads;
 #[cfg(test)]
-mod head_failing;
+mod failing_writes;
+#[cfg(test)]
+mod field_forms;
 #[cfg(test)]
 mod header_rows;
 #[cfg(test)]
@@ -30,7 +28,7 @@ mod large;
 #[cfg(test)]
 mod long;
 #[cfg(test)]
-mod read_no_further;
+mod many_sequences;
 #[cfg(test)]
 mod row;
 #[cfg(test)]
@@ -47,8 +45,6 @@ mod streams;
 mod texts;
 #[cfg(test)]
 mod there_and_back;
-#[cfg(test)]
-mod trial_failing;
 #[cfg(test)]
 mod trial_rows;
 #[cfg(test)]

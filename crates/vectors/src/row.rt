@@ -1,83 +1,120 @@
-// Rows of worked inputs: the words of a run, its input, and what it comes to.
-use crate::hexadecimal::bytes_of;
-use crate::runs::{ONE_EACH, Outcome, Sinks, assert_outcome};
-use crate::words::words_of;
+// Rows of worked inputs, one a line: a name, the words of a run, its input and its outcome, with ` | ` between them.
+//
+// Where the name is `M..=N`, the run is made once for each of these numbers, and the read of this number fails. The words may
+// have `..` among them, as `words_of` says. The input is hexadecimal digits behind `#`. The outcome is the status, the output
+// and the note, each as it is printed: bytes as hexadecimal digits behind `#`, or as a text, with `;` for the end of a line.
+use crate::runs::{BY_BYTES, Ends, Sinks, WHOLE, run_digits};
 use std::alloc::{AllocError, Global};
 use std::process::Abort;
 use std::test::Fail;
-use vc2_cli::{Status, run};
-use vc2_io::MemSource;
+use vc2_cli::Status;
 
-/// The smallest stream: a header unit, a picture unit and an end unit.
-pub(crate) const SMALLEST: &[u8] = b"BBCD\x00\x00\x00\x00\x11\x00\x00\x00\x00\x3F\x27\x42\x4A\
-    BBCD\xC8\x00\x00\x00\x15\x00\x00\x00\x11\x00\x00\x00\x00\x0C\x92\x70\x01\
-    BBCD\x10\x00\x00\x00\x00\x00\x00\x00\x15";
-
-/// What a run writes to its output: a text, or bytes in hexadecimal.
+// The fields of a row.
 #[derive(Clone, Copy)]
-pub(crate) enum Output<'a> {
-    Text(&'a str),
-    Digits(&'a str),
+struct Row<'a> {
+    name: &'a str,
+    words: &'a str,
+    input: &'a str,
+    outcome: &'a str,
 }
 
-impl<'a> Output<'a> {
-    fn bytes(&self, alloc: Global) -> Result<Vec<u8>, AllocError> {
-        match self {
-            Output::Text(text) => {
-                let mut bytes = Vec::new(alloc);
-                bytes.extend_from_slice(text.as_bytes())?;
-                Ok(bytes)
-            }
-            Output::Digits(digits) => bytes_of(alloc, digits),
-        }
+// The row of a line.
+fn row_of(line: &str) -> Row<'_> {
+    let mut fields = line.trim_start().splitn(4, " | ");
+    let name = fields.next().unwrap_or("");
+    let words = fields.next().unwrap_or("");
+    let input = fields.next().unwrap_or("");
+    let outcome = fields.next().unwrap_or("");
+    Row {
+        name,
+        words,
+        input: input.strip_prefix('#').unwrap_or(input),
+        outcome,
     }
 }
 
-/// A run: its words, its input in hexadecimal, and what it comes to. `encode` and `trial` have the smallest stream's operand
-/// for each key of it that isn't among the words.
-#[derive(Clone, Copy)]
-pub(crate) struct Row<'a> {
-    pub name: &'a str,
-    pub words: &'a [&'a str],
-    pub input: &'a str,
-    pub status: Status,
-    pub out: Output<'a>,
-    pub note: &'a str,
+// A byte of a text that a run prints.
+fn is_printed(byte: &u8) -> bool {
+    matches!(byte, b'\n' | b' ' | b','..=b':' | b'=' | b'A'..=b'Z' | b'a'..=b'z')
 }
 
-impl<'a> Row<'a> {
-    // The run, over its input in these pieces.
-    fn run(
-        &self,
-        alloc: Global,
-        pieces: &[usize],
-        sinks: &mut Sinks,
-    ) -> Result<Status, AllocError> {
-        let words = words_of(alloc, self.words)?;
-        let input = bytes_of(alloc, self.input)?;
-        let mut src = MemSource::new(input.as_slice(), pieces, &[]);
-        Ok(run(alloc, &words, &mut src, &mut sinks.out, &mut sinks.note))
-    }
-
-    fn check(&self, rt: &impl Abort, alloc: Global, pieces: &[usize]) -> Result<(), Fail> {
-        let out = self.out.bytes(alloc)?;
-        let mut sinks = Sinks::new(alloc)?;
-        let status = self.run(alloc, pieces, &mut sinks)?;
-        let outcome = Outcome {
-            status: self.status,
-            out: out.as_slice(),
-            note: self.note.as_bytes(),
+// Bytes that are a text.
+fn push_text(text: &mut String, bytes: &[u8]) -> Result<(), AllocError> {
+    for byte in bytes {
+        let glyph = if *byte == b'\n' {
+            ';'
+        } else {
+            char::from(*byte)
         };
-        assert_outcome(rt, self.name, status, &sinks, &outcome);
-        Ok(())
-    }
-}
-
-/// Each row whole, and with one byte a read.
-pub(crate) fn check_all(rt: &impl Abort, alloc: Global, rows: &[Row]) -> Result<(), Fail> {
-    for row in rows {
-        row.check(rt, alloc, &[])?;
-        row.check(rt, alloc, &ONE_EACH)?;
+        text.push(glyph)?;
     }
     Ok(())
+}
+
+fn push_digits(text: &mut String, bytes: &[u8]) -> Result<(), AllocError> {
+    text.push('#')?;
+    for byte in bytes {
+        write!(text, "{byte:02x}")?;
+    }
+    Ok(())
+}
+
+fn push_bytes(text: &mut String, bytes: &[u8]) -> Result<(), AllocError> {
+    text.push_str(" | ")?;
+    if !bytes.is_empty() && bytes.iter().all(is_printed) {
+        push_text(text, bytes)
+    } else {
+        push_digits(text, bytes)
+    }
+}
+
+// An outcome as rows have it.
+fn outcome_of(alloc: Global, status: Status, sinks: &Sinks) -> Result<String, AllocError> {
+    let mut text = format!(in alloc; "{status:?}")?;
+    push_bytes(&mut text, sinks.out.bytes())?;
+    push_bytes(&mut text, sinks.note.bytes())?;
+    Ok(text)
+}
+
+// The run of a row.
+fn run_row(alloc: Global, ends: &Ends, row: &Row) -> Result<String, Fail> {
+    let mut sinks = Sinks::new(alloc, ends)?;
+    let status = run_digits(alloc, row.words, row.input, ends, &mut sinks)?;
+    Ok(outcome_of(alloc, status, &sinks)?)
+}
+
+fn check_row(rt: &impl Abort, alloc: Global, ends: &Ends, row: &Row) -> Result<(), Fail> {
+    let found = run_row(alloc, ends, row)?;
+    assert_eq!(rt; found.as_str(), row.outcome, "{}: {}", row.name, row.words);
+    Ok(())
+}
+
+// A row over these ends, or where its name has the numbers of reads, in each of which one of them fails.
+fn check_reads(rt: &impl Abort, alloc: Global, ends: &Ends, row: &Row) -> Result<(), Fail> {
+    let Some((first, last)) = row.name.split_once("..=") else {
+        return check_row(rt, alloc, ends, row);
+    };
+    for read in first.parse::<u64>()?..=last.parse::<u64>()? {
+        check_row(rt, alloc, &Ends { read, ..*ends }, row)?;
+    }
+    Ok(())
+}
+
+/// Each row over these ends.
+pub(crate) fn check_rows(
+    rt: &impl Abort,
+    alloc: Global,
+    ends: &Ends,
+    rows: &str,
+) -> Result<(), Fail> {
+    for line in rows.lines() {
+        check_reads(rt, alloc, ends, &row_of(line))?;
+    }
+    Ok(())
+}
+
+/// Each row with its input whole, and with one byte a read.
+pub(crate) fn check_all(rt: &impl Abort, alloc: Global, rows: &str) -> Result<(), Fail> {
+    check_rows(rt, alloc, &WHOLE, rows)?;
+    check_rows(rt, alloc, &BY_BYTES, rows)
 }

@@ -1,32 +1,14 @@
 // What `trial` prints.
-use crate::row::{Output, Row, check_all};
+use crate::row::check_all;
 use std::test::Fail;
-use vc2_cli::Status;
 
-const PRINTED: [Row<'static>; 2] = [
-    Row {
-        name: "trial of one sample",
-        words: &["trial", "seed=0", "pictures=1"],
-        input: "",
-        status: Status::Done,
-        out: Output::Text(
-            "trial seed 0 pictures 1\nstream bytes 51 slices 1\nrate=21/1 delay=2 buffer=42\nworst 125\n",
-        ),
-        note: "",
-    },
-    Row {
-        name: "trial at another rate",
-        words: &["trial", "seed=0", "pictures=1", "rate=1/7"],
-        input: "",
-        status: Status::Done,
-        out: Output::Text(
-            "trial seed 0 pictures 1\nstream bytes 51 slices 1\nrate=1/7 delay=356 buffer=50\nworst 125\n",
-        ),
-        note: "",
-    },
-];
+const ROWS: &str = "\
+    trial of one sample | trial .. seed=0 pictures=1 | # | \
+        Done | trial seed 0 pictures 1;stream bytes 51 slices 1;rate=21/1 delay=2 buffer=42;worst 125; | #
+    trial at another rate | trial .. seed=0 pictures=1 rate=1/7 | # | \
+        Done | trial seed 0 pictures 1;stream bytes 51 slices 1;rate=1/7 delay=356 buffer=50;worst 125; | #";
 
 #[test]
 fn trials_are_printed(rt: HostRuntime) -> Result<(), Fail> {
-    check_all(&rt, rt.alloc(), &PRINTED)
+    check_all(&rt, rt.alloc(), ROWS)
 }

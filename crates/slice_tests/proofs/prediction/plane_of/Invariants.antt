@@ -3,7 +3,7 @@ use Rattle.planes.specs.Raster.{height}
 use Rattle.slice_tests.proofs.prediction.plane_of.Given as goal
 
 abbrev pub invariant-loop-y : goal.invariant-loop-y
-invariant-loop-y l = record {
+invariant-loop-y g l = record {
   width : l.plane.w ≡ 4;
   height : height l.plane ≡ 3;
 }

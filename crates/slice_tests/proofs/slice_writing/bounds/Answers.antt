@@ -8,4 +8,4 @@ pub first_candidate-first-requires-clause-steep : goal.first_candidate-first-req
 first_candidate-first-requires-clause-steep g c =
     let p = c.args.picture.now in
     subst (λ (e : SliceEncoderSeen). IsSteepOk e.slicing.depth (max e.shape.luma_depth e.shape.colour_depth) p.matrix)
-    (sym c.in_ok-encoder.ensures) (c.can_write.ensures.steep (search rules))
+    (sym (rw c.expect-encoder.ensures at c.new-made.ensures)) (c.can_write.ensures.steep (search rules))

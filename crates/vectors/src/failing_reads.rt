@@ -1,0 +1,126 @@
+// Runs in which one read fails, by one byte a call: each read in turn whose number is in a row's name.
+use crate::row::check_rows;
+use crate::runs::SLOW;
+use std::test::Fail;
+
+const READS: &str = "\
+    0..=37 | decode | #424243440000000011000000003f27424a42424344c80000001500000011000000000c92700142424344100000000000000015 | \
+        ReadFault | # | #
+    38..=51 | decode | #424243440000000011000000003f27424a42424344c80000001500000011000000000c92700142424344100000000000000015 | \
+        ReadFault | #808080 | #
+    52..=52 | decode | #424243440000000011000000003f27424a42424344c80000001500000011000000000c92700142424344100000000000000015 | \
+        Done | #808080 | pictures 1 bytes 51;
+    0..=16 | chain | #424243440000000011000000003f27424a42424344c80000001500000011000000000c92700142424344100000000000000015 | \
+        ReadFault | # | #
+    17..=37 | chain | #424243440000000011000000003f27424a42424344c80000001500000011000000000c92700142424344100000000000000015 | \
+        ReadFault | 0 sequence-header next 17 previous 0; | #
+    38..=50 | chain | #424243440000000011000000003f27424a42424344c80000001500000011000000000c92700142424344100000000000000015 | \
+        ReadFault | 0 sequence-header next 17 previous 0;17 low-delay-picture next 21 previous 17; | #
+    51..=51 | chain | #424243440000000011000000003f27424a42424344c80000001500000011000000000c92700142424344100000000000000015 | \
+        ReadFault | 0 sequence-header next 17 previous 0;17 low-delay-picture next 21 previous 17;38 end-of-sequence next 0 previous 21; | #
+    52..=52 | chain | #424243440000000011000000003f27424a42424344c80000001500000011000000000c92700142424344100000000000000015 | \
+        Done | 0 sequence-header next 17 previous 0;17 low-delay-picture next 21 previous 17;38 end-of-sequence next 0 previous 21; | #
+    0..=16 | header | #424243440000000011000000003f27424a42424344c80000001500000011000000000c92700142424344100000000000000015 | \
+        ReadFault | # | #
+    17..=17 | header | #424243440000000011000000003f27424a42424344c80000001500000011000000000c92700142424344100000000000000015 | \
+        Done | version 1.0 profile 0 level 0 base 0;size 1x1 sampling 4:4:4;scan default;rate 25/1;aspect default;clean default;signal 0,255,128,255 depth 8 8;colour default;coding frames; | #
+    0..=2 | encode .. | #808080 | ReadFault | #424243440000000011000000003f27424a | #
+    3..=3 | encode .. | #808080 | \
+        ReadFault | #424243440000000011000000003f27424a42424344c80000001500000011000000000c927001 | #
+    4..=4 | encode .. | #808080 | \
+        Done | #424243440000000011000000003f27424a42424344c80000001500000011000000000c92700142424344100000000000000015 | rate=21/1 delay=2 buffer=42;
+    0..=0 | trial .. seed=0 pictures=1 | #42424344 | \
+        Done | trial seed 0 pictures 1;stream bytes 51 slices 1;rate=21/1 delay=2 buffer=42;worst 125; | #";
+
+#[test]
+fn each_read_may_fail(rt: HostRuntime) -> Result<(), Fail> {
+    check_rows(&rt, rt.alloc(), &SLOW, READS)
+}
+
+// Nothing is read behind a refusal: the last read that comes before it fails, and then the one that would come next.
+const REFUSED: &str = "\
+    21..=21 | decode | #424243440000000011000000003f27424a42424344e80000000000000000000000000000000000000000 | \
+        ReadFault | # | #
+    22..=22 | decode | #424243440000000011000000003f27424a42424344e80000000000000000000000000000000000000000 | \
+        Refused(Refusal { place: 21, reason: UnsupportedCode(232) }) | # | refused at 21: UnsupportedCode E8;
+    60..=60 | decode | #424243440000000011000000003f27424a42424344c80000001600000011000000000c9670001f42424344c80000001600000016000000010c967000df00000000 | \
+        ReadFault | #808080 | #
+    61..=61 | decode | #424243440000000011000000003f27424a42424344c80000001600000011000000000c9670001f42424344c80000001600000016000000010c967000df00000000 | \
+        Refused(Refusal { place: 59, reason: LumaLengthTooLong }) | #808080 | refused at 59: LumaLengthTooLong;
+    39..=39 | decode | #424243440000000011000000003f27424a42424344c80000001700000011000000000c909cfe000000000000 | \
+        ReadFault | # | #
+    40..=40 | decode | #424243440000000011000000003f27424a42424344c80000001700000011000000000c909cfe000000000000 | \
+        Refused(Refusal { place: 37, reason: CoefficientTooLarge }) | # | refused at 37: CoefficientTooLarge;
+    54..=54 | decode | #424243440000000011000000003f27424a42424344c80000001500000011000000050c92700142424344c80000001500000015000000050c92700142424344100000000000000015 | \
+        ReadFault | #808080 | #
+    55..=55 | decode | #424243440000000011000000003f27424a42424344c80000001500000011000000050c92700142424344c80000001500000015000000050c92700142424344100000000000000015 | \
+        Refused(Refusal { place: 51, reason: PictureNumberWrong }) | #808080 | refused at 51: PictureNumberWrong;
+    16..=16 | decode | #424243440000000010000000003f27424a42424344c80000001500000011000000000c92700142424344100000000000000015 | \
+        ReadFault | # | #
+    17..=17 | decode | #424243440000000010000000003f27424a42424344c80000001500000011000000000c92700142424344100000000000000015 | \
+        Refused(Refusal { place: 5, reason: OffsetWrong }) | # | refused at 5: OffsetWrong;
+    29..=29 | decode | #424243440000000011000000003f27424a42424344c80000001500000010000000000c92700142424344100000000000000015 | \
+        ReadFault | # | #
+    30..=30 | decode | #424243440000000011000000003f27424a42424344c80000001500000010000000000c92700142424344100000000000000015 | \
+        Refused(Refusal { place: 26, reason: PreviousWrong }) | # | refused at 26: PreviousWrong;
+    54..=54 | decode | #424243440000000011000000003f27424a42424344c80000001500000011000000000c9270014242434410000000000000001500000000 | \
+        ReadFault | #808080 | #
+    55..=55 | decode | #424243440000000011000000003f27424a42424344c80000001500000011000000000c9270014242434410000000000000001500000000 | \
+        Refused(Refusal { place: 51, reason: BadPrefix }) | #808080 | refused at 51: BadPrefix;
+    33..=33 | decode | #424243440000000011000000003f27424a424243440000000011000000113f27424b00000000 | ReadFault | # | #
+    34..=34 | decode | #424243440000000011000000003f27424a424243440000000011000000113f27424b00000000 | \
+        Refused(Refusal { place: 30, reason: HeaderDiffers }) | # | refused at 30: HeaderDiffers;
+    22..=22 | decode | #424243440000000011000000003f000000000000000000000000 | ReadFault | # | #
+    23..=23 | decode | #424243440000000011000000003f000000000000000000000000 | \
+        Refused(Refusal { place: 14, reason: NumberTooLarge }) | # | refused at 14: NumberTooLarge;
+    13..=13 | decode | #424243440000000011000000003e27424a00000000 | ReadFault | # | #
+    14..=14 | decode | #424243440000000011000000003e27424a00000000 | \
+        Refused(Refusal { place: 13, reason: DefaultTaken(Size) }) | # | refused at 13: DefaultTaken size;
+    20..=20 | decode | #424243440000000011000000003f0000006000000c00000000 | ReadFault | # | #
+    21..=21 | decode | #424243440000000011000000003f0000006000000c00000000 | \
+        Refused(Refusal { place: 17, reason: SizeRefused }) | # | refused at 17: SizeRefused;
+    43..=43 | decode | #424243440000000011000000003f27424a42424344c80000001500000011000000000c90000000000000000900000000 | \
+        ReadFault | # | #
+    44..=44 | decode | #424243440000000011000000003f27424a42424344c80000001500000011000000000c90000000000000000900000000 | \
+        Refused(Refusal { place: 43, reason: ShareRefused }) | # | refused at 43: ShareRefused;
+    34..=34 | decode | #424243440000000011000000003f27424a42424344c80000001500000011000000008092700142424344100000000000000015 | \
+        ReadFault | # | #
+    35..=35 | decode | #424243440000000011000000003f27424a42424344c80000001500000011000000008092700142424344100000000000000015 | \
+        Refused(Refusal { place: 34, reason: WaveletRefused(0) }) | # | refused at 34: WaveletRefused 0;
+    36..=36 | decode | #424243440000000011000000003f27424a42424344c80000001500000011000000000c92500142424344100000000000000015 | \
+        ReadFault | # | #
+    37..=37 | decode | #424243440000000011000000003f27424a42424344c80000001500000011000000000c92500142424344100000000000000015 | \
+        Refused(Refusal { place: 36, reason: DefaultMatrix }) | # | refused at 36: DefaultMatrix;
+    3..=3 | chain | #42424345000000001100000000 | ReadFault | # | #
+    4..=4 | chain | #42424345000000001100000000 | \
+        Refused(Refusal { place: 0, reason: BadPrefix }) | # | refused at 0: BadPrefix;
+    8..=8 | chain | #42424344200000000c000000000000 | ReadFault | # | #
+    9..=9 | chain | #42424344200000000c000000000000 | \
+        Refused(Refusal { place: 5, reason: OffsetShort }) | # | refused at 5: OffsetShort;
+    21..=21 | chain | #424243440000000011000000003f27424a42424344e80000000000000000000000000000000000000000 | \
+        ReadFault | 0 sequence-header next 17 previous 0; | #
+    22..=22 | chain | #424243440000000011000000003f27424a42424344e80000000000000000000000000000000000000000 | \
+        Refused(Refusal { place: 21, reason: UnsupportedCode(232) }) | 0 sequence-header next 17 previous 0; | refused at 21: UnsupportedCode E8;
+    22..=22 | header | #424243440000000011000000003f000000000000000000000000 | ReadFault | # | #
+    23..=23 | header | #424243440000000011000000003f000000000000000000000000 | \
+        Refused(Refusal { place: 14, reason: NumberTooLarge }) | # | refused at 14: NumberTooLarge;
+    13..=13 | header | #424243440000000011000000003e27424a00000000 | ReadFault | # | #
+    14..=14 | header | #424243440000000011000000003e27424a00000000 | \
+        Refused(Refusal { place: 13, reason: DefaultTaken(Size) }) | # | refused at 13: DefaultTaken size;
+    4..=4 | header | #42424344c80000001500000011000000000c927001 | ReadFault | # | #
+    5..=5 | header | #42424344c80000001500000011000000000c927001 | \
+        Refused(Refusal { place: 4, reason: NoSequenceHeader }) | # | refused at 4: NoSequenceHeader;
+    16..=16 | header | #424243440000000010000000003f27424a00000000 | ReadFault | # | #
+    17..=17 | header | #424243440000000010000000003f27424a00000000 | \
+        Refused(Refusal { place: 5, reason: OffsetWrong }) | # | refused at 5: OffsetWrong;
+    13..=13 | header | #42424344000000001100000000bf27424a00000000 | ReadFault | # | #
+    14..=14 | header | #42424344000000001100000000bf27424a00000000 | \
+        Refused(Refusal { place: 13, reason: VersionRefused }) | # | refused at 13: VersionRefused;
+    20..=20 | check | #424243440000000011000000003f27424a424243450000000000000000000000000000000000000000 | ReadFault | # | #
+    21..=21 | check | #424243440000000011000000003f27424a424243450000000000000000000000000000000000000000 | \
+        Refused(Refusal { place: 17, reason: BadPrefix }) | # | refused at 17: BadPrefix;";
+
+#[test]
+fn nothing_is_read_behind_a_refusal(rt: HostRuntime) -> Result<(), Fail> {
+    check_rows(&rt, rt.alloc(), &SLOW, REFUSED)
+}

@@ -1,0 +1,128 @@
+// Runs in which a write fails, one byte a call: each write of the output and of the note, one at a time, of each command.
+use crate::row::check_rows;
+use crate::runs::{Ends, Outcome, PICTURE, SLOW, SMALLEST, Sinks, WHOLE, check_run, run_bytes};
+use std::alloc::Global;
+use std::process::Abort;
+use std::test::Fail;
+use vc2_cli::Status;
+
+// Where a write of the output fails, what came before it is written.
+fn check_out(
+    rt: &impl Abort,
+    alloc: Global,
+    words: &str,
+    input: &[u8],
+    out: &[u8],
+) -> Result<(), Fail> {
+    for call in 0..out.len() {
+        let ends = Ends {
+            out: call as u64,
+            ..SLOW
+        };
+        let outcome = Outcome {
+            status: Status::OutFault,
+            out: &out[..call],
+            note: b"",
+        };
+        check_run(rt, alloc, words, input, &ends, &outcome)?;
+    }
+    Ok(())
+}
+
+// Where a write of the note fails, the output is written, and what came before it of the note.
+fn check_note(
+    rt: &impl Abort,
+    alloc: Global,
+    words: &str,
+    input: &[u8],
+    out: &[u8],
+    note: &[u8],
+) -> Result<(), Fail> {
+    for call in 0..note.len() {
+        let ends = Ends {
+            note: call as u64,
+            ..SLOW
+        };
+        let outcome = Outcome {
+            status: Status::NoteFault,
+            out,
+            note: &note[..call],
+        };
+        check_run(rt, alloc, words, input, &ends, &outcome)?;
+    }
+    Ok(())
+}
+
+// The calls behind the last ones of both sinks aren't made.
+fn check_behind(
+    rt: &impl Abort,
+    alloc: Global,
+    words: &str,
+    input: &[u8],
+    outcome: &Outcome,
+) -> Result<(), Fail> {
+    let ends = Ends {
+        out: outcome.out.len() as u64,
+        note: outcome.note.len() as u64,
+        ..SLOW
+    };
+    check_run(rt, alloc, words, input, &ends, outcome)
+}
+
+// What such a run comes to where no call fails is a row of `failing_reads`.
+fn check_writes(rt: &impl Abort, alloc: Global, words: &str, input: &[u8]) -> Result<(), Fail> {
+    let mut sinks = Sinks::new(alloc, &SLOW)?;
+    let status = run_bytes(alloc, words, input, &SLOW, &mut sinks)?;
+    let out = sinks.out.bytes();
+    let note = sinks.note.bytes();
+    check_out(rt, alloc, words, input, out)?;
+    check_note(rt, alloc, words, input, out, note)?;
+    check_behind(rt, alloc, words, input, &Outcome { status, out, note })
+}
+
+#[test]
+fn each_write_may_fail(rt: HostRuntime) -> Result<(), Fail> {
+    check_writes(&rt, rt.alloc(), "decode", SMALLEST)?;
+    check_writes(&rt, rt.alloc(), "encode ..", PICTURE)?;
+    check_writes(&rt, rt.alloc(), "chain", SMALLEST)?;
+    check_writes(&rt, rt.alloc(), "header", SMALLEST)?;
+    check_writes(&rt, rt.alloc(), "trial .. seed=0 pictures=1", b"")
+}
+
+// The first unit goes out before anything is read, and a picture's unit before the next read: where its first write fails,
+// so would that read.
+#[test]
+fn writes_come_before_the_next_read(rt: HostRuntime) -> Result<(), Fail> {
+    let first = Ends {
+        read: 0,
+        out: 0,
+        ..SLOW
+    };
+    let row = "the first unit | encode .. | #808080 | OutFault | # | #";
+    check_rows(&rt, rt.alloc(), &first, row)?;
+    let second = Ends {
+        read: 3,
+        out: 17,
+        ..SLOW
+    };
+    let row =
+        "a picture's unit | encode .. | #808080 | OutFault | #424243440000000011000000003f27424a | #";
+    check_rows(&rt, rt.alloc(), &second, row)
+}
+
+#[test]
+fn writes_of_many_bytes_may_fail(rt: HostRuntime) -> Result<(), Fail> {
+    let sixth = Ends {
+        most: 7,
+        out: 5,
+        ..WHOLE
+    };
+    let row =
+        "seven bytes a write | chain | #424243440000000011000000003f27424a42424344c80000001500000011000000000c92700142424344100000000000000015 | \
+        OutFault | 0 sequence-header next 17 previous  | #";
+    check_rows(&rt, rt.alloc(), &sixth, row)?;
+    let note = Ends { note: 0, ..WHOLE };
+    let row =
+        "the note of chain | chain | #424243440000000011000000003f27424a4242 | NoteFault | 0 sequence-header next 17 previous 0; | #";
+    check_rows(&rt, rt.alloc(), &note, row)
+}
