@@ -5,9 +5,11 @@ usage: tools/schedule_rows.py
 
 A stream is a list of units (head, slices, a, b). The plan is found by trying delays; how a schedule comes out, by going
 through slice after slice, and through the idle slots behind each picture. It prints the rows of both texts of
-crates/codec_tests/src/schedules.rt that were found by search: first those without idle slots, then those with them.
+crates/codec_tests/src/schedules.rt that were found by search: first those without idle slots, then those with them. Then it
+prints those of the plans that streams of any length share, having tried streams of up to five parts.
 """
 import random
+import sys
 
 
 def ends_of(units):
@@ -95,6 +97,43 @@ def outcome_row(row, rate, idle, delay, size):
     return told(units_of(*row), rate, idle, delay, size) + "|" + text
 
 
+def parts_of(row, parts):
+    """So many sequences of some pictures; where a sequence has 0 of them, one sequence of so many pictures."""
+    header, pictures, *picture = row
+    if pictures == 0:
+        return units_of(header, parts, *picture)
+    return units_of(header, pictures, *picture) * parts
+
+
+def carrying(row, idle):
+    """The rate that carries a part in its slots."""
+    header, pictures, head, slices, a, b = row
+    unit = head + slices * a // b
+    if pictures == 0:
+        return unit, slices + idle
+    return header + pictures * unit + 13, pictures * (slices + idle)
+
+
+def known_row(row, idle):
+    rate = carrying(row, idle)
+    (delay, first), *others = [plan(parts_of(row, parts), rate, idle) for parts in range(1, 6)]
+    if set(others) != {(delay, others[0][1])}:
+        sys.exit(f"schedule_rows: the plans of {row} with {idle} idle slots differ: {others}")
+    return f"({delay}, {first}, {others[0][1]})|" + " ".join(map(str, (*row, *rate, idle)))
+
+
+# The smallest stream and the README's example, without idle slots and with them; a stream whose first picture alone holds a
+# byte less; the smallest stream in groups.
+KNOWN = [
+    ((17, 0, 20, 1, 1, 1), 0),
+    ((17, 0, 20, 1, 1, 1), 3),
+    ((20, 0, 25, 24, 64, 1), 0),
+    ((20, 0, 25, 24, 64, 1), 6),
+    ((17, 0, 25, 1, 6, 1), 0),
+    ((17, 2, 20, 1, 1, 1), 0),
+]
+
+
 # The smallest stream and one of two pictures, at the default rates and at the rates' bounds, with idle slots up to their bound.
 BOUNDS = [
     ((17, pictures, 20, 1, 1, 1), rate, idle)
@@ -130,6 +169,9 @@ def main():
         delay, size = plan(units_of(*row), rate, idle)
         for d, s, i in ((delay, size, idle - 1), (delay, size, idle + 1), (delay, size - 1, idle), (max(delay, 1) - 1, size, idle)):
             print(outcome_row(row, rate, i, d, s))
+    print("KNOWN:")
+    for row, idle in KNOWN + [(row, random_numbers.choice([0, 1, 3, 10])) for row, _ in streams(random_numbers, 12)]:
+        print(known_row(row, idle))
 
 
 if __name__ == "__main__":

@@ -14,7 +14,10 @@ mod schedule;
 mod slots;
 mod stepped_quotient;
 
-pub use laws::{each_has_one_outcome, each_has_one_plan, plans_are_least, plans_replay};
+pub use laws::{
+    each_has_one_outcome, each_has_one_plan, groups_are_known, pictures_are_known, plans_are_least,
+    plans_replay,
+};
 pub use planning::plan;
 pub use replaying::replay;
 pub use schedule::{Outcome, Rate, Schedule};
