@@ -31,15 +31,33 @@ fn append(rt: &impl Abort, shapes: &mut UnitShapes, head: u32, slices: u32, a: u
     });
 }
 
-/// Pictures that are alike, behind a sequence header and before an end of sequence.
-fn shapes_of(rt: &impl Abort, alloc: Global, row: &[u32; 16]) -> UnitShapes {
-    let [header, pictures, head, slices, a, b, ..] = *row;
-    let mut shapes = UnitShapes::new(alloc);
-    append(rt, &mut shapes, header, 0, 1, 1);
+/// Appends pictures that are alike, behind a sequence header and before an end of sequence.
+fn append_sequence(rt: &impl Abort, shapes: &mut UnitShapes, row: &[u32; 16], pictures: u32) {
+    let [header, _, head, slices, a, b, ..] = *row;
+    append(rt, shapes, header, 0, 1, 1);
     for _ in 0..pictures {
-        append(rt, &mut shapes, head, slices, a, b);
+        append(rt, shapes, head, slices, a, b);
     }
-    append(rt, &mut shapes, 13, 0, 1, 1);
+    append(rt, shapes, 13, 0, 1, 1);
+}
+
+/// One sequence of a row's pictures.
+fn shapes_of(rt: &impl Abort, alloc: Global, row: &[u32; 16]) -> UnitShapes {
+    let mut shapes = UnitShapes::new(alloc);
+    append_sequence(rt, &mut shapes, row, row[1]);
+    shapes
+}
+
+/// So many sequences of a row's pictures; where it has 0 of them, one sequence of so many.
+fn parts_of(rt: &impl Abort, alloc: Global, row: &[u32; 16], parts: u32) -> UnitShapes {
+    let mut shapes = UnitShapes::new(alloc);
+    if row[1] == 0 {
+        append_sequence(rt, &mut shapes, row, parts);
+        return shapes;
+    }
+    for _ in 0..parts {
+        append_sequence(rt, &mut shapes, row, row[1]);
+    }
     shapes
 }
 
@@ -153,6 +171,30 @@ const OUTCOMES: &str = "\
 (5, 77, Late { slot: 5, have: 57, need: 60 })|17 2 38 8 5 1 23 2 1 1 5 0 77
 ";
 
+/// Plans that are known before the stream is. A row has the columns of a plan, without the last, and its rate carries a picture
+/// in its slots; or, where it has pictures, a sequence of so many in the slots of these. It tells the delay, the size for one
+/// part, and that for two and more.
+const KNOWN: &str = "\
+(2, 42, 42)|17 0 20 1 1 1 21 1 0
+(8, 42, 42)|17 0 20 1 1 1 21 4 3
+(2, 130, 130)|20 0 25 24 64 1 1561 24 0
+(8, 416, 416)|20 0 25 24 64 1 1561 30 6
+(2, 61, 62)|17 0 25 1 6 1 31 1 0
+(2, 72, 85)|17 2 20 1 1 1 72 2 0
+(6, 47, 57)|17 3 17 9 9 2 201 27 0
+(2, 72, 85)|17 1 37 1 15 3 72 2 1
+(18, 47, 47)|17 0 14 9 12 3 50 19 10
+(5, 48, 48)|17 0 19 4 5 1 39 4 0
+(5, 55, 55)|17 0 27 2 21 7 33 3 1
+(6, 45, 55)|17 3 20 9 9 2 210 30 1
+(3, 57, 70)|17 3 25 2 5 3 114 6 0
+(6, 60, 60)|17 0 34 4 4 1 50 5 1
+(13, 48, 61)|17 2 27 3 4 2 96 26 10
+(10, 53, 66)|17 1 35 3 5 3 70 13 10
+(4, 51, 64)|17 1 23 6 8 2 77 6 0
+(8, 64, 74)|17 3 35 8 10 2 255 33 3
+";
+
 /// The schedule of a row's numbers: the plan, or where a 1 stands, one with a delay, which is shifted left, and a size.
 fn schedule_of(rt: &impl Abort, shapes: &UnitShapes, of: &[u32; 16]) -> Schedule
     ensures rate { IsRate result.rate }
@@ -212,4 +254,30 @@ fn idle_slots_behind_pictures_alone(rt: HostRuntime) {
     let plans = [(without.delay, without.size), (with.delay, with.size)];
     assert_same(&rt, plans, [(17, 89), (13, 68)]);
     assert_same(&rt, outcomes, [Outcome::Runs, Outcome::Runs]);
+}
+
+/// The plan of a stream of so many parts, at a row's rate.
+fn plan_of_parts(rt: &impl Abort, alloc: Global, of: &[u32; 16], parts: u32) -> Schedule {
+    let shapes = parts_of(rt, alloc, of, parts);
+    let rate = rate_of(rt, of[6], of[7]);
+    plan(&shapes, rate, of[8])
+}
+
+/// Asserts that streams of two to six parts have one plan, and the delay of one part.
+fn expect_known(rt: &impl Abort, alloc: Global, row: &str) {
+    let of = numbers(behind(rt, row));
+    let one = plan_of_parts(rt, alloc, &of, 1);
+    let two = plan_of_parts(rt, alloc, &of, 2);
+    assert_told(rt, row, (two.delay, one.size, two.size));
+    assert_same(rt, one.delay, two.delay);
+    for parts in 3..7 {
+        assert_same(rt, plan_of_parts(rt, alloc, &of, parts), two);
+    }
+}
+
+#[test]
+fn schedules_are_known_before_the_stream(rt: HostRuntime) {
+    for row in KNOWN.lines() {
+        expect_known(&rt, rt.alloc(), row);
+    }
 }

@@ -58,7 +58,7 @@ fn sample(v: i64, wavelet: Wavelet, half: i64) -> u16
 
 // Half of the numbers of so many bits.
 #[tactic(auto, using(crate::proofs::SampleRows::half_some, crate::proofs::SampleRows::half_most))]
-fn half_range(depth: u32) -> i64
+pub(crate) fn half_range(depth: u32) -> i64
     requires some { 1 ≤ depth }
     requires most { depth ≤ 16 }
     ensures value { result ≡ pos (2 ^ (depth - 1)) }

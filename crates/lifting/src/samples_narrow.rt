@@ -59,7 +59,7 @@ fn sample(v: i32, wavelet: Wavelet, half: i32) -> u16
 
 // Half of the numbers of so many bits.
 #[tactic(auto, using(crate::proofs::SampleRows::half_some, crate::proofs::SampleRows::half_most))]
-fn half_range(depth: u32) -> i32
+pub(crate) fn half_range(depth: u32) -> i32
     requires some { 1 ≤ depth }
     requires most { depth ≤ 16 }
     ensures value { result ≡ pos (2 ^ (depth - 1)) }

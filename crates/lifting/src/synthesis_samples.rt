@@ -111,7 +111,7 @@ fn sample_row_of(samples: &mut [u16], area: SampleArea, y: u32, band: &Plane)
 }
 
 // The samples of the lowest band, where there is no level.
-fn sample_lowest(samples: &mut [u16], area: SampleArea, band: &Plane)
+pub(crate) fn sample_lowest(samples: &mut [u16], area: SampleArea, band: &Plane)
     requires some_bits { 1 ≤ area.depth }
     requires bits { area.depth ≤ 16 }
     requires count { length samples.old ≡ area.h * area.w }

@@ -111,7 +111,7 @@ fn sample_row_of(samples: &mut [u16], area: SampleArea, y: u32, band: &NarrowPla
 }
 
 // The samples of the lowest band, where there is no level.
-fn sample_lowest(samples: &mut [u16], area: SampleArea, band: &NarrowPlane)
+pub(crate) fn sample_lowest(samples: &mut [u16], area: SampleArea, band: &NarrowPlane)
     requires some_bits { 1 ≤ area.depth }
     requires bits { area.depth ≤ 16 }
     requires count { length samples.old ≡ area.h * area.w }

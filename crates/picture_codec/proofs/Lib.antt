@@ -2,7 +2,7 @@ pub mod Halves
 pub mod Tables
 pub mod Taking
 pub mod Sizes
-pub mod DecodedBands
+pub mod BothWidths
 pub mod Steps
 pub mod Whole
 pub mod WorkedPictures
@@ -17,3 +17,4 @@ pub mod WrittenChosen
 pub mod CodedBands
 pub mod Lossless
 pub mod Runs
+pub mod LeastIndices

@@ -31,7 +31,7 @@ use Rattle.picture_codec.specs.Taking.{holder, TakesSlice}
 use Rattle.picture_codec.specs.Decoding.{AreTaken, AllTaken, stack_of}
 use Rattle.picture_codec.proofs.Tables.{row_below, column_below, place_again}
 use Rattle.picture_codec.proofs.Taking.{holder-rises, held-by}
-use Rattle.picture_codec.proofs.DecodedBands.{sizes_after}
+use Rattle.picture_codec.proofs.BothWidths.{sizes_after}
 use Rattle.slice_decoder.proofs.Decodes.{within_abs}
 
 -- no slice yet

@@ -7,13 +7,15 @@ use Rattle.std.proofs.lemmas.Int.{ints, int_max_is, int_min_is}
 use Rattle.std.proofs.lemmas.Bool.{cases_lt}
 use Rattle.std.proofs.lemmas.List.FromFn.{length-map-range_with_len, get_or-map-range_with_len}
 use Rattle.planes.specs.Raster.{at}
+use Rattle.planes.specs.declared.Trio.{Trio}
 use Rattle.planes.specs.Subbands.{BandStack, band_of, subband_length}
 use Rattle.slice_geometry.specs.declared.Size.{Size}
+use Rattle.slice_geometry.specs.declared.PictureShape.{PictureShape}
 use Rattle.slice_geometry.specs.declared.Component.{Component}
-use Rattle.slice_geometry.specs.Shape.{IsDepth}
+use Rattle.slice_geometry.specs.Shape.{IsDepth, IsSize}
 use Rattle.slice_geometry.specs.declared.Component.TheVariants.{Luma, C1, C2}
 use Rattle.slice_decoder.proofs.Decodes.{lt_tests, ge_tests}
-use Rattle.slice_geometry.specs.Slicing.{IsAllowed, AreSlicesAllowed, slice_count}
+use Rattle.slice_geometry.specs.Slicing.{Slicing, IsAllowed, AreSlicesAllowed, slice_count}
 use Rattle.slice_geometry.specs.Geometry.{padded_length, band_size}
 use Rattle.lifting.specs.Bands.{coefficients_of, lowest}
 use Rattle.lifting.specs.Ranges.{SameInside, SameBands}
@@ -25,10 +27,10 @@ use Rattle.slice_geometry.specs.Frames.{Frame, frame_of}
 use Rattle.picture_codec.specs.Pictures.{size_of, depth_of, coefficient, coefficients, sample_of, sample}
 use Rattle.picture_codec.specs.Samples.{SamplesSeen, PictureSamples, tabulated, AreSamples, picture_of}
 use Rattle.picture_codec.specs.Taking.{holder, Took}
-use Rattle.picture_codec.specs.Decoding.{PictureDecoderSeen, AllTaken, HasTaken, synthesised, synthesised_picture}
+use Rattle.picture_codec.specs.Decoding.{PictureDecoderSeen, AreTaken, AllTaken, HasTaken, CanSynthesise, AllCanSynthesise, HoldUnit, synthesised, synthesised_picture}
 use Rattle.picture_codec.proofs.Halves.{half_some, doubled}
 use Rattle.picture_codec.proofs.Tables.{tabulated_same, positive}
-use Rattle.picture_codec.proofs.Sizes.{padded_whole, padded_covers, holder_below}
+use Rattle.picture_codec.proofs.Sizes.{padded_whole, padded_covers, holder_below, small_in}
 
 -- ---- samples fit
 
@@ -92,7 +94,7 @@ module _ (f : Frame) (p : Params) (slices : List (List ℕ)) (c : Component) (b 
       let x_in : x < (band (suc m)).w = subst (λ v. x < v) (columns m lt) lx in
       took.upper (suc m) orient y x (inr (omega arith, omega arith, some, few)) (omega arith) y_in x_in (held (suc m) y x y_in x_in)
 
-  same_bands : SameBands (band 0).h (band 0).w depth (coefficients_of b) (coefficients f p slices c)
+  pub same_bands : SameBands (band 0).h (band 0).w depth (coefficients_of b) (coefficients f p slices c)
   same_bands = record {
     ll = λ y x y_in x_in. took.lowest y x y_in x_in (held 0 y x y_in x_in);
     hl = λ m lt. upper m 1 lt (omega arith) (omega arith);
@@ -123,6 +125,23 @@ unit_is d slices n allowed taken has all =
     let second : SamplesSeen → PictureSamples = λ r. record { luma = tabulated f.luma (sample f d.params slices Luma); c1 = r; c2 = s.c2 } in
     let third : SamplesSeen → PictureSamples = λ r. record { luma = tabulated f.luma (sample f d.params slices Luma); c1 = tabulated f.colour (sample f d.params slices C1); c2 = r } in
     ap first luma ∙ ap second c1 ∙ ap third c2
+
+-- the bands of all three, where all slices were taken
+pub unit_held : (d : PictureDecoderSeen) (slices : List (List ℕ)) (n : ℕ) → IsAllowed d.params.slicing → AllTaken d.params.slicing d.shape n d.bands → HasTaken slices d → length slices ≡ slice_count d.params.slicing
+    → HoldUnit (frame_of d.shape) d.params slices d.bands
+unit_held d slices n allowed taken has all Luma = same_bands (frame_of d.shape) d.params slices Luma d.bands.luma taken.luma.depth allowed.slices allowed.depth (has.each Luma) all
+unit_held d slices n allowed taken has all C1 = same_bands (frame_of d.shape) d.params slices C1 d.bands.c1 taken.c1.depth allowed.slices allowed.depth (has.each C1) all
+unit_held d slices n allowed taken has all C2 = same_bands (frame_of d.shape) d.params slices C2 d.bands.c2 taken.c2.depth allowed.slices allowed.depth (has.each C2) all
+
+-- and what synthesis asks of them
+pub all_can : (s : Slicing) (shape : PictureShape) (n : ℕ) (bands : Trio) → IsAllowed s → AllTaken s shape n bands → n ≡ slice_count s → AllCanSynthesise s shape bands
+all_can s shape n bands allowed taken all =
+    let can : (size : Size) (b : BandStack) → AreTaken s size n b → IsSize size.w size.h → CanSynthesise s size b = λ size b t is. record { depth = t.depth; sizes = t.sizes; small = small_in s size b n t allowed.depth is all allowed.slices } in
+    record {
+      luma = can shape.luma bands.luma taken.luma shape.luma_fits;
+      c1 = can shape.colour bands.c1 taken.c1 shape.colour_fits;
+      c2 = can shape.colour bands.c2 taken.c2 shape.colour_fits;
+    }
 
 -- ---- what is wanted
 

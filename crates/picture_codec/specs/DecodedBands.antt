@@ -1,10 +1,13 @@
 -- Bands of 32 bits, and those of 64 bits that take their place.
-use Rattle.std.specs.Prelude.{◌≡◌, Bool, true}
-use Rattle.planes.specs.Subbands.{AgreeInSizes, AreZeroBands}
+use Rattle.std.specs.Prelude.{◌≡◌, ◌^◌, Bool, true, pos}
+use Rattle.planes.specs.Bounded.{AreBandsWithin}
+use Rattle.planes.specs.Subbands.{BandStack, AgreeInSizes, AreZeroBands}
 use Rattle.planes.specs.declared.LateTrio.{LateTrio}
 use Rattle.planes.specs.declared.Trio.{Trio}
 use Rattle.planes.specs.declared.NarrowTrio.{NarrowTrio}
 use Rattle.slice_decoder.specs.Narrow.{AreNarrowBands}
+use Rattle.picture_codec.specs.declared.decoded_bands.ShownBands.{ShownBands}
+use Rattle.picture_codec.specs.declared.decoded_bands.ShownBands.TheVariants.{Wide, Narrow}
 
 -- the bands of each component have the same sizes in both
 pub record AllAgree (narrow : NarrowTrio) (wide : Trio) : Type 0 where
@@ -36,3 +39,8 @@ pub record AreKept (narrow : NarrowTrio) (wide : WideSeen) (is_wide : Bool) : Ty
   pub small : AreNarrowBands narrow
   pub sizes : AllAgree narrow wide.bands
   pub made : is_wide ≡ true → wide.is_made ≡ true
+
+-- bands of a component, as they are shown in one width or the other
+abbrev pub IsShownAs : BandStack → ShownBands → Type 0
+IsShownAs b (Wide shown) = shown.now ≡ b
+IsShownAs b (Narrow shown) = (shown.now ≡ b) × AreBandsWithin (pos (2 ^ 18)) shown.now

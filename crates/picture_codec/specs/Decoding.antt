@@ -15,9 +15,11 @@ use Rattle.slice_geometry.specs.Geometry.{padded_length, band_size}
 use Rattle.lifting.specs.declared.Wavelet.{Wavelet}
 use Rattle.lifting.specs.Transform.{synthesis}
 use Rattle.lifting.specs.Bands.{coefficients_of}
+use Rattle.lifting.specs.Ranges.{SameBands}
+use Rattle.lifting.specs.SampleRoom.{AreSmallIn}
 use Rattle.transform_params.specs.Params.{Params}
-use Rattle.picture_codec.specs.Pictures.{size_of, sample_of}
-use Rattle.slice_geometry.specs.Frames.{frame_of}
+use Rattle.picture_codec.specs.Pictures.{size_of, coefficients, sample_of}
+use Rattle.slice_geometry.specs.Frames.{Frame, frame_of}
 use Rattle.picture_codec.specs.Samples.{SamplesSeen, PictureSamples, PictureSeen, tabulated, with_component, bits_of}
 use Rattle.slice_decoder.specs.declared.SliceFault.{SliceFault}
 use Rattle.slice_decoder.specs.Slice.{Slice, slice_at, is_small}
@@ -81,6 +83,27 @@ pub record AllTaken (s : Slicing) (shape : PictureShape) (n : ℕ) (bands : Trio
   pub c1 : AreTaken s shape.colour n bands.c1
   pub c2 : AreTaken s shape.colour n bands.c2
   pub few : n ≤ slice_count s
+
+-- what synthesis asks of the bands of a component: they have their sizes, and their numbers are small enough
+pub record CanSynthesise (s : Slicing) (size : Size) (b : BandStack) : Type 0 where
+  pub depth : b.depth ≡ s.depth
+  pub sizes : HaveSizes b (padded_length s.depth size.w) (padded_length s.depth size.h)
+  pub small : AreSmallIn b (padded_length s.depth size.w) (padded_length s.depth size.h)
+
+pub record AllCanSynthesise (s : Slicing) (shape : PictureShape) (bands : Trio) : Type 0 where
+  pub luma : CanSynthesise s shape.luma bands.luma
+  pub c1 : CanSynthesise s shape.colour bands.c1
+  pub c2 : CanSynthesise s shape.colour bands.c2
+
+-- the bands hold the coefficients of a unit's component, the lowest one restored
+abbrev pub HoldComponent : Frame → Params → List (List ℕ) → Component → BandStack → Type 0
+HoldComponent f p slices c b =
+    let lowest = band_size p.slicing.depth 0 (size_of f c) in
+    SameBands lowest.h lowest.w p.slicing.depth (coefficients_of b) (coefficients f p slices c)
+
+-- those of all three
+abbrev pub HoldUnit : Frame → Params → List (List ℕ) → Trio → Type 0
+HoldUnit f p slices bands = (c : Component) → HoldComponent f p slices c (stack_of bands c)
 
 -- two planes of a component's padded size
 pub record ArePadded (s : Slicing) (size : Size) (plane scratch : Raster ℤ) : Type 0 where

@@ -7,3 +7,4 @@ pub mod Written
 pub mod Encoding
 pub mod EncoderInside
 pub mod Lossless
+pub mod LeastIndices

@@ -9,7 +9,7 @@ ghost use Rattle.slice_decoder.specs.Decoded.{AreReady, AllKeepOthers, IsDecoded
 ghost use Rattle.slice_decoder.specs.Narrow.{trio_of, AreNarrowBands};
 ghost use Rattle.picture_codec.specs.Pictures as pictures;
 ghost use Rattle.picture_codec.specs.Decoding.{AreTaken, HasLateRoom, HaveHalfRoom, AreNewBands, stack_of, with_synthesised};
-ghost use Rattle.picture_codec.specs.DecodedBands.{AllAgree, narrow_of};
+ghost use Rattle.picture_codec.specs.DecodedBands.{AllAgree, narrow_of, IsShownAs};
 
 use crate::picture::Picture;
 use crate::wide_bands::WideBands;
@@ -122,6 +122,15 @@ fn narrow(wide: &Trio, narrow: &mut NarrowTrio)
     narrow.c2.narrow(&wide.c2);
 }
 
+/// The bands of a component, in the width that serves.
+#[derive(Clone, Copy)]
+pub enum ShownBands<'a> {
+    /// In 64 bits.
+    Wide(&'a Bands),
+    /// In 32 bits, no magnitude being above 2^18.
+    Narrow(&'a NarrowBands),
+}
+
 /// The bands of the three components. Those of 32 bits hold no magnitude above 2^18. They serve until a slice has a
 /// greater one, or more values of a block than there is room for; from then on those of 64 bits do, until `settle`.
 #[derive(Drop)]
@@ -162,6 +171,17 @@ impl DecodedBands {
             codes: CodeTable::new(alloc)?,
             buffer: Vec::from_elem(alloc, 0i32, room_of(layout, shape))?,
         })
+    }
+
+    /// The bands of a component.
+    pub fn component(&self, c: Component) -> ShownBands<'_>
+        ensures { IsShownAs (stack_of self.now c) result }
+    {
+        if self.is_wide {
+            ShownBands::Wide(wide_stack(self.wide.bands(), c))
+        } else {
+            ShownBands::Narrow(narrow_stack(&self.narrow, c))
+        }
     }
 
     /// Decodes a slice as `decode_slice` does.

@@ -4,7 +4,7 @@ ghost use Rattle.std.specs.Prelude.{◌≡◌, ◌≢◌, ℕ, List, length, IfO
 ghost use Rattle.transform_params.specs.Views.{params_of};
 ghost use Rattle.slice_geometry.specs.Frames.{frame_of};
 ghost use Rattle.picture_codec.specs.Samples.{picture_of};
-ghost use Rattle.picture_codec.specs.Decoding.{IsNewDecoder, IsTaken, IsSliceRefused, HasTaken, synthesised_picture, wanted_of};
+ghost use Rattle.picture_codec.specs.Decoding.{IsNewDecoder, IsTaken, IsSliceRefused, HasTaken, AllCanSynthesise, HoldUnit, synthesised_picture, wanted_of};
 
 use crate::decoded_bands::DecodedBands;
 use crate::picture::Picture;
@@ -127,6 +127,19 @@ impl PictureDecoder {
                 Err(fault)
             }
         }
+    }
+
+    /// The bands of the slices, all of which were taken, before `finish` and behind it.
+    pub fn bands(&self) -> &DecodedBands
+        requires unrefused { self.now.refused ≡ false }
+        requires whole { wanted_of self.now ≡ None }
+        ensures value { result.now ≡ self.now.bands }
+        ensures ready { AllCanSynthesise self.now.params.slicing self.now.shape result.now }
+        ensures unit { (slices : List (List ℕ)) → HasTaken slices self.now → HoldUnit (frame_of self.now.shape) self.now.params slices result.now }
+    {
+        // The rules of a layout.
+        let _ = self.params.layout.depth();
+        &self.bands
     }
 
     // Makes the picture of the slices, all of which were taken.

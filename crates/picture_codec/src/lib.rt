@@ -12,6 +12,7 @@ mod samples;
 mod wide_bands;
 mod workspace;
 
+pub use decoded_bands::{DecodedBands, ShownBands};
 pub use decoder::PictureDecoder;
 pub use encoder::{EncoderFault, PictureEncoder};
 pub use picture::Picture;

@@ -1,3 +1,4 @@
 pub mod RawText
 pub mod RawParse
 pub mod Reading
+pub mod PictureRuns

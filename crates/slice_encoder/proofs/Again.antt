@@ -21,7 +21,8 @@ use Rattle.slice_encoder.specs.Tries.{in_rect, tried, IsTried, AreTried, tried_l
 use Rattle.slice_encoder.specs.Order.{Place, places_of}
 use Rattle.slice_encoder.specs.Choice.{fits}
 use Rattle.slice_encoder.specs.TrialLaws.{most_coefficient, IsIndex, IsSteepOk}
-use Rattle.slice_encoder.specs.Ready.{IsReady, AreReady, KeepsOthers, AllKeepOthers}
+use Rattle.slice_encoder.specs.Ready.{IsReady, AreReady}
+use Rattle.slice_encoder.proofs.Others.{KeepsOthers, AllKeepOthers}
 use Rattle.slice_encoder.proofs.Near.{restored_value-within, within_abs, difference_within}
 use Rattle.slice_encoder.proofs.Coarsest.{gone, needs_none, need-zeros, two_zeros, all_joined, places_exist}
 use Rattle.slice_encoder.proofs.Continues.{in_rect-yes, tried-inside, tried-outside, lowest_inside}

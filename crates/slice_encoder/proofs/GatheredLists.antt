@@ -11,9 +11,9 @@ use Rattle.slice_encoder.specs.declared.gathered.GatheredSlice.{GatheredSlice}
 use Rattle.slice_encoder.specs.Trials.{CodedComponent, luma_list, colour_list, CodedPicture, luma_of, c1_of, c2_of, lists}
 use Rattle.slice_encoder.specs.Choice.{needs_fit, fits}
 use Rattle.slice_encoder.specs.LowNeeds.{may_fit}
-use Rattle.slice_encoder.specs.Listing.{band_part, pair_part}
-use Rattle.slice_encoder.specs.Gathering.{raw_part, raw_before, GatheredSeen, AreGathered, piece_of, quantised, quantised_piece, in_turn, high_part, high_reach, gathered_reach, behind_lowest, reach, reach_of}
+use Rattle.slice_encoder.specs.Gathering.{raw_part, raw_before, GatheredSeen, AreGathered, piece_of, quantised, quantised_piece, in_turn, gathered_reach, behind_lowest, reach}
 use Rattle.slice_encoder.specs.GatheredSlices.{AreAllGathered, gathered_low}
+use Rattle.slice_encoder.proofs.Parts.{band_part, pair_part, high_part, high_reach, reach_of}
 use Rattle.std.proofs.lemmas.List.{length-append}
 use Rattle.planes.specs.Subbands.{BandStack}
 use Rattle.slice_geometry.specs.declared.Size.{Size}

@@ -1,3 +1,6 @@
+pub mod Parts
+pub mod Others
+pub mod RectSoFar
 pub mod Made
 pub mod QueueBits
 pub mod BlockTexts

@@ -14,7 +14,8 @@ use Rattle.dc_prediction.proofs.Rectangles.{in_rect_or_not}
 use Rattle.quant_factors.specs.Factors.{forward_of}
 use Rattle.quant_factors.proofs.QuantLemmas.{coarser, abs-forward}
 use Rattle.slice_encoder.specs.Loop.{restored_value}
-use Rattle.slice_encoder.specs.RectTrials.{CanTryRect, Before, TriedSoFar}
+use Rattle.slice_encoder.specs.RectTrials.{CanTryRect}
+use Rattle.slice_encoder.proofs.RectSoFar.{Before, TriedSoFar}
 use Rattle.slice_encoder.proofs.Coarsest.{factor-fourth}
 use Rattle.slice_encoder.proofs.Made.{zero_within}
 

@@ -25,9 +25,10 @@ use Rattle.slice_geometry.specs.declared.Size.{Size}
 use Rattle.slice_geometry.specs.Slicing.{Slicing}
 use Rattle.slice_encoder.specs.Order.{Place, row_places, rect_places, places_of}
 use Rattle.slice_encoder.specs.Trials.{CodedComponent, value_of, luma_list, colour_list, CodedPicture, luma_of, c1_of, c2_of, lists}
-use Rattle.slice_encoder.specs.Listing.{band_value, row_values, band_part, parts_before, pair_row, pair_values, pair_part, pairs_before}
+use Rattle.slice_encoder.specs.Listing.{band_value, row_values, pair_row, pair_values}
 use Rattle.slice_encoder.specs.LowNeeds.{counted_bits}
-use Rattle.slice_encoder.specs.Gathering.{raw_part, quantised, in_turn, with_code, reach, high_part, high_reach, behind_lowest, reach_of}
+use Rattle.slice_encoder.specs.Gathering.{raw_part, quantised, in_turn, with_code, reach, behind_lowest}
+use Rattle.slice_encoder.proofs.Parts.{band_part, parts_before, pair_part, pairs_before, high_part, high_reach, reach_of}
 use Rattle.slice_encoder.proofs.CountedBits.{counted-rises, NeedsMost, one_code}
 use Rattle.slice_encoder.proofs.BandParts.{bands_listed, pairs_listed, length_rect, length_pairs, map_joined, map_map, rect_listed, either_same, joined_joined, joined_map, pair_here}
 use Rattle.slice_encoder.proofs.Gathers.{reach_append, turn_append, length_quantised}

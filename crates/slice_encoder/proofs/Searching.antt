@@ -10,7 +10,8 @@ use Rattle.slice_encoder.specs.Tries.{tried_lists}
 use Rattle.slice_encoder.specs.Choice.{fits}
 use Rattle.slice_encoder.specs.TrialLaws.{most_coefficient}
 use Rattle.slice_encoder.specs.Buffers.{Holds}
-use Rattle.slice_encoder.specs.Ready.{IsReady, AreReady, KeepsOthers, AllKeepOthers}
+use Rattle.slice_encoder.specs.Ready.{IsReady, AreReady}
+use Rattle.slice_encoder.proofs.Others.{KeepsOthers, AllKeepOthers}
 use Rattle.slice_encoder.proofs.Again.{lists_again}
 
 one_ready : (c : CodedComponent) (d sx sy : ℕ) (old mid : Raster ℤ) → IsReady c d sx sy old → KeepsOthers c sx sy old mid → IsReady c d sx sy mid

@@ -11,9 +11,7 @@ use Rattle.quant_factors.specs.Weights.{Weights, band_quantiser}
 use Rattle.slice_geometry.specs.declared.Size.{Size}
 use Rattle.slice_geometry.specs.Slicing.{Slicing}
 use Rattle.slice_geometry.specs.Geometry.{padded_length}
-use Rattle.slice_geometry.specs.SliceOrder.{level_rect, area, level_of, orient_of, numbered}
-use Rattle.slice_encoder.specs.declared.bounding.Lower.{Lower}
-use Rattle.slice_encoder.specs.Trials.{CodedComponent, CodedPicture, luma_of, c1_of, c2_of}
+use Rattle.slice_geometry.specs.SliceOrder.{level_rect, level_of, orient_of, numbered}
 use Rattle.slice_encoder.specs.Listing.{rect_values}
 
 -- ---- coefficients
@@ -92,22 +90,6 @@ reach (v ∷ vs) behind = with_code v (reach vs behind)
 abbrev pub gathered_reach : GatheredSeen → Weights → ℕ → ℕ
 gathered_reach g matrix index = reach (flat_map (quantised_piece g matrix index) (range_with_len 1 (3 * g.depth))) 0
 
--- of the slice's values outside the lowest subband
-abbrev pub high_part : CodedComponent → ℕ → ℕ → ℕ → ℕ → List ℤ
-high_part c index sx sy k =
-    quantised (band_quantiser c.matrix index (level_of k) (orient_of k)) (raw_part c.slicing c.size c.bands sx sy k)
-
-abbrev pub high_reach : CodedComponent → ℕ → ℕ → ℕ → ℕ
-high_reach c index sx sy = reach (flat_map (high_part c index sx sy) (range_with_len 1 (3 * c.slicing.depth))) 0
-
 -- Each value of the lowest subband in front takes a bit at least.
 abbrev pub behind_lowest : ℕ → ℕ → ℕ
 behind_lowest places bits = if bits == 0 then 0 else places + bits
-
--- What a slice needs at least at an index, whatever is restored: a code that isn't 0 ends in three ones at most.
-abbrev pub reach_of : CodedPicture → ℕ → ℕ → ℕ → Lower
-reach_of j sx sy index = record {
-  luma = behind_lowest (area (level_rect j.slicing j.frame.luma sx sy 0)) (high_reach (luma_of j) index sx sy) - 3;
-  colour = behind_lowest (2 * area (level_rect j.slicing j.frame.colour sx sy 0))
-      (high_reach (c1_of j) index sx sy + high_reach (c2_of j) index sx sy) - 3;
-}

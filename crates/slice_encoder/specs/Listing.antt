@@ -7,10 +7,7 @@ use Rattle.planes.specs.Raster.{Grid, Raster, height, at}
 use Rattle.planes.specs.Rect.{IsInRect}
 use Rattle.dc_prediction.specs.Prediction.{prediction, AllLookedAt}
 use Rattle.quant_factors.specs.Factors.{forward_of}
-use Rattle.quant_factors.specs.Weights.{band_quantiser}
-use Rattle.slice_geometry.specs.SliceOrder.{level_rect, level_of, orient_of, numbered}
 use Rattle.slice_encoder.specs.Loop.{residual_of}
-use Rattle.slice_encoder.specs.Trials.{CodedComponent}
 
 -- a place's value: in the lowest subband its residual, by the values that are restored there
 abbrev pub band_value : Raster ℤ → Raster ℤ → ℕ → ℕ → Grid
@@ -40,24 +37,3 @@ pub record CanList (r : Rect) (level : ℕ) (coefficients kept : Raster ℤ) : T
   pub kept_x : level ≡ 0 → r.x1 ≤ kept.w
   pub kept_y : level ≡ 0 → r.y1 ≤ height kept
   pub kept_small : level ≡ 0 → (y x : ℕ) → IsInRect r y x → AllLookedAt (λ j i. Within (3 * 2 ^ 27 + 2) (at kept j i)) y x
-
--- ---- all bands of a component
-
--- the values of the slice in band number k (LL, then HL, LH and HH of each level)
-abbrev pub band_part : CodedComponent → Raster ℤ → ℕ → ℕ → ℕ → ℕ → List ℤ
-band_part c kept index sx sy k =
-    rect_values (band_value (numbered c.bands k) kept (level_of k)
-    (band_quantiser c.matrix index (level_of k) (orient_of k))) (level_rect c.slicing c.size sx sy (level_of k))
-
-abbrev pub parts_before : CodedComponent → Raster ℤ → ℕ → ℕ → ℕ → ℕ → List ℤ
-parts_before c kept index sx sy k = flat_map (band_part c kept index sx sy) (range_with_len 0 k)
-
--- and those of two components in turn
-abbrev pub pair_part : CodedComponent → CodedComponent → Raster ℤ → Raster ℤ → ℕ → ℕ → ℕ → ℕ → List ℤ
-pair_part c1 c2 kept1 kept2 index sx sy k =
-    pair_values (band_value (numbered c1.bands k) kept1 (level_of k) (band_quantiser c1.matrix index (level_of k) (orient_of k)))
-    (band_value (numbered c2.bands k) kept2 (level_of k) (band_quantiser c2.matrix index (level_of k) (orient_of k)))
-    (level_rect c1.slicing c1.size sx sy (level_of k))
-
-abbrev pub pairs_before : CodedComponent → CodedComponent → Raster ℤ → Raster ℤ → ℕ → ℕ → ℕ → ℕ → List ℤ
-pairs_before c1 c2 kept1 kept2 index sx sy k = flat_map (pair_part c1 c2 kept1 kept2 index sx sy) (range_with_len 0 k)

@@ -2,8 +2,7 @@
 use Rattle.std.specs.Prelude.{◌≡◌, ℕ, ◌+◌, ◌*◌, ◌<◌, List, ℤ}
 use Rattle.std.specs.List.{All}
 use Rattle.planes.specs.Numbers.{Within}
-use Rattle.planes.specs.Raster.{Raster, height, at}
-use Rattle.planes.specs.Rect.{IsInRect}
+use Rattle.planes.specs.Raster.{Raster, at}
 use Rattle.planes.specs.Subbands.{HaveSizes}
 use Rattle.planes.specs.declared.ThreePlanes.{ThreePlanes}
 use Rattle.planes.specs.declared.Trio.{Trio}
@@ -51,17 +50,6 @@ pub record AreGiven (j : CodedPicture) : Type 0 where
   pub luma : IsGiven (luma_of j) j.frame.luma_depth
   pub c1 : IsGiven (c1_of j) j.frame.colour_depth
   pub c2 : IsGiven (c2_of j) j.frame.colour_depth
-
--- All places but the slice's are as they were.
-pub record KeepsOthers (c : CodedComponent) (sx sy : ℕ) (old new : Raster ℤ) : Type 0 where
-  pub same_width : new.w ≡ old.w
-  pub same_height : height new ≡ height old
-  pub places : (y x : ℕ) → (IsInRect (level_rect c.slicing c.size sx sy 0) y x → ⊥) → at new y x ≡ at old y x
-
-pub record AllKeepOthers (j : CodedPicture) (sx sy : ℕ) (old new : ThreePlanes) : Type 0 where
-  pub luma : KeepsOthers (luma_of j) sx sy old.luma new.luma
-  pub c1 : KeepsOthers (c1_of j) sx sy old.c1 new.c1
-  pub c2 : KeepsOthers (c2_of j) sx sy old.c2 new.c2
 
 -- what is asked of a picture, its shape and its slices
 abbrev pub coded_picture : Slicing → PictureShape → Weights → Trio → CodedPicture

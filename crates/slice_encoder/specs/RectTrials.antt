@@ -1,6 +1,6 @@
 -- The lowest subband of a slice as a trial restores it, place by place. A coefficient of any picture is within 2 ^ 27,
 -- and so a restored value within 3 * 2 ^ 27 + 2.
-use Rattle.std.specs.Prelude.{◌≡◌, ℕ, ◌+◌, ◌*◌, ◌^◌, ◌<◌, ◌≤◌, ◌⊎◌, ℤ}
+use Rattle.std.specs.Prelude.{◌≡◌, ℕ, ◌+◌, ◌*◌, ◌^◌, ◌≤◌, ℤ}
 use Rattle.planes.specs.declared.Rect.{Rect}
 use Rattle.planes.specs.Numbers.{Within}
 use Rattle.planes.specs.Raster.{Grid, Raster, height, at}
@@ -18,19 +18,7 @@ pub record CanTryRect (r : Rect) (coefficients kept : Raster ℤ) : Type 0 where
   pub small : (y x : ℕ) → IsInRect r y x → Within (2 ^ 27) (at coefficients y x)
   pub outside : AllLookedAtOutside (λ y x. Within (3 * 2 ^ 27 + 2) (at kept y x)) r
 
--- the places before row y and column x, row by row
-abbrev pub Before : ℕ → ℕ → ℕ → ℕ → Type 0
-Before y x j i = (j < y) ⊎ ((j ≡ y) × (i < x))
-
--- The places of the rectangle before one are restored, and all else stays.
-pub record TriedSoFar (g : Grid) (q : ℕ) (r : Rect) (y x : ℕ) (old new : Raster ℤ) : Type 0 where
-  pub same_width : new.w ≡ old.w
-  pub same_height : height new ≡ height old
-  pub done : (j i : ℕ) → IsInRect r j i → Before y x j i → at new j i ≡ restored_value (g j i) q (prediction (at new) j i)
-  pub small : (j i : ℕ) → IsInRect r j i → Before y x j i → Within (3 * 2 ^ 27 + 2) (at new j i)
-  pub stays : (j i : ℕ) → (IsInRect r j i → Before y x j i → ⊥) → at new j i ≡ at old j i
-
--- All its places are.
+-- All places of the rectangle are restored, and all else stays.
 pub record TriesRect (g : Grid) (q : ℕ) (r : Rect) (old new : Raster ℤ) : Type 0 where
   pub same_width : new.w ≡ old.w
   pub same_height : height new ≡ height old

@@ -37,16 +37,17 @@ fit_take (suc n) (b ∷ bytes) f = (f.0, fit_take n bytes f.1)
 abbrev pub machine : {W E : Type 0} → Command Past Reason DataUnit W E → Machine (Between Past W) E
 machine command = machine_of limit past_limit units nothing_yet command
 
--- A command whose texts and whose own state hang on the units alone.
+-- A command whose texts and whose own state hang on the units alone, and on what these left to it.
 pub record IsPlain {W E : Type 0} (command : Command Past Reason DataUnit W E) : Type 0 where
-  pub text : DataUnit → List ℕ
-  pub is_text : (z : Past) (own : W) (unit : DataUnit) (bytes : List ℕ) → command.text z own unit bytes ≡ text unit
+  pub text : W → DataUnit → List ℕ
+  pub is_text : (z : Past) (own : W) (unit : DataUnit) (bytes : List ℕ) → command.text z own unit bytes ≡ text own unit
   pub step : W → DataUnit → W
   pub is_step : (z : Past) (own : W) (unit : DataUnit) (bytes : List ℕ) → command.next z own unit bytes ≡ step own unit
 
 -- the texts of units, and what they leave to the command
-abbrev pub texts : (DataUnit → List ℕ) → List Entry → List ℕ
-texts text es = flat_map (λ e. text e.unit) es
+abbrev pub texts : {W : Type 0} → (W → DataUnit → List ℕ) → (W → DataUnit → W) → W → List Entry → List ℕ
+texts text step own [] = []
+texts text step own (e ∷ es) = text own e.unit ++ texts text step (step own e.unit) es
 
 abbrev pub own_behind : {W : Type 0} → (W → DataUnit → W) → W → List Entry → W
 own_behind step own [] = own
@@ -118,7 +119,7 @@ pub record Stood {W E : Type 0} (command : Command Past Reason DataUnit W E) (pl
   pub fits : IsBytes tail
   pub total : z'.place + length tail ≡ z.place + length v
   pub small : z'.place ≤ limit
-  pub same : answer_from (machine command) (record { past = z; own = own }) v ≡ before (texts plain.text es) (answer_from (machine command) (record { past = z'; own = own_behind plain.step own es }) tail)
+  pub same : answer_from (machine command) (record { past = z; own = own }) v ≡ before (texts plain.text plain.step own es) (answer_from (machine command) (record { past = z'; own = own_behind plain.step own es }) tail)
 
 before-before : {E : Type 0} (a b : List ℕ) (x : Answer E) → before a (before b x) ≡ before (a ++ b) x
 before-before a b x = ap (λ l. record { ending = x.ending; text = l; last = x.last }) (sym (append_assoc a b x.text))
@@ -127,13 +128,13 @@ pub laws_of : {W E : Type 0} (command : Command Past Reason DataUnit W E) → Is
 laws_of command = machine_laws limit past_limit units nothing_yet command units_laws
 
 one-more : {W E : Type 0} (command : Command Past Reason DataUnit W E) (plain : IsPlain command) (z : Past) (own : W) (v : List ℕ) (unit : DataUnit) (size : ℕ) → front_within limit past_limit units z v ≡ Stands size unit
-    → answer_from (machine command) (record { past = z; own = own }) v ≡ before (plain.text unit) (answer_from (machine command) (record { past = after z unit (take size v); own = plain.step own unit }) (drop size v))
+    → answer_from (machine command) (record { past = z; own = own }) v ≡ before (plain.text own unit) (answer_from (machine command) (record { past = after z unit (take size v); own = plain.step own unit }) (drop size v))
 one-more command plain z own v unit size e =
     let bytes = take size v in
     answer_step (machine command) (laws_of command) (record { past = z; own = own }) v
     ∙ ap (λ s. after_step s (λ size left. answer_from (machine command) left (drop size v))) (step-stands limit past_limit units units_laws nothing_yet command z own v size unit e)
     ∙ ap (λ l. before l (answer_from (machine command) (record { past = after z unit bytes; own = command.next z own unit bytes }) (drop size v))) (plain.is_text z own unit bytes)
-    ∙ ap (λ w. before (plain.text unit) (answer_from (machine command) (record { past = after z unit bytes; own = w }) (drop size v))) (plain.is_step z own unit bytes)
+    ∙ ap (λ w. before (plain.text own unit) (answer_from (machine command) (record { past = after z unit bytes; own = w }) (drop size v))) (plain.is_step z own unit bytes)
 
 pub units-stood : {W E : Type 0} (command : Command Past Reason DataUnit W E) (plain : IsPlain command) (es : List Entry) (z : Past) (own : W) (z' : Past) (v : List ℕ) (c' : Cursor) → z.place ≤ limit → IsBytes v
     → Units z (bytes_at z.place (near z v)) es z' c' → Stood command plain z own v es z' c'
@@ -152,8 +153,8 @@ units-stood {W} command plain (e ∷ es) z own z' v c' le fits f =
       total = omega (arith, more.total, t.place, t.inside, length-take (limit - z.place) v, length-drop t.size v);
       small = more.small;
       same = one-more command plain z own v e.unit t.size t.front
-          ∙ ap (λ (x : Past). let b : Between Past W = record { past = x; own = own' } in before (plain.text e.unit) (answer_from (machine command) b (drop t.size v))) t.taken ∙ ap (before (plain.text e.unit)) more.same
-          ∙ before-before (plain.text e.unit) (texts plain.text es) (answer_from (machine command) (record { past = z'; own = own_behind plain.step own' es }) more.tail);
+          ∙ ap (λ (x : Past). let b : Between Past W = record { past = x; own = own' } in before (plain.text own e.unit) (answer_from (machine command) b (drop t.size v))) t.taken ∙ ap (before (plain.text own e.unit)) more.same
+          ∙ before-before (plain.text own e.unit) (texts plain.text plain.step own' es) (answer_from (machine command) (record { past = z'; own = own_behind plain.step own' es }) more.tail);
     }
 
 -- ---- the end
@@ -165,15 +166,15 @@ ending-of command z own ending text = record { ending = ending; text = command.o
 -- what the units so far and the ending behind them make
 joined : {W E : Type 0} (command : Command Past Reason DataUnit W E) (plain : IsPlain command) (z' : Past) (v : List ℕ) (es : List Entry) (c' : Cursor) (front : Front Reason DataUnit) (ending : E) (s : Stood command plain nothing_yet command.start v es z' c') → front_within limit past_limit units z' s.tail ≡ front
     → (let own = own_behind plain.step command.start es in step_by units command z' own s.tail front ≡ Ends ending (command.last z' own ending))
-    → answer_to (machine command) v ≡ ending-of command z' (own_behind plain.step command.start es) ending (texts plain.text es)
+    → answer_to (machine command) v ≡ ending-of command z' (own_behind plain.step command.start es) ending (texts plain.text plain.step command.start es)
 joined {W} command plain z' v es c' front ending s here ends =
     let own = own_behind plain.step command.start es in
     let b : Between Past W = record { past = z'; own = own } in
     let last = command.last z' own ending in
     ap (before command.opening) (s.same
-    ∙ ap (before (texts plain.text es)) (answer_step (machine command) (laws_of command) b s.tail
+    ∙ ap (before (texts plain.text plain.step command.start es)) (answer_step (machine command) (laws_of command) b s.tail
     ∙ ap (λ p. after_step p (λ size left. answer_from (machine command) left (drop size s.tail))) (ap (step_by units command z' own s.tail) here ∙ ends)))
-    ∙ ap (λ l. record { ending = ending; text = command.opening ++ l; last = last }) (append-nil (texts plain.text es))
+    ∙ ap (λ l. record { ending = ending; text = command.opening ++ l; last = last }) (append-nil (texts plain.text plain.step command.start es))
 
 -- the last unit, which ends the stream, in front of bytes
 pub last-front : (z : Past) (t : List ℕ) (last : Entry) (behind : Cursor) → Stand (unit_rows z) last.fields (bytes_at z.place t) last.unit behind → ends last.unit behind ≡ true → front_of units z t ≡ Finishes (length t) last.unit
@@ -187,7 +188,7 @@ all-near bytes le = take_all limit bytes le
 -- A stream: its units' texts, and the ending of a stream that is finished, whose last unit is what is left of the bytes.
 pub answer_stream : {W E : Type 0} (command : Command Past Reason DataUnit W E) (plain : IsPlain command) (bytes : List ℕ) (es : List Entry) (last : Entry) → IsBytes bytes → (s : IsStream bytes es last)
     → (left : List ℕ) × (s.stream.left.place + length left ≡ length bytes)
-    × (let own = own_behind plain.step command.start es in answer_to (machine command) bytes ≡ ending-of command s.stream.left own (command.finished s.stream.left own last.unit left) (texts plain.text es))
+    × (let own = own_behind plain.step command.start es in answer_to (machine command) bytes ≡ ending-of command s.stream.left own (command.finished s.stream.left own last.unit left) (texts plain.text plain.step command.start es))
 answer_stream command plain bytes es last fits s =
     let whole = all-near bytes s.within in
     let f = s.stream in
@@ -209,7 +210,7 @@ answer_stream command plain bytes es last fits s =
 abbrev pub Refuses-behind : {W E : Type 0} (command : Command Past Reason DataUnit W E) → IsPlain command → List ℕ → List Entry → Fault Reason → Type 0
 Refuses-behind command plain bytes es fault =
     let own = own_behind plain.step command.start es in
-    (z : Past) × (answer_to (machine command) bytes ≡ ending-of command z own (command.refused z own fault) (texts plain.text es))
+    (z : Past) × (answer_to (machine command) bytes ≡ ending-of command z own (command.refused z own fault) (texts plain.text plain.step command.start es))
 
 -- within the limit
 answer_within : {W E : Type 0} (command : Command Past Reason DataUnit W E) (plain : IsPlain command) (bytes : List ℕ) (es : List Entry) (fields : List Value) (fault : Fault Reason) → IsBytes bytes → length bytes ≤ limit
@@ -253,15 +254,15 @@ stood_more {W} {command = command} {plain = plain} {z = z} {own = own} {v = v} {
       fits = fit_drop size s.tail s.fits;
       total = omega (arith, s.total, place, inside, length-drop size s.tail);
       small = omega (arith, place, few);
-      same = s.same ∙ ap (before (texts plain.text es)) (one-more command plain z' own' s.tail last.unit size front)
-          ∙ before-before (texts plain.text es) (plain.text last.unit) (answer_from (machine command) (record { past = left; own = plain.step own' last.unit }) (drop size s.tail))
-          ∙ ap (λ l. before l (answer_from (machine command) (record { past = left; own = plain.step own' last.unit }) (drop size s.tail))) (sym (texts_more plain.text es last))
-          ∙ ap (λ (w : W). let b : Between Past W = record { past = left; own = w } in before (texts plain.text (es ++ last ∷ [])) (answer_from (machine command) b (drop size s.tail))) (sym (own_more plain.step own es last));
+      same = s.same ∙ ap (before (texts plain.text plain.step own es)) (one-more command plain z' own' s.tail last.unit size front)
+          ∙ before-before (texts plain.text plain.step own es) (plain.text own' last.unit) (answer_from (machine command) (record { past = left; own = plain.step own' last.unit }) (drop size s.tail))
+          ∙ ap (λ l. before l (answer_from (machine command) (record { past = left; own = plain.step own' last.unit }) (drop size s.tail))) (sym (texts_more plain.text plain.step own es last))
+          ∙ ap (λ (w : W). let b : Between Past W = record { past = left; own = w } in before (texts plain.text plain.step own (es ++ last ∷ [])) (answer_from (machine command) b (drop size s.tail))) (sym (own_more plain.step own es last));
     }
   where
-    texts_more : (text : DataUnit → List ℕ) (es : List Entry) (last : Entry) → texts text (es ++ last ∷ []) ≡ texts text es ++ text last.unit
-    texts_more text [] last = append-nil (text last.unit)
-    texts_more text (e ∷ es) last = ap (λ l. text e.unit ++ l) (texts_more text es last) ∙ sym (append_assoc (text e.unit) (texts text es) (text last.unit))
+    texts_more : (text : W → DataUnit → List ℕ) (step : W → DataUnit → W) (own : W) (es : List Entry) (last : Entry) → texts text step own (es ++ last ∷ []) ≡ texts text step own es ++ text (own_behind step own es) last.unit
+    texts_more text step own [] last = append-nil (text own last.unit)
+    texts_more text step own (e ∷ es) last = ap (λ l. text own e.unit ++ l) (texts_more text step (step own e.unit) es last) ∙ sym (append_assoc (text own e.unit) (texts text step (step own e.unit) es) (text (own_behind step (step own e.unit) es) last.unit))
 
     own_more : (step : W → DataUnit → W) (own : W) (es : List Entry) (last : Entry) → own_behind step own (es ++ last ∷ []) ≡ step (own_behind step own es) last.unit
     own_more step own [] last = refl

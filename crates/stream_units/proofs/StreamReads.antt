@@ -20,14 +20,15 @@ use Rattle.unit_reader.specs.declared.reader.Turn.{Turn}
 use Rattle.unit_reader.specs.declared.reader.Turn.TheVariants as turns
 use Rattle.unit_reader.specs.Stops.{LimitStops as TableStops, StopCause as TableCause}
 use Rattle.unit_reader.specs.Reading.{ReaderSeen, NextOver as TableNext}
+use Rattle.stream_units.specs.declared.stop.ReadStop.{ReadStop}
 use Rattle.stream_units.specs.declared.stop.Item.{Item}
 use Rattle.stream_units.specs.declared.stop.Item.TheVariants as items
 use Rattle.stream_units.specs.StreamStops.{stop_told, StopCause, LimitStops}
 use Rattle.stream_units.specs.Held.{greatest_share, greatest_in}
 use Rattle.stream_units.specs.Turns.{shape_of}
-use Rattle.stream_units.specs.Reader.{StreamReaderSeen, item_of, is_end_item, IsPictureOf, TakesItem, NextOver, NextUnshown, GreatestOver}
+use Rattle.stream_units.specs.Reader.{StreamReaderSeen, item_of, is_end_item, IsPictureOf, IsTakerOf, TakesItem, NextOver, NextUnshown, GreatestOver}
 use Rattle.stream_units.specs.StreamTable.{StreamTableSeen, DecoderBehind, TellsUnit, StopsTable}
-use Rattle.stream_units.specs.ReaderInside.{picture_in, ShowsOne, seen_by, answer_of, is_shown, HoldsFew, IsSound}
+use Rattle.stream_units.specs.ReaderInside.{picture_in, taker_in, ShowsOne, ShowsWhole, seen_by, unshown_by, answer_of, is_shown, HoldsFew, IsSound, IsShowing}
 use Rattle.stream_units.proofs.HeldTurns.{few_most, stops_greatest, stops_most}
 
 abbrev Seen : Type 0
@@ -86,7 +87,7 @@ shows_unit unit = is_shown (Ok (item_of unit))
 picture_behind : (makes : Bool) (unit : DataUnit) (old new : Option PictureDecoderSeen) → makes ≡ true → DecoderBehind makes unit old new → IsPictureOf unit (picture_in (shows_unit unit) new)
 picture_behind makes (Picture parts number params slices) old new asked d =
     let seen : PictureSeen = record { shape = d.0.shape; samples = _ } in
-    (seen, ap (picture_in true) d.1 ∙ ap (option_map (λ (samples : PictureSamples). record { shape = d.0.shape; samples = samples })) (d.2.picture asked), d.2.frame, refl)
+    (seen, ap (picture_in true) d.1 ∙ ap (option_map (λ (samples : PictureSamples). record { shape = d.0.shape; samples = samples })) (d.2.picture asked), d.2.taker.frame, refl)
 picture_behind makes (Sequence parts) old new asked d = refl
 picture_behind makes Repeated old new asked d = refl
 picture_behind makes Skipped old new asked d = refl
@@ -96,11 +97,26 @@ picture_behind makes End old new asked d = refl
 picture_for : (makes : Bool) (unit : DataUnit) (old new : Option PictureDecoderSeen) → DecoderBehind makes unit old new → (picture : Option PictureSeen) × IsPictureOf unit picture
 picture_for makes (Picture parts number params slices) old new d =
     let seen : PictureSeen = record { shape = d.0.shape; samples = picture_of (frame_under parts) params slices } in
-    (Some seen, (seen, refl, d.2.frame, refl))
+    (Some seen, (seen, refl, d.2.taker.frame, refl))
 picture_for makes (Sequence parts) old new d = (None, refl)
 picture_for makes Repeated old new d = (None, refl)
 picture_for makes Skipped old new d = (None, refl)
 picture_for makes End old new d = (None, refl)
+
+-- the decoder that took the unit's picture, if it has one
+taker_behind : (makes : Bool) (unit : DataUnit) (old new : Option PictureDecoderSeen) → DecoderBehind makes unit old new → IsTakerOf unit (taker_in (shows_unit unit) new)
+taker_behind makes (Picture parts number params slices) old new d = (d.0, d.1, d.2.taker)
+taker_behind makes (Sequence parts) old new d = refl
+taker_behind makes Repeated old new d = refl
+taker_behind makes Skipped old new d = refl
+taker_behind makes End old new d = refl
+
+whole_behind : (makes : Bool) (unit : DataUnit) (old new : Option PictureDecoderSeen) → DecoderBehind makes unit old new → ShowsWhole (shows_unit unit) new
+whole_behind makes (Picture parts number params slices) old new d = subst (ShowsWhole true) (sym d.1) d.2.taker.whole
+whole_behind makes (Sequence parts) old new d = tt
+whole_behind makes Repeated old new d = tt
+whole_behind makes Skipped old new d = tt
+whole_behind makes End old new d = tt
 
 shown_behind : (makes : Bool) (unit : DataUnit) (old new : Option PictureDecoderSeen) → makes ≡ true → DecoderBehind makes unit old new → ShowsOne (shows_unit unit) new
 shown_behind makes (Picture parts number params slices) old new asked d = subst (ShowsOne true) (sym d.1) (λ none. let clash = sym (d.2.picture asked) ∙ none in absurd cc)
@@ -122,9 +138,9 @@ TurnShows old new rest0 rest1 (Ok turns.Rest) n picture = Unit {0}
 TurnShows old new rest0 rest1 (Err stop) n picture = picture ≡ None
 
 next_by : (old new : Seen) (was : Bool) (picture : Option PictureSeen) (rest0 rest1 : Option (List ℕ)) (result : TurnResult) (n : TurnOver old new rest0 rest1 result) → TurnShows old new rest0 rest1 result n picture
-    → NextOver (seen_by old was) (record (seen_by new false) { picture = picture }) rest0 rest1 (answer_of result)
+    → NextOver (seen_by old was) (record (seen_by new (is_shown (answer_of result))) { picture = picture }) rest0 rest1 (answer_of result)
 next_by old new was picture rest0 rest1 (Ok (turns.Unit item)) n is =
-    by_item (seen_by old was) (record (seen_by new false) { picture = picture }) rest0 rest1 item (ap is_end_item n.tells.is_item ∙ not_end n.unit) (record {
+    by_item (seen_by old was) (record (seen_by new (is_shown (Ok item))) { picture = picture }) rest0 rest1 item (ap is_end_item n.tells.is_item ∙ not_end n.unit) (record {
       unit = n.unit;
       bytes = n.bytes;
       is_item = n.tells.is_item;
@@ -134,6 +150,7 @@ next_by old new was picture rest0 rest1 (Ok (turns.Unit item)) n is =
       shapes = n.tells.shapes;
       few = n.tells.few;
       picture = is;
+      decoder = subst (λ (b : Bool). IsTakerOf n.unit (taker_in b new.table.decoder)) (sym (shows_is n.unit item n.tells.is_item)) (taker_behind old.table.makes_pictures n.unit old.table.decoder new.table.decoder n.tells.decoder);
       going = (ap (option_map stop_told) n.going.0, n.going.1);
     })
 next_by old new was picture rest0 rest1 (Ok (turns.Last item)) n is =
@@ -148,12 +165,13 @@ next_by old new was picture rest0 rest1 (Ok (turns.Last item)) n is =
       past = subst (λ (u : DataUnit). new.table.past ≡ (units).after old.table.past u n.bytes) e n.past;
       header = t.header;
       shapes = t.shapes;
+      none_taken = refl;
       over = (n.none, is, ap (option_map stop_told) n.over.0, n.over.1);
     }
 next_by old new was picture rest0 rest1 (Ok turns.Rest) n is = absurd (let clash : false ≡ true = n.rests.may in cc)
 next_by old new was picture rest0 rest1 (Err stop) n is = (
   limit_told old.table.past old.held rest0 rest1 stop n.0,
-  record { past = n.1; header = n.2.header; shapes = n.2.shapes; picture = is; kept = ap (option_map stop_told) n.3; ended = n.4 },
+  record { past = n.1; header = n.2.header; shapes = n.2.shapes; picture = is; decoder = refl; kept = ap (option_map stop_told) n.3; ended = n.4 },
 )
 
 -- where pictures are made, the one of the unit is shown
@@ -167,21 +185,46 @@ turn_shows old new rest0 rest1 (Err stop) n asked = refl
 pub next_told : (old new : Seen) (was : Bool) (rest0 rest1 : Option (List ℕ)) (result : TurnResult) → old.table.makes_pictures ≡ true → TurnOver old new rest0 rest1 result → NextOver (seen_by old was) (seen_by new (is_shown (answer_of result))) rest0 rest1 (answer_of result)
 next_told old new was rest0 rest1 result asked n = next_by old new was (picture_in (is_shown (answer_of result)) new.table.decoder) rest0 rest1 result n (turn_shows old new rest0 rest1 result n asked)
 
+from_item : (old new : StreamReaderSeen) (rest0 rest1 : Option (List ℕ)) (item : Item) → TakesItem old new rest0 rest1 item → TakesItem (record old { picture = None }) new rest0 rest1 item
+from_item old new rest0 rest1 item n = record {
+  unit = n.unit;
+  bytes = n.bytes;
+  is_item = n.is_item;
+  takes = n.takes;
+  past = n.past;
+  header = n.header;
+  shapes = n.shapes;
+  few = n.few;
+  picture = n.picture;
+  decoder = n.decoder;
+  going = n.going;
+}
+
+-- which picture was shown before doesn't matter
+from_unshown : (old new : StreamReaderSeen) (rest0 rest1 : Option (List ℕ)) (result : Result Item ReadStop) → NextOver old new rest0 rest1 result → NextOver (record old { picture = None }) new rest0 rest1 result
+from_unshown old new rest0 rest1 (Ok items.End) n = record { bytes = n.bytes; meets = n.meets; whole = n.whole; last = n.last; past = n.past; header = n.header; shapes = n.shapes; none_taken = n.none_taken; over = n.over }
+from_unshown old new rest0 rest1 (Ok items.Sequence) n = from_item old new rest0 rest1 items.Sequence n
+from_unshown old new rest0 rest1 (Ok items.Repeated) n = from_item old new rest0 rest1 items.Repeated n
+from_unshown old new rest0 rest1 (Ok (items.Picture number)) n = from_item old new rest0 rest1 (items.Picture number) n
+from_unshown old new rest0 rest1 (Ok items.Skipped) n = from_item old new rest0 rest1 items.Skipped n
+from_unshown old new rest0 rest1 (Ok items.SequenceEnd) n = from_item old new rest0 rest1 items.SequenceEnd n
+from_unshown old new rest0 rest1 (Err stop) n = (n.0, record { past = n.1.past; header = n.1.header; shapes = n.1.shapes; picture = n.1.picture; decoder = n.1.decoder; kept = n.1.kept; ended = n.1.ended })
+
 turn_might_show : (old new : Seen) (rest0 rest1 : Option (List ℕ)) (result : TurnResult) (n : TurnOver old new rest0 rest1 result) → (picture : Option PictureSeen) × TurnShows old new rest0 rest1 result n picture
 turn_might_show old new rest0 rest1 (Ok (turns.Unit item)) n = picture_for old.table.makes_pictures n.unit old.table.decoder new.table.decoder n.tells.decoder
 turn_might_show old new rest0 rest1 (Ok (turns.Last item)) n = (None, refl)
 turn_might_show old new rest0 rest1 (Ok turns.Rest) n = (None, tt)
 turn_might_show old new rest0 rest1 (Err stop) n = (None, refl)
 
-pub unshown_told : (old new : Seen) (rest0 rest1 : Option (List ℕ)) (result : TurnResult) → TurnOver old new rest0 rest1 result → NextUnshown (seen_by old false) (seen_by new false) rest0 rest1 (answer_of result)
-unshown_told old new rest0 rest1 result n =
+pub unshown_told : (old new : Seen) (was : Bool) (rest0 rest1 : Option (List ℕ)) (result : TurnResult) → TurnOver old new rest0 rest1 result → NextUnshown (unshown_by old was) (unshown_by new (is_shown (answer_of result))) rest0 rest1 (answer_of result)
+unshown_told old new was rest0 rest1 result n =
     let p = turn_might_show old new rest0 rest1 result n in
-    (refl, p.0, next_by old new false p.0 rest0 rest1 result n p.1)
+    (refl, p.0, from_unshown (seen_by old was) _ rest0 rest1 (answer_of result) (next_by old new was p.0 rest0 rest1 result n p.1))
 
 greatest_unit : (makes : Bool) (unit : DataUnit) (old new : StreamReaderSeen) (rest0 : Option (List ℕ)) (bytes : List ℕ) (was is : Option PictureDecoderSeen) → DecoderBehind makes unit was is → old.greatest ≡ greatest_in was → new.greatest ≡ greatest_in is
     → new.shapes ≡ old.shapes ++ shape_of old.past unit bytes ∷ [] → GreatestOver old new rest0 (Ok (item_of unit))
 greatest_unit makes (Picture parts number params slices) old new rest0 bytes was is d before now shapes =
-    (shape_of old.past (Picture parts number params slices) bytes, shapes, now ∙ ap greatest_in d.1 ∙ ap (λ (q : Params). Some (greatest_share q.slicing)) d.2.params_are)
+    (shape_of old.past (Picture parts number params slices) bytes, shapes, now ∙ ap greatest_in d.1 ∙ ap (λ (q : Params). Some (greatest_share q.slicing)) d.2.taker.params_are)
 greatest_unit makes (Sequence parts) old new rest0 bytes was is d before now shapes = now ∙ ap greatest_in d ∙ sym before
 greatest_unit makes Repeated old new rest0 bytes was is d before now shapes = now ∙ ap greatest_in d ∙ sym before
 greatest_unit makes Skipped old new rest0 bytes was is d before now shapes = now ∙ ap greatest_in d ∙ sym before
@@ -245,6 +288,7 @@ sound_unit old new unit bytes item asked t none going few =
     record {
       makes = t.makes ∙ asked;
       shown = subst (λ (b : Bool). ShowsOne b new.table.decoder) (sym s) (shown_behind old.table.makes_pictures unit old.table.decoder new.table.decoder asked t.decoder);
+      whole = subst (λ (b : Bool). ShowsWhole b new.table.decoder) (sym s) (whole_behind old.table.makes_pictures unit old.table.decoder new.table.decoder t.decoder);
       stopped = λ stop e. absurd (let clash : None ≡ Some stop = sym none ∙ e in cc);
       over = λ e. absurd (let clash : false ≡ true = sym going ∙ e in cc);
       held = few;
@@ -252,12 +296,12 @@ sound_unit old new unit bytes item asked t none going few =
 
 sound_next : (old new : Seen) (rest0 rest1 : Option (List ℕ)) (result : TurnResult) → old.table.makes_pictures ≡ true → TurnOver old new rest0 rest1 result → HoldsFew new → IsSound new (is_shown (answer_of result))
 sound_next old new rest0 rest1 (Ok (turns.Unit item)) asked n few = sound_unit old new n.unit n.bytes item asked n.tells n.going.0 n.going.1 few
-sound_next old new rest0 rest1 (Ok (turns.Last item)) asked n few = record { makes = n.tells.makes ∙ asked; shown = tt; stopped = λ s e. refl; over = λ e. refl; held = few }
+sound_next old new rest0 rest1 (Ok (turns.Last item)) asked n few = record { makes = n.tells.makes ∙ asked; shown = tt; whole = tt; stopped = λ s e. refl; over = λ e. refl; held = few }
 sound_next old new rest0 rest1 (Ok turns.Rest) asked n few = absurd (let clash : false ≡ true = n.rests.may in cc)
-sound_next old new rest0 rest1 (Err stop) asked n few = record { makes = n.2.makes ∙ asked; shown = tt; stopped = λ s e. refl; over = λ e. refl; held = few }
+sound_next old new rest0 rest1 (Err stop) asked n few = record { makes = n.2.makes ∙ asked; shown = tt; whole = tt; stopped = λ s e. refl; over = λ e. refl; held = few }
 
 sound_still : (old new : Seen) (was : Bool) → IsSound old was → new ≡ old → IsSound new false
-sound_still old new was sound same = subst (λ (r : Seen). IsSound r false) (sym same) (record { makes = sound.makes; shown = tt; stopped = λ s e. refl; over = λ e. refl; held = sound.held })
+sound_still old new was sound same = subst (λ (r : Seen). IsSound r false) (sym same) (record { makes = sound.makes; shown = tt; whole = tt; stopped = λ s e. refl; over = λ e. refl; held = sound.held })
 
 -- a call reads nothing and leaves the reader as it was, or it comes out as the table says
 abbrev Called : Seen → Seen → Option (List ℕ) → Option (List ℕ) → TurnResult → Type 0
@@ -288,3 +332,50 @@ sound_behind old new was rest0 rest1 before now result sound next few kept ended
   | inl still ↦ subst (λ (b : Bool). IsSound new b) (sym still.1) (sound_still old new was sound still.0)
   | inr n ↦ sound_next old new rest0 rest1 result sound.makes n (few_next old new rest0 rest1 result n few)
 ]
+
+-- ---- of a reader that makes no pictures
+
+showing_next : (old new : Seen) (rest0 rest1 : Option (List ℕ)) (result : TurnResult) → TurnOver old new rest0 rest1 result → HoldsFew new → IsShowing new (is_shown (answer_of result))
+showing_next old new rest0 rest1 (Ok (turns.Unit item)) n few = record {
+  whole = subst (λ (b : Bool). ShowsWhole b new.table.decoder) (sym (shows_is n.unit item n.tells.is_item)) (whole_behind old.table.makes_pictures n.unit old.table.decoder new.table.decoder n.tells.decoder);
+  stopped = λ stop e. absurd (let clash : None ≡ Some stop = sym n.going.0 ∙ e in cc);
+  over = λ e. absurd (let clash : false ≡ true = sym n.going.1 ∙ e in cc);
+  held = few;
+}
+showing_next old new rest0 rest1 (Ok (turns.Last item)) n few = record { whole = tt; stopped = λ s e. refl; over = λ e. refl; held = few }
+showing_next old new rest0 rest1 (Ok turns.Rest) n few = absurd (let clash : false ≡ true = n.rests.may in cc)
+showing_next old new rest0 rest1 (Err stop) n few = record { whole = tt; stopped = λ s e. refl; over = λ e. refl; held = few }
+
+pub showing_behind : (old new : Seen) (was : Bool) (rest0 rest1 : Option (List ℕ)) (before now : ℕ) (result : TurnResult) → IsShowing old was → (old.stop ≡ None → old.ended ≡ false → TurnOver old new rest0 rest1 result) → (new.stop ≡ None → length new.held ≤ 4096)
+    → IfSome old.stop (λ stop. (result ≡ Err stop) × (new ≡ old) × (rest1 ≡ rest0) × (now ≡ before))
+    → (old.stop ≡ None → old.ended ≡ true → (result ≡ Ok turns.Rest) × (new ≡ old) × (rest1 ≡ rest0) × (now ≡ before)) → IsShowing new (is_shown (answer_of result))
+showing_behind old new was rest0 rest1 before now result showing next few kept ended = elim (called old new rest0 rest1 before now result next kept ended) [
+  | inl still ↦ subst (λ (b : Bool). IsShowing new b) (sym still.1) (subst (λ (r : Seen). IsShowing r false) (sym still.0) (record { whole = tt; stopped = λ s e. refl; over = λ e. refl; held = showing.held }))
+  | inr n ↦ showing_next old new rest0 rest1 result n (few_next old new rest0 rest1 result n few)
+]
+
+-- the stop that is kept is answered again
+pub kept_unshown : (old new : Seen) (was : Bool) (rest0 rest1 : Option (List ℕ)) (before now : ℕ) (result : TurnResult) → IsShowing old was
+    → IfSome old.stop (λ stop. (result ≡ Err stop) × (new ≡ old) × (rest1 ≡ rest0) × (now ≡ before))
+    → IfSome (option_map stop_told old.stop) (λ stop. (answer_of result ≡ Err stop) × (unshown_by new (is_shown (answer_of result)) ≡ unshown_by old was) × (rest1 ≡ rest0) × (now ≡ before))
+kept_unshown old new was rest0 rest1 before now result showing h =
+    kept_as old new (unshown_by old was) (unshown_by new (is_shown (answer_of result))) rest0 rest1 before now result
+    (λ stop e told same. ap (λ (r : Seen). unshown_by r (is_shown (answer_of result))) same ∙ ap (λ (b : Bool). unshown_by old b) (ap (λ (r : TurnResult). is_shown (answer_of r)) told ∙ sym (showing.stopped stop e))) h
+
+pub ended_unshown : (old new : Seen) (was : Bool) (rest0 rest1 : Option (List ℕ)) (before now : ℕ) (result : TurnResult) → IsShowing old was → old.ended ≡ true → (result ≡ Ok turns.Rest) × (new ≡ old) × (rest1 ≡ rest0) × (now ≡ before)
+    → (answer_of result ≡ Ok items.End) × (unshown_by new (is_shown (answer_of result)) ≡ unshown_by old was) × (rest1 ≡ rest0) × (now ≡ before)
+ended_unshown old new was rest0 rest1 before now result showing e h =
+    let told = ap answer_of h.0 in
+    (told, ap (λ (r : Seen). unshown_by r (is_shown (answer_of result))) h.1 ∙ ap (λ (b : Bool). unshown_by old b) (ap is_shown told ∙ sym (showing.over e)), h.2, h.3)
+
+pub greatest_unshown : (old new : Seen) (was is : Bool) (rest0 rest1 : Option (List ℕ)) (result : TurnResult) → TurnOver old new rest0 rest1 result → GreatestOver (unshown_by old was) (unshown_by new is) rest0 (answer_of result)
+greatest_unshown old new was is rest0 rest1 result n = by (answer_of result) (greatest_told old new was is rest0 rest1 result n)
+  where
+    by : (answer : Result Item ReadStop) → GreatestOver (seen_by old was) (seen_by new is) rest0 answer → GreatestOver (unshown_by old was) (unshown_by new is) rest0 answer
+    by (Ok items.Sequence) h = h
+    by (Ok items.Repeated) h = h
+    by (Ok (items.Picture number)) h = h
+    by (Ok items.Skipped) h = h
+    by (Ok items.SequenceEnd) h = h
+    by (Ok items.End) h = h
+    by (Err stop) h = h

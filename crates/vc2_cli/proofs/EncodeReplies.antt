@@ -1,5 +1,5 @@
 -- Whole pictures are encoded to their stream.
-use Rattle.std.proofs.Common.{◌≡◌, ℕ, suc, ◌+◌, ◌*◌, ◌%◌, ◌^◌, ◌<◌, ◌≤◌, cond, eqb, Bool, true, false, List, [], ◌∷◌, ◌++◌, length, map, drop, refl, sym, ap, subst, ◌∙◌, arith, append_assoc, ne_eqb, eqb-true}
+use Rattle.std.proofs.Common.{◌≡◌, ℕ, suc, ◌+◌, ◌*◌, ◌%◌, ◌^◌, ◌<◌, ◌≤◌, cond, eqb, Bool, true, false, List, [], ◌∷◌, ◌++◌, length, map, drop, Some, None, refl, sym, ap, subst, ◌∙◌, arith, append_assoc, ne_eqb, eqb-true}
 use Rattle.std.specs.Prelude.{◌&&◌}
 use Rattle.std.specs.List.{AllByRecursion}
 use Rattle.std.proofs.lemmas.List.{length-append}
@@ -14,11 +14,13 @@ use Rattle.slice_geometry.specs.Slicing.{slice_count}
 use Rattle.transform_params.specs.ParameterFields.{unit_length, IsLawful}
 use Rattle.picture_codec.specs.Samples.{PictureSamples}
 use Rattle.picture_codec.specs.Encoding.{slices_of}
-use Rattle.raw_video.specs.RawText.{is_wide, raw_text}
-use Rattle.raw_video.specs.RawParse.{raw_length, sample_size, IsOfFrame, RawFront, raw_texts}
+use Rattle.raw_video.specs.RawText.{raw_text}
+use Rattle.raw_video.specs.RawParse.{raw_length, IsOfFrame, RawFront, raw_texts}
+use Rattle.raw_video.specs.PictureRuns.{BehindPictures, step_shown, step_by}
+use Rattle.raw_video.proofs.PictureTurns.{some_raw}
 use Rattle.raw_video.proofs.Fronts.{front_over}
 use Rattle.raw_video.proofs.ReadBack.{length_raw, picture_back}
-use Rattle.vc2_run.specs.Walk.{Answer, Ends, Whole, answer_from, answer_to, after_step, before}
+use Rattle.vc2_run.specs.Walk.{Answer, answer_from, answer_to, after_step, before}
 use Rattle.vc2_run.proofs.Walks.{answer_step}
 use Rattle.stream_rows.specs.declared.reason.Reason.TheVariants.{StreamTooLong}
 use Rattle.stream_rows.specs.Streams.{limit, frame_under}
@@ -29,23 +31,12 @@ use Rattle.channel_schedule.specs.declared.schedule.Schedule.{Schedule}
 use Rattle.vc2_words.specs.Settings.{Asked}
 use Rattle.vc2_cli.specs.declared.status.Ending.{Ending}
 use Rattle.vc2_cli.specs.declared.status.Ending.TheVariants.{Encoded}
-use Rattle.vc2_cli.specs.Encode.{written_under, raw_size, raw_place, stream_place, previous_at, number_at, units_at, has_room, is_half, refused_at, shapes_at, ended_plan, closing, step_by, encode_machine}
+use Rattle.vc2_cli.specs.Encode.{written_under, raw_size, stream_place, previous_at, number_at, units_at, has_room, is_half, refused_at, shapes_at, ended_plan, ended_at, last_text, encoding, encode_machine}
 use Rattle.vc2_cli.specs.WholePictures.{raw_input, stream_of}
 use Rattle.vc2_cli.specs.EncodeReply.{MayBeWritten, encoded_reply, AreEncoded}
 use Rattle.vc2_cli.specs.Reply.{reply_of}
-use Rattle.vc2_cli.proofs.Encoding.{encode_laws}
+use Rattle.vc2_cli.proofs.EncodeTurns.{encode_laws}
 use Rattle.vc2_cli.proofs.Behind.{previous_next, number_next, room_before}
-
--- a picture has a byte
-pub some_raw : (shape : PictureShape) → 0 < raw_length (frame_of shape)
-some_raw shape = product (is_wide (frame_of shape)) shape.luma.h shape.luma.w (shape.colour.h * shape.colour.w) shape.luma_fits.some_rows shape.luma_fits.some_columns
-  where
-    area : (h w : ℕ) → 1 ≤ h → 1 ≤ w → 1 ≤ h * w
-    area h w a b = grind arith
-
-    product : (wide : Bool) (h w colour : ℕ) → 1 ≤ h → 1 ≤ w → 0 < sample_size wide * (h * w + 2 * colour)
-    product true h w colour a b = omega (arith, area h w a b)
-    product false h w colour a b = omega (arith, area h w a b)
 
 -- the shape of a header's pictures
 abbrev pub header_shape : (p : HeaderParts) → Passes p → PictureShape
@@ -90,44 +81,46 @@ module _ (s : Asked) (q : Passes s.parts) where
   abbrev answer : ℕ → ℕ → List PictureSamples → Answer Ending
   answer n m ps = record { ending = Encoded (ended_plan s (shapes_at s m) (stream_place s m)); text = texts n ps; last = end_unit (previous_at s m) }
 
-  -- behind the picture n
-  next_place : (n size : ℕ) → n * size + size ≡ suc n * size
-  next_place n size = grind arith
+  abbrev at : (place n : ℕ) → BehindPictures ℕ
+  at place n = record { place = place; own = n }
 
-  closed : (half : Bool) (place previous : ℕ) (schedule : Schedule) (next : ℕ → ℕ → Answer Ending) → half ≡ false → after_step (closing half place previous schedule) next ≡ record { ending = Encoded schedule; text = []; last = end_unit previous }
-  closed true place previous schedule next e = absurd cc
-  closed false place previous schedule next e = refl
+  closed : (half : Bool) (place previous : ℕ) (schedule : Schedule) → half ≡ false
+      → (let a : Answer Ending = record { ending = ended_at half place schedule; text = []; last = last_text half previous } in a) ≡ record { ending = Encoded schedule; text = []; last = end_unit previous }
+  closed true place previous schedule e = absurd cc
+  closed false place previous schedule e = refl
 
-  with_room : (room : Bool) (size : ℕ) (text : List ℕ) (left : ℕ) (ending : Ending) (next : ℕ → ℕ → Answer Ending) → room ≡ true → after_step (cond room (Whole size text left) (Ends ending [])) next ≡ before text (next size left)
-  with_room true size text left ending next e = refl
-  with_room false size text left ending next e = absurd cc
+  with_room : (place n : ℕ) (p : PictureSamples) (room : Bool) (ending : Ending) (next : ℕ → BehindPictures ℕ → Answer Ending) → room ≡ true
+      → after_step (step_shown (frame_under s.parts) (encoding s) (at place n) p (cond room None (Some ending))) next
+      ≡ before (units_at s n (slices_of (frame_under s.parts) s.params p)) (next (raw_size s) (at (place + raw_size s) (n + 1)))
+  with_room place n p true ending next e = refl
+  with_room place n p false ending next e = absurd cc
 
-  pub answered : (n m : ℕ) (ps : List PictureSamples) → m ≡ n + length ps → AllByRecursion (IsOfFrame (frame_under s.parts)) ps → is_half s.parts.coding m ≡ false → raw_place s n + length (raw_texts (frame_under s.parts) ps) ≤ 2 ^ 40
-      → stream_place s m + 13 ≤ limit → answer_from (encode_machine s) n (raw_texts (frame_under s.parts) ps) ≡ answer n m ps
-  answered n m [] e each whole inside fits =
-      let go_on = λ (size left : ℕ). answer_from (encode_machine s) left (drop size []) in
+  pub answered : (place n m : ℕ) (ps : List PictureSamples) → m ≡ n + length ps → AllByRecursion (IsOfFrame (frame_under s.parts)) ps → is_half s.parts.coding m ≡ false → place + length (raw_texts (frame_under s.parts) ps) ≤ 2 ^ 40
+      → stream_place s m + 13 ≤ limit → answer_from (encode_machine s) (at place n) (raw_texts (frame_under s.parts) ps) ≡ answer n m ps
+  answered place n m [] e each whole inside fits =
+      let go_on = λ (size : ℕ) (left : BehindPictures ℕ). answer_from (encode_machine s) left (drop size []) in
       let here : n ≡ m = omega (arith, e) in
-      answer_step (encode_machine s) (encode_laws s (some_size s q)) n []
-      ∙ ap (λ (front : RawFront). after_step (step_by s n front) go_on) (front_over (frame_under s.parts) (raw_place s n) (some_size s q))
-      ∙ closed (is_half s.parts.coding n) (raw_place s n) (previous_at s n) (ended_plan s (shapes_at s n) (stream_place s n)) go_on (ap (is_half s.parts.coding) here ∙ whole)
+      answer_step (encode_machine s) (encode_laws s (some_size s q)) (at place n) []
+      ∙ ap (λ (front : RawFront). after_step (step_by (frame_under s.parts) (encoding s) (at place n) front) go_on) (front_over (frame_under s.parts) place (some_size s q))
+      ∙ closed (is_half s.parts.coding n) place (previous_at s n) (ended_plan s (shapes_at s n) (stream_place s n)) (ap (is_half s.parts.coding) here ∙ whole)
       ∙ ap (λ (k : ℕ). answer n k []) here
-  answered n m (p ∷ ps) e each whole inside fits =
+  answered place n m (p ∷ ps) e each whole inside fits =
       let g = frame_under s.parts in
       let text = raw_text g p in
       let rest = raw_texts g ps in
-      let go_on = λ (size left : ℕ). answer_from (encode_machine s) left (drop size (text ++ rest)) in
+      let go_on = λ (size : ℕ) (left : BehindPictures ℕ). answer_from (encode_machine s) left (drop size (text ++ rest)) in
       let unit = units_at s n (slices_of g s.params p) in
       let long : length text ≡ raw_size s = length_raw g p each.0 in
       let both : length (text ++ rest) ≡ length text + length rest = length-append text rest in
       let dropped : drop (raw_size s) (text ++ rest) ≡ rest = ap (λ (k : ℕ). drop k (text ++ rest)) (sym long) ∙ drop-append_seam text rest in
       let next : n + 1 ≡ suc n = omega arith in
-      answer_step (encode_machine s) (encode_laws s (some_size s q)) n (text ++ rest)
-      ∙ ap (λ (front : RawFront). after_step (step_by s n front) go_on) (picture_back g p each.0 few fewer (raw_place s n) rest (omega (arith, inside, both, long)))
-      ∙ with_room (has_room s n) (raw_size s) unit (n + 1) (refused_at (raw_place s n) StreamTooLong) go_on (room_before s n m (omega (arith, e)) fits)
+      answer_step (encode_machine s) (encode_laws s (some_size s q)) (at place n) (text ++ rest)
+      ∙ ap (λ (front : RawFront). after_step (step_by g (encoding s) (at place n) front) go_on) (picture_back g p each.0 few fewer place rest (omega (arith, inside, both, long)))
+      ∙ with_room place n p (has_room s n) (refused_at place StreamTooLong) go_on (room_before s n m (omega (arith, e)) fits)
       ∙ ap (before unit)
-      (ap (answer_from (encode_machine s) (n + 1)) dropped
-      ∙ ap (λ (k : ℕ). answer_from (encode_machine s) k rest) next
-      ∙ answered (suc n) m ps (omega (arith, e)) each.1 whole (omega (arith, inside, both, long, next_place n (raw_size s))) fits)
+      (ap (answer_from (encode_machine s) (at (place + raw_size s) (n + 1))) dropped
+      ∙ ap (λ (k : ℕ). answer_from (encode_machine s) (at (place + raw_size s) k) rest) next
+      ∙ answered (place + raw_size s) (suc n) m ps (omega (arith, e)) each.1 whole (omega (arith, inside, both, long)) fits)
 
   -- what is written is the units behind the first
   pub units_are : (n m previous : ℕ) (ps : List PictureSamples) → m ≡ n + length ps → previous_at s n ≡ previous
@@ -160,7 +153,7 @@ module _ (s : Asked) (q : Passes s.parts) where
 
   pub encoded_all : (pictures : List PictureSamples) → s.first < 2 ^ 32 → MayBeWritten s pictures → reply_of [] (answer_to (encode_machine s) (raw_input s pictures)) ≡ encoded_reply s pictures
   encoded_all pictures fits m =
-      ap (λ (a : Answer Ending). reply_of [] (before (header_unit s.parts) a)) (answered 0 (length pictures) pictures (omega arith) m.each (whole_frames s.parts.coding (length pictures) m.even) (omega (arith, m.raw)) m.stream)
+      ap (λ (a : Answer Ending). reply_of [] (before (header_unit s.parts) a)) (answered 0 0 (length pictures) pictures (omega arith) m.each (whole_frames s.parts.coding (length pictures) m.even) (omega (arith, m.raw)) m.stream)
       ∙ ap (λ (l : List ℕ). record (encoded_reply s pictures) { out = l }) (out_is pictures fits)
 
 pub are_encoded : (s : Asked) (pictures : List PictureSamples) → AreEncoded s pictures

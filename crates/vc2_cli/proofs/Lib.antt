@@ -5,7 +5,6 @@ pub mod WorkedRows
 pub mod HeaderRuns
 pub mod Decoding
 pub mod Flat
-pub mod Encoding
 pub mod EncodeTurns
 pub mod EncodeReplies
 pub mod EncodeChecked
@@ -14,6 +13,8 @@ pub mod Behind
 pub mod EncodedWalk
 pub mod Chaining
 pub mod StreamReplies
+pub mod LowDepths
+pub mod ProxyReplies
 pub mod Exits
 pub mod Replaying
 pub mod StreamSinks
@@ -22,3 +23,10 @@ pub mod EncodedWords
 pub mod TrialCompared
 pub mod Soon
 pub mod SoonTold
+pub mod Mapped
+pub mod FieldSizes
+pub mod Weaving
+pub mod PicturesUnder
+pub mod Framing
+pub mod FrameReplies
+pub mod Proxying

@@ -6,19 +6,20 @@ use Rattle.vc2_io.specs.Outside.{GrewShort}
 use Rattle.vc2_cli.specs.declared.status.Status.{Status}
 use Rattle.vc2_cli.specs.declared.status.Status.TheVariants as st
 use Rattle.vc2_cli.specs.declared.status.Ending.{Ending}
-use Rattle.vc2_cli.specs.declared.status.Ending.TheVariants.{Done, Decoded, Accepted, Scheduled, Encoded, Compared, Refused}
+use Rattle.vc2_cli.specs.declared.status.Ending.TheVariants.{Done, Decoded, Framed, Accepted, Scheduled, Encoded, Compared, Refused}
 use Rattle.channel_schedule.specs.declared.schedule.Schedule.{Schedule}
 use Rattle.channel_schedule.specs.declared.schedule.Outcome.TheVariants as outcomes
 use Rattle.channel_schedule.specs.Rates.{IsSchedule}
 use Rattle.vc2_words.specs.declared.keys.WordFault.{WordFault}
 use Rattle.vc2_words.specs.declared.words.Command.{Command}
-use Rattle.vc2_words.specs.Commands.{AskedCommand, chain, header, decode, check, encode, trial, seen, asked_by}
+use Rattle.vc2_words.specs.Commands.{AskedCommand, chain, header, decode, proxy, check, encode, trial, weave, split, frames, seen, asked_by}
 use Rattle.vc2_words.proofs.Settled.{words_say}
 use Rattle.vc2_words.specs.declared.keys.WordFault.TheVariants.{SettingsRefused}
 use Rattle.vc2_words.specs.declared.keys.Rule.TheVariants.{MatrixTooSteep}
 use Rattle.vc2_words.specs.Settings.{Asked}
 use Rattle.vc2_words.specs.declared.words.TrialPart.{TrialPart}
-use Rattle.vc2_words.specs.Lawful.{AreLawful, IsAskedSchedule, IsTrial}
+use Rattle.vc2_words.specs.declared.settings.FieldVideo.{FieldVideo}
+use Rattle.vc2_words.specs.Lawful.{AreLawful, IsAskedSchedule, IsTrial, IsFieldVideo}
 use Rattle.stream_units.specs.Writer.{IsSteepUnder}
 use Rattle.vc2_cli.specs.Encode.{written_under}
 use Rattle.vc2_cli.specs.Words.{seen_words, is_flat, unless_steep, checked, words_ask}
@@ -41,6 +42,7 @@ IsOwn other = Unit {0}
 own_ending : (ending : Ending) → IsOwn (status_of ending)
 own_ending Done = tt
 own_ending (Decoded pictures bytes) = tt
+own_ending (Framed count bytes) = tt
 own_ending (Accepted pictures slices bytes) = tt
 own_ending (Scheduled pictures slices bytes outcomes.Runs) = tt
 own_ending (Scheduled pictures slices bytes (outcomes.Late slot have need)) = tt
@@ -54,10 +56,14 @@ own (Err fault) input = tt
 own (Ok chain) input = own_ending _
 own (Ok header) input = own_ending _
 own (Ok decode) input = own_ending _
+own (Ok (proxy level)) input = own_ending _
 own (Ok (check None)) input = own_ending _
 own (Ok (check (Some schedule))) input = own_ending _
 own (Ok (encode settings)) input = own_ending _
 own (Ok (trial settings part)) input = tt
+own (Ok (frames top)) input = own_ending _
+own (Ok (weave video)) input = own_ending _
+own (Ok (split video)) input = own_ending _
 
 -- ---- the words
 
@@ -83,7 +89,11 @@ check_was (Ok (trial s part)) schedule e = let was = steep_or s (trial s part) (
 check_was (Ok chain) schedule e = e
 check_was (Ok header) schedule e = e
 check_was (Ok decode) schedule e = e
+check_was (Ok (proxy level)) schedule e = e
 check_was (Ok (check other)) schedule e = e
+check_was (Ok (frames top)) schedule e = e
+check_was (Ok (weave video)) schedule e = e
+check_was (Ok (split video)) schedule e = e
 check_was (Err fault) schedule e = e
 
 pub encode_was : (read : Result AskedCommand WordFault) (s : Asked) → checked read ≡ Ok (encode s) → (read ≡ Ok (encode s)) × (is_flat s ≡ true)
@@ -99,7 +109,11 @@ encode_was (Ok (trial t part)) s e = let was = steep_or t (trial t part) (encode
 encode_was (Ok chain) s e = absurd cc
 encode_was (Ok header) s e = absurd cc
 encode_was (Ok decode) s e = absurd cc
+encode_was (Ok (proxy level)) s e = absurd cc
 encode_was (Ok (check other)) s e = absurd cc
+encode_was (Ok (frames top)) s e = absurd cc
+encode_was (Ok (weave video)) s e = absurd cc
+encode_was (Ok (split video)) s e = absurd cc
 encode_was (Err fault) s e = absurd cc
 
 trial_was : (read : Result AskedCommand WordFault) (s : Asked) (part : TrialPart) → checked read ≡ Ok (trial s part) → (read ≡ Ok (trial s part)) × (is_flat s ≡ true)
@@ -115,8 +129,46 @@ trial_was (Ok (encode t)) s part e = let was = steep_or t (encode t) (trial s pa
 trial_was (Ok chain) s part e = absurd cc
 trial_was (Ok header) s part e = absurd cc
 trial_was (Ok decode) s part e = absurd cc
+trial_was (Ok (proxy level)) s part e = absurd cc
 trial_was (Ok (check other)) s part e = absurd cc
+trial_was (Ok (frames top)) s part e = absurd cc
+trial_was (Ok (weave video)) s part e = absurd cc
+trial_was (Ok (split video)) s part e = absurd cc
 trial_was (Err fault) s part e = absurd cc
+
+-- fields pass the last rule as they are
+weave_was : (read : Result AskedCommand WordFault) (video : FieldVideo) → checked read ≡ Ok (weave video) → read ≡ Ok (weave video)
+weave_was (Ok (encode s)) video e = let was = steep_or s (encode s) (weave video) e in absurd (let w : encode s ≡ weave video = was.0 in cc)
+weave_was (Ok (trial s part)) video e = let was = steep_or s (trial s part) (weave video) e in absurd (let w : trial s part ≡ weave video = was.0 in cc)
+weave_was (Ok chain) video e = e
+weave_was (Ok header) video e = e
+weave_was (Ok decode) video e = e
+weave_was (Ok (proxy level)) video e = e
+weave_was (Ok (check other)) video e = e
+weave_was (Ok (frames top)) video e = e
+weave_was (Ok (weave other)) video e = e
+weave_was (Ok (split other)) video e = e
+weave_was (Err fault) video e = e
+
+split_was : (read : Result AskedCommand WordFault) (video : FieldVideo) → checked read ≡ Ok (split video) → read ≡ Ok (split video)
+split_was (Ok (encode s)) video e = let was = steep_or s (encode s) (split video) e in absurd (let w : encode s ≡ split video = was.0 in cc)
+split_was (Ok (trial s part)) video e = let was = steep_or s (trial s part) (split video) e in absurd (let w : trial s part ≡ split video = was.0 in cc)
+split_was (Ok chain) video e = e
+split_was (Ok header) video e = e
+split_was (Ok decode) video e = e
+split_was (Ok (proxy level)) video e = e
+split_was (Ok (check other)) video e = e
+split_was (Ok (frames top)) video e = e
+split_was (Ok (weave other)) video e = e
+split_was (Ok (split other)) video e = e
+split_was (Err fault) video e = e
+
+-- fields that were read are lawful
+pub weave_is : (words : List (List ℕ)) (command : Result Command WordFault) (video : FieldVideo) → seen_words command ≡ words_ask words → seen_words command ≡ Ok (weave video) → IsFieldVideo video
+weave_is words command video same is = words_say words (weave video) (weave_was (asked_by words) video (sym same ∙ is))
+
+pub split_is : (words : List (List ℕ)) (command : Result Command WordFault) (video : FieldVideo) → seen_words command ≡ words_ask words → seen_words command ≡ Ok (split video) → IsFieldVideo video
+split_is words command video same is = words_say words (split video) (split_was (asked_by words) video (sym same ∙ is))
 
 -- a schedule that was read is lawful
 pub schedule_is : (words : List (List ℕ)) (command : Result Command WordFault) (schedule : Schedule) → seen_words command ≡ words_ask words → seen_words command ≡ Ok (check (Some schedule)) → IsSchedule schedule

@@ -11,7 +11,7 @@ use Rattle.vc2_words.specs.Commands.{AskedCommand}
 use Rattle.vc2_cli.specs.declared.status.Status.{Status}
 use Rattle.vc2_cli.specs.declared.status.Status.TheVariants as st
 use Rattle.vc2_cli.specs.declared.status.Ending.{Ending}
-use Rattle.vc2_cli.specs.declared.status.Ending.TheVariants.{Done, Decoded, Accepted, Scheduled, Encoded, Compared, Refused}
+use Rattle.vc2_cli.specs.declared.status.Ending.TheVariants.{Done, Decoded, Framed, Accepted, Scheduled, Encoded, Compared, Refused}
 use Rattle.vc2_cli.specs.Words.{seen_words}
 use Rattle.vc2_cli.specs.Reply.{command_reply, status_of, reply_of}
 use Rattle.vc2_cli.specs.Settled.{Concludes, status_of_halt}
@@ -23,6 +23,7 @@ use Rattle.vc2_cli.proofs.Settling.{not_outside}
 status_open : (ending : Ending) → MayGoOn ending → IsOpen (status_of ending)
 status_open Done goes = tt
 status_open (Decoded pictures bytes) goes = tt
+status_open (Framed frames bytes) goes = tt
 status_open (Accepted pictures slices bytes) goes = tt
 status_open (Scheduled pictures slices bytes outcomes.Runs) goes = tt
 status_open (Scheduled pictures slices bytes (outcomes.Late slot have need)) goes = tt

@@ -1,13 +1,14 @@
--- The command `encode`: a unit of its input is a raw picture, whose text is the picture's unit, behind an end and a header
--- where a new sequence begins with it.
-use Rattle.std.specs.Prelude.{ℕ, zero, suc, ◌+◌, ◌*◌, ◌%◌, ◌^◌, ◌==◌, ◌&&◌, nat_le, Bool, List, [], ◌∷◌, ◌++◌, Option, Result, Ok, Err, if◌then◌else◌}
+-- The command `encode`, over raw pictures: a picture's text is its unit, behind an end and a header where a new sequence begins
+-- with it.
+use Rattle.std.specs.Prelude.{ℕ, zero, suc, ◌+◌, ◌*◌, ◌%◌, ◌^◌, ◌==◌, ◌&&◌, nat_le, Bool, List, [], ◌∷◌, ◌++◌, Option, Some, None, Result, Ok, Err, if◌then◌else◌}
 use Rattle.parse_info.specs.declared.TheConstants.{HEAD_SIZE}
 use Rattle.transform_params.specs.ParameterFields.{unit_length}
 use Rattle.picture_codec.specs.Encoding.{slices_of}
-use Rattle.raw_video.specs.RawParse.{raw_length, RawFront, Shown, Over, LargeAt, CutAt, TooLong, raw_front}
+use Rattle.raw_video.specs.RawParse.{raw_length, RawFront, LargeAt, CutAt}
+use Rattle.raw_video.specs.PictureRuns.{PictureCommand, BehindPictures, picture_machine}
 use Rattle.raw_video.specs.declared.reader.RawFault.{RawFault}
 use Rattle.raw_video.specs.declared.reader.RawFault.TheVariants as faults
-use Rattle.vc2_run.specs.Walk.{Step, Ends, Whole, Machine}
+use Rattle.vc2_run.specs.Walk.{Machine}
 use Rattle.vc2_run.specs.declared.Halt.{Halt}
 use Rattle.vc2_run.specs.declared.Halt.TheVariants as halts
 use Rattle.stream_rows.specs.declared.reason.Reason.{Reason}
@@ -21,7 +22,6 @@ use Rattle.channel_schedule.specs.Plans.{plan_of}
 use Rattle.vc2_words.specs.Settings.{Asked}
 use Rattle.stream_units.specs.declared.write_stop.WriteStop.{WriteStop}
 use Rattle.stream_units.specs.declared.write_stop.WriteStop.TheVariants as stops
-use Rattle.vc2_cli.specs.Running.{Closes}
 use Rattle.vc2_cli.specs.declared.status.Ending.{Ending}
 use Rattle.vc2_cli.specs.declared.status.Ending.TheVariants.{Done, Encoded, Refused}
 use Rattle.vc2_cli.specs.Scheduled.{shapes_in}
@@ -30,15 +30,11 @@ use Rattle.vc2_cli.specs.Scheduled.{shapes_in}
 abbrev pub written_under : Asked → Settings
 written_under s = record { parts = s.parts; params = s.params; first = s.first; group = s.group }
 
--- ---- behind n pictures
-
 -- the bytes of a raw picture
 abbrev pub raw_size : Asked → ℕ
 raw_size s = raw_length (frame_under s.parts)
 
--- the bytes of the raw pictures
-abbrev pub raw_place : Asked → ℕ → ℕ
-raw_place s n = n * raw_size s
+-- ---- behind n pictures
 
 -- the units of the stream, by their lengths
 abbrev pub shapes_at : Asked → ℕ → List UnitShape
@@ -83,37 +79,39 @@ is_half coding n = coding == 1 && n % 2 == 1
 abbrev pub refused_at : ℕ → Reason → Ending
 refused_at place reason = Refused (record { place = place; reason = reason })
 
--- the end of the input at this place, behind a unit of so many bytes
-abbrev pub closing : (half : Bool) (place previous : ℕ) → Schedule → Step ℕ Ending
-closing half place previous schedule =
-    if half then Ends (refused_at place HalfFrame) [] else Ends (Encoded schedule) (end_unit previous)
+-- the end of the input at this place: half a frame is refused there
+abbrev pub ended_at : (half : Bool) (place : ℕ) → Schedule → Ending
+ended_at half place schedule = if half then refused_at place HalfFrame else Encoded schedule
 
--- A picture is read whole before the stream's length is asked. Half a frame is asked at the input's end.
-abbrev pub step_by : Asked → ℕ → RawFront → Step ℕ Ending
-step_by s n (Shown p) =
-    if has_room s n then Whole (raw_size s) (units_at s n (slices_of (frame_under s.parts) s.params p)) (n + 1)
-    else Ends (refused_at (raw_place s n) StreamTooLong) []
-step_by s n Over =
-    closing (is_half s.parts.coding n) (raw_place s n) (previous_at s n) (ended_plan s (shapes_at s n) (stream_place s n))
-step_by s n (LargeAt place) = Ends (refused_at place SampleTooLarge) []
-step_by s n (CutAt place) = Ends (refused_at place RawTruncated) []
-step_by s n TooLong = Ends (refused_at limit StreamTooLong) []
+-- and what is written last, behind a unit of so many bytes
+abbrev pub last_text : (half : Bool) (previous : ℕ) → List ℕ
+last_text half previous = if half then [] else end_unit previous
 
--- The first unit is written before anything is read; the state is the number of pictures.
-abbrev pub encode_machine : Asked → Machine ℕ Ending
-encode_machine s = record {
+-- there is no next picture
+abbrev pub told_of_front : RawFront → Ending
+told_of_front (LargeAt place) = refused_at place SampleTooLarge
+told_of_front (CutAt place) = refused_at place RawTruncated
+told_of_front other = refused_at limit StreamTooLong
+
+-- The first unit is written before anything is read; the command's own is the number of pictures. A picture is read whole
+-- before the stream's length is asked.
+abbrev pub encoding : Asked → PictureCommand ℕ Ending
+encoding s = record {
   opening = header_unit s.parts;
   start = 0;
-  step = λ n bytes. step_by s n (raw_front (frame_under s.parts) (raw_place s n) bytes);
+  next = λ n p. n + 1;
+  text = λ n p. units_at s n (slices_of (frame_under s.parts) s.params p);
+  stops = λ place n. if has_room s n then None else Some (refused_at place StreamTooLong);
+  finished = λ place n. ended_at (is_half s.parts.coding n) place (ended_plan s (shapes_at s n) (stream_place s n));
+  last = λ place n. last_text (is_half s.parts.coding n) (previous_at s n);
+  refused = told_of_front;
   endless = Done;
 }
 
--- ---- for the code
+abbrev pub encode_machine : Asked → Machine (BehindPictures ℕ) Ending
+encode_machine s = picture_machine (frame_under s.parts) (encoding s)
 
--- the run is over, by its last step
-abbrev pub ClosesBy : Step ℕ Ending → Option (List ℕ) → Option (List ℕ) → Result Ending Halt → Type 0
-ClosesBy (Ends ending last) out0 out1 result = Closes ending last out0 out1 result
-ClosesBy (Whole size text left) out0 out1 result = ⊥
+-- ---- for the code
 
 -- what is told where there is no next picture
 abbrev pub told_of_fault : RawFault → Result Ending Halt

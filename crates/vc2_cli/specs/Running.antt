@@ -16,7 +16,7 @@ use Rattle.stream_rows.specs.Streams.{limit, past_limit}
 use Rattle.stream_units.specs.StreamStops.{LimitStops}
 use Rattle.vc2_cli.specs.Change.{Change}
 use Rattle.vc2_cli.specs.declared.status.Ending.{Ending}
-use Rattle.vc2_cli.specs.declared.status.Ending.TheVariants.{Done, Decoded, Accepted, Scheduled, Encoded, Compared, Refused}
+use Rattle.vc2_cli.specs.declared.status.Ending.TheVariants.{Done, Decoded, Framed, Accepted, Scheduled, Encoded, Compared, Refused}
 use Rattle.vc2_cli.specs.declared.running.Turn.{Turn}
 use Rattle.vc2_cli.specs.declared.running.Turn.TheVariants as turns
 
@@ -66,6 +66,7 @@ NextOver g Tells Stays old new rest0 rest1 (Err stop) = LimitStops g old.past ol
 abbrev pub IsDone : Ending → Type 0
 IsDone Done = Unit {0}
 IsDone (Decoded pictures bytes) = Unit {0}
+IsDone (Framed frames bytes) = Unit {0}
 IsDone (Accepted pictures slices bytes) = Unit {0}
 IsDone (Scheduled pictures slices bytes outcome) = Unit {0}
 IsDone (Encoded schedule) = Unit {0}

@@ -10,7 +10,7 @@ use Rattle.unit_table.specs.Fronts.{Command}
 use Rattle.stream_rows.specs.declared.reason.Reason.{Reason}
 use Rattle.stream_rows.specs.Units.{is_truncated}
 use Rattle.vc2_words.specs.declared.keys.WordFault.{WordFault}
-use Rattle.vc2_words.specs.Commands.{AskedCommand, chain, header, decode, check, encode, trial}
+use Rattle.vc2_words.specs.Commands.{AskedCommand, chain, header, decode, proxy, check, encode, trial, weave, split, frames}
 use Rattle.vc2_cli.specs.declared.status.Ending.{Ending}
 use Rattle.vc2_cli.specs.declared.status.Ending.TheVariants.{Refused}
 use Rattle.vc2_cli.specs.declared.status.Status.{Status}
@@ -37,9 +37,13 @@ abbrev pub IfUnits : Result AskedCommand WordFault → (ℕ → Type 0) → Type
 IfUnits (Ok chain) P = P READ_SIZE
 IfUnits (Ok header) P = P 1
 IfUnits (Ok decode) P = P READ_SIZE
+IfUnits (Ok (proxy level)) P = P READ_SIZE
 IfUnits (Ok (check schedule)) P = P READ_SIZE
 IfUnits (Ok (encode settings)) P = Unit {0}
 IfUnits (Ok (trial settings part)) P = Unit {0}
+IfUnits (Ok (frames top)) P = P READ_SIZE
+IfUnits (Ok (weave video)) P = Unit {0}
+IfUnits (Ok (split video)) P = Unit {0}
 IfUnits (Err fault) P = Unit {0}
 
 -- ---- the same of a command's run

@@ -16,8 +16,8 @@ use stream_units::{Item, Refusal, StreamReader};
 use vc2_io::{Failed, Sink, Source};
 use vc2_run::Halt;
 
-// Writes the raw text of the picture that the reader shows, if it shows one.
-fn write_shown<K: Sink>(out: &mut K, reader: &StreamReader) -> Result<(), Failed>
+/// Writes the raw text of the picture that the reader shows, if it shows one.
+pub(crate) fn write_shown<K: Sink>(out: &mut K, reader: &StreamReader) -> Result<(), Failed>
     ensures ok { OnOk result (Appends (K.written out.old) (K.written out.new) (shown_text reader.now.picture)) }
     ensures err { OnErr result (GrewShort (K.written out.old) (K.written out.new) (shown_text reader.now.picture)) }
     ensures cause { HasCause (K.faults out.old) (K.faults out.new) result }
@@ -28,8 +28,8 @@ fn write_shown<K: Sink>(out: &mut K, reader: &StreamReader) -> Result<(), Failed
     }
 }
 
-// How many pictures the reader shows.
-fn shown_count(reader: &StreamReader) -> u64
+/// How many pictures the reader shows.
+pub(crate) fn shown_count(reader: &StreamReader) -> u64
     ensures { result ≡ shown_count reader.now.picture }
 {
     match reader.picture() {

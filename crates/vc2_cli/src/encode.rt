@@ -8,8 +8,8 @@ ghost use Rattle.vc2_words.specs.Lawful.{AreLawful};
 ghost use Rattle.vc2_run.specs.Ran.{HaltHasCause};
 ghost use Rattle.stream_units.specs.Writer.{next_place, next_previous, IsSteepUnder};
 ghost use Rattle.vc2_cli.specs.Change.{change};
-ghost use Rattle.vc2_cli.specs.Running.{IsDone, Runs};
-ghost use Rattle.vc2_cli.specs.Encode.{written_under, raw_size, encode_machine, refused_at, is_half, ended_plan, closing, ClosesBy, told_of_fault, told_of_stop};
+ghost use Rattle.vc2_cli.specs.Running.{IsDone, Runs, Closes};
+ghost use Rattle.vc2_cli.specs.Encode.{written_under, raw_size, encode_machine, refused_at, is_half, ended_plan, ended_at, last_text, told_of_fault, told_of_stop};
 ghost use Rattle.vc2_cli.specs.EncodeTurn.{Goes};
 
 use crate::status::Ending;
@@ -69,7 +69,8 @@ fn finish<K: Sink>(
     requires rate { IsRate settings.now.rate }
     requires open { writer.old.ended ≡ false }
     requires going { writer.old.stop ≡ None }
-    ensures closes { ClosesBy (closing (is_half settings.now.header.coding pictures) place (next_previous writer.old) (ended_plan (shown settings.now) writer.old.shapes (next_place writer.old)))
+    ensures closes { let half = is_half settings.now.header.coding pictures in
+        Closes (ended_at half place (ended_plan (shown settings.now) writer.old.shapes (next_place writer.old))) (last_text half (next_previous writer.old))
         (K.written out.old) (K.written out.new) result }
     ensures cause { HaltHasCause 0 0 (K.faults out.old) (K.faults out.new) result }
 {

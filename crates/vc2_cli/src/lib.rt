@@ -6,10 +6,12 @@ mod check;
 mod comparing;
 mod decode;
 mod encode;
+mod frames;
 mod header;
 mod header_texts;
 mod laws;
 mod program;
+mod proxy;
 mod readers;
 mod running;
 mod scheduled;
@@ -18,12 +20,14 @@ mod stream_sink;
 mod texts;
 mod top;
 mod trial;
+mod weave;
 mod words;
 
 pub use laws::{
-    lines_are_read, one_answer, one_check_answer, one_decode_answer, one_encode_answer,
-    one_header_answer, one_schedule_answer, pictures_go_there_and_back, streams_have_replies,
-    words_are_encoded,
+    fields_have_replies, lines_are_read, one_answer, one_check_answer, one_decode_answer,
+    one_encode_answer, one_frames_answer, one_header_answer, one_proxy_answer, one_schedule_answer,
+    one_split_answer, one_weave_answer, pictures_go_there_and_back, proxies_have_replies,
+    streams_have_replies, words_are_encoded,
 };
 pub use program::run_to_exit;
 pub use status::{Ending, ScheduleFault, Status, exit_code};

@@ -99,7 +99,7 @@ impl UnitReader for StreamReader {
 
     ghost seen = { λ r. record { past = r.past; held = r.held; stop = r.stop; ended = r.ended } };
 
-    ghost tells = { λ old new z unit bytes item. TellsPicture old new z unit bytes };
+    ghost tells = { TellsPicture };
 
     ghost stays = { StaysBehind };
 

@@ -102,7 +102,7 @@ pub(crate) trait UnitCommand<R: UnitReader>: Drop {
     /// Writes the text of a unit, behind which the reader is.
     fn turn<K: Sink>(&mut self, reader: &R, item: R::Item, out: &mut K) -> Result<(), Halt>
         requires { (before : R) × (z : R.Past) × (unit : R.Made) × (bytes : List ℕ) × R.tells before reader.now z unit bytes item × keeps self.old before × (z ≡ (R.seen before).past) × ((R.grammar).place z + length bytes ≤ INPUT_LIMIT) }
-        ensures wrote { (before : R) (z : R.Past) (unit : R.Made) (bytes : List ℕ) → R.tells before reader.now z unit bytes item → Turns (command) z unit bytes (own self.old before) (own self.new reader.now) (K.written out.old) (K.written out.new) result }
+        ensures wrote { (before : R) (z : R.Past) (unit : R.Made) (bytes : List ℕ) → R.tells before reader.now z unit bytes item → z ≡ (R.seen before).past → keeps self.old before → Turns (command) z unit bytes (own self.old before) (own self.new reader.now) (K.written out.old) (K.written out.new) result }
         ensures keeps { (before : R) (z : R.Past) (unit : R.Made) (bytes : List ℕ) → R.tells before reader.now z unit bytes item → z ≡ (R.seen before).past → keeps self.old before → OnOk result (keeps self.new reader.now) }
         ensures cause { HaltHasCause 0 0 (K.faults out.old) (K.faults out.new) result };
 

@@ -16,6 +16,11 @@ pub enum Ending {
         pictures: u64,
         bytes: u64,
     },
+    /// The frames of a stream were written.
+    Framed {
+        frames: u64,
+        bytes: u64,
+    },
     /// A stream was accepted.
     Accepted {
         pictures: u64,

@@ -7,7 +7,8 @@ ghost use Rattle.channel_schedule.specs.Rates.{IsSchedule};
 ghost use Rattle.vc2_words.specs.Commands as asked;
 ghost use Rattle.vc2_words.specs.Settings.{Asked};
 ghost use Rattle.vc2_words.specs.declared.words.TrialPart.{TrialPart};
-ghost use Rattle.vc2_words.specs.Lawful.{AreLawful, IsTrial};
+ghost use Rattle.vc2_words.specs.declared.settings.FieldVideo.{FieldVideo};
+ghost use Rattle.vc2_words.specs.Lawful.{AreLawful, IsTrial, IsFieldVideo};
 ghost use Rattle.stream_units.specs.Writer.{IsSteepUnder};
 ghost use Rattle.vc2_cli.specs.Encode.{written_under};
 ghost use Rattle.vc2_cli.specs.Words.{seen_words};
@@ -22,11 +23,16 @@ use crate::chain::chain;
 use crate::check::check;
 use crate::decode::decode;
 use crate::encode::encode;
+use crate::frames::frames;
 use crate::header::header;
+use crate::proxy::proxy;
 use crate::scheduled::check_schedule;
 use crate::status::{Ending, ScheduleFault, Status};
-use crate::texts::{decoded_text, fault_text, refusal_text, schedule_text, usage_text};
+use crate::texts::{
+    decoded_text, fault_text, framed_text, refusal_text, schedule_text, usage_text,
+};
 use crate::trial::trial;
+use crate::weave::{split, weave};
 use crate::words::checked;
 use channel_schedule::Outcome;
 use std::alloc::{AllocError, Global};
@@ -83,6 +89,7 @@ fn status_of(ending: Ending) -> Status
     match ending {
         Ending::Done
         | Ending::Decoded { .. }
+        | Ending::Framed { .. }
         | Ending::Accepted { .. }
         | Ending::Encoded(_)
         | Ending::Compared(_) => Status::Done,
@@ -97,6 +104,7 @@ fn note_text(alloc: Global, ending: &Ending) -> Result<String, AllocError>
     match ending {
         Ending::Done | Ending::Accepted { .. } | Ending::Compared(_) => Ok(String::new(alloc)),
         Ending::Decoded { pictures, bytes } => decoded_text(alloc, *pictures, *bytes),
+        Ending::Framed { frames, bytes } => framed_text(alloc, *frames, *bytes),
         Ending::Scheduled { outcome, .. } => schedule_note(alloc, *outcome),
         Ending::Encoded(schedule) => schedule_text(alloc, schedule),
         Ending::Refused(refusal) => refusal_text(alloc, refusal),
@@ -149,6 +157,8 @@ fn answer<S: Source, K: Sink, N: Sink>(
     requires schedule { (schedule : Schedule) → seen_words command ≡ Ok (asked.check (Some schedule)) → IsSchedule schedule }
     requires settings { (s : Asked) → seen_words command ≡ Ok (asked.encode s) → AreLawful s × IsSteepUnder (written_under s) }
     requires trial { (s : Asked) (part : TrialPart) → seen_words command ≡ Ok (asked.trial s part) → IsTrial s part × IsSteepUnder (written_under s) }
+    requires weave { (video : FieldVideo) → seen_words command ≡ Ok (asked.weave video) → IsFieldVideo video }
+    requires split { (video : FieldVideo) → seen_words command ≡ Ok (asked.split video) → IsFieldVideo video }
     ensures settled { (input : List ℕ) → S.rest src.old ≡ Some input →
         Settles (command_reply (seen_words command) input) (command_due (seen_words command)) input (S.rest src.new)
         (K.written out.old) (K.written out.new) (N.written note.old) (N.written note.new) result }
@@ -170,10 +180,14 @@ fn answer<S: Source, K: Sink, N: Sink>(
                 None => conclude(alloc, check(alloc, src, out), note),
                 Some(schedule) => conclude(alloc, check_schedule(alloc, schedule, src, out), note),
             },
+            Command::Proxy(level) => conclude(alloc, proxy(alloc, level, src, out), note),
             Command::Encode(settings) => conclude(alloc, encode(alloc, &settings, src, out), note),
             Command::Trial(settings, part) => {
                 conclude(alloc, trial(alloc, &settings, part, out), note)
             }
+            Command::Frames(top) => conclude(alloc, frames(alloc, top, src, out), note),
+            Command::Weave(video) => conclude(alloc, weave(alloc, &video, src, out), note),
+            Command::Split(video) => conclude(alloc, split(alloc, &video, src, out), note),
         },
         Err(fault) => refuse(alloc, fault, note),
     }

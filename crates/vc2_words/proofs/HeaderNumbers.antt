@@ -16,7 +16,7 @@ use Rattle.vc2_words.specs.Forms.{greatest}
 use Rattle.vc2_words.specs.Operands.{Table, value_of}
 use Rattle.vc2_words.specs.Plain.{IsPlain, IsPlainScan, IsPlainRate, IsPlainSignal}
 use Rattle.vc2_words.specs.Read.{IsRead}
-use Rattle.vc2_words.specs.Settings.{number_of, signal_of, parts_of}
+use Rattle.vc2_words.specs.Settings.{number_of, signal_of, parts_of, field_parts}
 use Rattle.vc2_words.proofs.Small.{number_small}
 
 scans : (scan : Option ℕ) → IsPlainScan scan → AreOfKind scan_rows (scan_fields scan)
@@ -47,6 +47,27 @@ signalled (signals.Custom r) plain low = signal_kinds_custom r (omega (arith, lo
 pub parts_lawful : (given : Table) → IsRead given → IsPlain (parts_of given) → Passes (parts_of given) → IsLawful (parts_of given)
 parts_lawful given read plain passes =
     let p = parts_of given in
+    let width = number_small given of_key.Size 0 read in
+    let height = number_small given of_key.Size 1 read in
+    let signal = signal_low (value_of given of_key.Signal) (λ i. number_small given of_key.Signal i read) in
+    let kinds : HaveKinds p = record {
+      version = version_kinds (version_of p) (omega arith) (omega arith) (omega arith);
+      size = size_kinds (frame_size p) (omega (arith, width)) (omega (arith, height));
+      sampling = sampling_kinds (frame_size p) p.sampling (omega (arith, plain.sampling));
+      scan = scans p.scan plain.scan;
+      rate = rated p.rate plain.rate;
+      aspect = aspect_kinds_none;
+      clean = clean_kinds_none;
+      signal = signalled p.signal plain.signal signal;
+      colour = colour_kinds_none;
+      coding = coding_kinds (frame_size p) p.sampling p.coding (omega (arith, plain.coding));
+    } in
+    record { passes = passes; kinds = header_kinds p passes kinds }
+
+-- the same of fields
+pub field_parts_lawful : (given : Table) → IsRead given → IsPlain (field_parts given) → Passes (field_parts given) → IsLawful (field_parts given)
+field_parts_lawful given read plain passes =
+    let p = field_parts given in
     let width = number_small given of_key.Size 0 read in
     let height = number_small given of_key.Size 1 read in
     let signal = signal_low (value_of given of_key.Signal) (λ i. number_small given of_key.Signal i read) in

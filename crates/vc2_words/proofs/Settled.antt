@@ -17,19 +17,19 @@ use Rattle.vc2_words.specs.declared.keys.Rule as settings
 use Rattle.vc2_words.specs.Forms.{greatest, cut_at, slash, number_in, number_from}
 use Rattle.vc2_words.specs.Operands.{Table, value_of, and_then, operands_of}
 use Rattle.vc2_words.specs.Plain.{IsPlain, IsPlainFor}
-use Rattle.vc2_words.specs.Lawful.{AreLawful, IsGroup, IsAskedSchedule, IsTrial}
+use Rattle.vc2_words.specs.Lawful.{AreLawful, IsGroup, IsAskedSchedule, IsTrial, IsFieldVideo}
 use Rattle.vc2_words.specs.declared.keys.Name.{Name}
 use Rattle.vc2_words.specs.declared.keys.Name.TheVariants as names
 use Rattle.vc2_words.specs.declared.keys.WordFault.{WordFault}
 use Rattle.vc2_words.specs.Keys.{name_of}
-use Rattle.vc2_words.specs.Commands.{AskedCommand, check, encode, trial, unless_broken, schedule_from, schedule_of, command_of, part_of, named, asked_by}
+use Rattle.vc2_words.specs.Commands.{AskedCommand, check, encode, trial, weave, split, unless_broken, schedule_from, schedule_of, command_of, part_of, named, asked_by}
 use Rattle.vc2_words.proofs.Plainness.{IsWhole, plain_of, whole_of, pair_is, single_is, range_is, none_some, some_same}
 use Rattle.vc2_words.specs.Read.{IsRead, IsValue}
 use Rattle.vc2_words.proofs.Small.{AreSmall, given_small, number_small}
-use Rattle.vc2_words.proofs.HeaderNumbers.{parts_lawful}
+use Rattle.vc2_words.proofs.HeaderNumbers.{parts_lawful, field_parts_lawful}
 use Rattle.vc2_words.proofs.Trials.{seed_low, pictures_of}
 use Rattle.transform_params.proofs.Bounds.{unit_small}
-use Rattle.vc2_words.specs.Settings.{number_of, number_at, entries_of, parts_of, params_of, slicing_of, are_slices, is_share, number_rules, trial_rules, broken_rule, or_first, is_even_with, are_paired, group_of, asked_of, rate_or, rate_given, buffer_given}
+use Rattle.vc2_words.specs.Settings.{number_of, number_at, entries_of, parts_of, params_of, slicing_of, are_slices, is_share, number_rules, trial_rules, broken_rule, or_first, is_even_with, are_paired, group_of, asked_of, field_parts, field_rules, video_of, rate_or, rate_given, buffer_given}
 use Rattle.vc2_words.proofs.Lawful.{range_of, and_both, passes}
 use Rattle.vc2_words.proofs.Rules.{all_hold, slices_hold, share_holds, count_holds}
 
@@ -211,10 +211,19 @@ schedule_says : (given : Table) → IsRead given → (r : Option Schedule) → s
 schedule_says given read None is = tt
 schedule_says given read (Some s) is = schedule_lawful given read s is
 
+-- ---- fields
+
+fields_lawful : (given : Table) → IsRead given → IsPlain (field_parts given) → first_broken (field_rules (field_parts given)) ≡ None → IsFieldVideo (video_of given)
+fields_lawful given read plain none =
+    let all = all_hold (field_rules (field_parts given)) none in
+    record { header = field_parts_lawful given read plain (passes (field_parts given) plain all.0 all.1.0 all.1.1.0); fields = refl }
+
 abbrev Says : AskedCommand → Type 0
 Says (check schedule) = SaysOf schedule
 Says (encode s) = AreLawful s
 Says (trial s part) = IsTrial s part
+Says (weave video) = IsFieldVideo video
+Says (split video) = IsFieldVideo video
 Says _ = Unit {0}
 
 abbrev fine : AskedCommand → Result AskedCommand WordFault
@@ -233,14 +242,25 @@ unbroken given pictures told c good e = here (broken_rule given pictures) refl e
     here (Some rule) is e = failed e
     here None is e = subst (λ (k : AskedCommand). Says k) (fine_same e) (good is)
 
+unbroken_fields : (given : Table) (told c : AskedCommand) → (first_broken (field_rules (field_parts given)) ≡ None → Says told) → unless_broken (first_broken (field_rules (field_parts given))) told ≡ fine c → Says c
+unbroken_fields given told c good e = here (first_broken (field_rules (field_parts given))) refl e
+  where
+    here : (r : Option settings.Rule) → first_broken (field_rules (field_parts given)) ≡ r → unless_broken r told ≡ fine c → Says c
+    here (Some rule) is e = failed e
+    here None is e = subst (λ (k : AskedCommand). Says k) (fine_same e) (good is)
+
 command_says : (name : Name) (given : Table) (c : AskedCommand) → IsWhole name given → IsPlainFor name (parts_of given) → command_of name given ≡ fine c → Says c
 command_says names.Chain given c whole plain e = subst (λ (k : AskedCommand). Says k) (fine_same e) tt
 command_says names.Header given c whole plain e = subst (λ (k : AskedCommand). Says k) (fine_same e) tt
 command_says names.Decode given c whole plain e = subst (λ (k : AskedCommand). Says k) (fine_same e) tt
 command_says names.Check given c whole plain e = subst (λ (k : AskedCommand). Says k) (fine_same e) (schedule_says given whole.read (schedule_of given) refl)
+command_says names.Proxy given c whole plain e = subst (λ (k : AskedCommand). Says k) (fine_same e) tt
 command_says names.Encode given c whole plain e = unbroken given None (encode (asked_of given)) c (lawful given None whole.read plain) e
 command_says names.Trial given c whole plain e =
     unbroken given (Some (number_at given of_key.Pictures 0)) (trial (asked_of given) (part_of given)) c (trial_lawful given whole plain) e
+command_says names.Weave given c whole plain e = unbroken_fields given (weave (video_of given)) c (fields_lawful given whole.read plain) e
+command_says names.Split given c whole plain e = unbroken_fields given (split (video_of given)) c (fields_lawful given whole.read plain) e
+command_says names.Frames given c whole plain e = subst (λ (k : AskedCommand). Says k) (fine_same e) tt
 
 pub words_say : (words : List (List ℕ)) (c : AskedCommand) → asked_by words ≡ fine c → Says c
 words_say [] c e = failed e

@@ -1,5 +1,5 @@
 -- What the words ask for: a command with its settings, or the first fault.
-use Rattle.std.specs.Prelude.{ℕ, List, [], ◌∷◌, slice_index, Option, Some, None, Result, Ok, Err}
+use Rattle.std.specs.Prelude.{ℕ, Bool, List, [], ◌∷◌, slice_index, Option, Some, None, Result, Ok, Err}
 use Rattle.vc2_words.specs.declared.keys.Name.{Name}
 use Rattle.vc2_words.specs.declared.keys.Name.TheVariants as names
 use Rattle.vc2_words.specs.declared.keys.Key.TheVariants as of_key
@@ -8,12 +8,14 @@ use Rattle.vc2_words.specs.declared.keys.WordFault.{WordFault}
 use Rattle.vc2_words.specs.declared.keys.WordFault.TheVariants as faults
 use Rattle.channel_schedule.specs.declared.schedule.Rate.{Rate}
 use Rattle.channel_schedule.specs.declared.schedule.Schedule.{Schedule}
+use Rattle.field_rows.specs.Rows.{first_broken}
+use Rattle.vc2_words.specs.declared.settings.FieldVideo.{FieldVideo}
 use Rattle.vc2_words.specs.declared.words.TrialPart.{TrialPart}
 use Rattle.vc2_words.specs.declared.words.Command.{Command}
 use Rattle.vc2_words.specs.declared.words.Command.TheVariants as commands
 use Rattle.vc2_words.specs.Keys.{name_of}
 use Rattle.vc2_words.specs.Operands.{Table, value_of, and_then, operands_of}
-use Rattle.vc2_words.specs.Settings.{Asked, asked_of, broken_rule, number_at, rate_given, buffer_given}
+use Rattle.vc2_words.specs.Settings.{Asked, asked_of, broken_rule, field_parts, field_rules, video_of, is_top, number_at, rate_given, buffer_given}
 use Rattle.vc2_words.specs.Shown.{shown}
 
 pub data AskedCommand : Type 0 where
@@ -23,6 +25,10 @@ pub data AskedCommand : Type 0 where
   check : Option Schedule → AskedCommand
   encode : Asked → AskedCommand
   trial : Asked → TrialPart → AskedCommand
+  weave : FieldVideo → AskedCommand
+  split : FieldVideo → AskedCommand
+  frames : (top : Bool) → AskedCommand
+  proxy : ℕ → AskedCommand
 
 -- a schedule, where all of it is given, with so many idle slots
 abbrev pub schedule_from : Option Rate → Option (List ℕ) → Option ℕ → ℕ → Option Schedule
@@ -49,6 +55,10 @@ command_of names.Check given = Ok (check (schedule_of given))
 command_of names.Encode given = unless_broken (broken_rule given None) (encode (asked_of given))
 command_of names.Trial given =
     unless_broken (broken_rule given (Some (number_at given of_key.Pictures 0))) (trial (asked_of given) (part_of given))
+command_of names.Weave given = unless_broken (first_broken (field_rules (field_parts given))) (weave (video_of given))
+command_of names.Split given = unless_broken (first_broken (field_rules (field_parts given))) (split (video_of given))
+command_of names.Frames given = Ok (frames (is_top given))
+command_of names.Proxy given = Ok (proxy (number_at given of_key.Level 0))
 
 abbrev pub named : Option Name → List (List ℕ) → Result AskedCommand WordFault
 named None words = Err faults.UnknownCommand
@@ -67,3 +77,7 @@ seen commands.Decode = decode
 seen (commands.Check schedule) = check schedule
 seen (commands.Encode s) = encode (shown s)
 seen (commands.Trial s part) = trial (shown s) part
+seen (commands.Weave video) = weave video
+seen (commands.Split video) = split video
+seen (commands.Frames top) = frames top
+seen (commands.Proxy level) = proxy level

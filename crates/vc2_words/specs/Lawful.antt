@@ -4,6 +4,7 @@ use Rattle.sequence_header.specs.Checking as checking
 use Rattle.transform_params.specs.ParameterFields.{IsLawful}
 use Rattle.channel_schedule.specs.declared.schedule.Schedule.{Schedule}
 use Rattle.channel_schedule.specs.Rates.{IsRate, IsSchedule}
+use Rattle.vc2_words.specs.declared.settings.FieldVideo.{FieldVideo}
 use Rattle.vc2_words.specs.declared.words.TrialPart.{TrialPart}
 use Rattle.vc2_words.specs.Settings.{Asked, stream_length}
 
@@ -28,6 +29,11 @@ pub record AreLawful (s : Asked) : Type 0 where
 pub record IsAskedSchedule (s : Schedule) : Type 0 where
   pub schedule : IsSchedule s
   pub idle : s.idle ≤ 2 ^ 20
+
+-- Raw fields: a header of fields that breaks no rule.
+pub record IsFieldVideo (video : FieldVideo) : Type 0 where
+  pub header : checking.IsLawful video.header
+  pub fields : video.header.coding ≡ 1
 
 -- A trial: its fields make whole frames, and their stream is no longer than 2 ^ 28 bytes.
 pub record IsTrial (s : Asked) (part : TrialPart) : Type 0 where

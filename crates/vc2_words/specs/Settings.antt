@@ -3,6 +3,7 @@ use Rattle.std.specs.Prelude.{ℕ, zero, suc, ◌+◌, ◌-◌, ◌*◌, ◌/◌
 use Rattle.std.specs.Int.{is_in_range}
 use Rattle.field_rows.specs.Rows.{Rule, ◌or_else◌, first_broken}
 use Rattle.sequence_header.specs.declared.parts.HeaderParts.{HeaderParts}
+use Rattle.vc2_words.specs.declared.settings.FieldVideo.{FieldVideo}
 use Rattle.sequence_header.specs.declared.parts.RateField.{RateField}
 use Rattle.sequence_header.specs.declared.parts.RateField.TheVariants as rates
 use Rattle.sequence_header.specs.declared.parts.AspectField.TheVariants as aspects
@@ -91,6 +92,27 @@ is_divided p =
 abbrev pub is_signal : SignalField → Bool
 is_signal (signals.Index n) = true
 is_signal (signals.Custom r) = is_in_range 1 65535 r.luma_excursion && is_in_range 1 65535 r.colour_excursion
+
+-- ---- fields
+
+-- the parts of fields; the rate is nothing of theirs
+abbrev pub of_fields : HeaderParts → HeaderParts
+of_fields p = record p { rate = rates.Index 1; coding = 1 }
+
+abbrev pub field_parts : Table → HeaderParts
+field_parts given = of_fields (parts_of given)
+
+abbrev pub field_rules : HeaderParts → List (Rule settings.Rule)
+field_rules parts =
+    (is_size parts or_else broken.Size) ∷ (is_divided parts or_else broken.Divide)
+    ∷ (is_signal parts.signal or_else broken.Signal) ∷ []
+
+-- the first field has line 0 of the frame
+abbrev pub is_top : Table → Bool
+is_top given = number_at given of_key.Order 0 == 1
+
+abbrev pub video_of : Table → FieldVideo
+video_of given = record { header = field_parts given; top = is_top given }
 
 -- ---- the parameters
 

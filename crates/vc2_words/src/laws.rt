@@ -3,9 +3,10 @@
 ghost use Rattle.std.specs.Prelude.{◌≡◌, ℕ, List, Ok, Some};
 ghost use Rattle.channel_schedule.specs.declared.schedule.Schedule.{Schedule};
 ghost use Rattle.vc2_words.specs.declared.words.TrialPart.{TrialPart};
+ghost use Rattle.vc2_words.specs.declared.settings.FieldVideo.{FieldVideo};
 ghost use Rattle.vc2_words.specs.Settings.{Asked};
-ghost use Rattle.vc2_words.specs.Commands.{asked_by, check, encode, trial};
-ghost use Rattle.vc2_words.specs.Lawful.{AreLawful, IsAskedSchedule, IsTrial};
+ghost use Rattle.vc2_words.specs.Commands.{asked_by, check, encode, trial, weave, split};
+ghost use Rattle.vc2_words.specs.Lawful.{AreLawful, IsAskedSchedule, IsTrial, IsFieldVideo};
 ghost use Rattle.vc2_words.specs.Order.{FirstFaultIsTold, OrderIsFree};
 
 /// The settings that words ask for are lawful: their header and parameters pass the rules, each number is one that its field
@@ -21,6 +22,12 @@ pub fn settings_are_lawful()
 /// slots are idle behind a picture.
 pub fn schedules_are_lawful()
     ensures { (words : List (List ℕ)) (s : Schedule) → asked_by words ≡ Ok (check (Some s)) → IsAskedSchedule s }
+{}
+
+/// The fields that words ask for are lawful: their header passes the rules, and is one of fields.
+pub fn fields_are_lawful()
+    ensures weave { (words : List (List ℕ)) (video : FieldVideo) → asked_by words ≡ Ok (weave video) → IsFieldVideo video }
+    ensures split { (words : List (List ℕ)) (video : FieldVideo) → asked_by words ≡ Ok (split video) → IsFieldVideo video }
 {}
 
 /// The fault that is told of operands is that of the first word that is refused, and of no other.

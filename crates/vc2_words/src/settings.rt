@@ -37,6 +37,14 @@ pub struct Settings {
     pub idle: u32,
 }
 
+/// Raw fields, by a header of them: its size is the frame's.
+#[derive(Clone, Copy, Debug, PartialEq, Eq)]
+pub struct FieldVideo {
+    pub header: SequenceHeader,
+    /// The first field has line 0 of the frame.
+    pub top: bool,
+}
+
 /// The number of this place in a key's value, or 0.
 fn number(given: &Given, key: Key, i: usize) -> u32
     requires { bound_of key ≤ greatest }
@@ -155,6 +163,53 @@ fn header_of(parts: HeaderParts) -> SequenceHeader
     match SequenceHeader::check(parts) {
         Ok(header) => header,
         Err(_) => unreachable!(),
+    }
+}
+
+/// The header of the fields that these operands ask for. It has a rate, since each has one, which is nothing of raw video's.
+fn field_parts(given: &Given) -> HeaderParts
+    ensures { result ≡ asked.field_parts given.now.values }
+{
+    let mut parts = parts_of(given);
+    parts.rate = RateField::Index(1);
+    parts.coding = 1;
+    parts
+}
+
+/// The first rule on fields that is broken.
+fn broken_field(parts: &HeaderParts) -> Option<Rule>
+    ensures { result ≡ first_broken (asked.field_rules parts.now) }
+{
+    if !is_size(parts) {
+        Some(Rule::Size)
+    } else if !is_divided(parts) {
+        Some(Rule::Divide)
+    } else if !is_signal(parts) {
+        Some(Rule::Signal)
+    } else {
+        None
+    }
+}
+
+/// Whether the first field has line 0 of the frame.
+pub fn is_top(given: &Given) -> bool
+    ensures { result ≡ asked.is_top given.now.values }
+{
+    number(given, Key::Order, 0) == 1
+}
+
+/// The fields of these operands, or the first rule that they break.
+pub fn video_of(given: &Given) -> Result<FieldVideo, Rule>
+    requires { IsPlain (asked.field_parts given.now.values) }
+    ensures { MatchResult result (λ video. (first_broken (asked.field_rules (asked.field_parts given.now.values)) ≡ None) × (video ≡ asked.video_of given.now.values)) (λ rule. first_broken (asked.field_rules (asked.field_parts given.now.values)) ≡ Some rule) }
+{
+    let parts = field_parts(given);
+    match broken_field(&parts) {
+        Some(rule) => Err(rule),
+        None => Ok(FieldVideo {
+            header: header_of(parts),
+            top: is_top(given),
+        }),
     }
 }
 

@@ -4,12 +4,14 @@ ghost use Rattle.std.specs.Prelude.{◌≡◌, ◌<◌, Ok, Err, map, string_byt
 ghost use Rattle.vc2_words.specs.declared.keys.Name.TheVariants as names;
 ghost use Rattle.vc2_words.specs.Commands as commands;
 ghost use Rattle.vc2_words.specs.Commands.{seen, asked_by};
-ghost use Rattle.vc2_words.specs.Settings.{parts_of};
+ghost use Rattle.vc2_words.specs.Settings.{parts_of, field_parts};
 ghost use Rattle.vc2_words.specs.Plain.{IsPlain, IsPlainFor};
 
 use crate::keys::{Key, Name, WordFault, name_of};
 use crate::operands::{Given, read_operands};
-use crate::settings::{Settings, given_buffer, given_rate, idle_of, settings_of, single};
+use crate::settings::{
+    FieldVideo, Settings, given_buffer, given_rate, idle_of, is_top, settings_of, single, video_of,
+};
 use channel_schedule::Schedule;
 
 /// What a trial asks for beside settings.
@@ -28,6 +30,11 @@ pub enum Command {
     Check(Option<Schedule>),
     Encode(Settings),
     Trial(Settings, TrialPart),
+    Weave(FieldVideo),
+    Split(FieldVideo),
+    /// By whether the first field has line 0 of the frame.
+    Frames(bool),
+    Proxy(u32),
 }
 
 fn schedule_of(given: &Given) -> Option<Schedule>
@@ -69,6 +76,26 @@ fn trial_of(given: &Given) -> Result<Command, WordFault>
     }
 }
 
+fn weave_of(given: &Given) -> Result<Command, WordFault>
+    requires { IsPlain (field_parts given.now.values) }
+    ensures { MatchResult result (λ command. commands.command_of names.Weave given.now.values ≡ Ok (seen command)) (λ fault. commands.command_of names.Weave given.now.values ≡ Err fault) }
+{
+    match video_of(given) {
+        Ok(video) => Ok(Command::Weave(video)),
+        Err(rule) => Err(WordFault::SettingsRefused(rule)),
+    }
+}
+
+fn split_of(given: &Given) -> Result<Command, WordFault>
+    requires { IsPlain (field_parts given.now.values) }
+    ensures { MatchResult result (λ command. commands.command_of names.Split given.now.values ≡ Ok (seen command)) (λ fault. commands.command_of names.Split given.now.values ≡ Err fault) }
+{
+    match video_of(given) {
+        Ok(video) => Ok(Command::Split(video)),
+        Err(rule) => Err(WordFault::SettingsRefused(rule)),
+    }
+}
+
 fn command_of(name: Name, given: &Given) -> Result<Command, WordFault>
     requires { IsPlainFor name (parts_of given.now.values) }
     ensures { MatchResult result (λ command. commands.command_of name given.now.values ≡ Ok (seen command)) (λ fault. commands.command_of name given.now.values ≡ Err fault) }
@@ -80,6 +107,10 @@ fn command_of(name: Name, given: &Given) -> Result<Command, WordFault>
         Name::Check => Ok(Command::Check(schedule_of(given))),
         Name::Encode => encode_of(given),
         Name::Trial => trial_of(given),
+        Name::Weave => weave_of(given),
+        Name::Split => split_of(given),
+        Name::Frames => Ok(Command::Frames(is_top(given))),
+        Name::Proxy => Ok(Command::Proxy(single(given, Key::Level))),
     }
 }
 

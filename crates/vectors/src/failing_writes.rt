@@ -80,34 +80,66 @@ fn check_writes(rt: &impl Abort, alloc: Global, words: &str, input: &[u8]) -> Re
     check_behind(rt, alloc, words, input, &Outcome { status, out, note })
 }
 
+const WEAVE: &str = "weave size=1x2 sampling=444 signal=1 order=top";
+
+const SPLIT: &str = "split size=1x2 sampling=444 signal=1 order=top";
+
 #[test]
 fn each_write_may_fail(rt: HostRuntime) -> Result<(), Fail> {
     check_writes(&rt, rt.alloc(), "decode", SMALLEST)?;
     check_writes(&rt, rt.alloc(), "encode ..", PICTURE)?;
     check_writes(&rt, rt.alloc(), "chain", SMALLEST)?;
     check_writes(&rt, rt.alloc(), "header", SMALLEST)?;
+    check_writes(&rt, rt.alloc(), "frames order=top", SMALLEST)?;
+    check_writes(&rt, rt.alloc(), "proxy level=0", SMALLEST)?;
+    check_writes(&rt, rt.alloc(), "proxy level=4", SMALLEST)?;
+    check_writes(&rt, rt.alloc(), WEAVE, b"\x01\x02\x03\x04\x05\x06")?;
+    check_writes(&rt, rt.alloc(), SPLIT, b"\x01\x02\x03\x04\x05\x06")?;
     check_writes(&rt, rt.alloc(), "trial .. seed=0 pictures=1", b"")
 }
 
-// The first unit goes out before anything is read, and a picture's unit before the next read: where its first write fails,
-// so would that read.
+// The number of a read and of a write that both fail, and a run in which the write is due first.
+const DUE: [(u64, u64, &str); 6] = [
+    (
+        0,
+        0,
+        "the first unit | encode .. | #808080 | OutFault | # | #",
+    ),
+    (
+        3,
+        17,
+        "a picture's unit | encode .. | #808080 | OutFault | #424243440000000011000000003f27424a | #",
+    ),
+    (
+        6,
+        0,
+        "a frame of two fields | weave size=1x2 sampling=444 signal=1 order=top | #010203040506 | OutFault | # | #",
+    ),
+    (
+        6,
+        0,
+        "the fields of a frame | split size=1x2 sampling=444 signal=1 order=top | #010203040506 | OutFault | # | #",
+    ),
+    (
+        60,
+        0,
+        "a frame of a stream | frames order=top | #424243440000000012000000003f2f42488042424344c80000001500000012000000000c92700142424344c80000001500000015000000010c92700042424344100000000000000015 | OutFault | # | #",
+    ),
+    (
+        43,
+        0,
+        "a proxy | proxy level=0 | #424243440000000011000000003f6f424a42424344c80000001a000000110000000024949f8000d0a4126d4242434410000000000000001a | OutFault | # | #",
+    ),
+];
+
+// What is due goes out before the next read: where its first write fails, so would that read.
 #[test]
 fn writes_come_before_the_next_read(rt: HostRuntime) -> Result<(), Fail> {
-    let first = Ends {
-        read: 0,
-        out: 0,
-        ..SLOW
-    };
-    let row = "the first unit | encode .. | #808080 | OutFault | # | #";
-    check_rows(&rt, rt.alloc(), &first, row)?;
-    let second = Ends {
-        read: 3,
-        out: 17,
-        ..SLOW
-    };
-    let row =
-        "a picture's unit | encode .. | #808080 | OutFault | #424243440000000011000000003f27424a | #";
-    check_rows(&rt, rt.alloc(), &second, row)
+    for (read, out, row) in DUE {
+        let ends = Ends { read, out, ..SLOW };
+        check_rows(&rt, rt.alloc(), &ends, row)?;
+    }
+    Ok(())
 }
 
 #[test]

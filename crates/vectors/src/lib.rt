@@ -30,6 +30,8 @@ mod long;
 #[cfg(test)]
 mod many_sequences;
 #[cfg(test)]
+mod proxy_rows;
+#[cfg(test)]
 mod row;
 #[cfg(test)]
 mod runs;
@@ -47,6 +49,8 @@ mod texts;
 mod there_and_back;
 #[cfg(test)]
 mod trial_rows;
+#[cfg(test)]
+mod weave_rows;
 #[cfg(test)]
 mod word_rows;
 #[cfg(test)]

@@ -6,7 +6,7 @@ use Rattle.dc_prediction.specs.Prediction.{prediction}
 use Rattle.dc_prediction.proofs.PredictionLemmas.{fits}
 use Rattle.slice_encoder.specs.Loop.{restored_value}
 use Rattle.slice_encoder.specs.Sources.{band_seen}
-use Rattle.slice_encoder.specs.RectTrials.{TriedSoFar}
+use Rattle.slice_encoder.proofs.RectSoFar.{TriedSoFar}
 use Rattle.slice_encoder.proofs.PlaceByPlace.{looked_small, looked_wider, prediction_looked, tried_next}
 use Rattle.slice_encoder.proofs.rect_trials.try_rect.Goals as goal
 

@@ -1,6 +1,6 @@
 use Rattle.planes.specs.Raster.{at}
 use Rattle.slice_encoder.specs.Sources.{band_seen}
-use Rattle.slice_encoder.specs.RectTrials.{TriedSoFar}
+use Rattle.slice_encoder.proofs.RectSoFar.{TriedSoFar}
 use Rattle.slice_encoder.proofs.rect_trials.try_rect.Given as goal
 
 abbrev pub invariant-loop-y : goal.invariant-loop-y

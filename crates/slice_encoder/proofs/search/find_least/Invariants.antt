@@ -2,7 +2,7 @@ use Rattle.std.proofs.Common.{◌≡◌, ℕ, ◌<◌, length, false}
 use Rattle.slice_encoder.specs.Choice.{fits}
 use Rattle.slice_encoder.specs.Jobs.{picture_of}
 use Rattle.slice_encoder.specs.Tries.{tried_lists}
-use Rattle.slice_encoder.specs.Ready.{AllKeepOthers}
+use Rattle.slice_encoder.proofs.Others.{AllKeepOthers}
 use Rattle.slice_encoder.proofs.search.find_least.Given as goal
 
 abbrev pub invariant-loop-index : goal.invariant-loop-index

@@ -1,6 +1,6 @@
 use Rattle.vc2_run.proofs.UnitLaws.{run_of, answer_of_run}
 use Rattle.vc2_cli.specs.Encode.{encode_machine}
-use Rattle.vc2_cli.proofs.Encoding.{encode_laws}
+use Rattle.vc2_cli.proofs.EncodeTurns.{encode_laws}
 use Rattle.vc2_cli.proofs.EncodeReplies.{some_size}
 use Rattle.vc2_cli.proofs.laws.one_encode_answer.Goals as goal
 

@@ -280,8 +280,8 @@ loop-turn-preserved g c =
     let tells = n.tells in
     record {
       goes = goes_more g.R.UnitReader.along i.goes n;
-      holds = holds_turn laws first cmd r0 o0 o1 (written c.turn.new.out) w (own c.turn.new.self c.next_turn.new.self) i.holds n (c.in-Ok-turn.ensures.wrote l.reader z n.unit n.bytes tells);
-      unrefused = unrefused_turn laws g.R.UnitReader.short first cmd (begun_opens g.C.UnitCommand.command (g.C.UnitCommand.start c.args.command.now) g.C.UnitCommand.opens) r0 w (own c.turn.new.self c.next_turn.new.self) i.unrefused n (c.in-Ok-turn.ensures.wrote l.reader z n.unit n.bytes tells).1;
+      holds = holds_turn laws first cmd r0 o0 o1 (written c.turn.new.out) w (own c.turn.new.self c.next_turn.new.self) i.holds n (c.in-Ok-turn.ensures.wrote l.reader z n.unit n.bytes tells refl i.keeps);
+      unrefused = unrefused_turn laws g.R.UnitReader.short first cmd (begun_opens g.C.UnitCommand.command (g.C.UnitCommand.start c.args.command.now) g.C.UnitCommand.opens) r0 w (own c.turn.new.self c.next_turn.new.self) i.unrefused n (c.in-Ok-turn.ensures.wrote l.reader z n.unit n.bytes tells refl i.keeps).1;
       keeps = c.in-Ok-turn.ensures.keeps l.reader z n.unit n.bytes tells refl i.keeps;
       steady = steady;
       steady_out = c.in-Ok-turn.ensures.cause.1 ∙ i.steady_out;
@@ -315,7 +315,7 @@ returns-in-Err-turn-clause-runs g c =
     let most = takes_at_most G (Tells l.reader c.next_turn.new.self) (g.R.UnitReader.stays l.reader c.next_turn.new.self) old new r0 r1 r2 (Ok c.in-Ok-next_turn.turn) i.goes.most i.goes a in
     let tells = n.tells in
     record {
-      ran = ran_unwritten (Unit {0}) laws first cmd r0 o0 o1 (written c.turn.new.out) w c.in-Err-turn.halt i.holds n (c.in-Err-turn.ensures.wrote l.reader z n.unit n.bytes tells);
+      ran = ran_unwritten (Unit {0}) laws first cmd r0 o0 o1 (written c.turn.new.out) w c.in-Err-turn.halt i.holds n (c.in-Err-turn.ensures.wrote l.reader z n.unit n.bytes tells refl i.keeps);
       limit = most;
       cause = cause_halt (Unit {0}) Ending (g.S.Source.faults c.args.src.now) (g.S.Source.faults c.next_turn.new.src) (g.K.Sink.faults c.args.out.now) (g.K.Sink.faults c.loop-turn.out) (g.K.Sink.faults c.turn.new.out) c.in-Err-turn.halt steady i.steady_out c.in-Err-turn.ensures.cause;
       end = λ ending e done. absurd cc;
@@ -474,4 +474,4 @@ returns-in-Err-turn-clause-soon g c =
     let a = c.in-Ok-next_turn.ensures.next i.goes.no_stop i.goes.no_end in
     let n = subst (λ t. NextOver G (g.R.UnitReader.tells l.reader c.next_turn.new.self) (g.R.UnitReader.stays l.reader c.next_turn.new.self) old new r1 r2 (Ok t)) c.in-Unit.is a in
     turned_soon (g.R.UnitReader.tells l.reader c.next_turn.new.self) (g.R.UnitReader.stays l.reader c.next_turn.new.self) old new r0 r1 r2 (Ok c.in-Ok-next_turn.turn) laws g.R.UnitReader.short first cmd opens _ i.goes.most i.unrefused a
-    (writes_no_read (Unit {0}) _ (written l.out) (written c.turn.new.out) c.in-Err-turn.halt _ refl (c.in-Err-turn.ensures.wrote l.reader old.past n.unit n.bytes n.tells))
+    (writes_no_read (Unit {0}) _ (written l.out) (written c.turn.new.out) c.in-Err-turn.halt _ refl (c.in-Err-turn.ensures.wrote l.reader old.past n.unit n.bytes n.tells refl i.keeps))

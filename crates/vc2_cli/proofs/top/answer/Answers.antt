@@ -14,12 +14,18 @@ use Rattle.vc2_cli.proofs.HeaderRuns.{header_laws}
 use Rattle.vc2_cli.proofs.Chaining.{chain_laws}
 use Rattle.vc2_cli.specs.Decode.{decode_machine, check_machine}
 use Rattle.vc2_cli.proofs.Decoding.{decode_laws, check_laws}
+use Rattle.vc2_cli.specs.Proxy.{proxy_machine}
+use Rattle.vc2_cli.proofs.Proxying.{proxy_laws}
 use Rattle.vc2_cli.specs.Scheduled.{replay_machine}
 use Rattle.vc2_cli.proofs.Replaying.{replay_laws}
 use Rattle.vc2_words.specs.Shown.{shown}
 use Rattle.vc2_cli.specs.Encode.{encode_machine}
-use Rattle.vc2_cli.proofs.Encoding.{encode_laws}
+use Rattle.vc2_cli.proofs.EncodeTurns.{encode_laws}
 use Rattle.vc2_cli.proofs.EncodeReplies.{some_size}
+use Rattle.vc2_cli.specs.Weave.{order_of, weave_machine, split_machine}
+use Rattle.vc2_cli.specs.Frames.{frames_machine}
+use Rattle.vc2_cli.proofs.Framing.{frames_laws}
+use Rattle.vc2_cli.proofs.Weaving.{weave_laws, split_laws}
 use Rattle.vc2_cli.proofs.Settling.{at_end, settled, settled_trial, settled_usage, trial_told, if_trial, if_header}
 use Rattle.vc2_cli.proofs.top.answer.Goals as goal
 
@@ -214,3 +220,106 @@ pub returns-in-Err-clause-soon : goal.returns-in-Err-clause-soon
 returns-in-Err-clause-soon g c = λ input e.
     units_at (λ r most. StopsSoon (command_reply r) most input (g.S.Source.rest c.args.src.now) c.refuse.result) _ _ (c.in-Err.is)
     (tt)
+
+-- ---- weave
+
+pub returns-in-Weave-clause-settled : goal.returns-in-Weave-clause-settled
+returns-in-Weave-clause-settled g c = λ input e.
+    let rest = g.S.Source.rest in
+    let out = g.K.Sink.written in
+    let note = g.N.Sink.written in
+    let video = c.in-Weave.video in
+    let is = c.requires.weave video (ap seen_words (c.in-Ok.is ∙ ap Ok c.in-Weave.is)) in
+    subst (λ (r : Result Command WordFault). Settles (command_reply (seen_words r) input) (command_due (seen_words r)) input (rest c.weave.new.src) (out c.args.out.now) (out c.weave.new.out) (note c.args.note.now) (note c.conclude-in-Weave.new.note) c.conclude-in-Weave.result)
+    (sym (c.in-Ok.is ∙ ap Ok c.in-Weave.is))
+    (settled (weave_machine video) (weave_laws video is) [] (rest c.args.src.now) (rest c.weave.new.src) (out c.args.out.now) (out c.weave.new.out) (note c.args.note.now) (note c.conclude-in-Weave.new.note) input c.weave.result c.conclude-in-Weave.result e
+    (at_end (rest c.weave.new.src) c.weave.result c.weave.ensures.end) c.weave.ensures.ran c.conclude-in-Weave.ensures.told)
+
+pub weave-requires : goal.weave-requires
+weave-requires g c = c.requires.weave c.in-Weave.video (ap seen_words (c.in-Ok.is ∙ ap Ok c.in-Weave.is))
+
+pub returns-in-Weave-clause-trial : goal.returns-in-Weave-clause-trial
+returns-in-Weave-clause-trial g c = if_trial _ _ _ (c.in-Ok.is ∙ ap Ok c.in-Weave.is) tt
+
+pub returns-in-Weave-clause-header : goal.returns-in-Weave-clause-header
+returns-in-Weave-clause-header g c = if_header _ _ _ (c.in-Ok.is ∙ ap Ok c.in-Weave.is) tt
+
+pub returns-in-Weave-clause-soon : goal.returns-in-Weave-clause-soon
+returns-in-Weave-clause-soon g c = λ input e.
+    units_at (λ r most. StopsSoon (command_reply r) most input (g.S.Source.rest c.weave.new.src) c.conclude-in-Weave.result) _ _ (c.in-Ok.is ∙ ap Ok c.in-Weave.is)
+    (tt)
+
+-- ---- split
+
+pub returns-in-Split-clause-settled : goal.returns-in-Split-clause-settled
+returns-in-Split-clause-settled g c = λ input e.
+    let rest = g.S.Source.rest in
+    let out = g.K.Sink.written in
+    let note = g.N.Sink.written in
+    let video = c.in-Split.video in
+    let is = c.requires.split video (ap seen_words (c.in-Ok.is ∙ ap Ok c.in-Split.is)) in
+    subst (λ (r : Result Command WordFault). Settles (command_reply (seen_words r) input) (command_due (seen_words r)) input (rest c.split.new.src) (out c.args.out.now) (out c.split.new.out) (note c.args.note.now) (note c.conclude-in-Split.new.note) c.conclude-in-Split.result)
+    (sym (c.in-Ok.is ∙ ap Ok c.in-Split.is))
+    (settled (split_machine video) (split_laws video is) [] (rest c.args.src.now) (rest c.split.new.src) (out c.args.out.now) (out c.split.new.out) (note c.args.note.now) (note c.conclude-in-Split.new.note) input c.split.result c.conclude-in-Split.result e
+    (at_end (rest c.split.new.src) c.split.result c.split.ensures.end) c.split.ensures.ran c.conclude-in-Split.ensures.told)
+
+pub split-requires : goal.split-requires
+split-requires g c = c.requires.split c.in-Split.video (ap seen_words (c.in-Ok.is ∙ ap Ok c.in-Split.is))
+
+pub returns-in-Split-clause-trial : goal.returns-in-Split-clause-trial
+returns-in-Split-clause-trial g c = if_trial _ _ _ (c.in-Ok.is ∙ ap Ok c.in-Split.is) tt
+
+pub returns-in-Split-clause-header : goal.returns-in-Split-clause-header
+returns-in-Split-clause-header g c = if_header _ _ _ (c.in-Ok.is ∙ ap Ok c.in-Split.is) tt
+
+pub returns-in-Split-clause-soon : goal.returns-in-Split-clause-soon
+returns-in-Split-clause-soon g c = λ input e.
+    units_at (λ r most. StopsSoon (command_reply r) most input (g.S.Source.rest c.split.new.src) c.conclude-in-Split.result) _ _ (c.in-Ok.is ∙ ap Ok c.in-Split.is)
+    (tt)
+
+-- ---- frames
+
+pub returns-in-Frames-clause-settled : goal.returns-in-Frames-clause-settled
+returns-in-Frames-clause-settled g c = λ input e.
+    let rest = g.S.Source.rest in
+    let out = g.K.Sink.written in
+    let note = g.N.Sink.written in
+    let order = order_of c.in-Frames.top in
+    subst (λ (r : Result Command WordFault). Settles (command_reply (seen_words r) input) (command_due (seen_words r)) input (rest c.frames.new.src) (out c.args.out.now) (out c.frames.new.out) (note c.args.note.now) (note c.conclude-in-Frames.new.note) c.conclude-in-Frames.result)
+    (sym (c.in-Ok.is ∙ ap Ok c.in-Frames.is))
+    (settled (frames_machine order) (frames_laws order) [] (rest c.args.src.now) (rest c.frames.new.src) (out c.args.out.now) (out c.frames.new.out) (note c.args.note.now) (note c.conclude-in-Frames.new.note) input c.frames.result c.conclude-in-Frames.result e
+    (at_end (rest c.frames.new.src) c.frames.result c.frames.ensures.runs.end) c.frames.ensures.runs.ran c.conclude-in-Frames.ensures.told)
+
+pub returns-in-Frames-clause-trial : goal.returns-in-Frames-clause-trial
+returns-in-Frames-clause-trial g c = if_trial _ _ _ (c.in-Ok.is ∙ ap Ok c.in-Frames.is) tt
+
+pub returns-in-Frames-clause-header : goal.returns-in-Frames-clause-header
+returns-in-Frames-clause-header g c = if_header _ _ _ (c.in-Ok.is ∙ ap Ok c.in-Frames.is) tt
+
+pub returns-in-Frames-clause-soon : goal.returns-in-Frames-clause-soon
+returns-in-Frames-clause-soon g c = λ input e.
+    units_at (λ r most. StopsSoon (command_reply r) most input (g.S.Source.rest c.frames.new.src) c.conclude-in-Frames.result) _ _ (c.in-Ok.is ∙ ap Ok c.in-Frames.is)
+    (told_soon (frames_machine (order_of c.in-Frames.top)) (λ taken. []) 4096 (g.S.Source.rest c.args.src.now) (g.S.Source.rest c.frames.new.src) (g.N.Sink.written c.args.note.now) (g.N.Sink.written c.conclude-in-Frames.new.note) input c.frames.result c.conclude-in-Frames.result e c.frames.ensures.soon c.conclude-in-Frames.ensures.told)
+
+-- ---- proxies
+
+pub returns-in-Proxy-clause-settled : goal.returns-in-Proxy-clause-settled
+returns-in-Proxy-clause-settled g c = λ input e.
+    let rest = g.S.Source.rest in
+    let out = g.K.Sink.written in
+    let note = g.N.Sink.written in
+    subst (λ (r : Result Command WordFault). Settles (command_reply (seen_words r) input) (command_due (seen_words r)) input (rest c.proxy.new.src) (out c.args.out.now) (out c.proxy.new.out) (note c.args.note.now) (note c.conclude-in-Proxy.new.note) c.conclude-in-Proxy.result)
+    (sym (c.in-Ok.is ∙ ap Ok c.in-Proxy.is))
+    (settled (proxy_machine c.in-Proxy.level) (proxy_laws c.in-Proxy.level) [] (rest c.args.src.now) (rest c.proxy.new.src) (out c.args.out.now) (out c.proxy.new.out) (note c.args.note.now) (note c.conclude-in-Proxy.new.note) input c.proxy.result c.conclude-in-Proxy.result e
+    (at_end (rest c.proxy.new.src) c.proxy.result c.proxy.ensures.runs.end) c.proxy.ensures.runs.ran c.conclude-in-Proxy.ensures.told)
+
+pub returns-in-Proxy-clause-trial : goal.returns-in-Proxy-clause-trial
+returns-in-Proxy-clause-trial g c = if_trial _ _ _ (c.in-Ok.is ∙ ap Ok c.in-Proxy.is) tt
+
+pub returns-in-Proxy-clause-header : goal.returns-in-Proxy-clause-header
+returns-in-Proxy-clause-header g c = if_header _ _ _ (c.in-Ok.is ∙ ap Ok c.in-Proxy.is) tt
+
+pub returns-in-Proxy-clause-soon : goal.returns-in-Proxy-clause-soon
+returns-in-Proxy-clause-soon g c = λ input e.
+    units_at (λ r most. StopsSoon (command_reply r) most input (g.S.Source.rest c.proxy.new.src) c.conclude-in-Proxy.result) _ _ (c.in-Ok.is ∙ ap Ok c.in-Proxy.is)
+    (told_soon (proxy_machine c.in-Proxy.level) (λ taken. []) 4096 (g.S.Source.rest c.args.src.now) (g.S.Source.rest c.proxy.new.src) (g.N.Sink.written c.args.note.now) (g.N.Sink.written c.conclude-in-Proxy.new.note) input c.proxy.result c.conclude-in-Proxy.result e c.proxy.ensures.soon c.conclude-in-Proxy.ensures.told)

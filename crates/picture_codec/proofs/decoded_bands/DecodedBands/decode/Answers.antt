@@ -3,7 +3,7 @@ use Rattle.planes.specs.declared.Trio.{Trio}
 use Rattle.slice_decoder.specs.Decoded.{AreReady, AllKeepOthers}
 use Rattle.slice_decoder.specs.Narrow.{trio_of}
 use Rattle.picture_codec.specs.DecodedBands.{AllAgree, WideSeen}
-use Rattle.picture_codec.proofs.DecodedBands.{wide_serve, narrow_serve, all_ready_after, all_keep_both, narrow_agree, wide_agree, copies_agree}
+use Rattle.picture_codec.proofs.BothWidths.{wide_serve, narrow_serve, all_ready_after, all_keep_both, narrow_agree, wide_agree, copies_agree}
 use Rattle.picture_codec.proofs.decoded_bands.DecodedBands.decode.Goals as goal
 
 pub invariant_of-self : goal.invariant_of-self

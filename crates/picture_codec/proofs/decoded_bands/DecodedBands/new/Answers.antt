@@ -1,5 +1,5 @@
 use Rattle.slice_geometry.specs.Geometry.{padded_length}
-use Rattle.picture_codec.proofs.DecodedBands.{zeros_within, zeros_agree}
+use Rattle.picture_codec.proofs.BothWidths.{zeros_within, zeros_agree}
 use Rattle.picture_codec.proofs.decoded_bands.DecodedBands.new.Goals as goal
 
 pub invariant_of-result : goal.invariant_of-result

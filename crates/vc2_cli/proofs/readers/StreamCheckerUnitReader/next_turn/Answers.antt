@@ -15,7 +15,7 @@ returns-then-is_end-clause-next g c = λ no_stop going.
     record {
       unit = End;
       bytes = n.bytes;
-      tells = record { tells = record { past = n.past; shapes = n.shapes; byte = omega arith; few = omega arith }; count = told_at_end c.in-Ok.item (sym c.if-is_end.ensures) };
+      tells = record { tells = record { past = n.past; shapes = n.shapes; byte = omega arith; few = omega arith }; count = told_at_end c.in-Ok.item (sym c.if-is_end.ensures); decoder = n.none_taken };
       meets = n.meets;
       whole = n.whole;
       last = n.last;
@@ -31,7 +31,7 @@ returns-clause-next g c = λ no_stop going.
     record {
       unit = n.unit;
       bytes = n.bytes;
-      tells = record { tells = record { past = n.past; shapes = n.shapes; byte = omega (arith, pictures_few n.unit, n.takes.some); few = n.few }; count = ap pictures_told n.is_item ∙ told_of n.unit };
+      tells = record { tells = record { past = n.past; shapes = n.shapes; byte = omega (arith, pictures_few n.unit, n.takes.some); few = n.few }; count = ap pictures_told n.is_item ∙ told_of n.unit; decoder = n.decoder };
       takes = n.takes;
       past = n.past;
       going = n.going;

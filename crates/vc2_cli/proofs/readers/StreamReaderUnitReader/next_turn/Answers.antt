@@ -1,7 +1,10 @@
-use Rattle.std.proofs.Common.{refl, sym, arith}
+use Rattle.std.proofs.Common.{refl, sym, ap, ◌∙◌, arith, lit≤}
 use Rattle.stream_rows.specs.Units.{End}
 use Rattle.stream_units.proofs.Judges.{ends_by, takes_by}
-use Rattle.vc2_cli.proofs.Decoding.{pictures_few}
+use Rattle.vc2_cli.specs.Telling.{tells_sequence}
+use Rattle.vc2_cli.proofs.PicturesUnder.{taken_under}
+use Rattle.vc2_cli.proofs.LowDepths.{taken_low}
+use Rattle.vc2_cli.proofs.Decoding.{pictures_few, item_tells, ends_sequence}
 use Rattle.vc2_cli.proofs.readers.StreamReaderUnitReader.next_turn.Goals as goal
 
 pub returns-then-is_end-clause-next : goal.returns-then-is_end-clause-next
@@ -11,7 +14,7 @@ returns-then-is_end-clause-next g c = λ no_stop going.
     record {
       unit = End;
       bytes = n.bytes;
-      tells = record { tells = record { past = n.past; shapes = n.shapes; byte = omega arith; few = omega arith }; picture = n.over.1 };
+      tells = record { tells = record { past = n.past; shapes = n.shapes; byte = omega arith; few = omega arith }; picture = n.over.1; header = n.header; under = tt; low = lit≤ tt; sequence = ends_sequence c.in-Ok.item (sym c.if-is_end.ensures) };
       meets = n.meets;
       whole = n.whole;
       last = n.last;
@@ -25,7 +28,7 @@ returns-clause-next g c = λ no_stop going.
     record {
       unit = n.unit;
       bytes = n.bytes;
-      tells = record { tells = record { past = n.past; shapes = n.shapes; byte = omega (arith, pictures_few n.unit, n.takes.some); few = n.few }; picture = n.picture };
+      tells = record { tells = record { past = n.past; shapes = n.shapes; byte = omega (arith, pictures_few n.unit, n.takes.some); few = n.few }; picture = n.picture; header = n.header; under = taken_under c.args.self.now.past c.args.self.now.held n.bytes c.next.new.self.held (rest c.args.src.now) (rest c.next.new.src) n.unit n.takes; low = taken_low c.args.self.now.past c.args.self.now.held n.bytes c.next.new.self.held (rest c.args.src.now) (rest c.next.new.src) n.unit n.takes; sequence = ap tells_sequence n.is_item ∙ item_tells n.unit };
       takes = n.takes;
       past = n.past;
       going = n.going;

@@ -1,0 +1,161 @@
+//! Words of `frames`, `weave`, `split` and `proxy`.
+
+/// Commands, keys that are none of theirs, keys that are missing, values at their bounds and those that are none, and two wrong
+/// words in both orders: the first of them is told, and of a word the key before the value. Then each rule of raw fields, at its
+/// bounds, and two of them broken at once.
+pub(crate) const ROWS: &str = "\
+Err(MissingKey(Order))|frames
+Ok(Frames(true))|frames|order=top
+Ok(Frames(false))|frames|order=bottom
+Err(UnknownCommand)|Frames
+Err(UnknownCommand)|frame|order=top
+Err(BadValue(1))|frames|order=
+Err(BadValue(1))|frames|order=Top
+Err(BadValue(1))|frames|order=tops
+Err(BadValue(1))|frames|order=to
+Err(BadValue(1))|frames|order= top
+Err(BadValue(1))|frames|order=top\u{20}
+Err(BadValue(1))|frames|order=1
+Err(BadValue(1))|frames|order=yes
+Err(BadValue(1))|frames|order=top=top
+Err(UnknownKey(1))|frames|order
+Err(UnknownKey(1))|frames|Order=top
+Err(UnknownKey(1))|frames|orders=top
+Err(UnknownKey(1))|frames|
+Err(UnknownKey(1))|frames|size=1x2
+Err(UnknownKey(1))|frames|level=0
+Err(UnknownKey(2))|frames|order=top|rate=1/1
+Err(RepeatedKey(2))|frames|order=top|order=top
+Err(RepeatedKey(2))|frames|order=top|order=up
+Err(BadValue(1))|frames|order=up|order=top
+Err(BadValue(1))|frames|order=up|level=0
+Err(UnknownKey(1))|frames|level=0|order=up
+Err(MissingKey(Level))|proxy
+Ok(Proxy(0))|proxy|level=0
+Ok(Proxy(1))|proxy|level=1
+Ok(Proxy(4))|proxy|level=4
+Err(UnknownCommand)|Proxy
+Err(UnknownCommand)|proxies|level=0
+Err(BadValue(1))|proxy|level=
+Err(BadValue(1))|proxy|level=5
+Err(BadValue(1))|proxy|level=00
+Err(BadValue(1))|proxy|level=04
+Err(BadValue(1))|proxy|level=-1
+Err(BadValue(1))|proxy|level=+1
+Err(BadValue(1))|proxy|level= 1
+Err(BadValue(1))|proxy|level=1\u{20}
+Err(BadValue(1))|proxy|level=1_0
+Err(BadValue(1))|proxy|level=0x1
+Err(BadValue(1))|proxy|level=four
+Err(BadValue(1))|proxy|level=4294967296
+Err(BadValue(1))|proxy|level=18446744073709551616
+Err(UnknownKey(1))|proxy|level
+Err(UnknownKey(1))|proxy|Level=0
+Err(UnknownKey(1))|proxy|order=top
+Err(UnknownKey(1))|proxy|depth=1
+Err(UnknownKey(2))|proxy|level=0|rate=1/1
+Err(RepeatedKey(2))|proxy|level=0|level=0
+Err(RepeatedKey(2))|proxy|level=0|level=5
+Err(BadValue(1))|proxy|level=5|level=0
+Err(UnknownKey(1))|chain|order=top
+Err(UnknownKey(1))|chain|level=0
+Err(UnknownKey(1))|header|order=top
+Err(UnknownKey(1))|header|level=0
+Err(UnknownKey(1))|decode|order=top
+Err(UnknownKey(1))|decode|level=0
+Err(UnknownKey(1))|check|order=top
+Err(UnknownKey(1))|check|level=0
+Err(UnknownKey(1))|encode|order=top
+Err(UnknownKey(1))|encode|level=0
+Err(UnknownKey(1))|trial|order=top
+Err(UnknownKey(1))|trial|level=0
+Err(MissingKey(Size))|weave
+Err(MissingKey(Sampling))|weave|size=2x4
+Err(MissingKey(Signal))|weave|size=2x4|sampling=420
+Err(MissingKey(Order))|weave|size=2x4|sampling=420|signal=1
+Err(MissingKey(Size))|weave|order=top|signal=1|sampling=420
+Err(UnknownKey(1))|weave|fps=25/1
+Err(UnknownKey(1))|weave|wavelet=legall
+Err(UnknownKey(1))|weave|depth=0
+Err(UnknownKey(1))|weave|slices=1x1
+Err(UnknownKey(1))|weave|bytes=1/1
+Err(UnknownKey(1))|weave|matrix=0
+Err(UnknownKey(1))|weave|scan=0
+Err(UnknownKey(1))|weave|fields=yes
+Err(UnknownKey(1))|weave|first=0
+Err(UnknownKey(1))|weave|rate=1/1
+Err(UnknownKey(1))|weave|delay=1
+Err(UnknownKey(1))|weave|buffer=1
+Err(UnknownKey(1))|weave|seed=0
+Err(UnknownKey(1))|weave|pictures=1
+Err(UnknownKey(1))|weave|group=1
+Err(UnknownKey(1))|weave|idle=0
+Err(UnknownKey(1))|weave|level=0
+Err(MissingKey(Size))|split
+Err(MissingKey(Sampling))|split|size=2x4
+Err(MissingKey(Signal))|split|size=2x4|sampling=420
+Err(MissingKey(Order))|split|size=2x4|sampling=420|signal=1
+Err(MissingKey(Size))|split|order=top|signal=1|sampling=420
+Err(UnknownKey(1))|split|fps=25/1
+Err(UnknownKey(1))|split|wavelet=legall
+Err(UnknownKey(1))|split|depth=0
+Err(UnknownKey(1))|split|slices=1x1
+Err(UnknownKey(1))|split|bytes=1/1
+Err(UnknownKey(1))|split|matrix=0
+Err(UnknownKey(1))|split|scan=0
+Err(UnknownKey(1))|split|fields=yes
+Err(UnknownKey(1))|split|first=0
+Err(UnknownKey(1))|split|rate=1/1
+Err(UnknownKey(1))|split|delay=1
+Err(UnknownKey(1))|split|buffer=1
+Err(UnknownKey(1))|split|seed=0
+Err(UnknownKey(1))|split|pictures=1
+Err(UnknownKey(1))|split|group=1
+Err(UnknownKey(1))|split|idle=0
+Err(UnknownKey(1))|split|level=0
+Ok(Weave(FieldVideo { header: SequenceHeader { parts: HeaderParts { major: 1, minor: 0, level: 0, width: 2, height: 4, \
+    sampling: 2, scan: None, rate: Index(1), aspect: Default, clean: None, signal: Index(1), colour: Default, coding: 1 } }, top: true }))\
+    |weave|size=2x4|sampling=420|signal=1|order=top
+Ok(Split(FieldVideo { header: SequenceHeader { parts: HeaderParts { major: 1, minor: 0, level: 0, width: 8192, height: 2048, \
+    sampling: 1, scan: None, rate: Index(1), aspect: Default, clean: None, signal: Index(3), colour: Default, coding: 1 } }, top: false }))\
+    |split|size=8192x2048|sampling=422|signal=3|order=bottom
+Ok(Weave(FieldVideo { header: SequenceHeader { parts: HeaderParts { major: 1, minor: 0, level: 0, width: 1, height: 2, \
+    sampling: 0, scan: None, rate: Index(1), aspect: Default, clean: None, signal: Index(4), colour: Default, coding: 1 } }, top: true }))\
+    |weave|size=1x2|sampling=444|signal=4|order=top
+Err(UnknownCommand)|Weave
+Err(UnknownCommand)|splits
+Err(SettingsRefused(Size))|weave|size=0x4|sampling=420|signal=1|order=top
+Err(SettingsRefused(Size))|weave|size=2x0|sampling=420|signal=1|order=top
+Err(SettingsRefused(Size))|weave|size=8193x4|sampling=420|signal=1|order=top
+Err(SettingsRefused(Size))|weave|size=4x8194|sampling=420|signal=1|order=top
+Err(SettingsRefused(Size))|weave|size=8192x2052|sampling=420|signal=1|order=top
+Err(SettingsRefused(Divide))|weave|size=3x4|sampling=420|signal=1|order=top
+Err(SettingsRefused(Divide))|weave|size=2x2|sampling=420|signal=1|order=top
+Err(SettingsRefused(Divide))|weave|size=2x6|sampling=420|signal=1|order=top
+Err(SettingsRefused(Divide))|weave|size=2x3|sampling=444|signal=1|order=top
+Err(SettingsRefused(Divide))|weave|size=3x2|sampling=422|signal=1|order=top
+Err(SettingsRefused(Divide))|weave|size=2x1|sampling=422|signal=1|order=top
+Err(SettingsRefused(Signal))|weave|size=2x4|sampling=420|signal=0,0,0,1|order=top
+Err(SettingsRefused(Signal))|weave|size=2x4|sampling=420|signal=0,65536,0,1|order=top
+Err(SettingsRefused(Signal))|weave|size=2x4|sampling=420|signal=0,1,0,0|order=top
+Err(SettingsRefused(Signal))|weave|size=2x4|sampling=420|signal=0,1,0,65536|order=top
+Err(SettingsRefused(Size))|weave|size=0x3|sampling=420|signal=0,0,0,1|order=top
+Err(SettingsRefused(Divide))|weave|size=2x2|sampling=420|signal=0,0,0,1|order=top
+Err(SettingsRefused(Size))|split|size=0x4|sampling=420|signal=1|order=top
+Err(SettingsRefused(Size))|split|size=2x0|sampling=420|signal=1|order=top
+Err(SettingsRefused(Size))|split|size=8193x4|sampling=420|signal=1|order=top
+Err(SettingsRefused(Size))|split|size=4x8194|sampling=420|signal=1|order=top
+Err(SettingsRefused(Size))|split|size=8192x2052|sampling=420|signal=1|order=top
+Err(SettingsRefused(Divide))|split|size=3x4|sampling=420|signal=1|order=top
+Err(SettingsRefused(Divide))|split|size=2x2|sampling=420|signal=1|order=top
+Err(SettingsRefused(Divide))|split|size=2x6|sampling=420|signal=1|order=top
+Err(SettingsRefused(Divide))|split|size=2x3|sampling=444|signal=1|order=top
+Err(SettingsRefused(Divide))|split|size=3x2|sampling=422|signal=1|order=top
+Err(SettingsRefused(Divide))|split|size=2x1|sampling=422|signal=1|order=top
+Err(SettingsRefused(Signal))|split|size=2x4|sampling=420|signal=0,0,0,1|order=top
+Err(SettingsRefused(Signal))|split|size=2x4|sampling=420|signal=0,65536,0,1|order=top
+Err(SettingsRefused(Signal))|split|size=2x4|sampling=420|signal=0,1,0,0|order=top
+Err(SettingsRefused(Signal))|split|size=2x4|sampling=420|signal=0,1,0,65536|order=top
+Err(SettingsRefused(Size))|split|size=0x3|sampling=420|signal=0,0,0,1|order=top
+Err(SettingsRefused(Divide))|split|size=2x2|sampling=420|signal=0,0,0,1|order=top
+";

@@ -1,0 +1,5 @@
+pub mod Tables
+pub mod LineTurns
+pub mod WeaveLaws
+pub mod Weaves
+pub mod Answers

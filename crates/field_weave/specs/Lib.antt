@@ -1,0 +1,3 @@
+pub mod Weaving
+pub mod WeaveRuns
+pub mod WeaveAnswers

@@ -1,0 +1,18 @@
+use Rattle.std.proofs.Common.{◌≡◌, ◌*◌, ◌^◌}
+use Rattle.planes.specs.Raster.{height, at}
+use Rattle.lifting.specs.Bands.{coefficients_of, lowest}
+use Rattle.lifting.specs.Ranges.{SameInside}
+use Rattle.lifting.specs.Transform.{synthesis}
+use Rattle.lifting.proofs.first_levels_narrow.synth_levels_narrow.Given as goal
+
+abbrev pub invariant-loop-n : goal.invariant-loop-n
+invariant-loop-n l =
+    let h = lowest l.bands.depth l.h in
+    let w = lowest l.bands.depth l.w in
+    record {
+      same_width : l.plane.w ≡ l.fn.plane.w;
+      same_height : height l.plane ≡ height l.fn.plane;
+      same_width_scratch : l.scratch.w ≡ l.fn.scratch.w;
+      same_height_scratch : height l.scratch ≡ height l.fn.scratch;
+      levels : SameInside (h * 2 ^ l.n) (w * 2 ^ l.n) (at l.plane) (synthesis l.wavelet h w (coefficients_of l.bands) l.n);
+    }
