@@ -1,21 +1,25 @@
 #!/usr/bin/env python3
 """Draws the pictures of raw video side by side, as a PNG.
 
-usage: ./vc2 decode < examples/pair_422.vc2 | tools/frames_picture.py 48x32 422 10 OUT
+usage: tools/frames_picture.py SIZE SAMPLING DEPTH OUT < RAW_VIDEO
 
-Raw video comes on standard input, as FORMATS.md, "Raw video", has it. The words are the size, the sampling and the depth of
-its pictures. Colours are those of BT.709 in the video range. Each sample is drawn as a square of SCALE points.
+    ./vc2 decode < examples/pair_422.vc2 | tools/frames_picture.py 48x32 422 10 pair.png
+
+Raw video is as FORMATS.md, "Raw video", has it, of pictures of this size, sampling (444, 422 or 420) and depth. Colours are
+those of BT.709 in the video range. Each sample is drawn as a square of SCALE points.
 """
+import re
 import struct
 import sys
 import zlib
 
 SCALE, GAP = 5, 10
+ACROSS, DOWN = {"444": 1, "422": 2, "420": 2}, {"444": 1, "422": 1, "420": 2}
 
 
 def components(raw, width, height, sampling, depth):
     """The pictures, each as the rows of its three components."""
-    across, down = {"444": (1, 1), "422": (2, 1), "420": (2, 2)}[sampling]
+    across, down = ACROSS[sampling], DOWN[sampling]
     step, at = (1 if depth <= 8 else 2), 0
     while at < len(raw):
         planes = []
@@ -52,9 +56,14 @@ def png(rows):
 
 
 def main():
+    if not re.fullmatch(r"[1-9]\d*x[1-9]\d* (444|422|420) ([89]|1[0-6]) \S+", " ".join(sys.argv[1:])):
+        sys.exit(__doc__)
     size, sampling, depth, out = sys.argv[1:]
     width, height = map(int, size.split("x"))
     raw = sys.stdin.buffer.read()
+    picture = (width * height + 2 * (width // ACROSS[sampling]) * (height // DOWN[sampling])) * (1 if depth == "8" else 2)
+    if not raw or len(raw) % picture:
+        sys.exit(f"frames_picture.py: {len(raw)} bytes aren't whole pictures of {picture}")
     pictures = [list(colours(*it, int(depth))) for it in components(raw, width, height, sampling, int(depth))]
     large = [[b"".join(row[3 * x : 3 * x + 3] * SCALE for x in range(width)) for row in it] for it in pictures]
     rows = [(b"\xff" * 3 * GAP).join(it[y] for it in large) for y in range(height) for _ in range(SCALE)]
@@ -63,4 +72,7 @@ def main():
 
 
 if __name__ == "__main__":
-    main()
+    try:
+        main()
+    except OSError as fault:
+        sys.exit(f"frames_picture.py: {fault.filename or 'output'}: {fault.strerror}")

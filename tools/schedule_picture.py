@@ -5,19 +5,25 @@ usage: tools/schedule_picture.py STREAM SLICES_A/B RATE [OUT [IDLE]]
 
 STREAM is a file; the units and their lengths are what `./vc2 chain` prints of it, the slices what `./vc2 check` counts.
 SLICES_A/B is the bytes of a slice, RATE the bytes in slots of the channel, IDLE the idle slots behind each picture. The
-picture is written to OUT, or to standard output, as SVG. The plan is found here by search, apart from the program.
+picture is written to OUT, or to standard output, as SVG. The plan is found here by search, apart from the program. VC2 names
+another program than the checkout's.
+
+    tools/schedule_picture.py examples/frames_422.vc2 40/1 1947/48 docs/schedule.svg
 """
 import os
+import re
 import subprocess
 import sys
 
-HERE = os.path.dirname(os.path.dirname(os.path.abspath(__file__)))
+VC2 = os.environ.get("VC2") or os.path.join(os.path.dirname(os.path.dirname(os.path.realpath(__file__))), "vc2")
 WIDTH, HEIGHT, LEFT, BOTTOM = 720, 300, 64, 44
 
 
 def vc2(command, stream):
     with open(stream, "rb") as source:
-        done = subprocess.run([os.path.join(HERE, "vc2"), command], stdin=source, capture_output=True, text=True, check=True)
+        done = subprocess.run([VC2, command], stdin=source, stdout=subprocess.PIPE, text=True)
+    if done.returncode:
+        sys.exit(done.returncode)
     return done.stdout.splitlines()
 
 
@@ -97,6 +103,9 @@ def svg(delay, size, steps):
 
 
 def main():
+    words = sys.argv[2:]
+    if not re.fullmatch(r"\d+/[1-9]\d* [1-9]\d*/[1-9]\d*( \S+( \d+)?)?", " ".join(words)):
+        sys.exit(__doc__)
     stream, share, rate, *out = sys.argv[1:]
     idle = int(out[1]) if len(out) > 1 else 0
     a, b = (int(n) for n in share.split("/"))
@@ -111,4 +120,7 @@ def main():
 
 
 if __name__ == "__main__":
-    main()
+    try:
+        main()
+    except OSError as fault:
+        sys.exit(f"schedule_picture.py: {fault.filename or 'output'}: {fault.strerror}")

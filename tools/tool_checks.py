@@ -1,0 +1,178 @@
+"""Checks of the scripts that stand beside a program, for tools/program_check: what they write, say and end with."""
+import os
+import shutil
+import subprocess
+import tempfile
+
+TOP = os.path.dirname(os.path.dirname(os.path.abspath(__file__)))
+SECONDS = 60
+CODING = "wavelet=legall depth=2 slices=6x4 bytes=64/1 matrix=4,2,2,0,4,4,2".split()
+LINE = b"YUV4MPEG2 W48 H32 F25:1 Ip A0:0 C422p10 XCOLORRANGE=LIMITED\n"
+FORMATS = [f"yuv{sampling}p{depth}" for sampling in (420, 422, 444) for depth in ("", "10le", "12le")]
+
+
+class Tools:
+    """Runs of the scripts over one program, judged by its runs."""
+
+    def __init__(self, runs):
+        self.runs, self.environment = runs, {**os.environ, "VC2": runs.program}
+
+    def run(self, words, source=b"", stdout=subprocess.PIPE):
+        """(status, output, note) of a script."""
+        words = [os.path.join(TOP, "tools", words[0]), *words[1:]]
+        started = subprocess.Popen(words, stdin=subprocess.PIPE, stdout=stdout, stderr=subprocess.PIPE, env=self.environment)
+        try:
+            out, note = started.communicate(source, timeout=SECONDS)
+        except subprocess.TimeoutExpired:
+            started.kill()
+            out, note = started.communicate()
+            return "late", out, note
+        return started.returncode, out, note
+
+    def case(self, name, words, source, wanted):
+        self.runs.judge(name, self.run(words, source), wanted)
+
+    def refuses(self, name, words, source, status, why):
+        """A script ends with this status, and with one line that says why."""
+        found, _, note = self.run(words, source)
+        self.runs.judge(name, (found, note.count(b"\n"), why in note), (status, 1, True))
+
+    def program(self, words, source=b""):
+        return subprocess.run([self.runs.program, *words], input=source, capture_output=True).stdout
+
+
+def example(name):
+    with open(os.path.join(TOP, "examples", name), "rb") as file:
+        return file.read()
+
+
+def film(line, raw, count):
+    """A film of raw video, with so many frames."""
+    size = len(raw) // count
+    return line + b"".join(b"FRAME\n" + raw[at : at + size] for at in range(0, len(raw), size))
+
+
+def films(tools):
+    """y4m to a stream and back, as frames and as fields."""
+    raw, stream = example("pair_422.yuv"), example("pair_422.vc2")
+    source, schedule = film(LINE, raw, 2), b"rate=1561/24 delay=2 buffer=130\n"
+    tools.case("a film to a stream", ["y4m", "encode", *CODING], source, (0, stream, schedule))
+    tools.case("a frame with words of its own", ["y4m", "encode", *CODING], source.replace(b"FRAME\n", b"FRAME Ip\n"), (0, stream, schedule))
+    shown = film(LINE, tools.program(["decode"], stream), 2)
+    tools.case("a stream to a film", ["y4m", "decode"], stream, (0, shown, b"pictures 2 bytes 3155\n"))
+    for order in ("top", "bottom"):
+        tall = LINE.replace(b"H32", b"H64").replace(b"Ip", b"I" + order[:1].encode())
+        words = ["size=48x64", "sampling=422", "signal=3", f"order={order}"]
+        frame = tools.program(["weave", *words], raw)
+        status, stream, _ = tools.run(["y4m", "encode", *CODING], film(tall, frame, 1))
+        wanted = tools.program(["encode", *words[:3], "fps=25/1", "fields=yes", *CODING], raw)
+        tools.runs.judge(f"a film of fields, {order} first", (status, stream), (0, wanted))
+        frames = film(tall, tools.program(["frames", f"order={order}"], stream), 1)
+        tools.case(f"a stream of fields, {order} first", ["y4m", "decode", f"order={order}"], stream, (0, frames, b"frames 1 bytes %d\n" % len(stream)))
+        tools.refuses("a stream of fields without an order", ["y4m", "decode"], stream, 1, b"order=top or order=bottom")
+
+
+def films_refused(tools):
+    raw, stream = example("pair_422.yuv"), example("pair_422.vc2")
+    source, encode = film(LINE, raw, 2), ["y4m", "encode", *CODING]
+    tools.refuses("a given size", [*encode, "size=48x32"], source, 2, b"`size` isn't given")
+    tools.refuses("a signal of one byte for two", [*encode, "signal=1"], source, 2, b"haven't the size")
+    status, stream_full, _ = tools.run([*encode, "signal=0,1023,512,1023"], source)
+    full = tools.program(["header"], stream_full)
+    tools.runs.judge("a given signal", (status, b"signal 0,1023,512,1023 depth 10 10" in full), (0, True))
+    tools.refuses("a word that is none", [*encode, "x=1"], source, 2, b"usage: UnknownKey word 6")
+    tools.refuses("a raw film", encode, raw, 1, b"isn't y4m")
+    tools.refuses("no film", encode, b"", 1, b"isn't y4m")
+    tools.refuses("a film without a rate", encode, b"YUV4MPEG2 W2 H2\n", 1, b"width, height and rate")
+    for kind in (b"mono", b"411", b"444alpha", b"422p11"):
+        tools.refuses(f"a film of {kind.decode()}", encode, LINE.replace(b"422p10", kind), 1, b"isn't taken")
+    tools.refuses("an odd film", encode, LINE.replace(b"W48", b"W47"), 1, b"doesn't go into 422")
+    tools.refuses("a film of mixed fields", encode, LINE.replace(b"Ip", b"Im"), 1, b"no order")
+    tools.refuses("a film that is too large", encode, LINE.replace(b"W48 H32", b"W99998 H99998") + b"FRAME\n", 2, b"usage: SettingsRefused Size")
+    status, _, note = tools.run(encode, source.replace(b"FRAME", b"FRUME"))
+    tools.runs.judge("a frame without its word", (status, b"begin with FRAME" in note), (1, True))
+    tools.refuses("a film cut short", encode, source[:-1], 1, b"refused at 12287: RawTruncated")
+    tools.refuses("a stream cut short", ["y4m", "decode"], stream[:-5], 1, b"refused at 3147: Truncated")
+    tools.refuses("a stream that is none", ["y4m", "decode"], raw, 1, b"refused at 0: BadPrefix")
+    other = tools.run(["y4m", "decode"], stream + example("frames_422.vc2"))
+    wanted = film(LINE, tools.program(["decode"], stream), 2), True
+    tools.runs.judge("a later sequence with another header", (other[0], other[1], b"another header" in other[2]), (1, *wanted))
+    same = tools.run(["y4m", "decode"], 2 * stream)
+    tools.runs.judge("a later sequence with the same one", (same[0], len(same[1])), (0, 2 * len(wanted[0]) - len(LINE)))
+    untold = stream[:5] + bytes(4) + stream[9:]
+    tools.refuses("a unit without its length", ["y4m", "decode"], untold, 1, b"doesn't tell its length")
+    elevens = tools.program(["encode", "size=1x1", "sampling=444", "fps=25/1", "signal=0,2047,1024,2047", "wavelet=haar-flat", "depth=0", "slices=1x1", "bytes=1/1", "matrix=0"])
+    tools.refuses("samples of 11 bits", ["y4m", "decode"], elevens, 1, b"no samples of 11 bits")
+    for words in (["y4m"], ["y4m", "play"], ["y4m", "decode", "order=up"]):
+        status, _, note = tools.run(words)
+        tools.runs.judge(f"{' '.join(words)} tells its usage", (status, b"usage: tools/y4m" in note), (2, True))
+    with open("/dev/full", "wb") as full:
+        for words, given in ((encode, source), (["y4m", "decode"], stream)):
+            tools.runs.judge(f"y4m {words[1]} into a full disk", tools.run(words, given, full)[0], 4)
+
+
+def films_by_ffmpeg(tools):
+    """Films of each sampling and depth there and back: their samples are those of `decode` over the raw video of ffmpeg."""
+    made = "ffmpeg -nostdin -v error -f lavfi -i testsrc2=size=96x64:rate=25 -frames:v 2 -strict -1 -pix_fmt".split()
+    raw_of = "ffmpeg -nostdin -v error -f yuv4mpegpipe -i - -f rawvideo -".split()
+    coding = [word.replace("64/1", "160/1") for word in CODING]
+    for kind in FORMATS:
+        source = subprocess.run([*made, kind, "-f", "yuv4mpegpipe", "-"], capture_output=True, check=True).stdout
+        raw = subprocess.run([*made, kind, "-f", "rawvideo", "-"], capture_output=True, check=True).stdout
+        _, stream, _ = tools.run(["y4m", "encode", *coding], source)
+        words = {"": "2", "10le": "3", "12le": "4"}[kind[7:]]
+        plain = tools.program(["encode", "size=96x64", f"sampling={kind[3:6]}", "fps=25/1", f"signal={words}", *coding], raw)
+        shown = subprocess.run(raw_of, input=tools.run(["y4m", "decode"], stream)[1], capture_output=True, check=True).stdout
+        tools.runs.judge(f"{kind} by ffmpeg", (stream == plain, shown == tools.program(["decode"], stream), len(shown)), (True, True, len(raw)))
+
+
+def plans(tools):
+    words = ["link_plan", "48x32", "422", "10", "25/1", "0.5", "depth=2", "slices=6x4"]
+    status, out, _ = tools.run(words)
+    lines = out.decode().splitlines()
+    tools.runs.judge("a plan", (status, len(lines), lines[2:3]), (0, 5, ["schedule rate=2468/24 delay=2 buffer=205"]))
+    made = tools.program(["trial", *lines[0].split(), "seed=1", "pictures=3"]).decode().splitlines()
+    tools.runs.judge("the words of a plan", made[2:3], [lines[2].removeprefix("schedule ")])
+    tools.runs.judge("a plan's matrices", ["matrix=4,2,2,0,4,4,2" in tools.run([*words, "matrix=4,2,2,0,4,4,2"])[1].decode(), "matrix=8,4,4,0,4,4,0" in tools.run([*words, "wavelet=haar-shift"])[1].decode()], [True, True])
+    tools.refuses("a plan for too slow a channel", [*words[:5], "0.001"], b"", 1, b"less than a byte")
+    tools.refuses("a plan by a rate of 0", [*words[:4], "25/0", "1"], b"", 1, b"25/0 isn't")
+    tools.refuses("a plan by a key that is none", [*words, "x=1"], b"", 1, b"x=1 isn't")
+    tools.refuses("a plan that vc2 refuses", [*words[:1], "47x32", *words[2:]], b"", 2, b"usage: SettingsRefused Divide")
+    tools.runs.judge("no plan without words", tools.run(words[:3])[0], 1)
+
+
+def pictures(tools):
+    with tempfile.TemporaryDirectory() as folder:
+        stream, drawn = os.path.join(TOP, "examples", "pair_422.vc2"), os.path.join(folder, "drawn")
+        lines = b"0 slices 24 at 0 17 middle 0 most 21\n1 slices 24 at 0 16 middle 0 most 22\n"
+        tools.case("indices", ["index_picture", stream], b"", (0, lines, b""))
+        tools.case("a picture of indices", ["index_picture", stream, "1", drawn], b"", (0, lines, b""))
+        with open(drawn, "rb") as file:
+            tools.runs.judge("its size", file.read(24)[1:], b"PNG\r\n\x1a\n\0\0\0\rIHDR" + bytes([0, 0, 0, 48, 0, 0, 0, 32]))
+        tools.refuses("a picture that isn't there", ["index_picture", stream, "2", drawn], b"", 1, b"no picture 2")
+        tools.refuses("indices of no stream", ["index_picture", stream.replace("vc2", "yuv")], b"", 1, b"refused at 0: BadPrefix")
+        tools.refuses("indices of no file", ["index_picture", drawn + "s"], b"", 1, b"No such file")
+        tools.case("frames", ["frames_picture.py", "48x32", "422", "10", drawn], tools.program(["decode"], example("pair_422.vc2")), (0, b"", b""))
+        with open(drawn, "rb") as one, open(os.path.join(TOP, "docs", "pair.png"), "rb") as other:
+            tools.runs.judge("the picture of README.md", one.read() == other.read(), True)
+        tools.refuses("half a frame", ["frames_picture.py", "48x32", "422", "10", drawn], b"B", 1, b"aren't whole pictures")
+        frames = os.path.join(TOP, "examples", "frames_422.vc2")
+        for name, words in (("schedule.svg", ["1947/48"]), ("schedule_idle.svg", ["1947/64", drawn, "16"])):
+            status, out, note = tools.run(["schedule_picture.py", frames, "40/1", *words])
+            with open(os.path.join(TOP, "docs", name), "rb") as wanted, open(drawn, "rb") as written:
+                tools.runs.judge(f"docs/{name}", (status, (out or written.read()) == wanted.read(), note), (0, True, b""))
+        tools.refuses("a schedule of no stream", ["schedule_picture.py", stream.replace("vc2", "yuv"), "64/1", "1561/24"], b"", 1, b"refused at 0: BadPrefix")
+        for name in ("index_picture", "frames_picture.py", "schedule_picture.py"):
+            status, _, note = tools.run([name])
+            tools.runs.judge(f"{name} tells its usage", (status, b"usage: tools/" + name.encode() in note), (1, True))
+
+
+def tools(runs):
+    """All checks of the scripts; what needs ffmpeg is named where it is missing."""
+    made = Tools(runs)
+    for part in (films, films_refused, plans, pictures):
+        part(made)
+    if shutil.which("ffmpeg"):
+        films_by_ffmpeg(made)
+    else:
+        print("ffmpeg is missing: its films were not tried")
