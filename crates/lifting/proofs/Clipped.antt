@@ -6,10 +6,13 @@ use Rattle.std.specs.Int.Signed.{non_neg, pos-nat_abs, yes_non_neg}
 use Rattle.std.proofs.Math.IntN.{nat_abs}
 use Rattle.std.proofs.Math.Dec.{T}
 use mir.Syntax.{Width, w16}
-use mir.Val.{SFits, Fits}
+use mir.Val.{SFits, Fits, to_z, of_z}
 use Rattle.lifting.specs.Clipping.{clipped_up}
-use Rattle.lifting.proofs.Kept.{again}
 use Rattle.lifting.proofs.Lanes.{Room, fits}
+
+-- a number that was put into its bits and read back
+abbrev again : Width → ℤ → ℤ
+again w z = to_z w (of_z w z)
 
 record IsBetween (half r : ℤ) : Type 0 where
   pub low : neg_ℤ half ≤ℤ r

@@ -4,7 +4,7 @@ use Rattle.std.proofs.lemmas.Int.{ints, to_z-of_z, wrapping_sub_is, wrapping_add
 use Rattle.std.specs.Simd.Lanes.{zip2, Each1, chunk}
 use Rattle.std.proofs.lemmas.Simd.{Each1-from_get_or, length-chunk, get_or-chunk}
 use Rattle.std.specs.Int.{int_shr, int_wrap}
-use mir.Syntax.{Width, w32, w64}
+use mir.Syntax.{Width}
 use mir.Val.{to_z, of_z, SFits, bits, hbits}
 use Rattle.std.proofs.Math.Nat.{mod-lt}
 use Rattle.planes.specs.Numbers.{Within}
@@ -19,12 +19,6 @@ pub record Room (w : Width) (m : ℕ) : Type 0 where
   pub some : 1 ≤ m
   pub sums : m + m + 2 < 2 ^ hbits w
   pub whole : 0 < 2 ^ bits w
-
-pub room_narrow : Room w32 (2 ^ 29)
-room_narrow = record { some = omega arith; sums = omega arith; whole = omega arith }
-
-pub room_wide : Room w64 (2 ^ 61)
-room_wide = record { some = omega arith; sums = omega arith; whole = omega arith }
 
 suc_inj : {m n : ℕ} → suc m ≡ suc n → m ≡ n
 suc_inj e = omega arith

@@ -1,17 +1,18 @@
 -- The last level of synthesis, from the levels below it.
 use Rattle.std.proofs.Common.{◌≡◌, ◌∙◌, refl, sym, ap, subst, ℕ, ◌+◌, ◌-◌, ◌*◌, ◌/◌, ◌%◌, ◌^◌, ◌<◌, ◌≤◌, arith, ℤ}
-use Rattle.planes.specs.Raster.{Raster, height, at}
-use Rattle.planes.specs.Subbands.{BandStack, band_of, HaveSizes}
+use Rattle.planes.specs.Raster.{Raster, height}
+use Rattle.planes.specs.Valued.{grid_of}
+use Rattle.planes.specs.Subbands.{BandsOf, band_of, HaveSizes}
 use Rattle.lifting.specs.declared.Wavelet.{Wavelet}
-use Rattle.lifting.specs.Bands.{coefficients_of, lowest}
+use Rattle.lifting.specs.Bands.{coefficients_in, lowest}
 use Rattle.lifting.specs.Transform.{Grid, synthesis, synthesis_level, interleaved}
 use Rattle.lifting.specs.Ranges.{GridWithin, BandsWithin, SameInside, reach}
 use Rattle.lifting.proofs.Growth.{ll_within, hl_within, lh_within, hh_within}
 use Rattle.lifting.proofs.Levels.{half_size, whole_size, columns_of, rows_of, level_of, level_small}
 
-module _ (k : Wavelet) (w h : ℕ) (b : BandStack) (some : 1 ≤ b.depth) (four : b.depth ≤ 4) (whole_columns : w % 2 ^ b.depth ≡ 0) (whole_rows : h % 2 ^ b.depth ≡ 0) (sizes : HaveSizes b w h)
-    (p hl lh hh : Raster ℤ) (depth : ℕ) (is : depth ≡ b.depth) (ehl : hl ≡ band_of b depth 1) (elh : lh ≡ band_of b depth 2) (ehh : hh ≡ band_of b depth 3)
-    (below : SameInside (lowest b.depth h * 2 ^ (b.depth - 1)) (lowest b.depth w * 2 ^ (b.depth - 1)) (at p) (synthesis k (lowest b.depth h) (lowest b.depth w) (coefficients_of b) (b.depth - 1))) where
+module _ {X : Type 0} (value : X → ℤ) (none : X) (k : Wavelet) (w h : ℕ) (b : BandsOf X) (some : 1 ≤ b.depth) (four : b.depth ≤ 4) (whole_columns : w % 2 ^ b.depth ≡ 0) (whole_rows : h % 2 ^ b.depth ≡ 0) (sizes : HaveSizes b w h)
+    (p hl lh hh : Raster X) (depth : ℕ) (is : depth ≡ b.depth) (ehl : hl ≡ band_of b depth 1) (elh : lh ≡ band_of b depth 2) (ehh : hh ≡ band_of b depth 3)
+    (below : SameInside (lowest b.depth h * 2 ^ (b.depth - 1)) (lowest b.depth w * 2 ^ (b.depth - 1)) (grid_of value none p) (synthesis k (lowest b.depth h) (lowest b.depth w) (coefficients_in value none b) (b.depth - 1))) where
   abbrev n : ℕ
   n = b.depth - 1
 
@@ -21,14 +22,14 @@ module _ (k : Wavelet) (w h : ℕ) (b : BandStack) (some : 1 ≤ b.depth) (four 
   lt : n < b.depth
   lt = omega arith
 
-  of_next : (r : Raster ℤ) (orient : ℕ) → r ≡ band_of b depth orient → r ≡ band_of b (n + 1) orient
+  of_next : (r : Raster X) (orient : ℕ) → r ≡ band_of b depth orient → r ≡ band_of b (n + 1) orient
   of_next r orient e = e ∙ ap (λ (m : ℕ). band_of b m orient) next
 
   -- a band of the last level is half of the component each way
-  half_columns : (r : Raster ℤ) (orient : ℕ) → 1 ≤ orient → orient ≤ 3 → r ≡ band_of b depth orient → r.w ≡ w / 2
+  half_columns : (r : Raster X) (orient : ℕ) → 1 ≤ orient → orient ≤ 3 → r ≡ band_of b depth orient → r.w ≡ w / 2
   half_columns r orient one three e = columns_of b w h whole_columns whole_rows sizes n orient lt one three r (of_next r orient e) ∙ half_size w b.depth whole_columns some
 
-  half_rows : (r : Raster ℤ) (orient : ℕ) → 1 ≤ orient → orient ≤ 3 → r ≡ band_of b depth orient → height r ≡ h / 2
+  half_rows : (r : Raster X) (orient : ℕ) → 1 ≤ orient → orient ≤ 3 → r ≡ band_of b depth orient → height r ≡ h / 2
   half_rows r orient one three e = rows_of b w h whole_columns whole_rows sizes n orient lt one three r (of_next r orient e) ∙ half_size h b.depth whole_rows some
 
   -- so each has room for half of it
@@ -53,7 +54,7 @@ module _ (k : Wavelet) (w h : ℕ) (b : BandStack) (some : 1 ≤ b.depth) (four 
   rows = rows_of b w h whole_columns whole_rows sizes n 1 lt (omega arith) (omega arith) hl (of_next hl 1 ehl)
 
   abbrev g : Grid
-  g = interleaved (at p) (at hl) (at lh) (at hh)
+  g = interleaved (grid_of value none p) (grid_of value none hl) (grid_of value none lh) (grid_of value none hh)
 
   high : h / 2 ≡ height hl
   high = sym (half_rows hl 1 (omega arith) (omega arith) ehl)
@@ -61,34 +62,34 @@ module _ (k : Wavelet) (w h : ℕ) (b : BandStack) (some : 1 ≤ b.depth) (four 
   wide : w / 2 ≡ hl.w
   wide = sym (half_columns hl 1 (omega arith) (omega arith) ehl)
 
-  up : SameInside (lowest b.depth h * 2 ^ (n + 1)) (lowest b.depth w * 2 ^ (n + 1)) (synthesis_level k (2 * height hl) (2 * hl.w) g) (synthesis k (lowest b.depth h) (lowest b.depth w) (coefficients_of b) (n + 1))
-  up = level_of k (lowest b.depth h) (lowest b.depth w) b n p hl lh hh (of_next hl 1 ehl) (of_next lh 2 elh) (of_next hh 3 ehh) rows columns below
+  up : SameInside (lowest b.depth h * 2 ^ (n + 1)) (lowest b.depth w * 2 ^ (n + 1)) (synthesis_level k (2 * height hl) (2 * hl.w) g) (synthesis k (lowest b.depth h) (lowest b.depth w) (coefficients_in value none b) (n + 1))
+  up = level_of value none k (lowest b.depth h) (lowest b.depth w) b n p hl lh hh (of_next hl 1 ehl) (of_next lh 2 elh) (of_next hh 3 ehh) rows columns below
       (synthesis_level k (2 * height hl) (2 * hl.w) g) (λ y x ly lx. refl)
 
-  pub last_is : (y x : ℕ) → y < h → x < w → synthesis_level k (2 * (h / 2)) (2 * (w / 2)) g y x ≡ synthesis k (lowest b.depth h) (lowest b.depth w) (coefficients_of b) b.depth y x
+  pub last_is : (y x : ℕ) → y < h → x < w → synthesis_level k (2 * (h / 2)) (2 * (w / 2)) g y x ≡ synthesis k (lowest b.depth h) (lowest b.depth w) (coefficients_in value none b) b.depth y x
   last_is y x ly lx =
       let again : n + 1 ≡ b.depth = omega arith in
-      let whole : SameInside (lowest b.depth h * 2 ^ b.depth) (lowest b.depth w * 2 ^ b.depth) (synthesis_level k (2 * height hl) (2 * hl.w) g) (synthesis k (lowest b.depth h) (lowest b.depth w) (coefficients_of b) b.depth) =
-      subst (λ (m : ℕ). SameInside (lowest b.depth h * 2 ^ m) (lowest b.depth w * 2 ^ m) (synthesis_level k (2 * height hl) (2 * hl.w) g) (synthesis k (lowest b.depth h) (lowest b.depth w) (coefficients_of b) m)) again up in
+      let whole : SameInside (lowest b.depth h * 2 ^ b.depth) (lowest b.depth w * 2 ^ b.depth) (synthesis_level k (2 * height hl) (2 * hl.w) g) (synthesis k (lowest b.depth h) (lowest b.depth w) (coefficients_in value none b) b.depth) =
+      subst (λ (m : ℕ). SameInside (lowest b.depth h * 2 ^ m) (lowest b.depth w * 2 ^ m) (synthesis_level k (2 * height hl) (2 * hl.w) g) (synthesis k (lowest b.depth h) (lowest b.depth w) (coefficients_in value none b) m)) again up in
       ap (λ (m : ℕ). synthesis_level k (2 * m) (2 * (w / 2)) g y x) high
       ∙ ap (λ (m : ℕ). synthesis_level k (2 * height hl) (2 * m) g y x) wide
       ∙ whole y x (omega (arith, ly, whole_size h b.depth whole_rows)) (omega (arith, lx, whole_size w b.depth whole_columns))
 
   -- from numbers within m in the lowest band, and within `others` in the others, no level below the last comes above `most`
   module _ (m others most : ℕ) (reaches : (j : ℕ) → j ≤ 3 → reach m j ≤ most) (few : others ≤ m)
-      (small : BandsWithin (lowest b.depth h) (lowest b.depth w) b.depth m others (coefficients_of b)) where
+      (small : BandsWithin (lowest b.depth h) (lowest b.depth w) b.depth m others (coefficients_in value none b)) where
     all_small : GridWithin (2 * height hl) (2 * hl.w) most g
-    all_small = level_small k (lowest b.depth h) (lowest b.depth w) b n p hl lh hh (of_next hl 1 ehl) (of_next lh 2 elh) (of_next hh 3 ehh) rows columns below
+    all_small = level_small value none k (lowest b.depth h) (lowest b.depth w) b n p hl lh hh (of_next hl 1 ehl) (of_next lh 2 elh) (of_next hh 3 ehh) rows columns below
         m others most b.depth reaches few small lt four
 
-    pub ll_small : GridWithin (h / 2) (w / 2) most (at p)
-    ll_small = ll_within (height hl) (h / 2) hl.w (w / 2) most (at p) (at hl) (at lh) (at hh) high wide all_small
+    pub ll_small : GridWithin (h / 2) (w / 2) most (grid_of value none p)
+    ll_small = ll_within (height hl) (h / 2) hl.w (w / 2) most (grid_of value none p) (grid_of value none hl) (grid_of value none lh) (grid_of value none hh) high wide all_small
 
-    pub hl_small : GridWithin (h / 2) (w / 2) most (at hl)
-    hl_small = hl_within (height hl) (h / 2) hl.w (w / 2) most (at p) (at hl) (at lh) (at hh) high wide all_small
+    pub hl_small : GridWithin (h / 2) (w / 2) most (grid_of value none hl)
+    hl_small = hl_within (height hl) (h / 2) hl.w (w / 2) most (grid_of value none p) (grid_of value none hl) (grid_of value none lh) (grid_of value none hh) high wide all_small
 
-    pub lh_small : GridWithin (h / 2) (w / 2) most (at lh)
-    lh_small = lh_within (height hl) (h / 2) hl.w (w / 2) most (at p) (at hl) (at lh) (at hh) high wide all_small
+    pub lh_small : GridWithin (h / 2) (w / 2) most (grid_of value none lh)
+    lh_small = lh_within (height hl) (h / 2) hl.w (w / 2) most (grid_of value none p) (grid_of value none hl) (grid_of value none lh) (grid_of value none hh) high wide all_small
 
-    pub hh_small : GridWithin (h / 2) (w / 2) most (at hh)
-    hh_small = hh_within (height hl) (h / 2) hl.w (w / 2) most (at p) (at hl) (at lh) (at hh) high wide all_small
+    pub hh_small : GridWithin (h / 2) (w / 2) most (grid_of value none hh)
+    hh_small = hh_within (height hl) (h / 2) hl.w (w / 2) most (grid_of value none p) (grid_of value none hl) (grid_of value none lh) (grid_of value none hh) high wide all_small

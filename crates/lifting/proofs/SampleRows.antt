@@ -1,20 +1,18 @@
 -- Samples, row by row.
-use Rattle.std.proofs.Common.{◌≡◌, ◌≢◌, ◌∙◌, sym, ap, ℕ, suc, ◌+◌, ◌-◌, ◌*◌, ◌/◌, ◌%◌, ◌^◌, ◌<◌, ◌≤◌, arith, inl, inr, List, ◌++◌, length, take, get_or, set, ℤ, pos}
-use Rattle.planes.specs.Numbers.{Within}
+use Rattle.std.proofs.Common.{◌≡◌, ◌≢◌, ◌∙◌, sym, ap, subst, ℕ, suc, ◌+◌, ◌-◌, ◌*◌, ◌/◌, ◌%◌, ◌^◌, ◌<◌, ◌≤◌, arith, inl, inr, List, ◌++◌, length, take, get_or, set, ℤ, pos}
 use Rattle.std.specs.Prelude.{if◌then◌else◌, ◌==◌, neg_ℤ, ◌+ℤ◌, ◌-ℤ◌, ◌≤ℤ◌, unsigned_abs}
 use Rattle.std.specs.Int.{int_min, int_max}
 use Rattle.std.proofs.Math.Nat.{pow-le-pow_right, mul-le-mul_right, suc-mul}
 use Rattle.std.proofs.lemmas.Bool.{cases_lt, cases_eq}
 use Rattle.std.proofs.lemmas.Int.{ints}
-use mir.Syntax.{Width}
-use Rattle.std.proofs.lemmas.List.{get_or-set_other, get_or-set_same, length-set, get_or_append_left, get_or-append-add, length-take-le}
+use Rattle.std.proofs.lemmas.List.{get_or_default, get_or-set_other, get_or-set_same, length-set, get_or_append_left, get_or-append-add, length-take-le}
 use borrow.Rule.Slice.PartMut.{put_mid, post_of}
+use Rattle.planes.specs.Numbers.{Within}
+use Rattle.planes.specs.Valued.{valued, EachValued}
 use Rattle.lifting.specs.Lines.{Line}
 use Rattle.lifting.specs.Places.{woven, odd_stepped}
 use Rattle.lifting.specs.Clipping.{clipped_up, sample_of}
 use Rattle.lifting.proofs.WovenLines.{at_even, at_odd}
-use Rattle.lifting.proofs.Lanes.{Room}
-use Rattle.lifting.proofs.Kept.{again, again_is}
 
 pub half_some : (depth : ℕ) → 1 ≤ 2 ^ (depth - 1)
 half_some depth = pow-le-pow_right {n = 2} (omega arith) {i = 0} {j = depth - 1} (omega arith)
@@ -90,27 +88,28 @@ put_one P d x out k room first last i lt = elim (cases_eq i k) [
   | inr ne ↦ rw (get_or-set_other out k i x d ne) (first i (omega arith))
 ]
 
--- ---- an odd place between even ones that were read from their bits
+-- a number that was read
+pub read_is : {X : Type 0} (value : X → ℤ) (none : X) (xs : List X) (k : ℕ) (r : X) → k < length xs → r ≡ get_or xs k r → value r ≡ valued value none xs k
+read_is value none xs k r lt is = ap value (is ∙ get_or_default xs k r none lt)
 
-module _ (w : Width) (m : ℕ) (room : Room w m) (f : ℤ → ℤ → ℤ → ℤ) (n : ℕ) (e o : Line) where
-  pub inner_again : (k : ℕ) → k + 1 < n → Within m (o k) → Within m (e k) → Within m (e (k + 1))
-      → f (again w (o k)) (again w (e k)) (again w (e (k + 1))) ≡ odd_stepped f n e o k
-  inner_again k lt po pe pn =
-      let next : (if k + 1 == n then k else k + 1) ≡ k + 1 = grind arith in
-      ap (λ (v : ℤ). f v (again w (e k)) (again w (e (k + 1)))) (again_is w m room (o k) po)
-      ∙ ap (λ (v : ℤ). f (o k) v (again w (e (k + 1)))) (again_is w m room (e k) pe)
-      ∙ ap (λ (v : ℤ). f (o k) (e k) v) (again_is w m room (e (k + 1)) pn)
-      ∙ ap (λ (j : ℕ). f (o k) (e k) (e j)) (sym next)
+pub read_small : {X : Type 0} (value : X → ℤ) (none : X) (m : ℕ) (xs : List X) (k : ℕ) (r : X) → k < length xs → r ≡ get_or xs k r → EachValued value none m xs → Within m (value r)
+read_small value none m xs k r lt is small = subst (Within m) (sym (read_is value none xs k r lt is)) (small k lt)
 
-  pub last_again : (k : ℕ) → k + 1 ≡ n → Within m (o k) → Within m (e k) → f (again w (o k)) (again w (e k)) (again w (e k)) ≡ odd_stepped f n e o k
-  last_again k is po pe =
-      let next : (if k + 1 == n then k else k + 1) ≡ k = grind arith in
-      ap (λ (v : ℤ). f v (again w (e k)) (again w (e k))) (again_is w m room (o k) po)
-      ∙ ap (λ (v : ℤ). f (o k) v (again w (e k))) (again_is w m room (e k) pe)
-      ∙ ap (λ (v : ℤ). f (o k) (e k) v) (again_is w m room (e k) pe)
-      ∙ ap (λ (j : ℕ). f (o k) (e k) (e j)) (sym next)
+-- ---- an odd place between even ones
 
--- half of the numbers of a sample, in its bits and back
-pub half_again_is : (w : Width) (m : ℕ) (room : Room w m) → 32768 ≤ m → (z : ℤ) → pos 1 ≤ℤ z → z ≤ℤ pos 32768 → again w z ≡ z
-half_again_is w m room enough z some most =
-    again_is w m room z (record { low = omega (arith, ints, enough, some, most); high = omega (arith, ints, enough, some, most) })
+pub inner_is : (f : ℤ → ℤ → ℤ → ℤ) (n : ℕ) (e o : Line) (k : ℕ) → k + 1 < n → f (o k) (e k) (e (k + 1)) ≡ odd_stepped f n e o k
+inner_is f n e o k lt =
+    let next : (if k + 1 == n then k else k + 1) ≡ k + 1 = grind arith in
+    ap (λ (j : ℕ). f (o k) (e k) (e j)) (sym next)
+
+pub last_is : (f : ℤ → ℤ → ℤ → ℤ) (n : ℕ) (e o : Line) (k : ℕ) → k + 1 ≡ n → f (o k) (e k) (e k) ≡ odd_stepped f n e o k
+last_is f n e o k is =
+    let next : (if k + 1 == n then k else k + 1) ≡ k = grind arith in
+    ap (λ (j : ℕ). f (o k) (e k) (e j)) (sym next)
+
+-- half of the numbers of a sample
+pub half_some_of : (depth : ℕ) (half : ℤ) → half ≡ pos (2 ^ (depth - 1)) → pos 1 ≤ℤ half
+half_some_of depth half e = rw e (omega (arith, ints, half_some depth))
+
+pub half_most_of : (depth : ℕ) (half : ℤ) → depth ≤ 16 → half ≡ pos (2 ^ (depth - 1)) → half ≤ℤ pos 32768
+half_most_of depth half le e = rw e (omega (arith, ints, half_most depth le))

@@ -1,17 +1,17 @@
 -- What the synthesis of samples asks of its rooms.
-use Rattle.std.specs.Prelude.{◌≡◌, ℕ, ℤ, ◌*◌, ◌/◌, ◌%◌, ◌^◌, ◌≤◌, List, length}
+use Rattle.std.specs.Prelude.{◌≡◌, ℕ, ℤ, pos, ◌*◌, ◌/◌, ◌%◌, ◌^◌, ◌≤◌, List, length}
 use Rattle.lifting.specs.declared.Wavelet.{Wavelet}
 use Rattle.lifting.specs.Transform.{Grid, synthesis}
 use Rattle.lifting.specs.Ranges.{BandsWithin}
-use Rattle.lifting.specs.Bands.{coefficients_of, lowest}
+use Rattle.lifting.specs.Bands.{coefficients_of, coefficients_in, lowest, AreIn}
 use Rattle.planes.specs.declared.TheConstants.{MAX_MAGNITUDE}
 use Rattle.planes.specs.Raster.{Raster, height}
-use Rattle.planes.specs.Subbands.{BandStack, HaveSizes}
+use Rattle.planes.specs.Subbands.{BandStack, BandsOf, HaveSizes}
 use Rattle.lifting.specs.declared.SampleArea.{SampleArea}
 
 -- The bands are those of a component of w by h, multiples of 2 ^ depth and at least 1. The plane has room for the levels
 -- below the last, and the scratch for their rows and for three of the last.
-pub record HaveRoom (b : BandStack) (w h : ℕ) (plane scratch : Raster ℤ) : Type 0 where
+pub record HaveRoom {X : Type 0} (b : BandsOf X) (w h : ℕ) (plane scratch : Raster X) : Type 0 where
   pub some_columns : 1 ≤ w
   pub some_rows : 1 ≤ h
   pub low : h ≤ 8208
@@ -35,12 +35,15 @@ pub record IsShownArea (area : SampleArea) (w h : ℕ) (samples : List ℕ) : Ty
 
 -- the bands of a component of w by h: all magnitudes are at most 2 ^ 18
 abbrev pub AreNarrowIn : BandStack → ℕ → ℕ → Type 0
-AreNarrowIn b w h = BandsWithin (lowest b.depth h) (lowest b.depth w) b.depth (2 ^ 18) (2 ^ 18) (coefficients_of b)
+AreNarrowIn b w h = AreIn (λ v. v) (pos 0) (2 ^ 18) b w h
 
 -- Those of the lowest band are at most 2 ^ 50, and those of the others at most 2 ^ 36.
 abbrev pub AreSmallIn : BandStack → ℕ → ℕ → Type 0
 AreSmallIn b w h = BandsWithin (lowest b.depth h) (lowest b.depth w) b.depth (2 ^ 50) MAX_MAGNITUDE (coefficients_of b)
 
 -- and their synthesis
+abbrev pub synthesis_in : {X : Type 0} → (X → ℤ) → X → Wavelet → BandsOf X → ℕ → ℕ → Grid
+synthesis_in value none k b w h = synthesis k (lowest b.depth h) (lowest b.depth w) (coefficients_in value none b) b.depth
+
 abbrev pub synthesis_of : Wavelet → BandStack → ℕ → ℕ → Grid
-synthesis_of k b w h = synthesis k (lowest b.depth h) (lowest b.depth w) (coefficients_of b) b.depth
+synthesis_of k b w h = synthesis_in (λ v. v) (pos 0) k b w h

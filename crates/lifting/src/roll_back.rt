@@ -1,11 +1,12 @@
-//! A level of analysis into its bands, with four rows of scratch: row j of the level lies in row j % 4 of it. The rows
-//! come from above downward, so that the plane's own rows are read before LL takes their places.
+//! A level of analysis into its bands, with four rows of scratch: row j of the level lies in row j % 4 of it.
+//! The rows come from above downward, so that the plane's own rows are read before LL takes their places.
 
 ghost use Rattle.std.specs.Prelude.{◌≡◌, ◌≢◌, ℕ, ◌+◌, ◌-◌, ◌*◌, ◌%◌, ◌^◌, ◌<◌, ◌≤◌, length};
-ghost use Rattle.planes.specs.Raster.{height, at};
+ghost use Rattle.planes.specs.Raster.{height};
+ghost use Rattle.planes.specs.Valued.{valued, grid_of};
 ghost use Rattle.planes.specs.Subbands.{BandExists, band_index, band_of};
 ghost use Rattle.lifting.specs.declared.PairStep.TheVariants.{OddDown, EvenUp};
-ghost use Rattle.lifting.specs.Places.{place, side_place};
+ghost use Rattle.lifting.specs.Places.{side_place};
 ghost use Rattle.lifting.specs.Steps.{step, doubled};
 ghost use Rattle.lifting.specs.Lines.{before, after, analysis_line};
 ghost use Rattle.lifting.specs.Transform.{analysis_level, every_other};
@@ -14,29 +15,46 @@ ghost use Rattle.lifting.specs.Bands.{SameSizes, HoldLevel, OtherLevelsStay};
 
 use crate::columns::{lift_row_between, row_after, row_before};
 use crate::halves_back::analyse_sides;
+use crate::laned::Laned;
 use crate::{PairStep, Wavelet};
 use planes::{Bands, Plane};
 
 // Row j of the plane as a line of a level, in row r of the scratch, its halves side by side.
-fn put_sides(scratch: &mut Plane, r: u32, plane: &Plane, j: u32, w: u32, wavelet: Wavelet)
+fn put_sides<T: Laned>(
+    scratch: &mut Plane<T>,
+    r: u32,
+    plane: &Plane<T>,
+    j: u32,
+    w: u32,
+    wavelet: Wavelet,
+)
     requires some { 1 ≤ w }
     requires short { w ≤ 4104 }
     requires r_inside { r < height scratch.old }
     requires j_inside { j < height plane.now }
     requires fits { 2 * w ≤ plane.now.w }
     requires fits_scratch { 2 * w ≤ scratch.old.w }
-    requires small { LineWithin (2 * w) (2 ^ 25) (at plane.now j) }
+    requires small { LineWithin (2 * w) (2 ^ 25) (grid_of T.value T.none plane.now j) }
     ensures same_width { scratch.new.w ≡ scratch.old.w }
     ensures same_height { height scratch.new ≡ height scratch.old }
-    ensures row { (x : ℕ) → x < 2 * w
-        → at scratch.new r x ≡ analysis_line wavelet (2 * w) (λ i. doubled wavelet (at plane.now j i)) (side_place w x) }
-    ensures others { (k x : ℕ) → k ≢ r → at scratch.new k x ≡ at scratch.old k x }
+    ensures row { let grid = grid_of T.value T.none in
+        (x : ℕ) → x < 2 * w → grid scratch.new r x
+        ≡ analysis_line wavelet (2 * w) (λ i. doubled wavelet (grid plane.now j i)) (side_place w x) }
+    ensures others { let grid = grid_of T.value T.none in
+        (k x : ℕ) → k ≢ r → grid scratch.new k x ≡ grid scratch.old k x }
 {
     analyse_sides(scratch.row_mut(r), plane.row(j), w as usize, wavelet);
 }
 
 // Rows 2y + 1 and, where the level has it, 2y + 2.
-fn put_two(scratch: &mut Plane, plane: &Plane, y: u32, w: u32, h: u32, wavelet: Wavelet)
+fn put_two<T: Laned>(
+    scratch: &mut Plane<T>,
+    plane: &Plane<T>,
+    y: u32,
+    w: u32,
+    h: u32,
+    wavelet: Wavelet,
+)
     requires some { 1 ≤ w }
     requires short { w ≤ 4104 }
     requires inside { y < h }
@@ -45,14 +63,18 @@ fn put_two(scratch: &mut Plane, plane: &Plane, y: u32, w: u32, h: u32, wavelet: 
     requires high { 2 * h ≤ height plane.now }
     requires fits_scratch { 2 * w ≤ scratch.old.w }
     requires high_scratch { 2 * h ≤ height scratch.old }
-    requires small { (j : ℕ) → 2 * y + 1 ≤ j → j < 2 * h → LineWithin (2 * w) (2 ^ 25) (at plane.now j) }
+    requires small { (j : ℕ) → 2 * y + 1 ≤ j → j < 2 * h
+        → LineWithin (2 * w) (2 ^ 25) (grid_of T.value T.none plane.now j) }
     ensures same_width { scratch.new.w ≡ scratch.old.w }
     ensures same_height { height scratch.new ≡ height scratch.old }
-    ensures odd { (x : ℕ) → x < 2 * w → at scratch.new ((2 * y + 1) % 4) x
-        ≡ analysis_line wavelet (2 * w) (λ i. doubled wavelet (at plane.now (2 * y + 1) i)) (side_place w x) }
-    ensures even { y + 1 < h → (x : ℕ) → x < 2 * w → at scratch.new ((2 * y + 2) % 4) x
-        ≡ analysis_line wavelet (2 * w) (λ i. doubled wavelet (at plane.now (2 * y + 2) i)) (side_place w x) }
-    ensures others { (k x : ℕ) → k ≢ (2 * y + 1) % 4 → k ≢ (2 * y + 2) % 4 → at scratch.new k x ≡ at scratch.old k x }
+    ensures odd { let grid = grid_of T.value T.none in
+        (x : ℕ) → x < 2 * w → grid scratch.new ((2 * y + 1) % 4) x
+        ≡ analysis_line wavelet (2 * w) (λ i. doubled wavelet (grid plane.now (2 * y + 1) i)) (side_place w x) }
+    ensures even { let grid = grid_of T.value T.none in
+        y + 1 < h → (x : ℕ) → x < 2 * w → grid scratch.new ((2 * y + 2) % 4) x
+        ≡ analysis_line wavelet (2 * w) (λ i. doubled wavelet (grid plane.now (2 * y + 2) i)) (side_place w x) }
+    ensures others { let grid = grid_of T.value T.none in
+        (k x : ℕ) → k ≢ (2 * y + 1) % 4 → k ≢ (2 * y + 2) % 4 → grid scratch.new k x ≡ grid scratch.old k x }
 {
     put_sides(scratch, (2 * y + 1) % 4, plane, 2 * y + 1, w, wavelet);
     if y + 1 < h {
@@ -61,22 +83,26 @@ fn put_two(scratch: &mut Plane, plane: &Plane, y: u32, w: u32, h: u32, wavelet: 
 }
 
 // The last steps on rows 2y + 1 and 2y: down between 2y and 2y + 2, and then up between 2y - 1 and 2y + 1.
-fn finish_two(scratch: &mut Plane, y: u32, w: u32, h: u32, wavelet: Wavelet)
+fn finish_two<T: Laned>(scratch: &mut Plane<T>, y: u32, w: u32, h: u32, wavelet: Wavelet)
     requires inside { y < h }
     requires short { w ≤ 4104 }
     requires low { h ≤ 4104 }
     requires fits { 2 * w ≤ scratch.old.w }
     requires high { 2 * h ≤ height scratch.old }
-    requires small { (j : ℕ) → 2 * y - 1 ≤ j → j ≤ 2 * y + 2 → j < 2 * h → LineWithin (2 * w) (2 ^ 28) (at scratch.old (j % 4)) }
+    requires small { (j : ℕ) → 2 * y - 1 ≤ j → j ≤ 2 * y + 2 → j < 2 * h
+        → LineWithin (2 * w) (2 ^ 28) (grid_of T.value T.none scratch.old (j % 4)) }
     ensures same_width { scratch.new.w ≡ scratch.old.w }
     ensures same_height { height scratch.new ≡ height scratch.old }
-    ensures odd { (x : ℕ) → x < 2 * w → at scratch.new ((2 * y + 1) % 4) x
-        ≡ step wavelet OddDown (at scratch.old ((2 * y + 1) % 4) x) (at scratch.old (2 * y % 4) x)
-        (at scratch.old (after (2 * h) (2 * y + 1) % 4) x) }
-    ensures even { (x : ℕ) → x < 2 * w → at scratch.new (2 * y % 4) x
-        ≡ step wavelet EvenUp (at scratch.old (2 * y % 4) x) (at scratch.new (before (2 * y) % 4) x)
-        (at scratch.new ((2 * y + 1) % 4) x) }
-    ensures others { (k x : ℕ) → k ≢ (2 * y + 1) % 4 → k ≢ 2 * y % 4 → at scratch.new k x ≡ at scratch.old k x }
+    ensures odd { let grid = grid_of T.value T.none in
+        (x : ℕ) → x < 2 * w → grid scratch.new ((2 * y + 1) % 4) x
+        ≡ step wavelet OddDown (grid scratch.old ((2 * y + 1) % 4) x) (grid scratch.old (2 * y % 4) x)
+        (grid scratch.old (after (2 * h) (2 * y + 1) % 4) x) }
+    ensures even { let grid = grid_of T.value T.none in
+        (x : ℕ) → x < 2 * w → grid scratch.new (2 * y % 4) x
+        ≡ step wavelet EvenUp (grid scratch.old (2 * y % 4) x) (grid scratch.new (before (2 * y) % 4) x)
+        (grid scratch.new ((2 * y + 1) % 4) x) }
+    ensures others { let grid = grid_of T.value T.none in
+        (k x : ℕ) → k ≢ (2 * y + 1) % 4 → k ≢ 2 * y % 4 → grid scratch.new k x ≡ grid scratch.old k x }
 {
     let (even, odd) = (2 * y % 4, (2 * y + 1) % 4);
     let below = row_after(2 * h, 2 * y + 1) % 4;
@@ -86,18 +112,18 @@ fn finish_two(scratch: &mut Plane, y: u32, w: u32, h: u32, wavelet: Wavelet)
 }
 
 // The w places of a row from x0 on.
-fn copy_from(dst: &mut [i64], row: &[i64], x0: usize, w: usize)
+fn copy_from<T: Laned>(dst: &mut [T], row: &[T], x0: usize, w: usize)
     requires short { w ≤ 8208 }
     requires left { x0 ≤ w }
     requires room { w ≤ length dst.old }
     requires inside { x0 + w ≤ length row.now }
-    ensures { (x : ℕ) → x < w → place dst.new x ≡ place row.now (x0 + x) }
+    ensures { (x : ℕ) → x < w → valued T.value T.none dst.new x ≡ valued T.value T.none row.now (x0 + x) }
 {
     dst[..w].copy_from_slice(&row[x0..x0 + w]);
 }
 
 // Row y of a band: the w places from x0 on of row r of the scratch.
-fn put_row(band: &mut Plane, y: u32, scratch: &Plane, r: u32, x0: u32, w: u32)
+fn put_row<T: Laned>(band: &mut Plane<T>, y: u32, scratch: &Plane<T>, r: u32, x0: u32, w: u32)
     requires short { w ≤ 4104 }
     requires left { x0 ≤ w }
     requires y_inside { y < height band.old }
@@ -106,18 +132,19 @@ fn put_row(band: &mut Plane, y: u32, scratch: &Plane, r: u32, x0: u32, w: u32)
     requires fits_scratch { 2 * w ≤ scratch.now.w }
     ensures same_width { band.new.w ≡ band.old.w }
     ensures same_height { height band.new ≡ height band.old }
-    ensures row { (x : ℕ) → x < w → at band.new y x ≡ at scratch.now r (x0 + x) }
-    ensures others { (j x : ℕ) → j ≢ y → at band.new j x ≡ at band.old j x }
+    ensures row { let grid = grid_of T.value T.none in
+        (x : ℕ) → x < w → grid band.new y x ≡ grid scratch.now r (x0 + x) }
+    ensures others { (j x : ℕ) → j ≢ y → grid_of T.value T.none band.new j x ≡ grid_of T.value T.none band.old j x }
 {
     copy_from(band.row_mut(y), scratch.row(r), x0 as usize, w as usize);
 }
 
-fn deal_row(
-    bands: &mut Bands,
+fn deal_row<T: Laned>(
+    bands: &mut Bands<T>,
     level: u32,
     orient: u32,
     y: u32,
-    scratch: &Plane,
+    scratch: &Plane<T>,
     r: u32,
     x0: u32,
     w: u32,
@@ -130,15 +157,24 @@ fn deal_row(
     requires fits { w ≤ (band_of bands.old level orient).w }
     requires fits_scratch { 2 * w ≤ scratch.now.w }
     ensures same_sizes { SameSizes bands.old bands.new }
-    ensures row { (x : ℕ) → x < w → at (band_of bands.new level orient) y x ≡ at scratch.now r (x0 + x) }
-    ensures rows { (j x : ℕ) → j ≢ y → at (band_of bands.new level orient) j x ≡ at (band_of bands.old level orient) j x }
+    ensures row { let grid = grid_of T.value T.none in
+        (x : ℕ) → x < w → grid (band_of bands.new level orient) y x ≡ grid scratch.now r (x0 + x) }
+    ensures rows { let grid = grid_of T.value T.none in
+        (j x : ℕ) → j ≢ y → grid (band_of bands.new level orient) j x ≡ grid (band_of bands.old level orient) j x }
     ensures others { (l o : ℕ) → band_index l o ≢ band_index level orient → band_of bands.new l o ≡ band_of bands.old l o }
 {
     put_row(bands.band_mut(level, orient), y, scratch, r, x0, w);
 }
 
 // Row y of the bands of a level: LL goes to the plane.
-fn deal_two(plane: &mut Plane, bands: &mut Bands, level: u32, y: u32, scratch: &Plane, w: u32)
+fn deal_two<T: Laned>(
+    plane: &mut Plane<T>,
+    bands: &mut Bands<T>,
+    level: u32,
+    y: u32,
+    scratch: &Plane<T>,
+    w: u32,
+)
     requires some_level { 1 ≤ level }
     requires level_inside { level ≤ bands.old.depth }
     requires short { w ≤ 4104 }
@@ -152,14 +188,21 @@ fn deal_two(plane: &mut Plane, bands: &mut Bands, level: u32, y: u32, scratch: &
     ensures same_width { plane.new.w ≡ plane.old.w }
     ensures same_height { height plane.new ≡ height plane.old }
     ensures same_sizes { SameSizes bands.old bands.new }
-    ensures left { (x : ℕ) → x < w → at plane.new y x ≡ at scratch.now (2 * y % 4) (0 + x) }
-    ensures hl { (x : ℕ) → x < w → at (band_of bands.new level 1) y x ≡ at scratch.now (2 * y % 4) (w + x) }
-    ensures lh { (x : ℕ) → x < w → at (band_of bands.new level 2) y x ≡ at scratch.now ((2 * y + 1) % 4) (0 + x) }
-    ensures hh { (x : ℕ) → x < w → at (band_of bands.new level 3) y x ≡ at scratch.now ((2 * y + 1) % 4) (w + x) }
-    ensures rows { (j x : ℕ) → j ≢ y → at plane.new j x ≡ at plane.old j x }
-    ensures hl_rows { (j x : ℕ) → j ≢ y → at (band_of bands.new level 1) j x ≡ at (band_of bands.old level 1) j x }
-    ensures lh_rows { (j x : ℕ) → j ≢ y → at (band_of bands.new level 2) j x ≡ at (band_of bands.old level 2) j x }
-    ensures hh_rows { (j x : ℕ) → j ≢ y → at (band_of bands.new level 3) j x ≡ at (band_of bands.old level 3) j x }
+    ensures left { let grid = grid_of T.value T.none in
+        (x : ℕ) → x < w → grid plane.new y x ≡ grid scratch.now (2 * y % 4) (0 + x) }
+    ensures hl { let grid = grid_of T.value T.none in
+        (x : ℕ) → x < w → grid (band_of bands.new level 1) y x ≡ grid scratch.now (2 * y % 4) (w + x) }
+    ensures lh { let grid = grid_of T.value T.none in
+        (x : ℕ) → x < w → grid (band_of bands.new level 2) y x ≡ grid scratch.now ((2 * y + 1) % 4) (0 + x) }
+    ensures hh { let grid = grid_of T.value T.none in
+        (x : ℕ) → x < w → grid (band_of bands.new level 3) y x ≡ grid scratch.now ((2 * y + 1) % 4) (w + x) }
+    ensures rows { (j x : ℕ) → j ≢ y → grid_of T.value T.none plane.new j x ≡ grid_of T.value T.none plane.old j x }
+    ensures hl_rows { let grid = grid_of T.value T.none in
+        (j x : ℕ) → j ≢ y → grid (band_of bands.new level 1) j x ≡ grid (band_of bands.old level 1) j x }
+    ensures lh_rows { let grid = grid_of T.value T.none in
+        (j x : ℕ) → j ≢ y → grid (band_of bands.new level 2) j x ≡ grid (band_of bands.old level 2) j x }
+    ensures hh_rows { let grid = grid_of T.value T.none in
+        (j x : ℕ) → j ≢ y → grid (band_of bands.new level 3) j x ≡ grid (band_of bands.old level 3) j x }
     ensures others { OtherLevelsStay level bands.old bands.new }
 {
     let (even, odd) = (2 * y % 4, (2 * y + 1) % 4);
@@ -170,10 +213,10 @@ fn deal_two(plane: &mut Plane, bands: &mut Bands, level: u32, y: u32, scratch: &
 }
 
 /// A level: the plane's first 2w columns and 2h rows hold it, and then its first w and h hold LL.
-pub(crate) fn roll_back(
-    plane: &mut Plane,
-    scratch: &mut Plane,
-    bands: &mut Bands,
+pub(crate) fn roll_back<T: Laned>(
+    plane: &mut Plane<T>,
+    scratch: &mut Plane<T>,
+    bands: &mut Bands<T>,
     level: u32,
     w: u32,
     h: u32,
@@ -191,14 +234,16 @@ pub(crate) fn roll_back(
     requires high_scratch { 2 * h ≤ height scratch.old }
     requires fits_bands { (o : ℕ) → 1 ≤ o → o ≤ 3 → w ≤ (band_of bands.old level o).w }
     requires high_bands { (o : ℕ) → 1 ≤ o → o ≤ 3 → h ≤ height (band_of bands.old level o) }
-    requires small { GridWithin (2 * h) (2 * w) (2 ^ 25) (at plane.old) }
+    requires small { GridWithin (2 * h) (2 * w) (2 ^ 25) (grid_of T.value T.none plane.old) }
     ensures same_width { plane.new.w ≡ plane.old.w }
     ensures same_height { height plane.new ≡ height plane.old }
     ensures same_width_scratch { scratch.new.w ≡ scratch.old.w }
     ensures same_height_scratch { height scratch.new ≡ height scratch.old }
     ensures same_sizes { SameSizes bands.old bands.new }
-    ensures left { SameInside h w (at plane.new) (every_other 0 0 (analysis_level wavelet (2 * h) (2 * w) (at plane.old))) }
-    ensures dealt { HoldLevel h w (analysis_level wavelet (2 * h) (2 * w) (at plane.old)) level bands.new }
+    ensures left { let grid = grid_of T.value T.none in
+        SameInside h w (grid plane.new) (every_other 0 0 (analysis_level wavelet (2 * h) (2 * w) (grid plane.old))) }
+    ensures dealt { HoldLevel T.value T.none h w
+        (analysis_level wavelet (2 * h) (2 * w) (grid_of T.value T.none plane.old)) level bands.new }
     ensures others { OtherLevelsStay level bands.old bands.new }
 {
     put_sides(scratch, 0, plane, 0, w, wavelet);

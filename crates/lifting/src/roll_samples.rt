@@ -1,9 +1,10 @@
 //! The last level of synthesis, straight into samples. The rows come from above downward, as they lie in memory.
 
 ghost use Rattle.std.specs.Prelude.{◌≡◌, ◌≢◌, ℕ, ◌+◌, ◌-◌, ◌*◌, ◌%◌, ◌^◌, ◌<◌, ◌≤◌, length, slice_index_or};
-ghost use Rattle.planes.specs.Raster.{height, at};
+ghost use Rattle.planes.specs.Raster.{height};
+ghost use Rattle.planes.specs.Valued.{grid_of};
 ghost use Rattle.lifting.specs.declared.PairStep.TheVariants.{EvenDown};
-ghost use Rattle.lifting.specs.Places.{place, beside, woven};
+ghost use Rattle.lifting.specs.Places.{beside, woven};
 ghost use Rattle.lifting.specs.Steps.{step, halved};
 ghost use Rattle.lifting.specs.Lines.{synthesis_line};
 ghost use Rattle.lifting.specs.Transform.{interleaved, synthesis_level};
@@ -11,17 +12,17 @@ ghost use Rattle.lifting.specs.Ranges.{LineWithin, GridWithin, line_reach};
 ghost use Rattle.lifting.specs.Clipping.{sample_of};
 
 use crate::roll::{make_even, make_odd};
-use crate::samples::sample_sides;
+use crate::samples::{Sampled, sample_sides};
 use crate::{SampleArea, Wavelet};
 use planes::Plane;
 
 // Row r of the scratch, lifted, shifted, woven, clipped and offset as row y of the samples, where they have that row.
 // The scratch's row holds any values afterwards.
-fn sample_row(
+fn sample_row<T: Sampled>(
     samples: &mut [u16],
     area: SampleArea,
     y: u32,
-    scratch: &mut Plane,
+    scratch: &mut Plane<T>,
     r: u32,
     w: u32,
     wavelet: Wavelet,
@@ -35,16 +36,19 @@ fn sample_row(
     requires r_inside { r < height scratch.old }
     requires fits { area.w ≤ 2 * w }
     requires fits_scratch { 2 * w ≤ scratch.old.w }
-    requires small { LineWithin (2 * w) (line_reach (2 ^ 58)) (at scratch.old r) }
+    requires small { LineWithin (2 * w) (line_reach T.start) (grid_of T.value T.none scratch.old r) }
     ensures same_width_scratch { scratch.new.w ≡ scratch.old.w }
     ensures same_height_scratch { height scratch.new ≡ height scratch.old }
     ensures count { length samples.new ≡ length samples.old }
-    ensures row { y < area.h → (x : ℕ) → x < area.w
-        → slice_index_or samples.new (y * area.w + x) 0
-        ≡ sample_of area.depth (halved wavelet (synthesis_line wavelet (2 * w) (woven (at scratch.old r) (λ j. at scratch.old r (w + j))) x)) }
+    ensures row { let grid = grid_of T.value T.none in
+        y < area.h → (x : ℕ) → x < area.w → slice_index_or samples.new (y * area.w + x) 0
+        ≡ sample_of area.depth
+        (halved wavelet (synthesis_line wavelet (2 * w)
+        (woven (grid scratch.old r) (λ j. grid scratch.old r (w + j))) x)) }
     ensures before { (k : ℕ) → k < y * area.w → slice_index_or samples.new k 0 ≡ slice_index_or samples.old k 0 }
     ensures behind { (k : ℕ) → y * area.w + area.w ≤ k → slice_index_or samples.new k 0 ≡ slice_index_or samples.old k 0 }
-    ensures others_scratch { (j x : ℕ) → j ≢ r → at scratch.new j x ≡ at scratch.old j x }
+    ensures others_scratch { let grid = grid_of T.value T.none in
+        (j x : ℕ) → j ≢ r → grid scratch.new j x ≡ grid scratch.old j x }
 {
     if y < area.h {
         let start = (y * area.w) as usize;
@@ -60,12 +64,12 @@ fn sample_row(
 }
 
 // Row y of LL and HL, lifted, in row y % 2 of the scratch.
-fn put_even(
-    scratch: &mut Plane,
-    plane: &Plane,
-    hl: &Plane,
-    lh: &Plane,
-    hh: &Plane,
+fn put_even<T: Sampled>(
+    scratch: &mut Plane<T>,
+    plane: &Plane<T>,
+    hl: &Plane<T>,
+    lh: &Plane<T>,
+    hh: &Plane<T>,
     y: u32,
     w: u32,
     h: u32,
@@ -80,28 +84,30 @@ fn put_even(
     requires high_scratch { 3 ≤ height scratch.old }
     requires widths { (w ≤ hl.now.w) × (w ≤ lh.now.w) × (w ≤ hh.now.w) }
     requires heights { (h ≤ height hl.now) × (h ≤ height lh.now) × (h ≤ height hh.now) }
-    requires ll_small { GridWithin h w (2 ^ 58) (at plane.now) }
-    requires hl_small { GridWithin h w (2 ^ 58) (at hl.now) }
-    requires lh_small { GridWithin h w (2 ^ 58) (at lh.now) }
-    requires hh_small { GridWithin h w (2 ^ 58) (at hh.now) }
+    requires ll_small { GridWithin h w T.start (grid_of T.value T.none plane.now) }
+    requires hl_small { GridWithin h w T.start (grid_of T.value T.none hl.now) }
+    requires lh_small { GridWithin h w T.start (grid_of T.value T.none lh.now) }
+    requires hh_small { GridWithin h w T.start (grid_of T.value T.none hh.now) }
     ensures same_width { scratch.new.w ≡ scratch.old.w }
     ensures same_height { height scratch.new ≡ height scratch.old }
-    ensures row { (x : ℕ) → x < 2 * w → at scratch.new (y % 2) x
-        ≡ beside w (λ i. step wavelet EvenDown (at plane.now y i) (at lh.now (y - 1) i) (at lh.now y i))
-        (λ i. step wavelet EvenDown (at hl.now y i) (at hh.now (y - 1) i) (at hh.now y i)) x }
-    ensures others { (j x : ℕ) → j ≢ y % 2 → at scratch.new j x ≡ at scratch.old j x }
+    ensures row { let grid = grid_of T.value T.none in
+        (x : ℕ) → x < 2 * w → grid scratch.new (y % 2) x
+        ≡ beside w (λ i. step wavelet EvenDown (grid plane.now y i) (grid lh.now (y - 1) i) (grid lh.now y i))
+        (λ i. step wavelet EvenDown (grid hl.now y i) (grid hh.now (y - 1) i) (grid hh.now y i)) x }
+    ensures others { let grid = grid_of T.value T.none in
+        (j x : ℕ) → j ≢ y % 2 → grid scratch.new j x ≡ grid scratch.old j x }
 {
     make_even(scratch, y % 2, plane, hl, lh, hh, y, w, wavelet);
 }
 
 // The even row below odd row y, lifted, in its row of the scratch, and which of its rows that is. Below the last odd row
 // there is none, and the even row above it stands for it.
-fn put_below(
-    scratch: &mut Plane,
-    plane: &Plane,
-    hl: &Plane,
-    lh: &Plane,
-    hh: &Plane,
+fn put_below<T: Sampled>(
+    scratch: &mut Plane<T>,
+    plane: &Plane<T>,
+    hl: &Plane<T>,
+    lh: &Plane<T>,
+    hh: &Plane<T>,
     y: u32,
     w: u32,
     h: u32,
@@ -116,19 +122,22 @@ fn put_below(
     requires high_scratch { 3 ≤ height scratch.old }
     requires widths { (w ≤ hl.now.w) × (w ≤ lh.now.w) × (w ≤ hh.now.w) }
     requires heights { (h ≤ height hl.now) × (h ≤ height lh.now) × (h ≤ height hh.now) }
-    requires ll_small { GridWithin h w (2 ^ 58) (at plane.now) }
-    requires hl_small { GridWithin h w (2 ^ 58) (at hl.now) }
-    requires lh_small { GridWithin h w (2 ^ 58) (at lh.now) }
-    requires hh_small { GridWithin h w (2 ^ 58) (at hh.now) }
+    requires ll_small { GridWithin h w T.start (grid_of T.value T.none plane.now) }
+    requires hl_small { GridWithin h w T.start (grid_of T.value T.none hl.now) }
+    requires lh_small { GridWithin h w T.start (grid_of T.value T.none lh.now) }
+    requires hh_small { GridWithin h w T.start (grid_of T.value T.none hh.now) }
     ensures same_width { scratch.new.w ≡ scratch.old.w }
     ensures same_height { height scratch.new ≡ height scratch.old }
     ensures few { result < 2 }
     ensures last { y + 1 ≡ h → result ≡ y % 2 }
     ensures inner { y + 1 < h → result ≡ (y + 1) % 2 }
-    ensures row { y + 1 < h → (x : ℕ) → x < 2 * w → at scratch.new ((y + 1) % 2) x
-        ≡ beside w (λ i. step wavelet EvenDown (at plane.now (y + 1) i) (at lh.now (y + 1 - 1) i) (at lh.now (y + 1) i))
-        (λ i. step wavelet EvenDown (at hl.now (y + 1) i) (at hh.now (y + 1 - 1) i) (at hh.now (y + 1) i)) x }
-    ensures others { (j x : ℕ) → j ≢ (y + 1) % 2 → at scratch.new j x ≡ at scratch.old j x }
+    ensures row { let grid = grid_of T.value T.none in
+        y + 1 < h → (x : ℕ) → x < 2 * w → grid scratch.new ((y + 1) % 2) x
+        ≡ beside w (λ i. step wavelet EvenDown (grid plane.now (y + 1) i) (grid lh.now (y + 1 - 1) i)
+        (grid lh.now (y + 1) i))
+        (λ i. step wavelet EvenDown (grid hl.now (y + 1) i) (grid hh.now (y + 1 - 1) i) (grid hh.now (y + 1) i)) x }
+    ensures others { let grid = grid_of T.value T.none in
+        (j x : ℕ) → j ≢ (y + 1) % 2 → grid scratch.new j x ≡ grid scratch.old j x }
 {
     if y + 1 == h {
         y % 2
@@ -140,14 +149,14 @@ fn put_below(
 
 /// The last level, from LL in the plane's first w columns and h rows: its first columns and rows as samples. The scratch
 /// has three rows, two for even ones by turns and one for odd ones.
-pub(crate) fn roll_samples(
+pub(crate) fn roll_samples<T: Sampled>(
     samples: &mut [u16],
     area: SampleArea,
-    plane: &Plane,
-    scratch: &mut Plane,
-    hl: &Plane,
-    lh: &Plane,
-    hh: &Plane,
+    plane: &Plane<T>,
+    scratch: &mut Plane<T>,
+    hl: &Plane<T>,
+    lh: &Plane<T>,
+    hh: &Plane<T>,
     w: u32,
     h: u32,
     wavelet: Wavelet,
@@ -168,15 +177,18 @@ pub(crate) fn roll_samples(
     requires high_scratch { 3 ≤ height scratch.old }
     requires widths { (w ≤ hl.now.w) × (w ≤ lh.now.w) × (w ≤ hh.now.w) }
     requires heights { (h ≤ height hl.now) × (h ≤ height lh.now) × (h ≤ height hh.now) }
-    requires ll_small { GridWithin h w (2 ^ 58) (at plane.now) }
-    requires hl_small { GridWithin h w (2 ^ 58) (at hl.now) }
-    requires lh_small { GridWithin h w (2 ^ 58) (at lh.now) }
-    requires hh_small { GridWithin h w (2 ^ 58) (at hh.now) }
+    requires ll_small { GridWithin h w T.start (grid_of T.value T.none plane.now) }
+    requires hl_small { GridWithin h w T.start (grid_of T.value T.none hl.now) }
+    requires lh_small { GridWithin h w T.start (grid_of T.value T.none lh.now) }
+    requires hh_small { GridWithin h w T.start (grid_of T.value T.none hh.now) }
     ensures same_width_scratch { scratch.new.w ≡ scratch.old.w }
     ensures same_height_scratch { height scratch.new ≡ height scratch.old }
     ensures count { length samples.new ≡ length samples.old }
-    ensures level { (y x : ℕ) → y < area.h → x < area.w → slice_index_or samples.new (y * area.w + x) 0
-        ≡ sample_of area.depth (synthesis_level wavelet (2 * h) (2 * w) (interleaved (at plane.now) (at hl.now) (at lh.now) (at hh.now)) y x) }
+    ensures level { let grid = grid_of T.value T.none in
+        (y x : ℕ) → y < area.h → x < area.w → slice_index_or samples.new (y * area.w + x) 0
+        ≡ sample_of area.depth
+        (synthesis_level wavelet (2 * h) (2 * w)
+        (interleaved (grid plane.now) (grid hl.now) (grid lh.now) (grid hh.now)) y x) }
 {
     put_even(scratch, plane, hl, lh, hh, 0, w, h, wavelet);
     for y in 0..h {

@@ -3,113 +3,172 @@
 ghost use Rattle.std.specs.Prelude.{◌≡◌, ℕ, ◌+◌, ◌-◌, ◌*◌, ◌/◌, ◌^◌, ◌<◌, ◌≤◌, length, slice_index_or, pos, neg_ℤ, ◌+ℤ◌, ◌-ℤ◌, ◌≤ℤ◌};
 ghost use Rattle.std.specs.Int.{int_min, int_max};
 ghost use Rattle.planes.specs.Numbers.{Within};
+ghost use Rattle.planes.specs.Valued.{valued, EachValued};
 ghost use Rattle.lifting.specs.declared.PairStep.TheVariants.{OddUp};
-ghost use Rattle.lifting.specs.Places.{place, EachWithin, woven, odd_stepped};
+ghost use Rattle.lifting.specs.Places.{woven, odd_stepped};
 ghost use Rattle.lifting.specs.Steps.{step, halved};
 ghost use Rattle.lifting.specs.Lines.{synthesis_line};
 ghost use Rattle.lifting.specs.Ranges.{LineWithin, line_reach};
 ghost use Rattle.lifting.specs.Clipping.{sample_of, clipped_up};
+ghost use Rattle.lifting.specs.LowerSamples.{rounded};
 
 use crate::halves::lift_even_half;
 use crate::kernels::{half_of, shifts, stepped};
+use crate::laned::Laned;
 use crate::{PairStep, Wavelet};
 
-// The nearest number from -half to half - 1.
-#[inline(always)]
-fn clip(v: i64, half: i64) -> i64
-    requires some { pos 1 ≤ℤ half }
-    requires most { half ≤ℤ pos 32768 }
-    ensures { result ≡ int_max (neg_ℤ half) (int_min (half -ℤ pos 1) v) }
-{
-    let most = half - 1;
-    let v = if most < v { most } else { v };
-    if v < -half { -half } else { v }
+/// Numbers that become samples.
+pub trait Sampled: Laned {
+    /// Half of the numbers of so many bits.
+    fn half_range(depth: u32) -> Self
+        requires some { 1 ≤ depth }
+        requires most { depth ≤ 16 }
+        ensures { Self.value result ≡ pos (2 ^ (depth - 1)) };
+
+    /// The nearest number from -half to half - 1.
+    fn clip(v: Self, half: Self) -> Self
+        requires some { pos 1 ≤ℤ Self.value half }
+        requires most { Self.value half ≤ℤ pos 32768 }
+        ensures { Self.value result
+            ≡ int_max (neg_ℤ (Self.value half)) (int_min (Self.value half -ℤ pos 1) (Self.value v)) };
+
+    /// The same, counted from the lowest of them.
+    fn offset(v: Self, half: Self) -> u16
+        requires some { pos 1 ≤ℤ Self.value half }
+        requires most { Self.value half ≤ℤ pos 32768 }
+        ensures { pos result ≡ clipped_up (Self.value half) (Self.value v) };
+
+    /// A number over 2^shift, rounded, where half of that is `half`.
+    fn rounded(v: Self, half: Self, shift: u32) -> Self
+        requires some { 1 ≤ shift }
+        requires few { shift ≤ 4 }
+        requires half { Self.value half ≡ pos (2 ^ (shift - 1)) }
+        requires small { Within Self.reach (Self.value v) }
+        ensures { Self.value result ≡ rounded shift (Self.value v) };
 }
 
-// The same, counted from the lowest of them.
-#[inline(always)]
-fn offset(v: i64, half: i64) -> u16
-    requires some { pos 1 ≤ℤ half }
-    requires most { half ≤ℤ pos 32768 }
-    ensures { pos result ≡ clipped_up half v }
-{
-    (clip(v, half) + half) as u16
+impl Sampled for i32 {
+    #[inline(always)]
+    fn half_range(depth: u32) -> i32 {
+        1 << (depth - 1)
+    }
+
+    #[inline(always)]
+    fn clip(v: i32, half: i32) -> i32 {
+        let most = half - 1;
+        let v = if most < v { most } else { v };
+        if v < -half { -half } else { v }
+    }
+
+    #[inline(always)]
+    fn offset(v: i32, half: i32) -> u16 {
+        (i32::clip(v, half) + half) as u16
+    }
+
+    #[inline(always)]
+    fn rounded(v: i32, half: i32, shift: u32) -> i32 {
+        (v + half) >> shift
+    }
+}
+
+impl Sampled for i64 {
+    #[inline(always)]
+    fn half_range(depth: u32) -> i64 {
+        1 << (depth - 1)
+    }
+
+    #[inline(always)]
+    fn clip(v: i64, half: i64) -> i64 {
+        let most = half - 1;
+        let v = if most < v { most } else { v };
+        if v < -half { -half } else { v }
+    }
+
+    #[inline(always)]
+    fn offset(v: i64, half: i64) -> u16 {
+        (i64::clip(v, half) + half) as u16
+    }
+
+    #[inline(always)]
+    fn rounded(v: i64, half: i64, shift: u32) -> i64 {
+        (v + half) >> shift
+    }
 }
 
 // A level's last step on a number.
 #[inline(always)]
-fn shifted(v: i64, wavelet: Wavelet) -> i64
-    requires { Within (2 ^ 61) v }
-    ensures { result ≡ halved wavelet v }
+fn shifted<T: Sampled>(v: T, wavelet: Wavelet) -> T
+    requires { Within T.reach (T.value v) }
+    ensures { T.value result ≡ halved wavelet (T.value v) }
 {
     if shifts(wavelet) { half_of(v) } else { v }
 }
 
 // The sample of a lifted number.
 #[inline(always)]
-fn sample(v: i64, wavelet: Wavelet, half: i64) -> u16
-    requires small { Within (2 ^ 61) v }
-    requires some { pos 1 ≤ℤ half }
-    requires most { half ≤ℤ pos 32768 }
-    ensures { pos result ≡ clipped_up half (halved wavelet v) }
+fn sample<T: Sampled>(v: T, wavelet: Wavelet, half: T) -> u16
+    requires small { Within T.reach (T.value v) }
+    requires some { pos 1 ≤ℤ T.value half }
+    requires most { T.value half ≤ℤ pos 32768 }
+    ensures { pos result ≡ clipped_up (T.value half) (halved wavelet (T.value v)) }
 {
-    offset(shifted(v, wavelet), half)
-}
-
-// Half of the numbers of so many bits.
-#[tactic(auto, using(crate::proofs::SampleRows::half_some, crate::proofs::SampleRows::half_most))]
-pub(crate) fn half_range(depth: u32) -> i64
-    requires some { 1 ≤ depth }
-    requires most { depth ≤ 16 }
-    ensures value { result ≡ pos (2 ^ (depth - 1)) }
-    ensures some { pos 1 ≤ℤ result }
-    ensures most { result ≤ℤ pos 32768 }
-{
-    1 << (depth - 1)
+    T::offset(shifted(v, wavelet), half)
 }
 
 /// The samples of the first numbers of a band's row.
-pub(crate) fn sample_band(dst: &mut [u16], row: &[i64], depth: u32)
+pub(crate) fn sample_band<T: Sampled>(dst: &mut [u16], row: &[T], depth: u32)
     requires some_bits { 1 ≤ depth }
     requires bits { depth ≤ 16 }
     requires room { length dst.old ≤ length row.now }
-    requires small { EachWithin (2 ^ 61) row.now }
-    ensures { (i : ℕ) → i < length dst.old → slice_index_or dst.new i 0 ≡ sample_of depth (place row.now i) }
+    ensures { (i : ℕ) → i < length dst.old → slice_index_or dst.new i 0
+        ≡ sample_of depth (valued T.value T.none row.now i) }
 {
-    let half = half_range(depth);
+    let half = T::half_range(depth);
     for i in 0..dst.len() {
-        dst[i] = offset(row[i], half);
+        dst[i] = T::offset(row[i], half);
     }
 }
 
 // The sample of an odd place, lifted between the even ones beside it.
 #[inline(always)]
-fn odd_sample(odd: i64, a: i64, b: i64, wavelet: Wavelet, half: i64) -> u16
-    requires odd_small { Within (2 ^ 61) odd }
-    requires a_small { Within (2 ^ 61) a }
-    requires b_small { Within (2 ^ 61) b }
-    requires lifted_small { Within (2 ^ 61) (step wavelet OddUp odd a b) }
-    requires some { pos 1 ≤ℤ half }
-    requires most { half ≤ℤ pos 32768 }
-    ensures { pos result ≡ clipped_up half (halved wavelet (step wavelet OddUp odd a b)) }
+fn odd_sample<T: Sampled>(odd: T, a: T, b: T, wavelet: Wavelet, half: T) -> u16
+    requires odd_small { Within T.reach (T.value odd) }
+    requires a_small { Within T.reach (T.value a) }
+    requires b_small { Within T.reach (T.value b) }
+    requires lifted_small { Within T.reach (step wavelet OddUp (T.value odd) (T.value a) (T.value b)) }
+    requires some { pos 1 ≤ℤ T.value half }
+    requires most { T.value half ≤ℤ pos 32768 }
+    ensures { pos result
+        ≡ clipped_up (T.value half) (halved wavelet (step wavelet OddUp (T.value odd) (T.value a) (T.value b))) }
 {
     sample(stepped(wavelet, PairStep::OddUp, odd, a, b), wavelet, half)
 }
 
 // The first pairs of samples of the even and the odd places, each odd one lifted on the way.
 #[inline(always)]
-fn weave_each(dst: &mut [u16], even: &[i64], odd: &[i64], count: usize, wavelet: Wavelet, half: i64)
-    requires some { pos 1 ≤ℤ half }
-    requires most { half ≤ℤ pos 32768 }
+fn weave_each<T: Sampled>(
+    dst: &mut [u16],
+    even: &[T],
+    odd: &[T],
+    count: usize,
+    wavelet: Wavelet,
+    half: T,
+)
+    requires some { pos 1 ≤ℤ T.value half }
+    requires most { T.value half ≤ℤ pos 32768 }
     requires short { length even.now ≤ 8208 }
     requires same_len { length odd.now ≡ length even.now }
     requires room { 2 * count ≤ length dst.old }
     requires inner { count < length even.now }
-    requires even_small { EachWithin (2 ^ 61) even.now }
-    requires odd_small { EachWithin (2 ^ 61) odd.now }
-    requires lifted_small { LineWithin (length odd.now) (2 ^ 61) (odd_stepped (step wavelet OddUp) (length odd.now) (place even.now) (place odd.now)) }
-    ensures { (i : ℕ) → i < 2 * count → pos (slice_index_or dst.new i 0)
-        ≡ clipped_up half (halved wavelet (woven (place even.now) (odd_stepped (step wavelet OddUp) (length odd.now) (place even.now) (place odd.now)) i)) }
+    requires even_small { EachValued T.value T.none T.reach even.now }
+    requires odd_small { EachValued T.value T.none T.reach odd.now }
+    requires lifted_small { let at = valued T.value T.none in
+        LineWithin (length odd.now) T.reach (odd_stepped (step wavelet OddUp) (length odd.now) (at even.now) (at odd.now)) }
+    ensures { let at = valued T.value T.none in
+        (i : ℕ) → i < 2 * count → pos (slice_index_or dst.new i 0)
+        ≡ clipped_up (T.value half)
+        (halved wavelet (woven (at even.now)
+        (odd_stepped (step wavelet OddUp) (length odd.now) (at even.now) (at odd.now)) i)) }
 {
     for k in 0..count {
         dst[2 * k] = sample(even[k], wavelet, half);
@@ -118,25 +177,29 @@ fn weave_each(dst: &mut [u16], even: &[i64], odd: &[i64], count: usize, wavelet:
 }
 
 // The same, with a loop for each wavelet by itself, so that no turn of it asks which wavelet it is.
-fn weave_pairs(
+fn weave_pairs<T: Sampled>(
     dst: &mut [u16],
-    even: &[i64],
-    odd: &[i64],
+    even: &[T],
+    odd: &[T],
     count: usize,
     wavelet: Wavelet,
-    half: i64,
+    half: T,
 )
-    requires some { pos 1 ≤ℤ half }
-    requires most { half ≤ℤ pos 32768 }
+    requires some { pos 1 ≤ℤ T.value half }
+    requires most { T.value half ≤ℤ pos 32768 }
     requires short { length even.now ≤ 8208 }
     requires same_len { length odd.now ≡ length even.now }
     requires room { 2 * count ≤ length dst.old }
     requires inner { count < length even.now }
-    requires even_small { EachWithin (2 ^ 61) even.now }
-    requires odd_small { EachWithin (2 ^ 61) odd.now }
-    requires lifted_small { LineWithin (length odd.now) (2 ^ 61) (odd_stepped (step wavelet OddUp) (length odd.now) (place even.now) (place odd.now)) }
-    ensures { (i : ℕ) → i < 2 * count → pos (slice_index_or dst.new i 0)
-        ≡ clipped_up half (halved wavelet (woven (place even.now) (odd_stepped (step wavelet OddUp) (length odd.now) (place even.now) (place odd.now)) i)) }
+    requires even_small { EachValued T.value T.none T.reach even.now }
+    requires odd_small { EachValued T.value T.none T.reach odd.now }
+    requires lifted_small { let at = valued T.value T.none in
+        LineWithin (length odd.now) T.reach (odd_stepped (step wavelet OddUp) (length odd.now) (at even.now) (at odd.now)) }
+    ensures { let at = valued T.value T.none in
+        (i : ℕ) → i < 2 * count → pos (slice_index_or dst.new i 0)
+        ≡ clipped_up (T.value half)
+        (halved wavelet (woven (at even.now)
+        (odd_stepped (step wavelet OddUp) (length odd.now) (at even.now) (at odd.now)) i)) }
 {
     match wavelet {
         Wavelet::LeGall => weave_each(dst, even, odd, count, Wavelet::LeGall, half),
@@ -147,20 +210,23 @@ fn weave_pairs(
 
 // The samples of the even and the odd places, as many as there is room for, the odd ones lifted on the way. Behind the last
 // odd place there is no even one, and the even one before it stands for it.
-fn weave_samples(dst: &mut [u16], even: &[i64], odd: &[i64], wavelet: Wavelet, depth: u32)
+fn weave_samples<T: Sampled>(dst: &mut [u16], even: &[T], odd: &[T], wavelet: Wavelet, depth: u32)
     requires some_bits { 1 ≤ depth }
     requires bits { depth ≤ 16 }
     requires some { 1 ≤ length even.now }
     requires short { length even.now ≤ 8208 }
     requires same_len { length odd.now ≡ length even.now }
     requires room { length dst.old ≤ 2 * length even.now }
-    requires even_small { EachWithin (2 ^ 61) even.now }
-    requires odd_small { EachWithin (2 ^ 61) odd.now }
-    requires lifted_small { LineWithin (length odd.now) (2 ^ 61) (odd_stepped (step wavelet OddUp) (length odd.now) (place even.now) (place odd.now)) }
-    ensures { (i : ℕ) → i < length dst.old → slice_index_or dst.new i 0
-        ≡ sample_of depth (halved wavelet (woven (place even.now) (odd_stepped (step wavelet OddUp) (length odd.now) (place even.now) (place odd.now)) i)) }
+    requires even_small { EachValued T.value T.none T.reach even.now }
+    requires odd_small { EachValued T.value T.none T.reach odd.now }
+    requires lifted_small { let at = valued T.value T.none in
+        LineWithin (length odd.now) T.reach (odd_stepped (step wavelet OddUp) (length odd.now) (at even.now) (at odd.now)) }
+    ensures { let at = valued T.value T.none in
+        (i : ℕ) → i < length dst.old → slice_index_or dst.new i 0
+        ≡ sample_of depth (halved wavelet
+        (woven (at even.now) (odd_stepped (step wavelet OddUp) (length odd.now) (at even.now) (at odd.now)) i)) }
 {
-    let half = half_range(depth);
+    let half = T::half_range(depth);
     let (n, last) = (dst.len(), even.len() - 1);
     let count = if n / 2 < last { n / 2 } else { last };
     weave_pairs(dst, even, odd, count, wavelet, half);
@@ -174,35 +240,49 @@ fn weave_samples(dst: &mut [u16], even: &[i64], odd: &[i64], wavelet: Wavelet, d
 }
 
 // The samples of a line of a level from its even and its odd places. The even half holds any values afterwards.
-fn sample_halves(dst: &mut [u16], even: &mut [i64], odd: &[i64], wavelet: Wavelet, depth: u32)
+fn sample_halves<T: Sampled>(
+    dst: &mut [u16],
+    even: &mut [T],
+    odd: &[T],
+    wavelet: Wavelet,
+    depth: u32,
+)
     requires some_bits { 1 ≤ depth }
     requires bits { depth ≤ 16 }
     requires some { 1 ≤ length even.old }
     requires short { length even.old ≤ 4104 }
     requires same_len { length odd.now ≡ length even.old }
     requires room { length dst.old ≤ 2 * length even.old }
-    requires even_small { EachWithin (line_reach (2 ^ 58)) even.old }
-    requires odd_small { EachWithin (line_reach (2 ^ 58)) odd.now }
-    ensures { (i : ℕ) → i < length dst.old
-        → slice_index_or dst.new i 0
-        ≡ sample_of depth (halved wavelet (synthesis_line wavelet (2 * length even.old) (woven (place even.old) (place odd.now)) i)) }
+    requires even_small { EachValued T.value T.none (line_reach T.start) even.old }
+    requires odd_small { EachValued T.value T.none (line_reach T.start) odd.now }
+    ensures { let at = valued T.value T.none in
+        (i : ℕ) → i < length dst.old → slice_index_or dst.new i 0
+        ≡ sample_of depth (halved wavelet
+        (synthesis_line wavelet (2 * length even.old) (woven (at even.old) (at odd.now)) i)) }
 {
     lift_even_half(even, odd, wavelet, PairStep::EvenDown);
     weave_samples(dst, even, odd, wavelet, depth);
 }
 
 /// The same from a row that holds the even places in its first w and the odd ones in the w behind them.
-pub(crate) fn sample_sides(dst: &mut [u16], row: &mut [i64], w: usize, wavelet: Wavelet, depth: u32)
+pub(crate) fn sample_sides<T: Sampled>(
+    dst: &mut [u16],
+    row: &mut [T],
+    w: usize,
+    wavelet: Wavelet,
+    depth: u32,
+)
     requires some_bits { 1 ≤ depth }
     requires bits { depth ≤ 16 }
     requires some { 1 ≤ w }
     requires short { w ≤ 4104 }
     requires inside { 2 * w ≤ length row.old }
     requires room { length dst.old ≤ 2 * w }
-    requires small { LineWithin (2 * w) (line_reach (2 ^ 58)) (place row.old) }
-    ensures { (i : ℕ) → i < length dst.old
-        → slice_index_or dst.new i 0
-        ≡ sample_of depth (halved wavelet (synthesis_line wavelet (2 * w) (woven (place row.old) (λ j. place row.old (w + j))) i)) }
+    requires small { LineWithin (2 * w) (line_reach T.start) (valued T.value T.none row.old) }
+    ensures { let at = valued T.value T.none in
+        (i : ℕ) → i < length dst.old → slice_index_or dst.new i 0
+        ≡ sample_of depth (halved wavelet
+        (synthesis_line wavelet (2 * w) (woven (at row.old) (λ j. at row.old (w + j))) i)) }
 {
     let (even, rest) = row.split_at_mut(w);
     sample_halves(dst, even, &rest[..w], wavelet, depth);

@@ -1,74 +1,44 @@
 //! Synthesis of all levels, the last one straight into samples.
 
 ghost use Rattle.std.specs.Prelude.{◌≡◌, ◌≢◌, ℕ, ◌+◌, ◌-◌, ◌*◌, ◌/◌, ◌%◌, ◌^◌, ◌<◌, ◌≤◌, length, slice_index_or};
-ghost use Rattle.planes.specs.Raster.{height, at};
+ghost use Rattle.planes.specs.Raster.{height};
+ghost use Rattle.planes.specs.Valued.{grid_of};
 ghost use Rattle.planes.specs.Subbands.{HaveSizes};
-ghost use Rattle.lifting.specs.Places.{place, EachWithin};
 ghost use Rattle.lifting.specs.Transform.{interleaved, synthesis_level, synthesis};
 ghost use Rattle.lifting.specs.Ranges.{GridWithin, SameInside};
-ghost use Rattle.lifting.specs.Bands.{coefficients_of, lowest};
+ghost use Rattle.lifting.specs.Bands.{coefficients_in, lowest, AreIn};
 ghost use Rattle.lifting.specs.Clipping.{sample_of, AreSamplesOf};
-ghost use Rattle.lifting.specs.SampleRoom.{HaveRoom, IsShownArea, AreSmallIn, synthesis_of};
+ghost use Rattle.lifting.specs.SampleRoom.{HaveRoom, IsShownArea, AreNarrowIn, AreSmallIn, synthesis_of, synthesis_in};
 
 use crate::roll_samples::roll_samples;
-use crate::samples::sample_band;
-use crate::synthesis::{put_lowest, synth_up};
+use crate::samples::{Sampled, sample_band};
+use crate::synthesis::synth_levels_of;
 use crate::{SampleArea, Wavelet};
-use planes::{Bands, Plane};
-
-// All levels but the last, in the plane's first columns and rows.
-fn synth_below(
-    wavelet: Wavelet,
-    bands: &Bands,
-    w: u32,
-    h: u32,
-    plane: &mut Plane,
-    scratch: &mut Plane,
-)
-    requires some { 1 ≤ bands.now.depth }
-    requires room { HaveRoom bands.now w h plane.old scratch.old }
-    requires small { AreSmallIn bands.now w h }
-    ensures same_width { plane.new.w ≡ plane.old.w }
-    ensures same_height { height plane.new ≡ height plane.old }
-    ensures same_width_scratch { scratch.new.w ≡ scratch.old.w }
-    ensures same_height_scratch { height scratch.new ≡ height scratch.old }
-    ensures below { let n = bands.now.depth - 1 in
-        SameInside (lowest bands.now.depth h * 2 ^ n) (lowest bands.now.depth w * 2 ^ n) (at plane.new)
-        (synthesis wavelet (lowest bands.now.depth h) (lowest bands.now.depth w) (coefficients_of bands.now) n) }
-{
-    put_lowest(plane, bands.band(0, 0));
-    for n in 0..bands.depth() - 1 {
-        let (hl, lh, hh) = (
-            bands.band(n + 1, 1),
-            bands.band(n + 1, 2),
-            bands.band(n + 1, 3),
-        );
-        synth_up(wavelet, plane, scratch, hl, lh, hh);
-    }
-}
+use planes::{Bands, NarrowBands, NarrowPlane, Plane};
 
 // The samples of the last level, from the levels below it in the plane.
-fn synth_last(
+fn synth_last<T: Sampled>(
     wavelet: Wavelet,
-    bands: &Bands,
+    bands: &Bands<T>,
     w: u32,
     h: u32,
-    plane: &Plane,
-    scratch: &mut Plane,
+    plane: &Plane<T>,
+    scratch: &mut Plane<T>,
     samples: &mut [u16],
     area: SampleArea,
 )
     requires some { 1 ≤ bands.now.depth }
     requires room { HaveRoom bands.now w h plane.now scratch.old }
-    requires small { AreSmallIn bands.now w h }
+    requires small { AreIn T.value T.none (T.start / 256) bands.now w h }
     requires below { let n = bands.now.depth - 1 in
-        SameInside (lowest bands.now.depth h * 2 ^ n) (lowest bands.now.depth w * 2 ^ n) (at plane.now)
-        (synthesis wavelet (lowest bands.now.depth h) (lowest bands.now.depth w) (coefficients_of bands.now) n) }
+        SameInside (lowest bands.now.depth h * 2 ^ n) (lowest bands.now.depth w * 2 ^ n) (grid_of T.value T.none plane.now)
+        (synthesis wavelet (lowest bands.now.depth h) (lowest bands.now.depth w)
+        (coefficients_in T.value T.none bands.now) n) }
     requires shown { IsShownArea area w h samples.old }
     ensures same_width_scratch { scratch.new.w ≡ scratch.old.w }
     ensures same_height_scratch { height scratch.new ≡ height scratch.old }
     ensures count { length samples.new ≡ length samples.old }
-    ensures samples { AreSamplesOf area.w area.h area.depth samples.new (synthesis_of wavelet bands.now w h) }
+    ensures samples { AreSamplesOf area.w area.h area.depth samples.new (synthesis_in T.value T.none wavelet bands.now w h) }
 {
     // A plane's width and height are at most 8208, a depth at most 4.
     let (_, _, depth) = (scratch.w(), plane.h(), bands.depth());
@@ -92,7 +62,7 @@ fn synth_last(
 }
 
 // Row y of the samples, from that row of a band.
-fn sample_row_of(samples: &mut [u16], area: SampleArea, y: u32, band: &Plane)
+fn sample_row_of<T: Sampled>(samples: &mut [u16], area: SampleArea, y: u32, band: &Plane<T>)
     requires some_bits { 1 ≤ area.depth }
     requires bits { area.depth ≤ 16 }
     requires count { length samples.old ≡ area.h * area.w }
@@ -100,9 +70,9 @@ fn sample_row_of(samples: &mut [u16], area: SampleArea, y: u32, band: &Plane)
     requires down { y < area.h }
     requires high { area.h ≤ height band.now }
     requires fits { area.w ≤ band.now.w }
-    requires small { GridWithin (height band.now) band.now.w (2 ^ 61) (at band.now) }
     ensures count { length samples.new ≡ length samples.old }
-    ensures row { (x : ℕ) → x < area.w → slice_index_or samples.new (y * area.w + x) 0 ≡ sample_of area.depth (at band.now y x) }
+    ensures row { (x : ℕ) → x < area.w → slice_index_or samples.new (y * area.w + x) 0
+        ≡ sample_of area.depth (grid_of T.value T.none band.now y x) }
     ensures before { (k : ℕ) → k < y * area.w → slice_index_or samples.new k 0 ≡ slice_index_or samples.old k 0 }
 {
     let start = (y * area.w) as usize;
@@ -111,16 +81,15 @@ fn sample_row_of(samples: &mut [u16], area: SampleArea, y: u32, band: &Plane)
 }
 
 // The samples of the lowest band, where there is no level.
-pub(crate) fn sample_lowest(samples: &mut [u16], area: SampleArea, band: &Plane)
+pub(crate) fn sample_lowest<T: Sampled>(samples: &mut [u16], area: SampleArea, band: &Plane<T>)
     requires some_bits { 1 ≤ area.depth }
     requires bits { area.depth ≤ 16 }
     requires count { length samples.old ≡ area.h * area.w }
     requires few { area.h * area.w ≤ 2 ^ 30 }
     requires high { area.h ≤ height band.now }
     requires fits { area.w ≤ band.now.w }
-    requires small { GridWithin (height band.now) band.now.w (2 ^ 61) (at band.now) }
     ensures count { length samples.new ≡ length samples.old }
-    ensures samples { AreSamplesOf area.w area.h area.depth samples.new (at band.now) }
+    ensures samples { AreSamplesOf area.w area.h area.depth samples.new (grid_of T.value T.none band.now) }
 {
     for y in 0..area.h {
         sample_row_of(samples, area, y, band);
@@ -154,10 +123,60 @@ pub fn synth_samples(
     ensures count { length samples.new ≡ length samples.old }
     ensures samples { AreSamplesOf area.w area.h area.depth samples.new (synthesis_of wavelet bands.now w h) }
 {
+    synth_samples_of(wavelet, bands, w, h, plane, scratch, samples, area);
+}
+
+/// The samples of a component as `synth_samples` has them, from bands whose magnitudes are at most 2^18, in 32 bits.
+///
+/// The sizes and the rooms are as `synth_samples` asks them. Both rooms hold any values afterwards.
+pub fn synth_samples_narrow(
+    wavelet: Wavelet,
+    bands: &NarrowBands,
+    w: u32,
+    h: u32,
+    plane: &mut NarrowPlane,
+    scratch: &mut NarrowPlane,
+    samples: &mut [u16],
+    area: SampleArea,
+)
+    requires room { HaveRoom bands.now w h plane.old scratch.old }
+    requires small { AreNarrowIn bands.now w h }
+    requires shown { IsShownArea area w h samples.old }
+    ensures same_width { plane.new.w ≡ plane.old.w }
+    ensures same_height { height plane.new ≡ height plane.old }
+    ensures same_width_scratch { scratch.new.w ≡ scratch.old.w }
+    ensures same_height_scratch { height scratch.new ≡ height scratch.old }
+    ensures count { length samples.new ≡ length samples.old }
+    ensures samples { AreSamplesOf area.w area.h area.depth samples.new (synthesis_of wavelet bands.now w h) }
+{
+    synth_samples_of(wavelet, bands, w, h, plane, scratch, samples, area);
+}
+
+/// The same at any width.
+pub(crate) fn synth_samples_of<T: Sampled>(
+    wavelet: Wavelet,
+    bands: &Bands<T>,
+    w: u32,
+    h: u32,
+    plane: &mut Plane<T>,
+    scratch: &mut Plane<T>,
+    samples: &mut [u16],
+    area: SampleArea,
+)
+    requires room { HaveRoom bands.now w h plane.old scratch.old }
+    requires small { AreIn T.value T.none (T.start / 256) bands.now w h }
+    requires shown { IsShownArea area w h samples.old }
+    ensures same_width { plane.new.w ≡ plane.old.w }
+    ensures same_height { height plane.new ≡ height plane.old }
+    ensures same_width_scratch { scratch.new.w ≡ scratch.old.w }
+    ensures same_height_scratch { height scratch.new ≡ height scratch.old }
+    ensures count { length samples.new ≡ length samples.old }
+    ensures samples { AreSamplesOf area.w area.h area.depth samples.new (synthesis_in T.value T.none wavelet bands.now w h) }
+{
     if bands.depth() == 0 {
         sample_lowest(samples, area, bands.band(0, 0));
     } else {
-        synth_below(wavelet, bands, w, h, plane, scratch);
+        synth_levels_of(wavelet, bands, bands.depth() - 1, w, h, plane, scratch);
         synth_last(wavelet, bands, w, h, plane, scratch, samples, area);
     }
 }

@@ -1,12 +1,12 @@
 pub mod Numbers
+pub mod Rooms
 pub mod Raster
+pub mod Valued
 pub mod Rect
 pub mod Subbands
 pub mod Inside
 pub mod LendingRows
 pub mod Lending
 pub mod LendingBands
-pub mod LendingNarrow
-pub mod LendingNarrowBands
 pub mod Bounded
 pub mod Late

@@ -1,11 +1,11 @@
 ghost use Rattle.std.specs.Prelude.{◌≡◌, ◌↔◌, ℕ, ◌+◌, ◌*◌, ◌/◌, ◌%◌, ◌^◌, ◌<◌, ◌≤◌, length, slice_index_or, IfOk, true};
 ghost use Rattle.std.specs.Borrow.{sem};
-ghost use Rattle.planes.specs.Raster.{zeros};
-ghost use Rattle.planes.specs.Subbands.{BandExists, band_index, band_of, no_band, subband_length, AreZeroBands};
+ghost use Rattle.planes.specs.Raster.{filled_with};
+ghost use Rattle.planes.specs.Subbands.{BandExists, band_index, band_of, no_band, subband_length, AreFilledBands};
 ghost use Rattle.planes.specs.LendingBands.{LendsBand};
 ghost use Rattle.planes.specs.Bounded.{AreBandsWithin};
 
-use crate::{NoMemory, Plane};
+use crate::{NoMemory, Number, Plane};
 use std::alloc::Global;
 use std::marker::Model;
 
@@ -14,16 +14,16 @@ use std::marker::Model;
 /// Orientations are the numbers 0 to 3, for LL, HL, LH and HH. Level 0 has LL alone; each level from 1 to the depth
 /// has the other three.
 #[derive(Drop)]
-pub struct Bands {
-    depth: u32,
-    pub(crate) planes: Vec<Plane>,
+pub struct Bands<T = i64> {
+    pub(crate) depth: u32,
+    pub(crate) planes: Vec<Plane<T>>,
 }
 
-impl Model for Bands {
+impl<T> Model for Bands<T> {
     ghost use Rattle.std.specs.Prelude.{◌≡◌, ◌+◌, ◌*◌, ◌≤◌, length};
-    ghost use Rattle.planes.specs.Subbands.{BandStack};
+    ghost use Rattle.planes.specs.Subbands.{BandsOf};
 
-    ghost Value = { BandStack };
+    ghost Value = { BandsOf T };
 
     ghost view = { λ b. record { depth = b.depth; bands = b.planes.items } };
 
@@ -56,12 +56,17 @@ pub(crate) fn band_length(depth: u32, level: u32, padded: u32) -> u32
 }
 
 // The bands, in the order of their places.
-fn zero_bands(alloc: Global, depth: u32, w: u32, h: u32) -> Result<Vec<Plane>, NoMemory>
+fn zero_bands<T: Number>(
+    alloc: Global,
+    depth: u32,
+    w: u32,
+    h: u32,
+) -> Result<Vec<Plane<T>>, NoMemory>
     requires depth { depth ≤ 4 }
     requires w_fits { w ≤ 8208 }
     requires h_fits { h ≤ 8208 }
     ensures count { IfOk result (λ planes. length planes.items ≡ 3 * depth + 1) }
-    ensures zero { IfOk result (λ planes. (k : ℕ) → k < 3 * depth + 1 → slice_index_or planes.items k no_band ≡ zeros (subband_length depth ((k + 2) / 3) w) (subband_length depth ((k + 2) / 3) h)) }
+    ensures zero { IfOk result (λ planes. (k : ℕ) → k < 3 * depth + 1 → slice_index_or planes.items k no_band ≡ filled_with T.none (subband_length depth ((k + 2) / 3) w) (subband_length depth ((k + 2) / 3) h)) }
 {
     let mut planes = Vec::with_capacity(alloc, (3 * depth + 1) as usize)?;
     for k in 0..3 * depth + 1 {
@@ -76,17 +81,17 @@ fn zero_bands(alloc: Global, depth: u32, w: u32, h: u32) -> Result<Vec<Plane>, N
     Ok(planes)
 }
 
-impl Bands {
+impl<T: Number> Bands<T> {
     /// The bands of a component of this padded size, all zero.
     ///
     /// The depth is at most 4; w and h are at most 8208, and multiples of 2 ^ depth.
-    pub fn new(alloc: Global, depth: u32, w: u32, h: u32) -> Result<Bands, NoMemory>
+    pub fn new(alloc: Global, depth: u32, w: u32, h: u32) -> Result<Bands<T>, NoMemory>
         requires depth { depth ≤ 4 }
         requires w_fits { w ≤ 8208 }
         requires h_fits { h ≤ 8208 }
         requires w_whole { w % 2 ^ depth ≡ 0 }
         requires h_whole { h % 2 ^ depth ≡ 0 }
-        ensures { IfOk result (λ b. AreZeroBands b depth w h) }
+        ensures { IfOk result (λ b. AreFilledBands T.none b depth w h) }
     {
         let planes = zero_bands(alloc, depth, w, h)?;
         Ok(Bands { depth, planes })
@@ -100,6 +105,29 @@ impl Bands {
         self.depth
     }
 
+    /// The band of this level and orientation.
+    pub fn band(&self, level: u32, orient: u32) -> &Plane<T>
+        requires { BandExists self.now.depth level orient }
+        ensures { result.now ≡ band_of self.now level orient }
+    {
+        let _ = &self.depth;
+        &self.planes[place_of(level, orient)]
+    }
+
+    /// The band of this level and orientation, to write. Its holder may put a plane of another size there.
+    pub fn band_mut(&mut self, level: u32, orient: u32) -> &mut Plane<T>
+        requires { BandExists self.old.depth level orient }
+        ensures* writes_back { sem 𝓛 (LendsBand T.row self.entry level orient result) }
+        ensures value { result.now ≡ band_of self.old level orient }
+        ensures there { band_index level orient < length self.old.bands }
+    {
+        let _ = &self.depth;
+        let place = place_of(level, orient);
+        &mut self.planes[place]
+    }
+}
+
+impl Bands<i64> {
     /// Whether each number of each band has a magnitude of at most `bound`.
     pub fn within(&self, bound: i64) -> bool
         ensures { (result ≡ true) ↔ AreBandsWithin bound self.now }
@@ -111,26 +139,5 @@ impl Bands {
             }
         }
         true
-    }
-
-    /// The band of this level and orientation.
-    pub fn band(&self, level: u32, orient: u32) -> &Plane
-        requires { BandExists self.now.depth level orient }
-        ensures { result.now ≡ band_of self.now level orient }
-    {
-        let _ = &self.depth;
-        &self.planes[place_of(level, orient)]
-    }
-
-    /// The band of this level and orientation, to write. Its holder may put a plane of another size there.
-    pub fn band_mut(&mut self, level: u32, orient: u32) -> &mut Plane
-        requires { BandExists self.old.depth level orient }
-        ensures* writes_back { sem 𝓛 (LendsBand self.entry level orient result) }
-        ensures value { result.now ≡ band_of self.old level orient }
-        ensures there { band_index level orient < length self.old.bands }
-    {
-        let _ = &self.depth;
-        let place = place_of(level, orient);
-        &mut self.planes[place]
     }
 }

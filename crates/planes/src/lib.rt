@@ -4,20 +4,19 @@
 ghost use Rattle.std.specs.Prelude.{◌≡◌, ◌≢◌, ◌↔◌, ℕ, ◌-◌, ◌<◌, ◌≤◌, min, length, map, replicate, slice_index_or, pos, IfOk, true, []};
 ghost use Rattle.std.specs.Borrow.{sem};
 ghost use Rattle.std.specs.List.{All};
-ghost use Rattle.planes.specs.Raster.{height, row_of, at, with_place, zeros, IsEdgeFilled};
+ghost use Rattle.planes.specs.Raster.{height, row_of, at, with_place, filled_with, IsEdgeFilled};
 ghost use Rattle.planes.specs.Lending.{LendsRow};
 ghost use Rattle.planes.specs.Bounded.{IsWithin, IsPlaneWithin};
 
 mod band_set;
 mod late;
-mod narrow;
 mod narrow_bands;
+mod number;
 mod row_store;
 
 pub use band_set::Bands;
 pub use late::{LateBands, LatePlane};
-pub use narrow::{NarrowPlane, NarrowThree};
-pub use narrow_bands::NarrowBands;
+pub use number::Number;
 use row_store::Rows;
 pub use row_store::Three;
 use std::alloc::{AllocError, AllocFailed, Global};
@@ -60,19 +59,27 @@ pub struct Rect {
     pub y1: u32,
 }
 
-/// A plane of signed numbers, row by row. Contracts see its width and its rows.
+/// A plane of signed numbers, of 64 bits where no other width is named, row by row. Contracts see its width and its rows.
 ///
-/// A plane of w by h takes 8 * w * h bytes, and a few words a row.
+/// A plane of w by h takes the bytes of w * h numbers, and a few words a row.
 #[derive(Drop)]
-pub struct Plane {
-    rows: Rows<i64>,
+pub struct Plane<T = i64> {
+    rows: Rows<T>,
 }
 
-impl Model for Plane {
-    ghost use Rattle.std.specs.Prelude.{ℤ};
+/// A plane of numbers of 32 bits.
+pub type NarrowPlane = Plane<i32>;
+
+/// Three rows of a narrow plane: `dst` to write, `a` and `b` to read.
+pub type NarrowThree<'a> = Three<'a, i32>;
+
+/// The subbands of one component in numbers of 32 bits.
+pub type NarrowBands = Bands<i32>;
+
+impl<T> Model for Plane<T> {
     ghost use Rattle.planes.specs.Raster.{Raster};
 
-    ghost Value = { Raster ℤ };
+    ghost Value = { Raster T };
 
     ghost view = { λ p. p.rows };
 }
@@ -109,14 +116,14 @@ pub struct ThreePlanes {
     pub c2: Plane,
 }
 
-fn zero_rows(alloc: Global, w: usize, h: usize) -> Result<Vec<Vec<i64>>, NoMemory>
-    ensures zero { IfOk result (λ rows. map (λ r. r.items) rows.items ≡ replicate h (replicate w (pos 0))) }
+fn zero_rows<T: Number>(alloc: Global, w: usize, h: usize) -> Result<Vec<Vec<T>>, NoMemory>
+    ensures zero { IfOk result (λ rows. map (λ r. r.items) rows.items ≡ replicate h (replicate w T.none)) }
     ensures every { IfOk result (λ rows. All (λ r. length r.items ≡ w) rows.items) }
     ensures count { IfOk result (λ rows. length rows.items ≡ h) }
 {
     let mut rows = Vec::with_capacity(alloc, h)?;
     for _y in 0..h {
-        rows.push(Vec::from_elem(alloc, 0i64, w)?)?;
+        rows.push(T::zeros(alloc, w)?)?;
     }
     Ok(rows)
 }
@@ -154,12 +161,12 @@ fn is_row_within(row: &[i64], bound: i64) -> bool
     all
 }
 
-impl Plane {
+impl<T: Number> Plane<T> {
     /// A plane of w by h zeros, both at most 8208.
-    pub fn new(alloc: Global, w: u32, h: u32) -> Result<Plane, NoMemory>
+    pub fn new(alloc: Global, w: u32, h: u32) -> Result<Plane<T>, NoMemory>
         requires w_fits { w ≤ 8208 }
         requires h_fits { h ≤ 8208 }
-        ensures { IfOk result (λ p. p ≡ zeros w h) }
+        ensures { IfOk result (λ p. p ≡ filled_with T.none w h) }
     {
         let rows = zero_rows(alloc, w as usize, h as usize)?;
         Ok(Plane {
@@ -184,26 +191,26 @@ impl Plane {
     }
 
     /// The number in row y and column x.
-    pub fn get(&self, y: u32, x: u32) -> i64
+    pub fn get(&self, y: u32, x: u32) -> T
         requires y_inside { y < height self.now }
         requires x_inside { x < self.now.w }
-        ensures { result ≡ at self.now y x }
+        ensures { result ≡ slice_index_or (row_of self.now y) x T.none }
     {
         self.row(y)[x as usize]
     }
 
     /// Puts v into row y and column x, and leaves all else.
-    pub fn set(&mut self, y: u32, x: u32, v: i64)
+    pub fn set(&mut self, y: u32, x: u32, v: T)
         requires y_inside { y < height self.old }
         requires x_inside { x < self.old.w }
         ensures whole { self.new ≡ with_place self.old y x v }
-        ensures here { at self.new y x ≡ v }
+        ensures here { slice_index_or (row_of self.new y) x T.none ≡ v }
     {
         self.row_mut(y)[x as usize] = v;
     }
 
     /// Row y.
-    pub fn row(&self, y: u32) -> &[i64]
+    pub fn row(&self, y: u32) -> &[T]
         requires { y < height self.now }
         ensures value { result.now ≡ row_of self.now y }
         ensures len { length result.now ≡ self.now.w }
@@ -212,9 +219,9 @@ impl Plane {
     }
 
     /// Row y, to write. After the loan the row is what its holder left, and all other rows stay.
-    pub fn row_mut(&mut self, y: u32) -> &mut [i64]
+    pub fn row_mut(&mut self, y: u32) -> &mut [T]
         requires { y < height self.old }
-        ensures* writes_back { sem 𝓛 (LendsRow self.entry y result) }
+        ensures* writes_back { sem 𝓛 (LendsRow T.row self.entry y result) }
         ensures value { result.now ≡ row_of self.old y }
         ensures len { length result.now ≡ self.old.w }
     {
@@ -223,13 +230,13 @@ impl Plane {
 
     /// Row `dst` to write, beside the rows a and b to read, which may be one row. After the loan row `dst` is what
     /// its holder left, and all other rows stay.
-    pub fn rows_three(&mut self, dst: u32, a: u32, b: u32) -> Three<'_>
+    pub fn rows_three(&mut self, dst: u32, a: u32, b: u32) -> Three<'_, T>
         requires dst_inside { dst < height self.old }
         requires a_inside { a < height self.old }
         requires b_inside { b < height self.old }
         requires not_a { dst ≢ a }
         requires not_b { dst ≢ b }
-        ensures* writes_back { sem 𝓛 (LendsRow self.entry dst result.dst) }
+        ensures* writes_back { sem 𝓛 (LendsRow T.row self.entry dst result.dst) }
         ensures dst_row { result.dst.now ≡ row_of self.old dst }
         ensures a_row { result.a.now ≡ row_of self.old a }
         ensures b_row { result.b.now ≡ row_of self.old b }
@@ -239,7 +246,9 @@ impl Plane {
     {
         self.rows.rows_three(dst, a, b)
     }
+}
 
+impl Plane<i64> {
     // Takes these rows in the place of none.
     pub(crate) fn take_rows(&mut self, w: u32, rows: &mut Vec<Vec<i64>>)
         requires width { w ≤ 8208 }

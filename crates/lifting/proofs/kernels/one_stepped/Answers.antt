@@ -1,35 +1,32 @@
-use Rattle.std.proofs.Common.{◌^◌}
-use mir.Syntax.{w64}
-use Rattle.lifting.proofs.Lanes.{room_wide}
-use Rattle.lifting.proofs.Kept.{again_small, less_fits, more_fits, one_even_down, one_odd_up, one_even_up, one_odd_down}
+use Rattle.std.proofs.Common.{◌+ℤ◌, ◌-ℤ◌}
+use Rattle.lifting.specs.Steps.{one_step}
+use Rattle.lifting.proofs.Sums.{more_within, less_within, more_is, less_is}
 use Rattle.lifting.proofs.kernels.one_stepped.Goals as goal
 
-pub half_of-requires : goal.half_of-requires
-half_of-requires c = again_small w64 (2 ^ 61) room_wide c.args.a c.requires.a_small
-
-pub overflow_sub-result : goal.overflow_sub-result
-overflow_sub-result c = less_fits w64 (2 ^ 61) room_wide c.args.v c.half_of.result c.requires.v_small c.half_of.ensures.small
+pub sub-requires : goal.sub-requires
+sub-requires g c = g.met.T.Number.can_sub_law c.args.v c.half_of.result (g.met.T.Number.fits_law (g.T.Number.value c.args.v -ℤ g.T.Number.value c.half_of.result) (less_within g.T.Number.reach (g.T.Number.value c.args.v) (g.T.Number.value c.half_of.result) c.requires.v_small c.half_of.ensures.small))
 
 pub returns-in-EvenDown : goal.returns-in-EvenDown
-returns-in-EvenDown c = one_even_down w64 (2 ^ 61) room_wide c.args.step c.args.v c.args.a c.half_of.result c.in-EvenDown.is c.requires.v_small c.requires.a_small c.half_of.ensures.small c.half_of.ensures.value
+unfolding one_step
+returns-in-EvenDown g c = rw c.in-EvenDown.is (less_is (g.T.Number.value c.args.v) (g.T.Number.value c.half_of.result) _ (g.T.Number.value c.sub.result) c.half_of.ensures.value (g.met.T.Number.sub_law c.args.v c.half_of.result c.sub.result c.sub.ensures (g.met.T.Number.fits_law (g.T.Number.value c.args.v -ℤ g.T.Number.value c.half_of.result) (less_within g.T.Number.reach (g.T.Number.value c.args.v) (g.T.Number.value c.half_of.result) c.requires.v_small c.half_of.ensures.small))))
 
-pub half_of-requires-in-EvenUp : goal.half_of-requires-in-EvenUp
-half_of-requires-in-EvenUp c = again_small w64 (2 ^ 61) room_wide c.args.a c.requires.a_small
-
-pub overflow_add-result-in-EvenUp : goal.overflow_add-result-in-EvenUp
-overflow_add-result-in-EvenUp c = more_fits w64 (2 ^ 61) room_wide c.args.v c.half_of-in-EvenUp.result c.requires.v_small c.half_of-in-EvenUp.ensures.small
-
-pub returns-in-EvenUp : goal.returns-in-EvenUp
-returns-in-EvenUp c = one_even_up w64 (2 ^ 61) room_wide c.args.step c.args.v c.args.a c.half_of-in-EvenUp.result c.in-EvenUp.is c.requires.v_small c.requires.a_small c.half_of-in-EvenUp.ensures.small c.half_of-in-EvenUp.ensures.value
-
-pub overflow_add-result : goal.overflow_add-result
-overflow_add-result c = more_fits w64 (2 ^ 61) room_wide c.args.v c.args.a c.requires.v_small c.requires.a_small
+pub add-requires : goal.add-requires
+add-requires g c = g.met.T.Number.can_add_law c.args.v c.args.a (g.met.T.Number.fits_law (g.T.Number.value c.args.v +ℤ g.T.Number.value c.args.a) (more_within g.T.Number.reach (g.T.Number.value c.args.v) (g.T.Number.value c.args.a) c.requires.v_small c.requires.a_small))
 
 pub returns-in-OddUp : goal.returns-in-OddUp
-returns-in-OddUp c = one_odd_up w64 (2 ^ 61) room_wide c.args.step c.args.v c.args.a c.in-OddUp.is c.requires.v_small c.requires.a_small
+unfolding one_step
+returns-in-OddUp g c = rw c.in-OddUp.is (g.met.T.Number.add_law c.args.v c.args.a c.add.result c.add.ensures (g.met.T.Number.fits_law (g.T.Number.value c.args.v +ℤ g.T.Number.value c.args.a) (more_within g.T.Number.reach (g.T.Number.value c.args.v) (g.T.Number.value c.args.a) c.requires.v_small c.requires.a_small)))
 
-pub overflow_sub-result-in-OddDown : goal.overflow_sub-result-in-OddDown
-overflow_sub-result-in-OddDown c = less_fits w64 (2 ^ 61) room_wide c.args.v c.args.a c.requires.v_small c.requires.a_small
+pub add-requires-in-EvenUp : goal.add-requires-in-EvenUp
+add-requires-in-EvenUp g c = g.met.T.Number.can_add_law c.args.v c.half_of-in-EvenUp.result (g.met.T.Number.fits_law (g.T.Number.value c.args.v +ℤ g.T.Number.value c.half_of-in-EvenUp.result) (more_within g.T.Number.reach (g.T.Number.value c.args.v) (g.T.Number.value c.half_of-in-EvenUp.result) c.requires.v_small c.half_of-in-EvenUp.ensures.small))
+
+pub returns-in-EvenUp : goal.returns-in-EvenUp
+unfolding one_step
+returns-in-EvenUp g c = rw c.in-EvenUp.is (more_is (g.T.Number.value c.args.v) (g.T.Number.value c.half_of-in-EvenUp.result) _ (g.T.Number.value c.add-in-EvenUp.result) c.half_of-in-EvenUp.ensures.value (g.met.T.Number.add_law c.args.v c.half_of-in-EvenUp.result c.add-in-EvenUp.result c.add-in-EvenUp.ensures (g.met.T.Number.fits_law (g.T.Number.value c.args.v +ℤ g.T.Number.value c.half_of-in-EvenUp.result) (more_within g.T.Number.reach (g.T.Number.value c.args.v) (g.T.Number.value c.half_of-in-EvenUp.result) c.requires.v_small c.half_of-in-EvenUp.ensures.small))))
+
+pub sub-requires-in-OddDown : goal.sub-requires-in-OddDown
+sub-requires-in-OddDown g c = g.met.T.Number.can_sub_law c.args.v c.args.a (g.met.T.Number.fits_law (g.T.Number.value c.args.v -ℤ g.T.Number.value c.args.a) (less_within g.T.Number.reach (g.T.Number.value c.args.v) (g.T.Number.value c.args.a) c.requires.v_small c.requires.a_small))
 
 pub returns-in-OddDown : goal.returns-in-OddDown
-returns-in-OddDown c = one_odd_down w64 (2 ^ 61) room_wide c.args.step c.args.v c.args.a c.in-OddDown.is c.requires.v_small c.requires.a_small
+unfolding one_step
+returns-in-OddDown g c = rw c.in-OddDown.is (g.met.T.Number.sub_law c.args.v c.args.a c.sub-in-OddDown.result c.sub-in-OddDown.ensures (g.met.T.Number.fits_law (g.T.Number.value c.args.v -ℤ g.T.Number.value c.args.a) (less_within g.T.Number.reach (g.T.Number.value c.args.v) (g.T.Number.value c.args.a) c.requires.v_small c.requires.a_small)))

@@ -1,53 +1,32 @@
-use Rattle.std.proofs.Common.{◌^◌}
-use mir.Syntax.{w64}
-use Rattle.lifting.proofs.Lanes.{room_wide}
-use Rattle.lifting.proofs.Kept.{again_small, less_fits, more_fits, pair_even_down, pair_odd_up, pair_even_up, pair_odd_down}
+use Rattle.std.proofs.Common.{◌+ℤ◌, ◌-ℤ◌}
+use Rattle.lifting.specs.Steps.{pair_step}
+use Rattle.lifting.proofs.Sums.{more_within, less_within, more_is, less_is}
 use Rattle.lifting.proofs.kernels.pair_stepped.Goals as goal
 
-pub quarter-requires-clause-a_small : goal.quarter-requires-clause-a_small
-quarter-requires-clause-a_small c = again_small w64 (2 ^ 61) room_wide c.args.a c.requires.a_small
-
-pub quarter-requires-clause-b_small : goal.quarter-requires-clause-b_small
-quarter-requires-clause-b_small c = again_small w64 (2 ^ 61) room_wide c.args.b c.requires.b_small
-
-pub overflow_sub-result : goal.overflow_sub-result
-overflow_sub-result c = less_fits w64 (2 ^ 61) room_wide c.args.v c.quarter.result c.requires.v_small c.quarter.ensures.small
+pub sub-requires : goal.sub-requires
+sub-requires g c = g.met.T.Number.can_sub_law c.args.v c.quarter.result (g.met.T.Number.fits_law (g.T.Number.value c.args.v -ℤ g.T.Number.value c.quarter.result) (less_within g.T.Number.reach (g.T.Number.value c.args.v) (g.T.Number.value c.quarter.result) c.requires.v_small c.quarter.ensures.small))
 
 pub returns-in-EvenDown : goal.returns-in-EvenDown
-returns-in-EvenDown c = pair_even_down w64 (2 ^ 61) room_wide c.args.step c.args.v c.args.a c.args.b c.quarter.result c.in-EvenDown.is c.requires.v_small c.requires.a_small c.requires.b_small c.quarter.ensures.small c.quarter.ensures.value
+unfolding pair_step
+returns-in-EvenDown g c = rw c.in-EvenDown.is (less_is (g.T.Number.value c.args.v) (g.T.Number.value c.quarter.result) _ (g.T.Number.value c.sub.result) c.quarter.ensures.value (g.met.T.Number.sub_law c.args.v c.quarter.result c.sub.result c.sub.ensures (g.met.T.Number.fits_law (g.T.Number.value c.args.v -ℤ g.T.Number.value c.quarter.result) (less_within g.T.Number.reach (g.T.Number.value c.args.v) (g.T.Number.value c.quarter.result) c.requires.v_small c.quarter.ensures.small))))
 
-pub half-requires-clause-a_small : goal.half-requires-clause-a_small
-half-requires-clause-a_small c = again_small w64 (2 ^ 61) room_wide c.args.a c.requires.a_small
-
-pub half-requires-clause-b_small : goal.half-requires-clause-b_small
-half-requires-clause-b_small c = again_small w64 (2 ^ 61) room_wide c.args.b c.requires.b_small
-
-pub overflow_add-result : goal.overflow_add-result
-overflow_add-result c = more_fits w64 (2 ^ 61) room_wide c.args.v c.half.result c.requires.v_small c.half.ensures.small
+pub add-requires : goal.add-requires
+add-requires g c = g.met.T.Number.can_add_law c.args.v c.half.result (g.met.T.Number.fits_law (g.T.Number.value c.args.v +ℤ g.T.Number.value c.half.result) (more_within g.T.Number.reach (g.T.Number.value c.args.v) (g.T.Number.value c.half.result) c.requires.v_small c.half.ensures.small))
 
 pub returns-in-OddUp : goal.returns-in-OddUp
-returns-in-OddUp c = pair_odd_up w64 (2 ^ 61) room_wide c.args.step c.args.v c.args.a c.args.b c.half.result c.in-OddUp.is c.requires.v_small c.requires.a_small c.requires.b_small c.half.ensures.small c.half.ensures.value
+unfolding pair_step
+returns-in-OddUp g c = rw c.in-OddUp.is (more_is (g.T.Number.value c.args.v) (g.T.Number.value c.half.result) _ (g.T.Number.value c.add.result) c.half.ensures.value (g.met.T.Number.add_law c.args.v c.half.result c.add.result c.add.ensures (g.met.T.Number.fits_law (g.T.Number.value c.args.v +ℤ g.T.Number.value c.half.result) (more_within g.T.Number.reach (g.T.Number.value c.args.v) (g.T.Number.value c.half.result) c.requires.v_small c.half.ensures.small))))
 
-pub quarter-requires-in-EvenUp-clause-a_small : goal.quarter-requires-in-EvenUp-clause-a_small
-quarter-requires-in-EvenUp-clause-a_small c = again_small w64 (2 ^ 61) room_wide c.args.a c.requires.a_small
-
-pub quarter-requires-in-EvenUp-clause-b_small : goal.quarter-requires-in-EvenUp-clause-b_small
-quarter-requires-in-EvenUp-clause-b_small c = again_small w64 (2 ^ 61) room_wide c.args.b c.requires.b_small
-
-pub overflow_add-result-in-EvenUp : goal.overflow_add-result-in-EvenUp
-overflow_add-result-in-EvenUp c = more_fits w64 (2 ^ 61) room_wide c.args.v c.quarter-in-EvenUp.result c.requires.v_small c.quarter-in-EvenUp.ensures.small
+pub add-requires-in-EvenUp : goal.add-requires-in-EvenUp
+add-requires-in-EvenUp g c = g.met.T.Number.can_add_law c.args.v c.quarter-in-EvenUp.result (g.met.T.Number.fits_law (g.T.Number.value c.args.v +ℤ g.T.Number.value c.quarter-in-EvenUp.result) (more_within g.T.Number.reach (g.T.Number.value c.args.v) (g.T.Number.value c.quarter-in-EvenUp.result) c.requires.v_small c.quarter-in-EvenUp.ensures.small))
 
 pub returns-in-EvenUp : goal.returns-in-EvenUp
-returns-in-EvenUp c = pair_even_up w64 (2 ^ 61) room_wide c.args.step c.args.v c.args.a c.args.b c.quarter-in-EvenUp.result c.in-EvenUp.is c.requires.v_small c.requires.a_small c.requires.b_small c.quarter-in-EvenUp.ensures.small c.quarter-in-EvenUp.ensures.value
+unfolding pair_step
+returns-in-EvenUp g c = rw c.in-EvenUp.is (more_is (g.T.Number.value c.args.v) (g.T.Number.value c.quarter-in-EvenUp.result) _ (g.T.Number.value c.add-in-EvenUp.result) c.quarter-in-EvenUp.ensures.value (g.met.T.Number.add_law c.args.v c.quarter-in-EvenUp.result c.add-in-EvenUp.result c.add-in-EvenUp.ensures (g.met.T.Number.fits_law (g.T.Number.value c.args.v +ℤ g.T.Number.value c.quarter-in-EvenUp.result) (more_within g.T.Number.reach (g.T.Number.value c.args.v) (g.T.Number.value c.quarter-in-EvenUp.result) c.requires.v_small c.quarter-in-EvenUp.ensures.small))))
 
-pub half-requires-in-OddDown-clause-a_small : goal.half-requires-in-OddDown-clause-a_small
-half-requires-in-OddDown-clause-a_small c = again_small w64 (2 ^ 61) room_wide c.args.a c.requires.a_small
-
-pub half-requires-in-OddDown-clause-b_small : goal.half-requires-in-OddDown-clause-b_small
-half-requires-in-OddDown-clause-b_small c = again_small w64 (2 ^ 61) room_wide c.args.b c.requires.b_small
-
-pub overflow_sub-result-in-OddDown : goal.overflow_sub-result-in-OddDown
-overflow_sub-result-in-OddDown c = less_fits w64 (2 ^ 61) room_wide c.args.v c.half-in-OddDown.result c.requires.v_small c.half-in-OddDown.ensures.small
+pub sub-requires-in-OddDown : goal.sub-requires-in-OddDown
+sub-requires-in-OddDown g c = g.met.T.Number.can_sub_law c.args.v c.half-in-OddDown.result (g.met.T.Number.fits_law (g.T.Number.value c.args.v -ℤ g.T.Number.value c.half-in-OddDown.result) (less_within g.T.Number.reach (g.T.Number.value c.args.v) (g.T.Number.value c.half-in-OddDown.result) c.requires.v_small c.half-in-OddDown.ensures.small))
 
 pub returns-in-OddDown : goal.returns-in-OddDown
-returns-in-OddDown c = pair_odd_down w64 (2 ^ 61) room_wide c.args.step c.args.v c.args.a c.args.b c.half-in-OddDown.result c.in-OddDown.is c.requires.v_small c.requires.a_small c.requires.b_small c.half-in-OddDown.ensures.small c.half-in-OddDown.ensures.value
+unfolding pair_step
+returns-in-OddDown g c = rw c.in-OddDown.is (less_is (g.T.Number.value c.args.v) (g.T.Number.value c.half-in-OddDown.result) _ (g.T.Number.value c.sub-in-OddDown.result) c.half-in-OddDown.ensures.value (g.met.T.Number.sub_law c.args.v c.half-in-OddDown.result c.sub-in-OddDown.result c.sub-in-OddDown.ensures (g.met.T.Number.fits_law (g.T.Number.value c.args.v -ℤ g.T.Number.value c.half-in-OddDown.result) (less_within g.T.Number.reach (g.T.Number.value c.args.v) (g.T.Number.value c.half-in-OddDown.result) c.requires.v_small c.half-in-OddDown.ensures.small))))

@@ -1,5 +1,5 @@
 use Rattle.std.proofs.Common.{◌≡◌, ◌∙◌, refl, subst, ℕ, ◌+◌, ◌*◌, ◌%◌, ◌<◌, ◌≤◌, arith}
-use Rattle.planes.specs.Raster.{at}
+use Rattle.planes.specs.Valued.{grid_of}
 use Rattle.planes.specs.Subbands.{band_of}
 use Rattle.lifting.specs.Lines.{before}
 use Rattle.lifting.specs.Places.{side_place}
@@ -9,14 +9,14 @@ use Rattle.lifting.proofs.RollingBack.{same_row, above_apart, before_next, turn_
 use Rattle.lifting.proofs.roll_back.roll_back.Goals as goal
 
 pub finish_two-requires-clause-small : goal.finish_two-requires-clause-small
-finish_two-requires-clause-small c =
+finish_two-requires-clause-small G c =
     let k = c.args.wavelet in
     let h = c.args.h in
     let w = c.args.w in
-    let g = at c.args.plane.now in
-    let p = at c.loop-y.plane in
+    let g = grid_of G.T.Number.value G.T.Number.none c.args.plane.now in
+    let p = grid_of G.T.Number.value G.T.Number.none c.loop-y.plane in
     let y = c.loop-y.y in
-    let s = at c.put_two.new.scratch in
+    let s = grid_of G.T.Number.value G.T.Number.none c.put_two.new.scratch in
     let i = c.loop-y.invariant in
     let put = c.put_two.ensures in
     let lt : y < h = c.loop-y-test.true in
@@ -28,15 +28,15 @@ finish_two-requires-clause-small c =
     c.requires.small
 
 pub loop-y-preserved : goal.loop-y-preserved
-loop-y-preserved c =
+loop-y-preserved G c =
     let k = c.args.wavelet in
     let h = c.args.h in
     let w = c.args.w in
-    let g = at c.args.plane.now in
-    let p = at c.loop-y.plane in
+    let g = grid_of G.T.Number.value G.T.Number.none c.args.plane.now in
+    let p = grid_of G.T.Number.value G.T.Number.none c.loop-y.plane in
     let y = c.loop-y.y in
-    let s = at c.put_two.new.scratch in
-    let t = at c.finish_two.new.scratch in
+    let s = grid_of G.T.Number.value G.T.Number.none c.put_two.new.scratch in
+    let t = grid_of G.T.Number.value G.T.Number.none c.finish_two.new.scratch in
     let i = c.loop-y.invariant in
     let put = c.put_two.ensures in
     let done = c.finish_two.ensures in
@@ -61,15 +61,15 @@ loop-y-preserved c =
       rest = λ j x le. dealt.rows j x (omega arith) ∙ i.rest j x (omega arith);
       even = λ more x lx. rw two_more (done.others ((2 * y + 2) % 4) x (omega arith) (omega arith) ∙ next more x lx);
       above = λ some x lx. subst (λ (m : ℕ). t (m % 4) x ≡ level m (side_place w x)) last_odd (odd_is x lx);
-      left = rows_more y w p (at c.deal_two.new.plane) (every_other 0 0 level) i.left dealt.rows
-          (dealt_left k h w g (2 * y) y (t (2 * y % 4)) (at c.deal_two.new.plane y) even_is dealt.left 0 whole);
+      left = rows_more y w p (grid_of G.T.Number.value G.T.Number.none c.deal_two.new.plane) (every_other 0 0 level) i.left dealt.rows
+          (dealt_left k h w g (2 * y) y (t (2 * y % 4)) (grid_of G.T.Number.value G.T.Number.none c.deal_two.new.plane y) even_is dealt.left 0 whole);
       dealt = record {
-        hl = rows_more y w (at (band_of c.loop-y.bands c.args.level 1)) (at (band_of c.deal_two.new.bands c.args.level 1)) (every_other 0 1 level) i.dealt.hl dealt.hl_rows
-            (dealt_right k h w g (2 * y) y (t (2 * y % 4)) (at (band_of c.deal_two.new.bands c.args.level 1) y) even_is dealt.hl 0 whole);
-        lh = rows_more y w (at (band_of c.loop-y.bands c.args.level 2)) (at (band_of c.deal_two.new.bands c.args.level 2)) (every_other 1 0 level) i.dealt.lh dealt.lh_rows
-            (dealt_left k h w g (2 * y + 1) y (t ((2 * y + 1) % 4)) (at (band_of c.deal_two.new.bands c.args.level 2) y) odd_is dealt.lh 1 refl);
-        hh = rows_more y w (at (band_of c.loop-y.bands c.args.level 3)) (at (band_of c.deal_two.new.bands c.args.level 3)) (every_other 1 1 level) i.dealt.hh dealt.hh_rows
-            (dealt_right k h w g (2 * y + 1) y (t ((2 * y + 1) % 4)) (at (band_of c.deal_two.new.bands c.args.level 3) y) odd_is dealt.hh 1 refl);
+        hl = rows_more y w (grid_of G.T.Number.value G.T.Number.none (band_of c.loop-y.bands c.args.level 1)) (grid_of G.T.Number.value G.T.Number.none (band_of c.deal_two.new.bands c.args.level 1)) (every_other 0 1 level) i.dealt.hl dealt.hl_rows
+            (dealt_right k h w g (2 * y) y (t (2 * y % 4)) (grid_of G.T.Number.value G.T.Number.none (band_of c.deal_two.new.bands c.args.level 1) y) even_is dealt.hl 0 whole);
+        lh = rows_more y w (grid_of G.T.Number.value G.T.Number.none (band_of c.loop-y.bands c.args.level 2)) (grid_of G.T.Number.value G.T.Number.none (band_of c.deal_two.new.bands c.args.level 2)) (every_other 1 0 level) i.dealt.lh dealt.lh_rows
+            (dealt_left k h w g (2 * y + 1) y (t ((2 * y + 1) % 4)) (grid_of G.T.Number.value G.T.Number.none (band_of c.deal_two.new.bands c.args.level 2) y) odd_is dealt.lh 1 refl);
+        hh = rows_more y w (grid_of G.T.Number.value G.T.Number.none (band_of c.loop-y.bands c.args.level 3)) (grid_of G.T.Number.value G.T.Number.none (band_of c.deal_two.new.bands c.args.level 3)) (every_other 1 1 level) i.dealt.hh dealt.hh_rows
+            (dealt_right k h w g (2 * y + 1) y (t ((2 * y + 1) % 4)) (grid_of G.T.Number.value G.T.Number.none (band_of c.deal_two.new.bands c.args.level 3) y) odd_is dealt.hh 1 refl);
       };
       others = other_levels_after c.args.level c.args.bands.now c.loop-y.bands c.deal_two.new.bands i.same_sizes i.others dealt.others;
     }

@@ -2,6 +2,7 @@ use Rattle.std.proofs.Common.{◌≡◌, ◌∙◌, ap, length, get_or, ℕ, ◌
 use Rattle.std.proofs.lemmas.List.{get_or_default}
 use Rattle.planes.specs.Raster.{height}
 use Rattle.planes.specs.Subbands.{BandStack, no_band}
+use Rattle.std.specs.Borrow.{i64}
 use Rattle.planes.specs.contracts.band_set.Bands as made
 use Rattle.planes.proofs.BandLemmas.{same_stack, no_rows}
 use Rattle.planes.proofs.late.LateBands.make.Goals as goal
@@ -27,5 +28,5 @@ returns-clause-made c =
     let depth = ap (λ (b : BandStack). b.depth) c.bands.view_is in
     let same_count : length l.bands-inside.planes.items ≡ length c.args.self.now.bands =
     omega (arith, l.invariant.count, late_count, count, c.bands.invariant.0, c.self.invariant.0, c.requires.same_depth, depth, late_depth) in
-    same_stack (made.the_view l.bands-inside) c.args.self.now (l.invariant.depth ∙ c.requires.same_depth) same_count
+    same_stack (made.the_view i64 l.bands-inside) c.args.self.now (l.invariant.depth ∙ c.requires.same_depth) same_count
     (λ k lt. l.invariant.done k (omega (arith, lt, same_count, late_count, c.loop-k-test.false, l.auto.k-end, c.len-k-end.ensures)))

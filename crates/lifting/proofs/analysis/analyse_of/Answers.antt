@@ -1,0 +1,104 @@
+use Rattle.std.proofs.Common.{◌≡◌, ◌∙◌, ap, refl, sym, subst, ℕ, ◌+◌, ◌-◌, ◌*◌, ◌^◌, ◌<◌, arith}
+use Rattle.planes.specs.Valued.{grid_of}
+use Rattle.planes.specs.Raster.{Raster, height}
+use Rattle.planes.specs.Subbands.{with_band}
+use Rattle.lifting.specs.Bands.{lowest, coefficients_in}
+use Rattle.lifting.specs.Transform.{Grid, remaining, analysis}
+use Rattle.lifting.specs.Ranges.{GridWithin, SameBands}
+use Rattle.lifting.proofs.Levels.{whole_size, lowest_fits}
+use Rattle.lifting.proofs.LevelsDown.{lowest_width, lowest_height, width_is, height_is, same_sizes_after, left_small, left_next, dealt_next, all_dealt}
+use Rattle.lifting.proofs.analysis.analyse_of.Goals as goal
+
+-- by the sizes of the definition
+whole_small : (h w depth : ℕ) (rows columns : ℕ) (m : ℕ) (g : Grid) → h * 2 ^ depth ≡ rows → w * 2 ^ depth ≡ columns → GridWithin rows columns m g → GridWithin (h * 2 ^ depth) (w * 2 ^ depth) m g
+whole_small h w depth rows columns m g eh ew small y x ly lx = small y x (omega arith) (omega arith)
+
+pub loop-j-init : goal.loop-j-init
+unfolding remaining
+loop-j-init G c = record {
+  same_width = refl;
+  same_height = refl;
+  same_width_scratch = refl;
+  same_height_scratch = refl;
+  same_sizes = record { depth = refl; widths = λ l o. refl; heights = λ l o. refl };
+  left = λ y x ly lx. refl;
+  dealt = λ n lt le. absurd (omega arith);
+}
+
+pub analyse_down-requires-clause-small : goal.analyse_down-requires-clause-small
+analyse_down-requires-clause-small G c =
+    let q = c.requires.sizes in
+    let b = c.args.bands.now in
+    let p = c.args.plane.now in
+    let s = c.args.scratch.now in
+    let j = c.loop-j.j in
+    let n : ℕ = b.depth - (j + 1) in
+    let inside : j < b.depth = omega (arith, c.depth-depth.ensures.value, c.loop-j-test.true) in
+    let level : c.depth-depth.result - j ≡ n + 1 = omega (arith, c.depth-depth.ensures.value) in
+    let h = lowest b.depth (height p) in
+    let w = lowest b.depth p.w in
+    let eh : c.h-h.result ≡ h * 2 ^ n = c.h-h.ensures.value ∙ ap (λ (r : Raster G.row.T.Denot). height r) c.band-band.ensures ∙ height_is b c.loop-j.bands p s q c.loop-j.invariant.same_sizes _ n 1 level (omega arith) (omega arith) (omega arith) in
+    let ew : c.w-w.result ≡ w * 2 ^ n = c.w-w.ensures.value ∙ ap (λ (r : Raster G.row.T.Denot). r.w) c.band-band.ensures ∙ width_is b c.loop-j.bands p s q c.loop-j.invariant.same_sizes _ n 1 level (omega arith) (omega arith) (omega arith) in
+    left_small c.args.wavelet h w b.depth (grid_of G.T.Number.value G.T.Number.none p) j n c.h-h.result c.w-w.result (grid_of G.T.Number.value G.T.Number.none c.loop-j.plane) (omega arith) inside eh ew c.loop-j.invariant.left
+    (whole_small h w b.depth (height p) p.w (2 ^ 15) (grid_of G.T.Number.value G.T.Number.none p) (whole_size (height p) b.depth q.whole_rows) (whole_size p.w b.depth q.whole_columns) c.requires.small)
+    (omega (arith, c.depth-depth.ensures))
+
+pub loop-j-preserved : goal.loop-j-preserved
+loop-j-preserved G c =
+    let q = c.requires.sizes in
+    let b = c.args.bands.now in
+    let p = c.args.plane.now in
+    let s = c.args.scratch.now in
+    let j = c.loop-j.j in
+    let i = c.loop-j.invariant in
+    let done = c.analyse_down.ensures in
+    let n : ℕ = b.depth - (j + 1) in
+    let inside : j < b.depth = omega (arith, c.depth-depth.ensures.value, c.loop-j-test.true) in
+    let level : c.depth-depth.result - j ≡ n + 1 = omega (arith, c.depth-depth.ensures.value) in
+    let h = lowest b.depth (height p) in
+    let w = lowest b.depth p.w in
+    let eh : c.h-h.result ≡ h * 2 ^ n = c.h-h.ensures.value ∙ ap (λ (r : Raster G.row.T.Denot). height r) c.band-band.ensures ∙ height_is b c.loop-j.bands p s q i.same_sizes _ n 1 level (omega arith) (omega arith) (omega arith) in
+    let ew : c.w-w.result ≡ w * 2 ^ n = c.w-w.ensures.value ∙ ap (λ (r : Raster G.row.T.Denot). r.w) c.band-band.ensures ∙ width_is b c.loop-j.bands p s q i.same_sizes _ n 1 level (omega arith) (omega arith) (omega arith) in
+    record {
+      same_width = done.same_width ∙ i.same_width;
+      same_height = done.same_height ∙ i.same_height;
+      same_width_scratch = done.same_width_scratch ∙ i.same_width_scratch;
+      same_height_scratch = done.same_height_scratch ∙ i.same_height_scratch;
+      same_sizes = same_sizes_after b c.loop-j.bands c.analyse_down.new.bands i.same_sizes done.same_sizes;
+      left = left_next c.args.wavelet h w b.depth (grid_of G.T.Number.value G.T.Number.none p) j n c.h-h.result c.w-w.result (grid_of G.T.Number.value G.T.Number.none c.loop-j.plane) (omega arith) inside eh ew i.left (grid_of G.T.Number.value G.T.Number.none c.analyse_down.new.plane) done.left;
+      dealt =
+          dealt_next c.args.wavelet h w b.depth (grid_of G.T.Number.value G.T.Number.none p) j n c.h-h.result c.w-w.result (grid_of G.T.Number.value G.T.Number.none c.loop-j.plane) (omega arith) inside eh ew i.left
+          G.T.Number.value G.T.Number.none c.loop-j.bands c.analyse_down.new.bands _ (omega (arith, level)) i.same_sizes.depth done.others done.dealt i.dealt;
+    }
+
+pub deal_lowest-requires-clause-fits : goal.deal_lowest-requires-clause-fits
+deal_lowest-requires-clause-fits G c =
+    let q = c.requires.sizes in
+    let b = c.args.bands.now in
+    let p = c.args.plane.now in
+    omega (arith, lowest_width b c.loop-j.bands p c.args.scratch.now q c.loop-j.invariant.same_sizes c.band_mut.result.now c.band_mut.ensures.value, lowest_fits p.w b.depth q.whole_columns, c.loop-j.invariant.same_width)
+
+pub deal_lowest-requires-clause-high : goal.deal_lowest-requires-clause-high
+deal_lowest-requires-clause-high G c =
+    let q = c.requires.sizes in
+    let b = c.args.bands.now in
+    let p = c.args.plane.now in
+    omega (arith, lowest_height b c.loop-j.bands p c.args.scratch.now q c.loop-j.invariant.same_sizes c.band_mut.result.now c.band_mut.ensures.value, lowest_fits (height p) b.depth q.whole_rows, c.loop-j.invariant.same_height)
+
+pub returns-clause-coefficients : goal.returns-clause-coefficients
+returns-clause-coefficients G c =
+    let q = c.requires.sizes in
+    let b = c.args.bands.now in
+    let p = c.args.plane.now in
+    let s = c.args.scratch.now in
+    let i = c.loop-j.invariant in
+    let h = lowest b.depth (height p) in
+    let w = lowest b.depth p.w in
+    let all : c.loop-j.j ≡ b.depth = omega (arith, c.depth-depth.ensures.value) in
+    let eh : height c.band_mut.result.now ≡ h = lowest_height b c.loop-j.bands p s q i.same_sizes c.band_mut.result.now c.band_mut.ensures.value in
+    let ew : c.band_mut.result.now.w ≡ w = lowest_width b c.loop-j.bands p s q i.same_sizes c.band_mut.result.now c.band_mut.ensures.value in
+    let dealt : SameBands h w b.depth (coefficients_in G.T.Number.value G.T.Number.none (with_band c.loop-j.bands 0 0 c.deal_lowest.new.band)) (analysis c.args.wavelet h w b.depth (grid_of G.T.Number.value G.T.Number.none p)) =
+    all_dealt G.T.Number.value G.T.Number.none c.args.wavelet h w b.depth (grid_of G.T.Number.value G.T.Number.none p) c.loop-j.j all (grid_of G.T.Number.value G.T.Number.none c.loop-j.plane) i.left c.loop-j.bands i.dealt c.deal_lowest.new.band c.band_mut.ensures.there
+    (λ y x ly lx. c.deal_lowest.ensures.dealt y x (omega (arith, eh)) (omega (arith, ew))) in
+    subst (λ (d : ℕ). SameBands (lowest d (height p)) (lowest d p.w) d (coefficients_in G.T.Number.value G.T.Number.none (with_band c.loop-j.bands 0 0 c.deal_lowest.new.band)) (analysis c.args.wavelet (lowest d (height p)) (lowest d p.w) d (grid_of G.T.Number.value G.T.Number.none p)))
+    (sym i.same_sizes.depth) dealt
