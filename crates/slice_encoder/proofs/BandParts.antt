@@ -17,8 +17,8 @@ use Rattle.slice_geometry.specs.SliceOrder.{level_rect, area, level_of, orient_o
 use Rattle.slice_geometry.proofs.NumberedBands.{index-numbered}
 use Rattle.slice_encoder.specs.Order.{Place, row_places, rect_places, places_of}
 use Rattle.slice_encoder.specs.Trials.{CodedComponent, value_of}
-use Rattle.slice_encoder.specs.Listing.{band_value, row_values, rect_values, pair_row, pair_values}
-use Rattle.slice_encoder.proofs.Parts.{band_part, parts_before, pair_part, pairs_before}
+use Rattle.slice_encoder.specs.Listing.{band_value, row_values, rect_values, pair_row, pair_values, band_part, pair_part}
+use Rattle.slice_encoder.proofs.Parts.{parts_before, pairs_before}
 use Rattle.slice_encoder.proofs.Listed.{flat_more, next_row, turned}
 
 -- ---- lists of lists

@@ -11,9 +11,10 @@ use Rattle.slice_encoder.specs.declared.gathered.GatheredSlice.{GatheredSlice}
 use Rattle.slice_encoder.specs.Trials.{CodedComponent, luma_list, colour_list, CodedPicture, luma_of, c1_of, c2_of, lists}
 use Rattle.slice_encoder.specs.Choice.{needs_fit, fits}
 use Rattle.slice_encoder.specs.LowNeeds.{may_fit}
-use Rattle.slice_encoder.specs.Gathering.{raw_part, raw_before, GatheredSeen, AreGathered, piece_of, quantised, quantised_piece, in_turn, gathered_reach, behind_lowest, reach}
+use Rattle.slice_encoder.specs.Listing.{band_part, pair_part}
+use Rattle.slice_encoder.specs.Gathering.{raw_part, raw_before, GatheredSeen, AreGathered, piece_of, quantised, quantised_piece, in_turn, high_part, high_reach, high_pair, high_pairs_reach, quantised_pair, gathered_reach, gathered_pairs_reach, behind_lowest, reach}
 use Rattle.slice_encoder.specs.GatheredSlices.{AreAllGathered, gathered_low}
-use Rattle.slice_encoder.proofs.Parts.{band_part, pair_part, high_part, high_reach, reach_of}
+use Rattle.slice_encoder.proofs.Parts.{reach_of}
 use Rattle.std.proofs.lemmas.List.{length-append}
 use Rattle.planes.specs.Subbands.{BandStack}
 use Rattle.slice_geometry.specs.declared.Size.{Size}
@@ -21,7 +22,7 @@ use Rattle.slice_geometry.specs.Slicing.{Slicing}
 use Rattle.slice_encoder.proofs.BandParts.{length_rect}
 use Rattle.slice_encoder.proofs.LowBounds.{less_fits, more_does_not_fit}
 use Rattle.slice_encoder.proofs.Gathers.{first_count, raw_count, raw_within}
-use Rattle.slice_encoder.proofs.Reaches.{flat_same, bands_fall, lowest_rises, luma_parts, colour_parts, high_pair, reach_no_greater}
+use Rattle.slice_encoder.proofs.Reaches.{flat_same, bands_fall, pairs_fall, lowest_rises, luma_parts, colour_parts, reach_no_greater}
 
 module _ (c : CodedComponent) (index sx sy : ℕ) (g : GatheredSeen) (gathered : AreGathered c.slicing c.size c.bands sx sy g) where
   pub first_end : slice_index g.ends 0 ≡ area (level_rect c.slicing c.size sx sy 0)
@@ -98,16 +99,20 @@ module _ (j : CodedPicture) (index sx sy : ℕ) (one two : GatheredSeen) (gather
       ∙ ap (λ (t : List ℤ). pair_part (c1_of j) (c2_of j) kept1 kept2 index sx sy 0 ++ t) (flat_same p (high_pair j index sx sy) 1 (3 * j.slicing.depth) pairs_here)
       ∙ sym (colour_parts j kept1 kept2 index sx sy)
 
+  pub pairs_reach_is : gathered_pairs_reach one two j.matrix index ≡ high_pairs_reach j index sx sy
+  pairs_reach_is =
+      ap (λ (n : ℕ). reach (flat_map (quantised_pair one two j.matrix index) (range_with_len 1 (3 * n))) 0) gathered1.depth
+      ∙ ap (λ (t : List ℤ). reach t 0) (flat_same (quantised_pair one two j.matrix index) (high_pair j index sx sy) 1 (3 * j.slicing.depth) pairs_here)
+
 -- ---- bounds
 
 module _ (j : CodedPicture) (sx sy : ℕ) (g : GatheredSlice) (gathered : AreAllGathered j sx sy g) where
   pub low_is : (index : ℕ) → gathered_low g j.matrix index ≡ reach_of j sx sy index
   low_is index =
-      ap (λ (n : ℕ). record { luma = behind_lowest n (gathered_reach g.luma j.matrix index) - 3; colour = behind_lowest (2 * slice_index g.c1.ends 0) (gathered_reach g.c1 j.matrix index + gathered_reach g.c2 j.matrix index) - 3 }) (first_end (luma_of j) index sx sy g.luma gathered.luma)
-      ∙ ap (λ (n : ℕ). record { luma = behind_lowest (area (level_rect j.slicing j.frame.luma sx sy 0)) n - 3; colour = behind_lowest (2 * slice_index g.c1.ends 0) (gathered_reach g.c1 j.matrix index + gathered_reach g.c2 j.matrix index) - 3 }) (reach_is (luma_of j) index sx sy g.luma gathered.luma)
-      ∙ ap (λ (n : ℕ). record { luma = (reach_of j sx sy index).luma; colour = behind_lowest (2 * n) (gathered_reach g.c1 j.matrix index + gathered_reach g.c2 j.matrix index) - 3 }) (first_end (c1_of j) index sx sy g.c1 gathered.c1)
-      ∙ ap (λ (n : ℕ). record { luma = (reach_of j sx sy index).luma; colour = behind_lowest (2 * area (level_rect j.slicing j.frame.colour sx sy 0)) (n + gathered_reach g.c2 j.matrix index) - 3 }) (reach_is (c1_of j) index sx sy g.c1 gathered.c1)
-      ∙ ap (λ (n : ℕ). record { luma = (reach_of j sx sy index).luma; colour = behind_lowest (2 * area (level_rect j.slicing j.frame.colour sx sy 0)) (high_reach (c1_of j) index sx sy + n) - 3 }) (reach_is (c2_of j) index sx sy g.c2 gathered.c2)
+      ap (λ (n : ℕ). record { luma = behind_lowest n (gathered_reach g.luma j.matrix index) - 3; colour = behind_lowest (2 * slice_index g.c1.ends 0) (gathered_pairs_reach g.c1 g.c2 j.matrix index) - 3 }) (first_end (luma_of j) index sx sy g.luma gathered.luma)
+      ∙ ap (λ (n : ℕ). record { luma = behind_lowest (area (level_rect j.slicing j.frame.luma sx sy 0)) n - 3; colour = behind_lowest (2 * slice_index g.c1.ends 0) (gathered_pairs_reach g.c1 g.c2 j.matrix index) - 3 }) (reach_is (luma_of j) index sx sy g.luma gathered.luma)
+      ∙ ap (λ (n : ℕ). record { luma = (reach_of j sx sy index).luma; colour = behind_lowest (2 * n) (gathered_pairs_reach g.c1 g.c2 j.matrix index) - 3 }) (first_end (c1_of j) index sx sy g.c1 gathered.c1)
+      ∙ ap (λ (n : ℕ). record { luma = (reach_of j sx sy index).luma; colour = behind_lowest (2 * area (level_rect j.slicing j.frame.colour sx sy 0)) n - 3 }) (pairs_reach_is j index sx sy g.c1 g.c2 gathered.c1 gathered.c2)
 
   -- an index that fits may fit
   pub fit_may : (bytes index : ℕ) (luma c1 c2 : Grid) → fits bytes (lists j luma c1 c2 index sx sy) ≡ true → may_fit bytes (gathered_low g j.matrix index) ≡ true
@@ -126,10 +131,13 @@ module _ (j : CodedPicture) (sx sy : ℕ) (g : GatheredSlice) (gathered : AreAll
 reach_below : (g : GatheredSeen) (matrix : Weights) (i k : ℕ) → i ≤ k → k ≤ 127 → gathered_reach g matrix k ≤ gathered_reach g matrix i
 reach_below g matrix i k le most = bands_fall matrix (piece_of g) i k le most (range_with_len 1 (3 * g.depth)) 0 0 (omega arith)
 
+pairs_below : (g h : GatheredSeen) (matrix : Weights) (i k : ℕ) → i ≤ k → k ≤ 127 → gathered_pairs_reach g h matrix k ≤ gathered_pairs_reach g h matrix i
+pairs_below g h matrix i k le most = pairs_fall matrix (piece_of g) (piece_of h) i k le most (range_with_len 1 (3 * g.depth)) 0 0 (omega arith)
+
 pub low_refuted_below : (g : GatheredSlice) (matrix : Weights) (bytes i k : ℕ) → i ≤ k → k ≤ 127 → may_fit bytes (gathered_low g matrix k) ≡ false → may_fit bytes (gathered_low g matrix i) ≡ false
 low_refuted_below g matrix bytes i k le most refused =
-    let both : gathered_reach g.c1 matrix k + gathered_reach g.c2 matrix k ≤ gathered_reach g.c1 matrix i + gathered_reach g.c2 matrix i = omega (arith, reach_below g.c1 matrix i k le most, reach_below g.c2 matrix i k le most) in
-    more_does_not_fit bytes _ _ _ _ (omega (arith, lowest_rises (slice_index g.luma.ends 0) _ _ (reach_below g.luma matrix i k le most))) (omega (arith, lowest_rises (2 * slice_index g.c1.ends 0) _ _ both)) refused
+    more_does_not_fit bytes _ _ _ _ (omega (arith, lowest_rises (slice_index g.luma.ends 0) _ _ (reach_below g.luma matrix i k le most)))
+    (omega (arith, lowest_rises (2 * slice_index g.c1.ends 0) _ _ (pairs_below g.c1 g.c2 matrix i k le most))) refused
 
 pub gathered_may : (bytes : ℕ) (found low : Lower) (b : Bool) → found ≡ low → needs_fit bytes found.luma found.colour ≡ b → may_fit bytes low ≡ b
 gathered_may bytes found low b e fit = subst (λ (l : Lower). may_fit bytes l ≡ b) e fit

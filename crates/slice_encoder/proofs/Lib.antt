@@ -15,6 +15,7 @@ pub mod Onward
 pub mod PlaceByPlace
 pub mod Listed
 pub mod Gathers
+pub mod Sizes
 pub mod SliceBits
 pub mod Filled
 pub mod Again
@@ -32,6 +33,8 @@ pub mod CountedBits
 pub mod LowBounds
 pub mod Reaches
 pub mod ReachSums
+pub mod ReachPairs
+pub mod RestoredNeeds
 pub mod GatheredLists
 pub mod CodeSizes
 pub mod WorkedLowNeeds

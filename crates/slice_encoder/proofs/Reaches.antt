@@ -27,11 +27,12 @@ use Rattle.slice_encoder.specs.Order.{Place, row_places, rect_places, places_of}
 use Rattle.slice_encoder.specs.Trials.{CodedComponent, value_of, luma_list, colour_list, CodedPicture, luma_of, c1_of, c2_of, lists}
 use Rattle.slice_encoder.specs.Listing.{band_value, row_values, pair_row, pair_values}
 use Rattle.slice_encoder.specs.LowNeeds.{counted_bits}
-use Rattle.slice_encoder.specs.Gathering.{raw_part, quantised, in_turn, with_code, reach, behind_lowest}
-use Rattle.slice_encoder.proofs.Parts.{band_part, parts_before, pair_part, pairs_before, high_part, high_reach, reach_of}
+use Rattle.slice_encoder.specs.Listing.{band_part, pair_part}
+use Rattle.slice_encoder.specs.Gathering.{quantised, in_turn, with_code, reach, high_part, high_pair, behind_lowest}
+use Rattle.slice_encoder.proofs.Parts.{parts_before, pairs_before, reach_of}
 use Rattle.slice_encoder.proofs.CountedBits.{counted-rises, NeedsMost, one_code}
 use Rattle.slice_encoder.proofs.BandParts.{bands_listed, pairs_listed, length_rect, length_pairs, map_joined, map_map, rect_listed, either_same, joined_joined, joined_map, pair_here}
-use Rattle.slice_encoder.proofs.Gathers.{reach_append, turn_append, length_quantised}
+use Rattle.slice_encoder.proofs.Gathers.{reach_append, turn_append}
 
 -- ---- one value
 
@@ -93,16 +94,6 @@ with_rises v w a b le less = elim (cases_eq (unsigned_abs v + a) 0) [
   | inr some ↦ omega (arith, with_some v a (omega arith), with_some w b (omega arith), code_rises v w le)
 ]
 
-with_two : (v w : ℤ) (a b r : ℕ) → a + b ≤ r → with_code v a + with_code w b ≤ with_code v (with_code w r)
-with_two v w a b r le = elim (cases_eq (unsigned_abs v + a) 0) [
-  | inl none ↦ omega (arith, with_none v a none, with_rises w w b r (omega arith) (omega arith), with_least v (with_code w r))
-  | inr some ↦ elim (cases_eq (unsigned_abs w + b) 0) [
-    | inl nothing ↦
-        omega (arith, with_none w b nothing, with_some v a (omega arith), with_least w r, with_some v (with_code w r) (omega (arith, with_least w r)))
-    | inr more ↦ omega (arith, with_some v a (omega arith), with_some w b (omega arith), with_some w r (omega arith), with_some v (with_code w r) (omega (arith, with_some w r (omega arith))))
-  ]
-]
-
 -- ---- a coarser index reaches no further
 
 quantised_falls : (i k : ℕ) → i ≤ k → k ≤ 127 → (vs : List ℤ) (a b : ℕ) → a ≤ b → reach (quantised k vs) a ≤ reach (quantised i vs) b
@@ -125,13 +116,34 @@ bands_fall matrix parts i k le most (n ∷ ks) a b less =
       quantised_falls p q (omega (arith, le)) (omega (arith, most)) (parts n) (reach (flat_map (all_quantised matrix parts k) ks) a) (reach (flat_map (all_quantised matrix parts i) ks) b) later,
     )
 
-high_falls : (c : CodedComponent) (sx sy i k : ℕ) → i ≤ k → k ≤ 127 → high_reach c k sx sy ≤ high_reach c i sx sy
-high_falls c sx sy i k le most = bands_fall c.matrix (raw_part c.slicing c.size c.bands sx sy) i k le most (range_with_len 1 (3 * c.slicing.depth)) 0 0 (omega arith)
+-- two lists in turn
+turn_falls : (i k : ℕ) → i ≤ k → k ≤ 127 → (vs ws : List ℤ) (a b : ℕ) → a ≤ b → reach (in_turn (quantised k vs) (quantised k ws)) a ≤ reach (in_turn (quantised i vs) (quantised i ws)) b
+turn_falls i k le most [] ws a b less = less
+turn_falls i k le most (v ∷ vs) [] a b less = less
+turn_falls i k le most (v ∷ vs) (w ∷ ws) a b less =
+    with_rises (forward_of v k) (forward_of v i) (with_code (forward_of w k) (reach (in_turn (quantised k vs) (quantised k ws)) a)) (with_code (forward_of w i) (reach (in_turn (quantised i vs) (quantised i ws)) b)) (coarser v i k le most)
+    (with_rises (forward_of w k) (forward_of w i) (reach (in_turn (quantised k vs) (quantised k ws)) a) (reach (in_turn (quantised i vs) (quantised i ws)) b) (coarser w i k le most) (turn_falls i k le most vs ws a b less))
 
-lowest_none : (n b : ℕ) → b ≡ 0 → behind_lowest n b ≡ 0
+abbrev pub all_in_turn : Weights → (ℕ → List ℤ) → (ℕ → List ℤ) → ℕ → ℕ → List ℤ
+all_in_turn matrix parts others index k = in_turn (all_quantised matrix parts index k) (all_quantised matrix others index k)
+
+pub pairs_fall : (matrix : Weights) (parts others : ℕ → List ℤ) (i k : ℕ) → i ≤ k → k ≤ 127 → (ks : List ℕ) (a b : ℕ) → a ≤ b → reach (flat_map (all_in_turn matrix parts others k) ks) a ≤ reach (flat_map (all_in_turn matrix parts others i) ks) b
+pairs_fall matrix parts others i k le most [] a b less = less
+pairs_fall matrix parts others i k le most (n ∷ ks) a b less =
+    let later = pairs_fall matrix parts others i k le most ks a b less in
+    let p : ℕ = band_quantiser matrix i (level_of n) (orient_of n) in
+    let q : ℕ = band_quantiser matrix k (level_of n) (orient_of n) in
+    omega (
+      arith,
+      reach_append (all_in_turn matrix parts others k n) (flat_map (all_in_turn matrix parts others k) ks) a,
+      reach_append (all_in_turn matrix parts others i n) (flat_map (all_in_turn matrix parts others i) ks) b,
+      turn_falls p q (omega (arith, le)) (omega (arith, most)) (parts n) (others n) (reach (flat_map (all_in_turn matrix parts others k) ks) a) (reach (flat_map (all_in_turn matrix parts others i) ks) b) later,
+    )
+
+pub lowest_none : (n b : ℕ) → b ≡ 0 → behind_lowest n b ≡ 0
 lowest_none n b none = grind (arith, nat_tests)
 
-lowest_some : (n b : ℕ) → 1 ≤ b → behind_lowest n b ≡ n + b
+pub lowest_some : (n b : ℕ) → 1 ≤ b → behind_lowest n b ≡ n + b
 lowest_some n b some = grind (arith, nat_tests)
 
 pub lowest_rises : (n a b : ℕ) → a ≤ b → behind_lowest n a ≤ behind_lowest n b
@@ -142,7 +154,7 @@ lowest_rises n a b le = elim (cases_eq a 0) [
 
 -- ---- what is reached is needed, but for the ones at the end of the last code
 
-reach_needs : (vs : List ℤ) → NeedsMost (reach vs 0) (need vs)
+pub reach_needs : (vs : List ℤ) → NeedsMost (reach vs 0) (need vs)
 reach_needs [] = record { none = λ e. refl; most = omega arith }
 reach_needs (v ∷ vs) =
     let later = reach_needs vs in
@@ -229,9 +241,6 @@ luma_parts c kept index sx sy =
     bands_listed c kept index sx sy c.slicing.depth
     ∙ ap (λ (n : ℕ). parts_before c kept index sx sy n) one
     ∙ sym (ap (λ (t : List ℤ). band_part c kept index sx sy 0 ++ t) (flat_same (high_part c index sx sy) (band_part c kept index sx sy) 1 (3 * c.slicing.depth) (λ k some lt. high_is c kept index sx sy k some)))
-
-abbrev pub high_pair : CodedPicture → ℕ → ℕ → ℕ → ℕ → List ℤ
-high_pair j index sx sy k = in_turn (high_part (c1_of j) index sx sy k) (high_part (c2_of j) index sx sy k)
 
 pub colour_parts : (j : CodedPicture) (kept1 kept2 : Raster ℤ) (index sx sy : ℕ)
     → colour_list (c1_of j) (c2_of j) (at kept1) (at kept2) index sx sy ≡ pair_part (c1_of j) (c2_of j) kept1 kept2 index sx sy 0 ++ flat_map (high_pair j index sx sy) (range_with_len 1 (3 * j.slicing.depth))
@@ -353,34 +362,6 @@ module _ (j : CodedPicture) (g1 g2 : Grid) (index sx sy : ℕ) where
             ∙ rest);
       }
 
--- two lists in turn reach as far as both
-reach_turn : (vs ws : List ℤ) (a b r : ℕ) → length vs ≡ length ws → a + b ≤ r → reach vs a + reach ws b ≤ reach (in_turn vs ws) r
-reach_turn [] [] a b r e le = le
-reach_turn [] (w ∷ ws) a b r e le = absurd (omega (arith, e))
-reach_turn (v ∷ vs) [] a b r e le = absurd (omega (arith, e))
-reach_turn (v ∷ vs) (w ∷ ws) a b r e le = with_two v w (reach vs a) (reach ws b) (reach (in_turn vs ws) r) (reach_turn vs ws a b r (omega (arith, e)) le)
-
-same_count : (j : CodedPicture) (index sx sy k : ℕ) → length (high_part (c1_of j) index sx sy k) ≡ length (high_part (c2_of j) index sx sy k)
-same_count j index sx sy k =
-    let r : Rect = level_rect j.slicing j.frame.colour sx sy (level_of k) in
-    let q : ℕ = band_quantiser j.matrix index (level_of k) (orient_of k) in
-    length_quantised q (raw_part j.slicing j.frame.colour j.coefficients.c1 sx sy k)
-    ∙ length_rect (at (numbered j.coefficients.c1 k)) r
-    ∙ sym (length_quantised q (raw_part j.slicing j.frame.colour j.coefficients.c2 sx sy k) ∙ length_rect (at (numbered j.coefficients.c2 k)) r)
-
-pairs_reach : (j : CodedPicture) (index sx sy : ℕ) (ks : List ℕ) → reach (flat_map (high_part (c1_of j) index sx sy) ks) 0 + reach (flat_map (high_part (c2_of j) index sx sy) ks) 0 ≤ reach (flat_map (high_pair j index sx sy) ks) 0
-pairs_reach j index sx sy [] = omega arith
-pairs_reach j index sx sy (k ∷ ks) =
-    let one = high_part (c1_of j) index sx sy in
-    let two = high_part (c2_of j) index sx sy in
-    omega (
-      arith,
-      reach_append (one k) (flat_map one ks) 0,
-      reach_append (two k) (flat_map two ks) 0,
-      reach_append (high_pair j index sx sy k) (flat_map (high_pair j index sx sy) ks) 0,
-      reach_turn (one k) (two k) (reach (flat_map one ks) 0) (reach (flat_map two ks) 0) (reach (flat_map (high_pair j index sx sy) ks) 0) (same_count j index sx sy k) (pairs_reach j index sx sy ks),
-    )
-
 split_reach : (all : List ℤ) (places : ℕ) (high : List ℤ) → SplitList all places high → behind_lowest places (reach high 0) ≤ need all + 3
 split_reach all places high s =
     omega (
@@ -394,11 +375,4 @@ split_reach all places high s =
 
 pub reach_no_greater : (j : CodedPicture) (luma c1 c2 : Grid) (index sx sy : ℕ) → ((reach_of j sx sy index).luma ≤ need (lists j luma c1 c2 index sx sy).luma) × ((reach_of j sx sy index).colour ≤ need (lists j luma c1 c2 index sx sy).colour)
 reach_no_greater j luma c1 c2 index sx sy =
-    let high_pairs = flat_map (high_pair j index sx sy) (range_with_len 1 (3 * j.slicing.depth)) in (
-      omega (arith, split_reach _ _ _ (luma_split (luma_of j) luma index sx sy)),
-      omega (
-        arith,
-        split_reach _ _ _ (colour_split j c1 c2 index sx sy),
-        lowest_rises (2 * area (level_rect j.slicing j.frame.colour sx sy 0)) _ _ (pairs_reach j index sx sy (range_with_len 1 (3 * j.slicing.depth))),
-      ),
-    )
+    (omega (arith, split_reach _ _ _ (luma_split (luma_of j) luma index sx sy)), omega (arith, split_reach _ _ _ (colour_split j c1 c2 index sx sy)))

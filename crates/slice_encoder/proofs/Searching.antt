@@ -47,6 +47,9 @@ module _ (j : CodedPicture) (bytes sx sy index : ℕ) (old mid : ThreePlanes) (t
   pub fit_again : (b : Bool) → t.fits ≡ b → fits bytes (tried_lists j old sx sy index) ≡ b
   fit_again b e = sym holds_again.fit ∙ e
 
+pub refused_again : (j : CodedPicture) (bytes sx sy index : ℕ) (old mid : ThreePlanes) → AllKeepOthers j sx sy old mid → fits bytes (tried_lists j mid sx sy index) ≡ false → fits bytes (tried_lists j old sx sy index) ≡ false
+refused_again j bytes sx sy index old mid k refused = sym (ap (fits bytes) (lists_again j sx sy index old mid k)) ∙ refused
+
 pub refuted_more : (test : ℕ → Bool) (index : ℕ) → ((i : ℕ) → i < index → test i ≡ false) → test index ≡ false → (i : ℕ) → i < index + 1 → test i ≡ false
 refuted_more test index before here i lt = elim (cases_eq i index) [
   | inl e ↦ ap test e ∙ here

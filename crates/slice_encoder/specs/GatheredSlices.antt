@@ -1,25 +1,37 @@
 -- The coefficients of a slice in all three components, gathered.
-use Rattle.std.specs.Prelude.{ℕ, ◌+◌, ◌-◌, ◌*◌, ◌<◌, ◌≤◌, length, slice_index}
+use Rattle.std.specs.Prelude.{ℕ, ◌-◌, ◌*◌, ◌<◌, ◌≤◌, length, slice_index}
 use Rattle.quant_factors.specs.Weights.{Weights}
 use Rattle.slice_geometry.specs.declared.PictureShape.{PictureShape}
 use Rattle.slice_geometry.specs.Slicing.{Slicing}
 use Rattle.slice_geometry.specs.SliceOrder.{place_count}
 use Rattle.slice_encoder.specs.declared.bounding.Lower.{Lower}
 use Rattle.slice_encoder.specs.declared.gathered.GatheredSlice.{GatheredSlice}
+use Rattle.slice_encoder.specs.declared.gathered.Reaches.{Reaches}
 use Rattle.slice_encoder.specs.Trials.{CodedPicture}
-use Rattle.slice_encoder.specs.Gathering.{AreGathered, gathered_reach, behind_lowest}
+use Rattle.slice_encoder.specs.Gathering.{AreGathered, gathered_reach, gathered_pairs_reach, behind_lowest}
 
 pub record AreAllGathered (j : CodedPicture) (sx sy : ℕ) (g : GatheredSlice) : Type 0 where
   pub luma : AreGathered j.slicing j.frame.luma j.coefficients.luma sx sy g.luma
   pub c1 : AreGathered j.slicing j.frame.colour j.coefficients.c1 sx sy g.c1
   pub c2 : AreGathered j.slicing j.frame.colour j.coefficients.c2 sx sy g.c2
 
+-- how far the codes of its values reach outside the lowest subbands
+abbrev pub gathered_reaches : GatheredSlice → Weights → ℕ → Reaches
+gathered_reaches g matrix index = record {
+  luma = gathered_reach g.luma matrix index;
+  colour = gathered_pairs_reach g.c1 g.c2 matrix index;
+}
+
+-- What a slice needs at least whose codes reach so far: each value of the lowest subbands takes a bit at least.
+abbrev pub low_by : GatheredSlice → Reaches → Lower
+low_by g r = record {
+  luma = behind_lowest (slice_index g.luma.ends 0) r.luma - 3;
+  colour = behind_lowest (2 * slice_index g.c1.ends 0) r.colour - 3;
+}
+
 -- what the slice needs at least at an index
 abbrev pub gathered_low : GatheredSlice → Weights → ℕ → Lower
-gathered_low g matrix index = record {
-  luma = behind_lowest (slice_index g.luma.ends 0) (gathered_reach g.luma matrix index) - 3;
-  colour = behind_lowest (2 * slice_index g.c1.ends 0) (gathered_reach g.c1 matrix index + gathered_reach g.c2 matrix index) - 3;
-}
+gathered_low g matrix index = low_by g (gathered_reaches g matrix index)
 
 -- there is room for each slice of a picture
 pub record CanHoldAll (s : Slicing) (shape : PictureShape) (g : GatheredSlice) : Type 0 where

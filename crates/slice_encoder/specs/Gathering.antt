@@ -1,5 +1,5 @@
 -- A slice's coefficients, gathered band by band in the order of its values, and how far the codes of values reach.
-use Rattle.std.specs.Prelude.{◌≡◌, ℕ, ◌+◌, ◌-◌, ◌*◌, ◌^◌, ◌<◌, ◌≤◌, ◌==◌, List, [], ◌∷◌, length, take, drop, map, slice_index, if◌then◌else◌, unsigned_abs, ℤ}
+use Rattle.std.specs.Prelude.{◌≡◌, ℕ, ◌+◌, ◌-◌, ◌*◌, ◌^◌, ◌<◌, ◌≤◌, ◌==◌, List, [], ◌∷◌, length, take, drop, map, slice_index, slice_index_or, if◌then◌else◌, unsigned_abs, Bool, true, ℤ, pos}
 use Rattle.std.specs.List.{All, flat_map, range_with_len}
 use Rattle.planes.specs.Numbers.{Within}
 use Rattle.planes.specs.Raster.{Raster, height, at}
@@ -12,6 +12,7 @@ use Rattle.slice_geometry.specs.declared.Size.{Size}
 use Rattle.slice_geometry.specs.Slicing.{Slicing}
 use Rattle.slice_geometry.specs.Geometry.{padded_length}
 use Rattle.slice_geometry.specs.SliceOrder.{level_rect, level_of, orient_of, numbered}
+use Rattle.slice_encoder.specs.Trials.{CodedComponent, CodedPicture, c1_of, c2_of}
 use Rattle.slice_encoder.specs.Listing.{rect_values}
 
 -- ---- coefficients
@@ -40,6 +41,22 @@ pub record IsSound (g : GatheredSeen) : Type 0 where
   pub inside : (k : ℕ) → k ≤ 3 * g.depth → slice_index g.ends k ≤ length g.values
   pub small : All (Within (2 ^ 27)) g.values
   pub few : length g.values ≤ 2 ^ 31
+
+-- These are the magnitudes of coefficients, and each of them is small.
+pub record AreSizes (sizes : List ℕ) (vs : List ℤ) : Type 0 where
+  pub same_length : length sizes ≡ length vs
+  pub magnitudes : (p : ℕ) → p < length vs → slice_index_or sizes p 0 ≡ unsigned_abs (slice_index_or vs p (pos 0))
+  pub few : (p : ℕ) → p < length vs → slice_index_or sizes p 0 < 512
+
+-- those in the places from one to before another
+pub record AreSizesIn (from to : ℕ) (sizes : List ℕ) (vs : List ℤ) : Type 0 where
+  pub magnitudes : (p : ℕ) → from ≤ p → p < to → slice_index_or sizes p 0 ≡ unsigned_abs (slice_index_or vs p (pos 0))
+  pub few : (p : ℕ) → from ≤ p → p < to → slice_index_or sizes p 0 < 512
+
+-- and those outside the lowest subband, where they are said to be small
+pub record IsMeasured (g : GatheredSeen) (short : Bool) (sizes : List ℕ) : Type 0 where
+  pub same_length : length sizes ≡ length g.values
+  pub small : short ≡ true → AreSizesIn (slice_index g.ends 0) (slice_index g.ends (3 * g.depth)) sizes g.values
 
 -- It holds the slice's coefficients in these bands.
 pub record AreGathered (s : Slicing) (size : Size) (bands : BandStack) (sx sy : ℕ) (g : GatheredSeen) : Type 0 where
@@ -89,6 +106,28 @@ reach (v ∷ vs) behind = with_code v (reach vs behind)
 
 abbrev pub gathered_reach : GatheredSeen → Weights → ℕ → ℕ
 gathered_reach g matrix index = reach (flat_map (quantised_piece g matrix index) (range_with_len 1 (3 * g.depth))) 0
+
+-- and those of two components in turn
+abbrev pub quantised_pair : GatheredSeen → GatheredSeen → Weights → ℕ → ℕ → List ℤ
+quantised_pair g h matrix index k = in_turn (quantised_piece g matrix index k) (quantised_piece h matrix index k)
+
+abbrev pub gathered_pairs_reach : GatheredSeen → GatheredSeen → Weights → ℕ → ℕ
+gathered_pairs_reach g h matrix index = reach (flat_map (quantised_pair g h matrix index) (range_with_len 1 (3 * g.depth))) 0
+
+-- of the slice's values outside the lowest subband
+abbrev pub high_part : CodedComponent → ℕ → ℕ → ℕ → ℕ → List ℤ
+high_part c index sx sy k =
+    quantised (band_quantiser c.matrix index (level_of k) (orient_of k)) (raw_part c.slicing c.size c.bands sx sy k)
+
+abbrev pub high_reach : CodedComponent → ℕ → ℕ → ℕ → ℕ
+high_reach c index sx sy = reach (flat_map (high_part c index sx sy) (range_with_len 1 (3 * c.slicing.depth))) 0
+
+-- of the two colour components in turn
+abbrev pub high_pair : CodedPicture → ℕ → ℕ → ℕ → ℕ → List ℤ
+high_pair j index sx sy k = in_turn (high_part (c1_of j) index sx sy k) (high_part (c2_of j) index sx sy k)
+
+abbrev pub high_pairs_reach : CodedPicture → ℕ → ℕ → ℕ → ℕ
+high_pairs_reach j index sx sy = reach (flat_map (high_pair j index sx sy) (range_with_len 1 (3 * j.slicing.depth))) 0
 
 -- Each value of the lowest subband in front takes a bit at least.
 abbrev pub behind_lowest : ℕ → ℕ → ℕ

@@ -1,10 +1,11 @@
 -- A slice that was restored at an index, and what is listed of it.
-use Rattle.std.specs.Prelude.{ℕ, List, ℤ}
+use Rattle.std.specs.Prelude.{◌≡◌, ℕ, false, List, ℤ}
 use Rattle.planes.specs.declared.ThreePlanes.{ThreePlanes}
 use Rattle.slice_encoder.specs.declared.search.Trying.{Trying}
 use Rattle.slice_encoder.specs.Trials.{CodedPicture}
 use Rattle.slice_encoder.specs.Tries.{AreTried, tried_lists}
 use Rattle.slice_encoder.specs.Buffers.{Holds}
+use Rattle.slice_encoder.specs.Choice.{fits}
 use Rattle.slice_encoder.specs.Ready.{AreReady}
 
 -- the planes are those after a trial of the slice
@@ -16,3 +17,9 @@ abbrev pub HoldsWhatWasTried : CodedPicture → ℕ → ℕ → ℕ → ThreePla
 HoldsWhatWasTried j sx sy index kept bytes t lumas colours =
     (old : ThreePlanes) → AreReady j sx sy old → AreTried j sx sy index old kept
     → Holds (tried_lists j old sx sy index) bytes t lumas colours
+
+-- The slice's lists don't fit, whichever planes there were before the trial.
+abbrev pub WasRefused : CodedPicture → ℕ → ℕ → ℕ → ThreePlanes → ℕ → Type 0
+WasRefused j sx sy index kept bytes =
+    (old : ThreePlanes) → AreReady j sx sy old → AreTried j sx sy index old kept
+    → fits bytes (tried_lists j old sx sy index) ≡ false

@@ -1,7 +1,7 @@
 // Codes put into a block, as far as it reaches.
 
 ghost use Rattle.planes.specs.declared.TheConstants.{MAX_MAGNITUDE};
-ghost use Rattle.std.specs.Prelude.{◌≡◌, ◌+◌, ◌*◌, ◌^◌, ◌<◌, ◌≤◌, ◌++◌, length, replicate, true, unsigned_abs};
+ghost use Rattle.std.specs.Prelude.{◌≡◌, ◌+◌, ◌*◌, ◌/◌, ◌^◌, ◌<◌, ◌≤◌, ◌++◌, length, take, replicate, true, unsigned_abs};
 ghost use Rattle.std.specs.List.{All};
 ghost use Rattle.bit_codes.specs.Bits.{digits_below};
 ghost use Rattle.bit_codes.specs.Codes.{code_of, signed_code_of};
@@ -10,7 +10,7 @@ ghost use Rattle.bounded_blocks.specs.Writing.{codes_of};
 ghost use Rattle.slice_encoder.specs.BitQueues.{bits_so_far, IsBlock, IsPut};
 
 use crate::bit_queues::{BitQueue, put_bits};
-use crate::short_texts::short_text;
+use crate::short_texts::{pair_text, short_text};
 
 /// A block that is filled through a queue, and how many of its bits are left.
 #[derive(Clone, Copy)]
@@ -80,17 +80,57 @@ fn put_value(bytes: &mut [u8], block: Block, v: i64) -> Block
     put_long(bytes, block, v)
 }
 
+// Puts the codes of two values one after the other. This stays out of the loop that looks codes up.
+#[inline(never)]
+fn put_apart(bytes: &mut [u8], block: Block, first: i64, second: i64) -> Block
+    requires first_small { unsigned_abs first ≤ MAX_MAGNITUDE }
+    requires second_small { unsigned_abs second ≤ MAX_MAGNITUDE }
+    requires block { IsBlock (length bytes.old) block }
+    ensures { IsPut bytes.old block bytes.new result (signed_code_of first ++ signed_code_of second) }
+{
+    let between = put_value(bytes, block, first);
+    put_value(bytes, between, second)
+}
+
+// Puts the codes of two values, at once where both are small.
+#[inline(always)]
+fn put_pair(bytes: &mut [u8], block: Block, first: i64, second: i64) -> Block
+    requires first_small { unsigned_abs first ≤ MAX_MAGNITUDE }
+    requires second_small { unsigned_abs second ≤ MAX_MAGNITUDE }
+    requires block { IsBlock (length bytes.old) block }
+    ensures { IsPut bytes.old block bytes.new result (signed_code_of first ++ signed_code_of second) }
+{
+    if first.unsigned_abs() < 32 && second.unsigned_abs() < 32 {
+        let text = pair_text(first, second);
+        return put_digits(bytes, block, text.number, text.length);
+    }
+    put_apart(bytes, block, first, second)
+}
+
+// Puts the codes of values two by two, but for the last one of an odd number of them.
+fn put_pairs(bytes: &mut [u8], block: Block, values: &[i64]) -> Block
+    requires small { All IsSmall values.now }
+    requires block { IsBlock (length bytes.old) block }
+    ensures { IsPut bytes.old block bytes.new result (codes_of (take (2 * (length values.now / 2)) values.now)) }
+{
+    let mut block = block;
+    for pair in 0..values.len() / 2 {
+        block = put_pair(bytes, block, values[2 * pair], values[2 * pair + 1]);
+    }
+    block
+}
+
 /// Puts the codes of values.
 pub fn put_values(bytes: &mut [u8], block: Block, values: &[i64]) -> Block
     requires small { All IsSmall values.now }
     requires block { IsBlock (length bytes.old) block }
     ensures { IsPut bytes.old block bytes.new result (codes_of values.now) }
 {
-    let mut block = block;
-    for value in values {
-        block = put_value(bytes, block, *value);
+    let block = put_pairs(bytes, block, values);
+    if values.len() % 2 == 0 {
+        return block;
     }
-    block
+    put_value(bytes, block, values[values.len() - 1])
 }
 
 /// Fills the rest of a block with ones.

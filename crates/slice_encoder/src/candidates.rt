@@ -1,14 +1,14 @@
 // The first index that may fit.
 
-ghost use Rattle.std.specs.Prelude.{◌≡◌, ◌^◌, ◌<◌, ◌≤◌, max, true};
+ghost use Rattle.std.specs.Prelude.{◌≡◌, ℕ, ◌*◌, ◌^◌, ◌<◌, ◌≤◌, max, true, slice_index};
 ghost use Rattle.slice_encoder.specs.TrialLaws.{IsSteepOk};
 ghost use Rattle.slice_encoder.specs.LowNeeds.{lower_of, may_fit, IsFirstCandidate};
-ghost use Rattle.slice_encoder.specs.GatheredSlices.{gathered_low};
+ghost use Rattle.slice_encoder.specs.GatheredSlices.{gathered_reaches, gathered_low};
 ghost use Rattle.slice_encoder.specs.Ready.{coded_picture, AreGiven};
 
 use crate::bounding::lower_at;
 use crate::fitting::do_fit;
-use crate::gathered::GatheredSlice;
+use crate::gathered::{GatheredSlice, Reaches};
 use planes::Trio;
 use quant_factors::Matrix;
 use slice_geometry::{Layout, PictureShape};
@@ -94,35 +94,57 @@ fn longer(step: u32) -> u32
     if step > 16 { step } else { 2 * step }
 }
 
+/// The first index that may fit, and how far codes reach there.
+#[derive(Clone, Copy)]
+pub struct First {
+    pub index: u32,
+    pub reaches: Reaches,
+}
+
 // The first index that may fit by how far the codes of what was gathered reach. It is looked for from an index near it,
 // in steps of 1, 1, 2, 4 and 8, and then by halves: none below the start may fit, and the end may.
-pub fn find_first(gathered: &GatheredSlice, matrix: &Matrix, bytes: u32, near: u32) -> u32
+pub fn find_first(gathered: &GatheredSlice, matrix: &Matrix, bytes: u32, near: u32) -> First
     requires some { 1 ≤ bytes }
     requires most { bytes ≤ 2 ^ 28 }
     requires near { near ≤ 127 }
     requires luma { matrix.now.depth ≡ gathered.now.luma.depth }
     requires c1 { matrix.now.depth ≡ gathered.now.c1.depth }
     requires c2 { matrix.now.depth ≡ gathered.now.c2.depth }
+    requires ends { (k : ℕ) → k ≤ 3 * gathered.now.c1.depth → slice_index gathered.now.c2.ends k ≡ slice_index gathered.now.c1.ends k }
     requires last { may_fit bytes (gathered_low gathered.now matrix.now 127) ≡ true }
-    ensures { IsFirstCandidate bytes (gathered_low gathered.now matrix.now) result }
+    ensures first { IsFirstCandidate bytes (gathered_low gathered.now matrix.now) result.index }
+    ensures reaches { result.reaches ≡ gathered_reaches gathered.now matrix.now result.index }
+    ensures few_luma { result.reaches.luma ≤ 2 ^ 38 }
+    ensures few_colour { result.reaches.colour ≤ 2 ^ 39 }
 {
     let mut start = 0;
     let mut end = 127;
     let mut wanted = near;
     let mut step = 1;
+    let mut known = false;
+    let mut reaches = Reaches { luma: 0, colour: 0 };
     while start < end {
         let index = probe(start, end, wanted, step);
-        let low = gathered.low(matrix, index);
+        let here = gathered.reaches(matrix, index);
+        let low = gathered.low(here);
         let may = do_fit(bytes, low.luma, low.colour);
         let taken = (step + 1) / 2;
         step = longer(step);
         if may {
             end = index;
+            reaches = here;
+            known = true;
             wanted = index.saturating_sub(taken);
         } else {
             start = index + 1;
             wanted = index + taken;
         }
     }
-    start
+    if !known {
+        reaches = gathered.reaches(matrix, start);
+    }
+    First {
+        index: start,
+        reaches,
+    }
 }

@@ -70,7 +70,8 @@ impl CodeLengths {
     /// The row of an index.
     pub fn row(&self, index: u32) -> &[u8]
         requires index { index ≤ 127 }
-        ensures { IsRow index result.now }
+        ensures row { IsRow index result.now }
+        ensures entries { length result.now ≡ 512 }
     {
         &self.rows[index as usize]
     }

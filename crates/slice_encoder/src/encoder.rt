@@ -110,7 +110,7 @@ impl SliceEncoder {
             sy,
         };
         let bytes = share_of(&self.layout, sx, sy);
-        self.gathered.gather(job);
+        self.gathered.gather(job, 0);
         let trying = try_at(
             job,
             qindex,
@@ -261,7 +261,7 @@ impl SliceEncoder {
             sx,
             sy,
         };
-        self.gathered.gather(job);
+        self.gathered.gather(job, self.near);
         let found = find_least(
             job,
             bytes.len() as u32,

@@ -1,6 +1,6 @@
 // The coefficients of a slice in one component, gathered once for all the indices that are tried.
 
-ghost use Rattle.std.specs.Prelude.{◌≡◌, ℕ, ◌+◌, ◌-◌, ◌*◌, ◌^◌, ◌<◌, ◌≤◌, ◌++◌, length, take, slice_index, IfOk, pos, unsigned_abs};
+ghost use Rattle.std.specs.Prelude.{◌≡◌, ℕ, ◌+◌, ◌-◌, ◌*◌, ◌^◌, ◌<◌, ◌≤◌, ◌++◌, length, take, slice_index, IfOk, IfSome, pos, unsigned_abs};
 ghost use Rattle.std.specs.List.{All, flat_map, range_with_len};
 ghost use Rattle.planes.specs.Numbers.{Within};
 ghost use Rattle.quant_factors.specs.Factors.{forward_of, signed};
@@ -8,8 +8,8 @@ ghost use Rattle.planes.specs.Raster.{at};
 ghost use Rattle.slice_geometry.specs.Shape.{IsSize};
 ghost use Rattle.slice_geometry.specs.SliceOrder.{level_rect, level_of, area, place_count};
 ghost use Rattle.slice_encoder.specs.Listing.{rect_values};
-ghost use Rattle.slice_encoder.specs.Gathering.{raw_before, piece_of, quantised, quantised_piece, in_turn, CanGather, CanGatherAll, AreGathered, gathered_reach, behind_lowest};
-ghost use Rattle.slice_encoder.specs.GatheredSlices.{AreAllGathered, gathered_low, CanHoldAll};
+ghost use Rattle.slice_encoder.specs.Gathering.{raw_before, piece_of, quantised, quantised_piece, in_turn, CanGather, CanGatherAll, AreGathered, AreSizes, gathered_reach, gathered_pairs_reach, behind_lowest};
+ghost use Rattle.slice_encoder.specs.GatheredSlices.{AreAllGathered, gathered_reaches, low_by, CanHoldAll};
 ghost use Rattle.slice_encoder.specs.Jobs.{picture_of};
 ghost use Rattle.slice_encoder.specs.Ready.{AreGiven};
 ghost use Rattle.slice_encoder.specs.Sources.{band_seen, stack_seen};
@@ -17,7 +17,8 @@ ghost use Rattle.slice_encoder.specs.Sources.{band_seen, stack_seen};
 use crate::bounding::Lower;
 use crate::code_lengths::CodeLengths;
 use crate::jobs::SliceJob;
-use crate::reaching::reach_over;
+use crate::measuring::measure_places;
+use crate::reaching::{reach_over, reach_over_pairs};
 use crate::room::most_places;
 use crate::sources::{BandSource, StackSource};
 use crate::trying::{band_numbered, orient_numbered};
@@ -34,16 +35,22 @@ pub struct Gathered {
     depth: u32,
     ends: [usize; 13],
     values: Vec<i64>,
+    // The magnitudes of the slice's values outside the lowest subband, where all of these are small.
+    sizes: Vec<u16>,
+    short: bool,
+    // How many slices are still passed over, after one whose magnitudes aren't small.
+    rest: u32,
 }
 
 impl Model for Gathered {
-    ghost use Rattle.slice_encoder.specs.Gathering.{GatheredSeen, IsSound};
+    ghost use Rattle.slice_encoder.specs.Gathering.{GatheredSeen, IsSound, IsMeasured};
 
     ghost Value = { GatheredSeen };
 
     ghost view = { λ g. record { depth = g.depth; ends = g.ends; values = g.values.items } };
 
-    ghost invariant = { λ g. IsSound (record { depth = g.depth; ends = g.ends; values = g.values.items }) };
+    ghost invariant = { λ g. IsSound (record { depth = g.depth; ends = g.ends; values = g.values.items })
+        × IsMeasured (record { depth = g.depth; ends = g.ends; values = g.values.items }) g.short g.sizes.items };
 }
 
 /// The coefficients of a slice in all three components.
@@ -54,6 +61,13 @@ pub struct GatheredSlice {
     pub c2: Gathered,
     /// How long the codes of its values are.
     pub lengths: CodeLengths,
+}
+
+/// How far the codes of a slice's luma values and of its colour values reach, but for its lowest subbands.
+#[derive(Clone, Copy)]
+pub struct Reaches {
+    pub luma: u64,
+    pub colour: u64,
 }
 
 // Copies the coefficients of a rectangle, row by row, from a place on.
@@ -237,9 +251,9 @@ fn quantise_pair_at(first: &[i64], second: &[i64], index: u32, out: &mut [i64], 
     quantise_pair(first, second, index, &mut out[from..end]);
 }
 
-// The bits of codes behind so many values of the lowest subbands.
-fn behind(places: u64, bits: u64) -> u64
-    requires places { places ≤ 2 ^ 33 }
+/// The bits of codes that reach so far, with so many in front of them.
+pub fn behind(places: u64, bits: u64) -> u64
+    requires places { places ≤ 2 ^ 39 }
     requires bits { bits ≤ 2 ^ 40 }
     ensures value { result ≡ behind_lowest places bits }
     ensures few { result ≤ places + bits }
@@ -253,11 +267,16 @@ impl Gathered {
         requires { IsSize size.w size.h }
         ensures { IfOk result (λ g. (sx sy : ℕ) → sx < layout.now.slices_x → sy < layout.now.slices_y → place_count layout.now size sx sy ≤ length g.values) }
     {
-        let values = Vec::from_elem(alloc, 0i64, most_places(layout, size))?;
+        let places = most_places(layout, size);
+        let values = Vec::from_elem(alloc, 0i64, places)?;
+        let sizes = Vec::from_elem(alloc, 0u16, places)?;
         Ok(Gathered {
             depth: 0,
             ends: [0; 13],
             values,
+            sizes,
+            short: false,
+            rest: 0,
         })
     }
 
@@ -271,8 +290,23 @@ impl Gathered {
         ensures room { length self.new.values ≡ length self.old.values }
         ensures gathered { AreGathered layout.now size (stack_seen bands.entry) sx sy self.new }
     {
+        self.short = false;
         self.ends = gather_bands(layout, size, sx, sy, bands, &mut self.values);
         self.depth = layout.depth();
+    }
+
+    /// Takes the magnitudes of its values: small ones are then looked at in less time.
+    pub fn measure(&mut self)
+        ensures { self.new ≡ self.old }
+    {
+        if self.rest > 0 {
+            self.rest -= 1;
+            return;
+        }
+        let from = self.ends[0];
+        let to = self.ends[3 * self.depth as usize];
+        self.short = measure_places(&self.values, from, to, &mut self.sizes);
+        self.rest = if self.short { 0 } else { 3 };
     }
 
     /// How many values the lowest subband has.
@@ -299,6 +333,23 @@ impl Gathered {
         &self.values[self.ends[k - 1]..self.ends[k]]
     }
 
+    // The magnitudes in band number k, where those of the slice are small.
+    #[inline(always)]
+    fn sizes(&self, k: u32) -> Option<&[u16]>
+        requires some { 1 ≤ k }
+        requires most { k ≤ 3 * self.now.depth }
+        ensures { IfSome result (λ s. AreSizes s.now (piece_of self.now k)) }
+    {
+        let _ = &self.depth;
+        let _ = &self.values;
+        let k = k as usize;
+        if self.short {
+            Some(&self.sizes[self.ends[k - 1]..self.ends[k]])
+        } else {
+            None
+        }
+    }
+
     /// How far the codes of the slice's values reach at an index, but for its lowest subband.
     pub fn reach(&self, matrix: &Matrix, index: u32, lengths: &CodeLengths) -> u64
         requires index { index ≤ 127 }
@@ -311,7 +362,47 @@ impl Gathered {
             let k = 3 * self.depth - passed;
             let (level, orient) = band_numbered(k);
             let quantiser = matrix.quantiser(index, level, orient_numbered(orient));
-            bits = reach_over(self.band(k), quantiser, lengths.row(quantiser), bits);
+            bits = reach_over(
+                self.band(k),
+                self.sizes(k),
+                quantiser,
+                lengths.row(quantiser),
+                bits,
+            );
+        }
+        bits
+    }
+
+    /// How far the codes of two components in turn reach at an index, but for their lowest subbands.
+    pub fn reach_pairs(
+        &self,
+        second: &Gathered,
+        matrix: &Matrix,
+        index: u32,
+        lengths: &CodeLengths,
+    ) -> u64
+        requires index { index ≤ 127 }
+        requires entries { matrix.now.depth ≡ self.now.depth }
+        requires depth { second.now.depth ≡ self.now.depth }
+        requires ends { (k : ℕ) → k ≤ 3 * self.now.depth → slice_index second.now.ends k ≡ slice_index self.now.ends k }
+        ensures value { result ≡ gathered_pairs_reach self.now second.now matrix.now index }
+        ensures most { result ≤ 2 ^ 39 }
+    {
+        let _ = &second.depth;
+        let mut bits = 0;
+        for passed in 0..3 * self.depth {
+            let k = 3 * self.depth - passed;
+            let (level, orient) = band_numbered(k);
+            let quantiser = matrix.quantiser(index, level, orient_numbered(orient));
+            bits = reach_over_pairs(
+                self.band(k),
+                second.band(k),
+                self.sizes(k),
+                second.sizes(k),
+                quantiser,
+                lengths.row(quantiser),
+                bits,
+            );
         }
         bits
     }
@@ -383,8 +474,22 @@ impl GatheredSlice {
         })
     }
 
-    /// Gathers the coefficients of a slice.
-    pub fn gather(&mut self, job: SliceJob<'_>)
+    // Takes the magnitudes, unless so small an index is looked for that few looks are to be expected.
+    fn measure(&mut self, near: u32)
+        ensures luma { self.new.luma ≡ self.old.luma }
+        ensures c1 { self.new.c1 ≡ self.old.c1 }
+        ensures c2 { self.new.c2 ≡ self.old.c2 }
+    {
+        if near == 0 {
+            return;
+        }
+        self.luma.measure();
+        self.c1.measure();
+        self.c2.measure();
+    }
+
+    /// Gathers the coefficients of a slice whose index is looked for from one near it.
+    pub fn gather(&mut self, job: SliceJob<'_>, near: u32)
         requires across { job.sx < job.layout.now.slices_x }
         requires down { job.sy < job.layout.now.slices_y }
         requires given { AreGiven (picture_of job) }
@@ -404,25 +509,36 @@ impl GatheredSlice {
             .gather(layout, shape.colour, sx, sy, coefficients.c1());
         self.c2
             .gather(layout, shape.colour, sx, sy, coefficients.c2());
+        self.measure(near);
     }
 
-    /// What the slice needs at least at an index, whatever is restored of it.
-    pub fn low(&self, matrix: &Matrix, index: u32) -> Lower
+    /// How far the codes of its values reach at an index.
+    pub fn reaches(&self, matrix: &Matrix, index: u32) -> Reaches
         requires index { index ≤ 127 }
         requires luma { matrix.now.depth ≡ self.now.luma.depth }
         requires c1 { matrix.now.depth ≡ self.now.c1.depth }
         requires c2 { matrix.now.depth ≡ self.now.c2.depth }
-        ensures value { result ≡ gathered_low self.now matrix.now index }
+        requires ends { (k : ℕ) → k ≤ 3 * self.now.c1.depth → slice_index self.now.c2.ends k ≡ slice_index self.now.c1.ends k }
+        ensures value { result ≡ gathered_reaches self.now matrix.now index }
+        ensures few_luma { result.luma ≤ 2 ^ 38 }
+        ensures few_colour { result.colour ≤ 2 ^ 39 }
+    {
+        Reaches {
+            luma: self.luma.reach(matrix, index, &self.lengths),
+            colour: self.c1.reach_pairs(&self.c2, matrix, index, &self.lengths),
+        }
+    }
+
+    /// What the slice needs at least where the codes of its values reach so far, whatever is restored of it.
+    pub fn low(&self, reaches: Reaches) -> Lower
+        requires few_luma { reaches.luma ≤ 2 ^ 38 }
+        requires few_colour { reaches.colour ≤ 2 ^ 39 }
+        ensures value { result ≡ low_by self.now reaches }
         ensures few_luma { result.luma ≤ 2 ^ 40 }
         ensures few_colour { result.colour ≤ 2 ^ 40 }
     {
-        let luma = behind(
-            self.luma.lowest(),
-            self.luma.reach(matrix, index, &self.lengths),
-        );
-        let both = self.c1.reach(matrix, index, &self.lengths)
-            + self.c2.reach(matrix, index, &self.lengths);
-        let colour = behind(2 * self.c1.lowest(), both);
+        let luma = behind(self.luma.lowest(), reaches.luma);
+        let colour = behind(2 * self.c1.lowest(), reaches.colour);
         Lower {
             luma: luma.saturating_sub(3),
             colour: colour.saturating_sub(3),

@@ -16,6 +16,7 @@ mod gathered;
 mod jobs;
 pub mod laws;
 mod listing;
+mod measuring;
 mod needs;
 mod packing;
 mod reaching;

@@ -48,8 +48,8 @@ fn length_of(v: i64) -> u32
     }
 }
 
-// How long the codes of values are.
-fn total_length(values: &[i64]) -> u64
+/// How long the codes of values are.
+pub fn total_length(values: &[i64]) -> u64
     requires few { length values.now ≤ 2 ^ 32 }
     requires small { AreSmall values.now }
     ensures length { result ≡ length (codes_of values.now) }

@@ -1,22 +1,24 @@
 // The least index at which a slice fits.
 
-ghost use Rattle.std.specs.Prelude.{◌≡◌, ◌+◌, ◌*◌, ◌^◌, ◌<◌, ◌≤◌, max, length};
-ghost use Rattle.slice_encoder.specs.Choice.{IsLeast};
+ghost use Rattle.std.specs.Prelude.{◌≡◌, ◌+◌, ◌*◌, ◌^◌, ◌<◌, ◌≤◌, max, true, false, length};
+ghost use Rattle.slice_encoder.specs.Choice.{fits, IsLeast};
 ghost use Rattle.slice_geometry.specs.Slicing.{slice_bytes, slice_number};
 ghost use Rattle.slice_encoder.specs.TrialLaws.{IsSteepOk};
 ghost use Rattle.slice_encoder.specs.Tries.{AreTried, tried_lists};
 ghost use Rattle.slice_encoder.specs.Buffers.{HasRoom, Holds};
-ghost use Rattle.slice_encoder.specs.GatheredSlices.{AreAllGathered};
-ghost use Rattle.slice_encoder.specs.RestoredSlice.{WasTried, HoldsWhatWasTried};
+ghost use Rattle.slice_encoder.specs.Gathering.{high_reach, high_pairs_reach};
+ghost use Rattle.slice_encoder.specs.GatheredSlices.{AreAllGathered, gathered_reaches};
+ghost use Rattle.slice_encoder.specs.RestoredSlice.{WasTried, HoldsWhatWasTried, WasRefused};
 ghost use Rattle.slice_encoder.specs.Jobs.{picture_of};
 ghost use Rattle.slice_encoder.specs.Ready.{AreReady};
+ghost use Rattle.slice_encoder.specs.Trials.{luma_of};
 
 use crate::candidates::find_first;
 use crate::fitting::do_fit;
-use crate::gathered::GatheredSlice;
+use crate::gathered::{GatheredSlice, Reaches, behind};
 use crate::jobs::SliceJob;
 use crate::needs::need_of_values;
-use crate::trying::{list_colour, list_luma, try_lowest};
+use crate::trying::{list_colour, list_luma, lowest_colour_bits, lowest_luma_bits, try_lowest};
 use planes::ThreePlanes;
 use slice_geometry::Layout;
 
@@ -115,6 +117,100 @@ fn list_and_count(
     }
 }
 
+// Whether a slice that is restored at an index may fit, by how far its codes reach outside the lowest subbands.
+fn may_fit_restored(
+    job: SliceJob<'_>,
+    index: u32,
+    bytes: u32,
+    reaches: Reaches,
+    kept: &ThreePlanes,
+    luma: &mut [i64],
+    colour: &mut [i64],
+) -> bool
+    requires index { index ≤ 127 }
+    requires some { 1 ≤ bytes }
+    requires most { bytes ≤ 2 ^ 28 }
+    requires restored { WasTried (picture_of job) job.sx job.sy index kept.now }
+    requires luma_reach { reaches.luma ≡ high_reach (luma_of (picture_of job)) index job.sx job.sy }
+    requires colour_reach { reaches.colour ≡ high_pairs_reach (picture_of job) index job.sx job.sy }
+    requires few_luma { reaches.luma ≤ 2 ^ 38 }
+    requires few_colour { reaches.colour ≤ 2 ^ 39 }
+    requires room { HasRoom (picture_of job) job.sx job.sy (length luma.old) (length colour.old) }
+    ensures { result ≡ false → WasRefused (picture_of job.entry) job.entry.sx job.entry.sy index kept.now bytes }
+{
+    let _depth = job.layout.depth();
+    let luma_bits = lowest_luma_bits(job, index, &kept.luma, luma);
+    let colour_bits = lowest_colour_bits(job, index, kept, colour);
+    let luma_low = behind(luma_bits, reaches.luma).saturating_sub(3);
+    let colour_low = behind(colour_bits, reaches.colour).saturating_sub(3);
+    do_fit(bytes, luma_low, colour_low)
+}
+
+// The same, but not asked where codes reach less than half of the slice's bits: to ask would cost more than it spares.
+fn may_fit(
+    job: SliceJob<'_>,
+    index: u32,
+    bytes: u32,
+    reaches: Reaches,
+    kept: &ThreePlanes,
+    luma: &mut [i64],
+    colour: &mut [i64],
+) -> bool
+    requires index { index ≤ 127 }
+    requires some { 1 ≤ bytes }
+    requires most { bytes ≤ 2 ^ 28 }
+    requires restored { WasTried (picture_of job) job.sx job.sy index kept.now }
+    requires luma_reach { reaches.luma ≡ high_reach (luma_of (picture_of job)) index job.sx job.sy }
+    requires colour_reach { reaches.colour ≡ high_pairs_reach (picture_of job) index job.sx job.sy }
+    requires few_luma { reaches.luma ≤ 2 ^ 38 }
+    requires few_colour { reaches.colour ≤ 2 ^ 39 }
+    requires room { HasRoom (picture_of job) job.sx job.sy (length luma.old) (length colour.old) }
+    ensures { result ≡ false → WasRefused (picture_of job.entry) job.entry.sx job.entry.sy index kept.now bytes }
+{
+    if reaches.luma + reaches.colour < 4 * u64::from(bytes) {
+        return true;
+    }
+    may_fit_restored(job, index, bytes, reaches, kept, luma, colour)
+}
+
+// Tries one index: its restored values are kept, and its values are listed and counted where they may fit.
+fn try_if_may(
+    job: SliceJob<'_>,
+    index: u32,
+    bytes: u32,
+    gathered: &GatheredSlice,
+    reaches: Reaches,
+    kept: &mut ThreePlanes,
+    luma: &mut [i64],
+    colour: &mut [i64],
+) -> Trying
+    requires index { index ≤ 127 }
+    requires some { 1 ≤ bytes }
+    requires most { bytes ≤ 2 ^ 28 }
+    requires ready { AreReady (picture_of job) job.sx job.sy kept.old }
+    requires gathered { AreAllGathered (picture_of job) job.sx job.sy gathered.now }
+    requires reaches { reaches ≡ gathered_reaches gathered.now job.matrix.now index }
+    requires few_luma { reaches.luma ≤ 2 ^ 38 }
+    requires few_colour { reaches.colour ≤ 2 ^ 39 }
+    requires room { HasRoom (picture_of job) job.sx job.sy (length luma.old) (length colour.old) }
+    ensures holds { result.fits ≡ true → Holds (tried_lists (picture_of job.entry) kept.old job.entry.sx job.entry.sy index) bytes result luma.new colour.new }
+    ensures refused { result.fits ≡ false → fits bytes (tried_lists (picture_of job.entry) kept.old job.entry.sx job.entry.sy index) ≡ false }
+    ensures kept { AreTried (picture_of job.entry) job.entry.sx job.entry.sy index kept.old kept.new }
+{
+    restore_lowest(job, index, kept);
+    let may = may_fit(job, index, bytes, reaches, kept, luma, colour);
+    if !may {
+        return Trying {
+            luma: 0,
+            colour: 0,
+            luma_need: 0,
+            colour_need: 0,
+            fits: false,
+        };
+    }
+    list_and_count(job, index, bytes, gathered, kept, luma, colour)
+}
+
 // Tries one index: its restored values are kept, and its values listed and counted.
 pub fn try_at(
     job: SliceJob<'_>,
@@ -161,19 +257,21 @@ pub fn find_least(
     ensures kept { AreTried (picture_of job.entry) job.entry.sx job.entry.sy result.index kept.old kept.new }
 {
     let first = find_first(gathered, job.matrix, bytes, near);
-    for index in first..127 {
-        let trying = try_at(job, index, bytes, gathered, kept, luma, colour);
+    let mut reaches = first.reaches;
+    for index in first.index..127 {
+        let trying = try_if_may(job, index, bytes, gathered, reaches, kept, luma, colour);
         if trying.fits {
             return Found {
-                first,
+                first: first.index,
                 index,
                 trying,
             };
         }
+        reaches = gathered.reaches(job.matrix, index + 1);
     }
     let trying = try_at(job, 127, bytes, gathered, kept, luma, colour);
     Found {
-        first,
+        first: first.index,
         index: 127,
         trying,
     }

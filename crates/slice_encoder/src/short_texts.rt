@@ -1,6 +1,8 @@
 // The codes of small values, by a look-up.
 
-ghost use Rattle.std.specs.Prelude.{◌<◌, ◌-ℤ◌, pos, unsigned_abs};
+ghost use Rattle.std.specs.Prelude.{◌≡◌, ◌^◌, ◌<◌, ◌≤◌, ◌++◌, ◌-ℤ◌, pos, unsigned_abs};
+ghost use Rattle.bit_codes.specs.Bits.{digits_below};
+ghost use Rattle.bit_codes.specs.Codes.{signed_code_of};
 ghost use Rattle.slice_encoder.specs.BitQueues.{IsTextOf};
 
 /// The last `length` binary digits of a number are a text.
@@ -47,4 +49,29 @@ pub fn short_text(v: i64) -> ShortText
     ensures { IsTextOf result v }
 {
     text_at((v + 32) as usize)
+}
+
+/// The last `length` binary digits of a number are the texts of two values.
+#[derive(Clone, Copy)]
+pub struct PairText {
+    pub number: u64,
+    pub length: u32,
+}
+
+/// The code of a value from -31 to 31, and behind it that of another.
+#[inline(always)]
+pub fn pair_text(first: i64, second: i64) -> PairText
+    requires first_small { unsigned_abs first < 32 }
+    requires second_small { unsigned_abs second < 32 }
+    ensures text { digits_below result.length result.number ≡ signed_code_of first ++ signed_code_of second }
+    ensures few { result.length ≤ 24 }
+    ensures number { result.number < 2 ^ result.length }
+{
+    let front = short_text(first);
+    let back = short_text(second);
+    let length = u32::from(back.length);
+    PairText {
+        number: u64::from(front.number) * (1 << length) + u64::from(back.number),
+        length: u32::from(front.length) + length,
+    }
 }

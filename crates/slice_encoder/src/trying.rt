@@ -1,9 +1,12 @@
 // One index tried.
 
-ghost use Rattle.std.specs.Prelude.{◌≡◌, ◌+◌, ◌*◌, ◌<◌, ◌≤◌, length, take};
+ghost use Rattle.std.specs.Prelude.{◌≡◌, ◌+◌, ◌*◌, ◌^◌, ◌<◌, ◌≤◌, length, take};
 ghost use Rattle.planes.specs.Subbands.{orient_number};
 ghost use Rattle.planes.specs.Raster.{at};
-ghost use Rattle.slice_geometry.specs.SliceOrder.{level_of, orient_of};
+ghost use Rattle.bounded_blocks.specs.Writing.{codes_of};
+ghost use Rattle.slice_geometry.specs.SliceOrder.{level_of, orient_of, level_rect, area};
+ghost use Rattle.slice_encoder.specs.Listing.{band_part, pair_part};
+ghost use Rattle.slice_encoder.specs.TrialLaws.{AreSmall};
 ghost use Rattle.slice_encoder.specs.Jobs.{picture_of};
 ghost use Rattle.slice_encoder.specs.GatheredSlices.{AreAllGathered};
 ghost use Rattle.slice_encoder.specs.Trials.{luma_of, c1_of, c2_of, luma_list, colour_list};
@@ -18,6 +21,7 @@ ghost use Rattle.slice_encoder.specs.Sources.{stack_seen, trio_seen};
 use crate::gathered::{Gathered, GatheredSlice};
 use crate::jobs::SliceJob;
 use crate::listing::{list_pair, list_rect};
+use crate::needs::total_length;
 use crate::rect_trials::try_rect;
 use crate::sources::StackSource;
 use planes::{Orient, Plane, ThreePlanes};
@@ -70,6 +74,55 @@ pub fn orient_numbered(number: u32) -> Orient
         2 => Orient::Lh,
         _ => Orient::Hh,
     }
+}
+
+// How long the codes of the slice's luma values in the lowest subband are. These are listed at the front of a buffer.
+pub fn lowest_luma_bits(job: SliceJob<'_>, index: u32, kept: &Plane, out: &mut [i64]) -> u64
+    requires index { index ≤ 127 }
+    requires across { job.sx < job.layout.now.slices_x }
+    requires down { job.sy < job.layout.now.slices_y }
+    requires entries { job.matrix.now.depth ≡ job.layout.now.depth }
+    requires depth { (trio_seen job.coefficients).luma.depth ≡ job.layout.now.depth }
+    requires can { CanListAll (luma_of (picture_of job)) job.sx job.sy kept.now }
+    requires room { area (level_rect job.layout.now job.shape.now.luma job.sx job.sy 0) ≤ length out.old }
+    requires few { length out.old ≤ 2 ^ 32 }
+    requires small { AreSmall (band_part (luma_of (picture_of job)) kept.now index job.sx job.sy 0) }
+    ensures value { result ≡ length (codes_of (band_part (luma_of (picture_of job.entry)) kept.now index job.entry.sx job.entry.sy 0)) }
+    ensures few { result ≤ 75 * 2 ^ 32 }
+{
+    let rect = job.layout.band_rect(job.shape.luma, 0, job.sx, job.sy);
+    let quantiser = job.matrix.quantiser(index, 0, Orient::Ll);
+    let lowest = job.coefficients.luma().band(0, 0);
+    list_rect(lowest, kept, 0, rect, quantiser, out, 0);
+    let count = (rect.x1 - rect.x0) as usize * (rect.y1 - rect.y0) as usize;
+    total_length(&out[..count])
+}
+
+// How long those of its colour values in the lowest subbands are.
+pub fn lowest_colour_bits(job: SliceJob<'_>, index: u32, kept: &ThreePlanes, out: &mut [i64]) -> u64
+    requires index { index ≤ 127 }
+    requires across { job.sx < job.layout.now.slices_x }
+    requires down { job.sy < job.layout.now.slices_y }
+    requires entries { job.matrix.now.depth ≡ job.layout.now.depth }
+    requires first_depth { (trio_seen job.coefficients).c1.depth ≡ job.layout.now.depth }
+    requires second_depth { (trio_seen job.coefficients).c2.depth ≡ job.layout.now.depth }
+    requires first_can { CanListAll (c1_of (picture_of job)) job.sx job.sy kept.now.c1 }
+    requires second_can { CanListAll (c2_of (picture_of job)) job.sx job.sy kept.now.c2 }
+    requires room { 2 * area (level_rect job.layout.now job.shape.now.colour job.sx job.sy 0) ≤ length out.old }
+    requires few { length out.old ≤ 2 ^ 32 }
+    requires small { AreSmall (pair_part (c1_of (picture_of job)) (c2_of (picture_of job)) kept.now.c1 kept.now.c2 index job.sx job.sy 0) }
+    ensures value { result ≡ length (codes_of (pair_part (c1_of (picture_of job.entry)) (c2_of (picture_of job.entry)) kept.now.c1 kept.now.c2 index job.entry.sx job.entry.sy 0)) }
+    ensures few { result ≤ 75 * 2 ^ 32 }
+{
+    let rect = job.layout.band_rect(job.shape.colour, 0, job.sx, job.sy);
+    let quantiser = job.matrix.quantiser(index, 0, Orient::Ll);
+    let first = job.coefficients.c1().band(0, 0);
+    let second = job.coefficients.c2().band(0, 0);
+    list_pair(
+        first, second, &kept.c1, &kept.c2, 0, rect, quantiser, out, 0,
+    );
+    let count = 2 * ((rect.x1 - rect.x0) as usize * (rect.y1 - rect.y0) as usize);
+    total_length(&out[..count])
 }
 
 // Lists the slice's luma values, and tells how many they are.

@@ -1,6 +1,6 @@
-use Rattle.std.proofs.Common.{◌≡◌, ℕ, ◌-◌, ◌<◌, ◌≤◌, true, false}
+use Rattle.std.proofs.Common.{◌≡◌, ℕ, ◌-◌, ◌<◌, ◌≤◌, ◌^◌, true, false}
 use Rattle.slice_encoder.specs.LowNeeds.{may_fit}
-use Rattle.slice_encoder.specs.GatheredSlices.{gathered_low}
+use Rattle.slice_encoder.specs.GatheredSlices.{gathered_reaches, gathered_low}
 use Rattle.slice_encoder.proofs.candidates.find_first.Given as goal
 
 abbrev pub invariant-loop-start : goal.invariant-loop-start
@@ -10,6 +10,9 @@ invariant-loop-start l = record {
   steps : l.step ≤ 32;
   near : l.wanted ≤ 200;
   may : may_fit l.bytes (gathered_low l.gathered l.matrix l.end) ≡ true;
+  known : l.known ≡ true → l.reaches ≡ gathered_reaches l.gathered l.matrix l.end;
+  few_luma : l.reaches.luma ≤ 2 ^ 38;
+  few_colour : l.reaches.colour ≤ 2 ^ 39;
   refuted : (i : ℕ) → i < l.start → may_fit l.bytes (gathered_low l.gathered l.matrix i) ≡ false;
 }
 

@@ -1,13 +1,25 @@
-use Rattle.std.proofs.Common.{◌∙◌, true, false, refl, arith}
+use Rattle.std.proofs.Common.{◌∙◌, true, refl, arith}
 use Rattle.planes.specs.Raster.{at}
 use Rattle.slice_encoder.specs.Trials.{CodedPicture, luma_of, c1_of, c2_of}
 use Rattle.slice_encoder.specs.Tries.{tried, tried_lists}
 use Rattle.slice_encoder.specs.Choice.{fits}
 use Rattle.slice_encoder.specs.Jobs.{picture_of}
 use Rattle.slice_encoder.proofs.Again.{all_tried_again, all_tried_keep, all_keep_nothing, coarsest_tried}
-use Rattle.slice_encoder.proofs.GatheredLists.{fit_may, low_refutes}
-use Rattle.slice_encoder.proofs.Searching.{ready_again, holds_again, fit_again, refuted_more}
+use Rattle.slice_encoder.proofs.GatheredLists.{ends_same, fit_may, low_refutes}
+use Rattle.slice_encoder.proofs.Searching.{ready_again, holds_again, fit_again, refused_again, refuted_more}
 use Rattle.slice_encoder.proofs.search.find_least.Goals as goal
+
+pub find_first-first-requires-clause-ends : goal.find_first-first-requires-clause-ends
+find_first-first-requires-clause-ends c = λ k le.
+    let a = c.args in
+    let j : CodedPicture = picture_of a.job in
+    ends_same j 0 a.job.sx a.job.sy a.gathered.now.c1 a.gathered.now.c2 c.requires.gathered.c1 c.requires.gathered.c2 k le
+
+pub reaches-reaches-requires-clause-ends : goal.reaches-reaches-requires-clause-ends
+reaches-reaches-requires-clause-ends c = λ k le.
+    let a = c.args in
+    let j : CodedPicture = picture_of a.job in
+    ends_same j 0 a.job.sx a.job.sy a.gathered.now.c1 a.gathered.now.c2 c.requires.gathered.c1 c.requires.gathered.c2 k le
 
 pub find_first-first-requires-clause-last : goal.find_first-first-requires-clause-last
 find_first-first-requires-clause-last c =
@@ -23,16 +35,28 @@ loop-index-init c =
     record {
       luma_length = refl;
       colour_length = refl;
+      reaches = c.find_first-first.ensures.reaches;
+      few_luma = c.find_first-first.ensures.few_luma;
+      few_colour = c.find_first-first.ensures.few_colour;
       keeps = all_keep_nothing j a.job.sx a.job.sy a.kept.now;
       refuted = λ i lt.
-          low_refutes j a.job.sx a.job.sy a.gathered.now c.requires.gathered a.bytes i (tried (luma_of j) a.job.sx a.job.sy i (at a.kept.now.luma)) (tried (c1_of j) a.job.sx a.job.sy i (at a.kept.now.c1)) (tried (c2_of j) a.job.sx a.job.sy i (at a.kept.now.c2)) (c.find_first-first.ensures.least i lt);
+          low_refutes j a.job.sx a.job.sy a.gathered.now c.requires.gathered a.bytes i (tried (luma_of j) a.job.sx a.job.sy i (at a.kept.now.luma)) (tried (c1_of j) a.job.sx a.job.sy i (at a.kept.now.c1)) (tried (c2_of j) a.job.sx a.job.sy i (at a.kept.now.c2)) (c.find_first-first.ensures.first.least i lt);
     }
 
-pub try_at-trying-requires-clause-ready : goal.try_at-trying-requires-clause-ready
-try_at-trying-requires-clause-ready c =
+pub try_if_may-trying-requires-clause-ready : goal.try_if_may-trying-requires-clause-ready
+try_if_may-trying-requires-clause-ready c =
     let a = c.args in
     let j : CodedPicture = picture_of a.job in
     ready_again j a.job.sx a.job.sy a.kept.now c.loop-index.kept c.requires.ready c.loop-index.invariant.keeps
+
+pub try_if_may-trying-requires-clause-reaches : goal.try_if_may-trying-requires-clause-reaches
+try_if_may-trying-requires-clause-reaches c = c.loop-index.invariant.reaches
+
+pub try_if_may-trying-requires-clause-few_luma : goal.try_if_may-trying-requires-clause-few_luma
+try_if_may-trying-requires-clause-few_luma c = c.loop-index.invariant.few_luma
+
+pub try_if_may-trying-requires-clause-few_colour : goal.try_if_may-trying-requires-clause-few_colour
+try_if_may-trying-requires-clause-few_colour c = c.loop-index.invariant.few_colour
 
 pub returns-then-trying-clause-least : goal.returns-then-trying-clause-least
 returns-then-trying-clause-least c =
@@ -41,7 +65,7 @@ returns-then-trying-clause-least c =
     let l = c.loop-index in
     record {
       most = omega arith;
-      fit = fit_again j a.bytes a.job.sx a.job.sy l.index a.kept.now l.kept c.try_at-trying.result c.try_at-trying.new.luma c.try_at-trying.new.colour l.invariant.keeps c.try_at-trying.ensures.holds true c.if-trying.true;
+      fit = fit_again j a.bytes a.job.sx a.job.sy l.index a.kept.now l.kept c.try_if_may-trying.result c.try_if_may-trying.new.luma c.try_if_may-trying.new.colour l.invariant.keeps (c.try_if_may-trying.ensures.holds c.if-trying.true) true c.if-trying.true;
       least = l.invariant.refuted;
     }
 
@@ -50,14 +74,14 @@ returns-then-trying-clause-holds c =
     let a = c.args in
     let j : CodedPicture = picture_of a.job in
     let l = c.loop-index in
-    holds_again j a.bytes a.job.sx a.job.sy l.index a.kept.now l.kept c.try_at-trying.result c.try_at-trying.new.luma c.try_at-trying.new.colour l.invariant.keeps c.try_at-trying.ensures.holds
+    holds_again j a.bytes a.job.sx a.job.sy l.index a.kept.now l.kept c.try_if_may-trying.result c.try_if_may-trying.new.luma c.try_if_may-trying.new.colour l.invariant.keeps (c.try_if_may-trying.ensures.holds c.if-trying.true)
 
 pub returns-then-trying-clause-kept : goal.returns-then-trying-clause-kept
 returns-then-trying-clause-kept c =
     let a = c.args in
     let j : CodedPicture = picture_of a.job in
     let l = c.loop-index in
-    all_tried_again j a.job.sx a.job.sy l.index a.kept.now l.kept c.try_at-trying.new.kept l.invariant.keeps c.try_at-trying.ensures.kept
+    all_tried_again j a.job.sx a.job.sy l.index a.kept.now l.kept c.try_if_may-trying.new.kept l.invariant.keeps c.try_if_may-trying.ensures.kept
 
 pub loop-index-preserved : goal.loop-index-preserved
 loop-index-preserved c =
@@ -65,16 +89,19 @@ loop-index-preserved c =
     let j : CodedPicture = picture_of a.job in
     let l = c.loop-index in
     record {
-      luma_length = c.try_at-trying.auto.luma ∙ l.invariant.luma_length;
-      colour_length = c.try_at-trying.auto.colour ∙ l.invariant.colour_length;
-      keeps = all_tried_keep j a.job.sx a.job.sy l.index a.kept.now c.try_at-trying.new.kept (all_tried_again j a.job.sx a.job.sy l.index a.kept.now l.kept c.try_at-trying.new.kept l.invariant.keeps c.try_at-trying.ensures.kept);
+      luma_length = c.try_if_may-trying.auto.luma ∙ l.invariant.luma_length;
+      colour_length = c.try_if_may-trying.auto.colour ∙ l.invariant.colour_length;
+      reaches = c.reaches-reaches.ensures.value;
+      few_luma = c.reaches-reaches.ensures.few_luma;
+      few_colour = c.reaches-reaches.ensures.few_colour;
+      keeps = all_tried_keep j a.job.sx a.job.sy l.index a.kept.now c.try_if_may-trying.new.kept (all_tried_again j a.job.sx a.job.sy l.index a.kept.now l.kept c.try_if_may-trying.new.kept l.invariant.keeps c.try_if_may-trying.ensures.kept);
       refuted =
           refuted_more (λ i. fits a.bytes (tried_lists j a.kept.now a.job.sx a.job.sy i)) l.index l.invariant.refuted
-          (fit_again j a.bytes a.job.sx a.job.sy l.index a.kept.now l.kept c.try_at-trying.result c.try_at-trying.new.luma c.try_at-trying.new.colour l.invariant.keeps c.try_at-trying.ensures.holds false c.if-trying.false);
+          (refused_again j a.bytes a.job.sx a.job.sy l.index a.kept.now l.kept l.invariant.keeps (c.try_if_may-trying.ensures.refused c.if-trying.false));
     }
 
-pub try_at-trying-requires-2-clause-ready : goal.try_at-trying-requires-2-clause-ready
-try_at-trying-requires-2-clause-ready c =
+pub try_at-trying-requires-clause-ready : goal.try_at-trying-requires-clause-ready
+try_at-trying-requires-clause-ready c =
     let a = c.args in
     let j : CodedPicture = picture_of a.job in
     ready_again j a.job.sx a.job.sy a.kept.now c.loop-index.kept c.requires.ready c.loop-index.invariant.keeps
@@ -95,17 +122,17 @@ returns-clause-holds c =
     let a = c.args in
     let j : CodedPicture = picture_of a.job in
     let l = c.loop-index in
-    holds_again j a.bytes a.job.sx a.job.sy 127 a.kept.now l.kept c.try_at-trying-2.result c.try_at-trying-2.new.luma c.try_at-trying-2.new.colour l.invariant.keeps c.try_at-trying-2.ensures.holds
+    holds_again j a.bytes a.job.sx a.job.sy 127 a.kept.now l.kept c.try_at-trying.result c.try_at-trying.new.luma c.try_at-trying.new.colour l.invariant.keeps c.try_at-trying.ensures.holds
 
 pub returns-clause-kept : goal.returns-clause-kept
 returns-clause-kept c =
     let a = c.args in
     let j : CodedPicture = picture_of a.job in
     let l = c.loop-index in
-    all_tried_again j a.job.sx a.job.sy 127 a.kept.now l.kept c.try_at-trying-2.new.kept l.invariant.keeps c.try_at-trying-2.ensures.kept
+    all_tried_again j a.job.sx a.job.sy 127 a.kept.now l.kept c.try_at-trying.new.kept l.invariant.keeps c.try_at-trying.ensures.kept
 
 pub returns-then-trying-clause-near : goal.returns-then-trying-clause-near
-returns-then-trying-clause-near c = c.find_first-first.ensures.most
+returns-then-trying-clause-near c = c.find_first-first.ensures.first.most
 
 pub returns-clause-near : goal.returns-clause-near
-returns-clause-near c = c.find_first-first.ensures.most
+returns-clause-near c = c.find_first-first.ensures.first.most

@@ -1,0 +1,38 @@
+use Rattle.std.proofs.Common.{◌≡◌, ◌∙◌, ℕ, ◌+◌, ◌-◌, ◌*◌, List, ap, subst, arith, ℤ}
+use Rattle.std.specs.Prelude.{slice_index}
+use Rattle.slice_geometry.specs.SliceOrder.{level_of, orient_of}
+use Rattle.quant_factors.specs.Weights.{band_quantiser}
+use Rattle.quant_factors.proofs.Quantisers.{index_here}
+use Rattle.slice_encoder.specs.Gathering.{GatheredSeen, IsSound, quantised, quantised_piece, quantised_pair, in_turn, reach}
+use Rattle.slice_encoder.proofs.Gathers.{reach_band}
+use Rattle.slice_encoder.proofs.gathered.Gathered.reach_pairs.Goals as goal
+
+pub loop-passed-preserved : goal.loop-passed-preserved
+loop-passed-preserved c =
+    let a = c.args in
+    let g : GatheredSeen = a.self.now in
+    let h : GatheredSeen = a.second.now in
+    let l = c.loop-passed in
+    let same_depth : c.self.inside.depth ≡ g.depth = ap (λ (v : GatheredSeen). v.depth) c.self.view_is in
+    let k : ℕ = 3 * c.self.inside.depth - l.passed in
+    let n : ℕ = 3 * g.depth in
+    let here : k ≡ n - l.passed = omega (arith, same_depth) in
+    let sound : IsSound g = subst IsSound c.self.view_is c.self.invariant.0 in
+    let lower : n - (l.passed + 1) ≡ n - l.passed - 1 = omega arith in
+    let rise = sound.rise (n - l.passed) (omega (arith, same_depth, c.loop-passed-test.true)) (omega arith) in
+    let count = c.band.ensures.count ∙ ap (λ (j : ℕ). slice_index g.ends j - slice_index g.ends (j - 1)) here in
+    let q : ℕ = band_quantiser a.matrix.now a.index (level_of k) (orient_of k) in
+    let index_is : c.quantiser-quantiser.result ≡ q =
+    index_here a.matrix.now a.index c.band_numbered-level.result.0 _ c.band_numbered-level.result.1 _ _ c.quantiser-quantiser.result c.band_numbered-level.ensures.level c.band_numbered-level.ensures.orient c.orient_numbered.ensures c.quantiser-quantiser.ensures
+    in
+    let step : c.reach_over_pairs-bits.result ≡ reach (quantised_pair g h a.matrix.now a.index (n - l.passed)) l.bits =
+    c.reach_over_pairs-bits.ensures.value
+    ∙ ap (λ (i : ℕ). reach (in_turn (quantised i c.band.result.now) (quantised i c.band-in-loop-passed.result.now)) l.bits) index_is
+    ∙ ap (λ (vs : List ℤ). reach (in_turn (quantised q vs) (quantised q c.band-in-loop-passed.result.now)) l.bits) c.band.ensures.value
+    ∙ ap (λ (vs : List ℤ). reach (in_turn (quantised_piece g a.matrix.now a.index k) (quantised q vs)) l.bits) c.band-in-loop-passed.ensures.value
+    ∙ ap (λ (j : ℕ). reach (quantised_pair g h a.matrix.now a.index j) l.bits) here
+    in
+    record {
+      so_far = reach_band (quantised_pair g h a.matrix.now a.index) n l.passed l.bits c.reach_over_pairs-bits.result (omega (arith, same_depth, c.loop-passed-test.true)) l.invariant.so_far step;
+      few = omega (arith, l.invariant.few, c.reach_over_pairs-bits.ensures.most, count, rise, ap (λ (j : ℕ). slice_index g.ends j) lower);
+    }
