@@ -1,5 +1,5 @@
 -- A run over raw pictures comes to what its pictures give, one after another.
-use Rattle.std.proofs.Common.{◌≡◌, ℕ, zero, suc, ◌+◌, ◌*◌, ◌/◌, ◌%◌, ◌<◌, ◌≤◌, cond, eqb, Bool, true, false, List, [], ◌∷◌, ◌++◌, length, drop, Option, Some, None, Result, Ok, Err, refl, sym, ap, ◌∙◌, arith, append_assoc}
+use Rattle.std.proofs.Common.{◌≡◌, ℕ, zero, suc, ◌+◌, ◌*◌, ◌/◌, ◌%◌, ◌<◌, cond, eqb, true, false, List, [], ◌∷◌, ◌++◌, length, drop, Option, None, Ok, Err, refl, sym, ap, ◌∙◌, arith, append_assoc}
 use Rattle.std.proofs.lemmas.List.{length-drop}
 use Rattle.slice_geometry.specs.Frames.{Frame}
 use Rattle.picture_codec.specs.Samples.{PictureSamples}
@@ -10,8 +10,8 @@ use Rattle.vc2_run.proofs.Walks.{answer_step}
 use Rattle.field_weave.specs.declared.Order.{Order}
 use Rattle.field_weave.specs.declared.weaver.WeaveStop.TheVariants.{HalfFrame}
 use Rattle.field_weave.specs.Weaving.{doubled, woven, split, frames_of, fields_of}
-use Rattle.raw_video.specs.PictureRuns.{PictureCommand, BehindPictures, step_shown, step_by, picture_machine}
-use Rattle.field_weave.specs.WeaveRuns.{WeaveEnd, FieldsSoFar, fields_end, weaving, splitting, weave_machine, split_machine, refused_by}
+use Rattle.raw_video.specs.PictureRuns.{PictureCommand, step_shown, step_by, picture_machine}
+use Rattle.field_weave.specs.WeaveRuns.{WeaveEnd, FieldsSoFar, fields_end, weaving, splitting, weave_machine, split_machine}
 use Rattle.field_weave.specs.WeaveAnswers.{woven_end, woven_answer, split_end, split_answer}
 use Rattle.raw_video.proofs.ShownFronts.{shown_length}
 use Rattle.raw_video.proofs.PictureTurns.{picture_laws}

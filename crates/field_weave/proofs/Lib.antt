@@ -3,3 +3,4 @@ pub mod LineTurns
 pub mod WeaveLaws
 pub mod Weaves
 pub mod Answers
+pub mod WrittenLines

@@ -1,3 +1,4 @@
 pub mod Weaving
 pub mod WeaveRuns
 pub mod WeaveAnswers
+pub mod Writing

@@ -102,6 +102,10 @@ told other = Ok other
 abbrev pub first_of : Order → Frame → Bool → PictureSamples → Option PictureSamples
 first_of order f begun frame = if begun then Some (split order f false frame) else None
 
+-- the first field that is kept for a frame that has one
+abbrev pub kept_first : Bool → PictureSamples → Option PictureSamples
+kept_first begun first = if begun then Some first else None
+
 -- what a call answers where there is no next picture
 abbrev pub stop_of : RawFault → WeaveStop
 stop_of (faults.SampleTooLarge place) = stops.SampleTooLarge place

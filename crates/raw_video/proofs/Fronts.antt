@@ -1,10 +1,10 @@
 -- What stands in front, by what was read of a picture.
 use Rattle.std.proofs.Common.{◌≡◌, ℕ, zero, suc, ◌+◌, ◌-◌, ◌*◌, ◌^◌, ◌<◌, ◌≤◌, ltb, eqb, Bool, true, false, List, [], ◌∷◌, ◌++◌, length, take, drop, replicate, Option, Some, None, Ok, Err, refl, sym, ap, ◌∙◌, arith, append-nil, append_assoc, eq-eqb}
-use Rattle.std.specs.Io.KnownBytes.{Consumes, IsAtEnd}
+use Rattle.std.specs.Io.KnownBytes.{Consumes}
 use Rattle.std.proofs.Math.Seq.{take-append-add, take-append_seam, drop-append_seam}
 use Rattle.std.proofs.lemmas.Bool.{lt-ltb, le-ltb, ne_eqb}
 use Rattle.std.proofs.lemmas.List.{length-append, length-replicate, take_all}
-use Rattle.vc2_io.proofs.Known.{Consumes-then, Consumes-along}
+use Rattle.vc2_io.proofs.Known.{Consumes-then}
 use Rattle.slice_geometry.specs.Frames.{Frame}
 use Rattle.picture_codec.specs.Samples.{SamplesSeen, PictureSamples}
 use Rattle.raw_video.specs.RawText.{is_wide}
@@ -14,7 +14,6 @@ use Rattle.raw_video.specs.declared.reading.Halt.TheVariants as halts
 use Rattle.raw_video.specs.declared.reader.RawStep.TheVariants as steps
 use Rattle.raw_video.specs.declared.reader.RawFault.TheVariants as faults
 use Rattle.raw_video.proofs.SampleLaws.{large-stays}
-use Rattle.raw_video.proofs.ReadTurns.{soon_at_once}
 
 -- ---- sizes
 
@@ -199,32 +198,6 @@ module _ (f : Frame) (place : ℕ) (inside : place ≤ 2 ^ 40) (rest0 rest1 : Op
     within : length r.taken ≤ 2 ^ 40 - place
     within = omega (arith, r.most)
 
-    pub read_cut : (rest2 : Option (List ℕ)) (at : ℕ) → at ≡ place + came → 1 ≤ came → Consumes rest1 rest2 [] → IsAtEnd rest2 → ReadsFront f place rest0 rest2 p (Err (faults.RawTruncated at))
-    read_cut rest2 at is some none ends = record {
-      taken = r.taken;
-      took = Consumes-along rest0 rest2 (r.taken ++ []) r.taken (append-nil r.taken) (Consumes-then rest0 rest1 rest2 r.taken [] r.took none);
-      most = omega (arith, short);
-      limit = omega (arith, within);
-      front = (ends, front_cut f place r.taken short within (omega (arith, some, came_is)) r.are.3 ∙ ap (λ (n : ℕ). CutAt n) (let e : place + length r.taken ≡ at = omega (arith, is, came_is) in e));
-      soon = r.soon;
-    }
-
-    nothing : (l : List ℕ) → length l ≡ 0 → l ≡ []
-    nothing [] e = refl
-    nothing (x ∷ l) e = absurd (omega arith)
-
-    pub read_over : (rest2 : Option (List ℕ)) → came ≡ 0 → Consumes rest1 rest2 [] → IsAtEnd rest2 → ReadsFront f place rest0 rest2 p (Ok steps.End)
-    read_over rest2 none same ends =
-        let empty : r.taken ≡ [] = nothing r.taken (omega (arith, none, came_is)) in
-        record {
-          taken = [];
-          took = Consumes-along rest0 rest2 (r.taken ++ []) [] (append-nil r.taken ∙ empty) (Consumes-then rest0 rest1 rest2 r.taken [] r.took same);
-          most = omega arith;
-          limit = omega (arith, inside);
-          front = (refl, ends, front_over f place (omega (arith, short)));
-          soon = soon_at_once (is_wide f) (sample_bounds f) [] (omega arith);
-        }
-
     pub read_past : (rest2 : Option (List ℕ)) (byte : ℕ) → place + came ≡ 2 ^ 40 → Consumes rest1 rest2 (byte ∷ []) → ReadsFront f place rest0 rest2 p (Err faults.TooLong)
     read_past rest2 byte limit one = record {
       taken = r.taken ++ byte ∷ [];
@@ -235,14 +208,4 @@ module _ (f : Frame) (place : ℕ) (inside : place ≤ 2 ^ 40) (rest0 rest1 : Op
           ap (raw_front f place) (append_assoc r.taken (byte ∷ []) more)
           ∙ front_too_long f place r.taken (byte ∷ more) short (omega (arith, limit, came_is)) (omega arith) r.are.3;
       soon = record { sure = r.taken; last = byte ∷ []; parts = refl; few = omega arith; none = r.are.3 };
-    }
-
-    pub read_lost : (rest2 : Option (List ℕ)) → Consumes rest1 rest2 [] → ReadsFront f place rest0 rest2 p (Err faults.ReadFault)
-    read_lost rest2 none = record {
-      taken = r.taken;
-      took = Consumes-along rest0 rest2 (r.taken ++ []) r.taken (append-nil r.taken) (Consumes-then rest0 rest1 rest2 r.taken [] r.took none);
-      most = omega (arith, short);
-      limit = omega (arith, within);
-      front = short;
-      soon = r.soon;
     }

@@ -1,5 +1,5 @@
 -- One piece of samples, from the bytes that came.
-use Rattle.std.proofs.Common.{◌≡◌, ℕ, ◌+◌, ◌-◌, ◌*◌, ◌<◌, ◌≤◌, ◌⊎◌, inl, inr, min, Bool, true, false, List, ◌++◌, length, take, replicate, Option, Some, None, Ok, Err, refl, sym, ap, ◌∙◌, arith}
+use Rattle.std.proofs.Common.{◌≡◌, ℕ, ◌+◌, ◌-◌, ◌*◌, ◌/◌, ◌<◌, ◌≤◌, ◌⊎◌, inl, inr, min, Bool, true, false, List, ◌++◌, length, take, replicate, Option, Some, None, Ok, Err, refl, sym, ap, subst, ◌∙◌, arith}
 use Rattle.std.specs.Io.KnownBytes.{Consumes, IsAtEnd}
 use Rattle.std.proofs.lemmas.List.{length-take, length-replicate, replicate-append-replicate}
 use Rattle.raw_video.specs.RawParse.{sample_size, samples_in, first_large}
@@ -12,9 +12,32 @@ replicate_more count n bound le =
     let is : n ≡ count + (n - count) = omega (arith, le) in
     ap (λ (m : ℕ). replicate m bound) is ∙ sym (replicate-append-replicate count (n - count) bound)
 
-pub size_most : (wide : Bool) (n : ℕ) → n ≤ 2048 → sample_size wide * n ≤ 4096
-size_most false n le = omega (arith, le)
-size_most true n le = omega (arith, le)
+-- ---- as many samples as a read asks for
+
+pub size_is : (wide : Bool) → (1 ≤ whole_samples wide 4096) × (whole_samples wide 4096 ≤ 4096)
+size_is false = (omega arith, omega arith)
+size_is true = (omega arith, omega arith)
+
+pub read_fits : (wide : Bool) (most n : ℕ) → most ≡ whole_samples wide 4096 → n ≤ most → sample_size wide * n ≤ 4096
+read_fits false most n e le = omega (arith, e, le)
+read_fits true most n e le = omega (arith, e, le)
+
+inside_of : (wide : Bool) (count piece : ℕ) → piece < (count + whole_samples wide 4096 - 1) / whole_samples wide 4096 → whole_samples wide 4096 * piece < count
+inside_of false count piece lt = omega (arith, lt)
+inside_of true count piece lt = omega (arith, lt)
+
+next_of : (wide : Bool) (piece : ℕ) → whole_samples wide 4096 * (piece + 1) ≡ whole_samples wide 4096 * piece + whole_samples wide 4096
+next_of false piece = omega arith
+next_of true piece = omega arith
+
+module _ (wide : Bool) (most count piece : ℕ) (is : most ≡ whole_samples wide 4096) where
+  pub piece_inside : piece < (count + most - 1) / most → most * piece < count
+  piece_inside lt = subst (λ (m : ℕ). m * piece < count) (sym is) (inside_of wide count piece (subst (λ (m : ℕ). piece < (count + m - 1) / m) is lt))
+
+  pub piece_next : most * (piece + 1) ≡ most * piece + most
+  piece_next = subst (λ (m : ℕ). m * (piece + 1) ≡ m * piece + m) (sym is) (next_of wide piece)
+
+-- ---- one piece
 
 whole_few : (wide : Bool) (n came : ℕ) → came ≤ sample_size wide * n → whole_samples wide came ≤ n
 whole_few false n came le = omega (arith, le)
@@ -26,7 +49,7 @@ whole_all true n came e = omega (arith, e)
 
 module _ (wide : Bool) (start room n bound before want most came count : ℕ) (rest0 rest1 : Option (List ℕ)) (buf bytes new : List ℕ)
     (before_is : before ≡ sample_size wide * start) (want_is : want ≡ sample_size wide * n) (inside : sample_size wide * start ≤ room) (most_is : most ≡ min want (room - before))
-    (long : length buf ≡ most) (came_few : came ≤ length buf) (pieces : n ≤ 2048) (took : Consumes rest0 rest1 (take came buf)) (ends : came < length buf → IsAtEnd rest1)
+    (long : length buf ≡ most) (came_few : came ≤ length buf) (one_read : sample_size wide * n ≤ 4096) (took : Consumes rest0 rest1 (take came buf)) (ends : came < length buf → IsAtEnd rest1)
     (bytes_are : bytes ≡ take came buf) (parsed : take count new ≡ samples_in wide bytes) (count_is : count ≡ whole_samples wide (length bytes)) (fits : count ≤ length new) where
   size : length (take came buf) ≡ came
   size = omega (arith, length-take came buf, came_few)
@@ -49,7 +72,7 @@ module _ (wide : Bool) (start room n bound before want most came count : ℕ) (r
       omega (arith, size, all, came_few, long, most_is, want_is)
 
   soon : IsSoon wide (replicate n bound) (take came buf)
-  soon = soon_at_once wide (replicate n bound) (take came buf) (omega (arith, size, came_few, long, most_is, want_is, size_most wide n pieces))
+  soon = soon_at_once wide (replicate n bound) (take came buf) (omega (arith, size, came_few, long, most_is, want_is, one_read))
 
   room_left : sample_size wide * start + length (take came buf) ≤ room
   room_left = omega (arith, size, came_few, long, most_is, before_is, inside)

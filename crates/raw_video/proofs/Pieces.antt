@@ -18,11 +18,11 @@ OnErr-always (Ok x) p = tt
 OnErr-always (Err e) p = p
 
 -- the text of joined samples
-text_joined : (wide : Bool) (first second : List ℕ) → text_of wide first ++ text_of wide second ≡ text_of wide (first ++ second)
+pub text_joined : (wide : Bool) (first second : List ℕ) → text_of wide first ++ text_of wide second ≡ text_of wide (first ++ second)
 text_joined wide first second = sym (flat_map-append _ first second)
 
 -- the text of the samples up to a place, and of all behind it
-text_cut : (wide : Bool) (samples : List ℕ) (done : ℕ) → text_of wide (take done samples) ++ text_of wide (drop done samples) ≡ text_of wide samples
+pub text_cut : (wide : Bool) (samples : List ℕ) (done : ℕ) → text_of wide (take done samples) ++ text_of wide (drop done samples) ≡ text_of wide samples
 text_cut wide samples done = text_joined wide _ _ ∙ ap (text_of wide) (take-append-drop done samples)
 
 -- one more piece
@@ -37,7 +37,7 @@ GrewShort-piece a b c wide samples done more h g =
     GrewShort-along a c _ _ (text_cut wide samples done) (GrewShort-second a b c _ _ h rest)
 
 -- the raw text of a picture, component by component
-raw_text_is : (f : Frame) (s : PictureSamples) → (text_of (is_wide f) s.luma.cells ++ text_of (is_wide f) s.c1.cells) ++ text_of (is_wide f) s.c2.cells ≡ raw_text f s
+pub raw_text_is : (f : Frame) (s : PictureSamples) → (text_of (is_wide f) s.luma.cells ++ text_of (is_wide f) s.c1.cells) ++ text_of (is_wide f) s.c2.cells ≡ raw_text f s
 unfolding raw_text
 raw_text_is f s =
     let wide = is_wide f in

@@ -1,10 +1,10 @@
 -- Samples that are read one part after another.
-use Rattle.std.proofs.Common.{◌≡◌, ℕ, zero, suc, ◌+◌, ◌*◌, ◌%◌, ◌<◌, ◌≤◌, cond, ltb, Bool, true, false, List, [], ◌∷◌, ◌++◌, length, replicate, Option, Some, None, Result, Ok, Err, refl, sym, ap, ◌∙◌, arith, append-nil, append_assoc}
+use Rattle.std.proofs.Common.{◌≡◌, ℕ, zero, suc, ◌+◌, ◌*◌, ◌%◌, ◌<◌, ◌≤◌, cond, ltb, Bool, true, false, List, [], ◌∷◌, ◌++◌, length, take, replicate, Option, Some, None, Result, Ok, Err, refl, sym, ap, subst, ◌∙◌, arith, append-nil, append_assoc}
 use Rattle.std.specs.List.{All}
 use Rattle.std.proofs.lemmas.Bool.{ltb-true}
 use Rattle.std.proofs.lemmas.List.{length-append}
 use Rattle.vc2_io.specs.declared.TheConstants.{READ_SIZE}
-use Rattle.vc2_io.proofs.Known.{Consumes-then}
+use Rattle.vc2_io.proofs.Known.{Consumes-then, Consumes-none}
 use Rattle.raw_video.specs.RawParse.{sample_size, samples_in, later, first_large}
 use Rattle.raw_video.specs.Reading.{SamplesAre, ReadsSamples, IsSoon}
 use Rattle.raw_video.specs.declared.reading.Halt.{Halt}
@@ -128,6 +128,26 @@ soon_then wide bounds others first then long none s = record {
 }
 
 -- ---- parts of the samples
+
+-- none
+pub reads_nothing : (wide : Bool) (start room bound : ℕ) (rest : Option (List ℕ)) (samples : List ℕ) (n : ℕ) → n ≡ 0 → sample_size wide * start ≤ room → ReadsSamples wide start room (replicate n bound) rest rest (take n samples) (Ok tt)
+reads_nothing wide start room bound rest samples n none inside =
+    subst (λ (k : ℕ). ReadsSamples wide start room (replicate k bound) rest rest (take k samples) (Ok tt)) (sym none) (record {
+      taken = [];
+      took = Consumes-none rest;
+      few = omega arith;
+      most = omega (arith, inside);
+      are = (by wide, whole wide, nothing_large wide []);
+      soon = soon_at_once wide [] [] (omega arith);
+    })
+  where
+    by : (wide : Bool) → 0 ≡ sample_size wide * 0
+    by false = refl
+    by true = refl
+
+    whole : (wide : Bool) → samples_in wide [] ≡ []
+    whole false = refl
+    whole true = refl
 
 module _ (wide : Bool) (start room : ℕ) (bounds others : List ℕ) (rest0 rest1 : Option (List ℕ)) where
   -- what halted the first part

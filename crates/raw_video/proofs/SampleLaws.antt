@@ -101,6 +101,11 @@ all_more below bound samples k lt f e =
     let both = both_true below (ltb (get_or samples k 0) bound) e in
     All-more (λ v. v < bound) samples k 0 lt (f both.0) (ltb-true (get_or samples k 0) bound both.1)
 
+-- a byte more
+pub narrow_more : (bytes samples : List ℕ) (k v : ℕ) → k < length bytes → k < length samples → take k samples ≡ take k bytes → v ≡ get_or bytes k 0 → take (k + 1) (set samples k v) ≡ take (k + 1) bytes
+narrow_more bytes samples k v inside room so_far is =
+    take_more_set samples k v room ∙ ap (λ l. l ++ v ∷ []) so_far ∙ ap (λ n. take k bytes ++ n ∷ []) is ∙ sym (take_more bytes k 0 inside)
+
 -- two bytes more
 pub wide_more : (bytes samples : List ℕ) (k v : ℕ) → 2 * k + 1 < length bytes → k < length samples → take k samples ≡ samples_in true (take (2 * k) bytes) → v ≡ get_or bytes (2 * k) 0 + 256 * get_or bytes (2 * k + 1) 0
     → take (k + 1) (set samples k v) ≡ samples_in true (take (2 * (k + 1)) bytes)

@@ -2,3 +2,4 @@ pub mod RawText
 pub mod RawParse
 pub mod Reading
 pub mod PictureRuns
+pub mod Waiting

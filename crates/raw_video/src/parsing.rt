@@ -8,6 +8,7 @@ ghost use Rattle.raw_video.specs.Reading.{whole_samples};
 fn parse_narrow(bytes: &[u8], samples: &mut [u16])
     requires { length bytes.now ≤ length samples.old }
     ensures samples { take (length bytes.now) samples.new ≡ samples_in false bytes.now }
+    ensures few { All (λ v. v < 256) (take (length bytes.now) samples.new) }
     ensures len { length samples.new ≡ length samples.old }
 {
     for k in 0..bytes.len() {
@@ -33,6 +34,7 @@ pub(crate) fn parse(bytes: &[u8], wide: bool, samples: &mut [u16]) -> usize
     ensures fits { result ≤ length samples.new }
     ensures count { result ≡ whole_samples wide (length bytes.now) }
     ensures samples { take result samples.new ≡ samples_in wide bytes.now }
+    ensures narrow { wide ≡ false → All (λ v. v < 256) (take result samples.new) }
 {
     if wide {
         parse_wide(bytes, samples);
@@ -54,11 +56,16 @@ fn all_below(samples: &[u16], bound: u32) -> bool
     below
 }
 
-/// The number of the first sample that is not below the bound.
+/// The number of the first sample that is not below the bound. A sample of one byte is below 256 anyway.
 #[tactic(auto, using(crate::proofs::SampleLaws::large))]
-pub(crate) fn first_large(samples: &[u16], bound: u32) -> Option<usize>
+pub(crate) fn first_large(samples: &[u16], wide: bool, bound: u32) -> Option<usize>
+    requires narrow { wide ≡ false → All (λ v. v < 256) samples.now }
     ensures { result ≡ first_large (replicate (length samples.now) bound) samples.now }
 {
+    let all_fit = !wide && bound >= 256;
+    if all_fit {
+        return None;
+    }
     if all_below(samples, bound) {
         return None;
     }

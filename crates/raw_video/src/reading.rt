@@ -8,16 +8,13 @@ ghost use Rattle.slice_geometry.specs.Frames.{frame_of};
 ghost use Rattle.picture_codec.specs.Samples.{shown, width_of, height_of, bits_of};
 ghost use Rattle.raw_video.specs.RawText.{is_wide};
 ghost use Rattle.raw_video.specs.RawParse.{sample_size, sample_bounds};
-ghost use Rattle.raw_video.specs.Reading.{ReadsSamples, HaltCause};
+ghost use Rattle.raw_video.specs.Reading.{whole_samples, ReadsSamples, HaltCause};
 
 use crate::parsing::{first_large, parse};
 use crate::spelling::are_wide;
 use picture_codec::Picture;
 use slice_geometry::{Component, PictureShape};
-use vc2_io::{Source, fill};
-
-// How many samples are read in one piece.
-const PIECE: usize = 2048;
+use vc2_io::{READ_SIZE, Source, fill};
 
 /// Why the samples of a picture did not come whole. Numbers are counted from the picture's first.
 #[derive(Clone, Copy)]
@@ -36,6 +33,13 @@ pub(crate) fn bytes_of(wide: bool, count: u64) -> u64
     ensures { result ≡ sample_size wide * count }
 {
     if wide { 2 * count } else { count }
+}
+
+// How many samples one read asks for.
+fn samples_a_read(wide: bool) -> usize
+    ensures { result ≡ whole_samples wide READ_SIZE }
+{
+    if wide { READ_SIZE / 2 } else { READ_SIZE }
 }
 
 // What samples of so many bits are below.
@@ -71,14 +75,15 @@ fn read_piece<S: Source>(
     samples: &mut [u16],
 ) -> Result<(), Halt>
     requires some { 1 ≤ n }
-    requires few { n ≤ 2048 }
+    requires few { n ≤ READ_SIZE }
+    requires one_read { sample_size wide * n ≤ READ_SIZE }
     requires start_few { start ≤ 2 ^ 26 }
     requires inside { sample_size wide * start ≤ room }
     requires bytes_long { length bytes.old ≡ READ_SIZE }
-    requires long { length samples.old ≡ 2048 }
+    requires long { length samples.old ≡ READ_SIZE }
     ensures piece { ReadsSamples wide start room (replicate n bound) (S.rest src.old) (S.rest src.new) (take n samples.new) result }
     ensures bytes_len { length bytes.new ≡ READ_SIZE }
-    ensures len { length samples.new ≡ 2048 }
+    ensures len { length samples.new ≡ READ_SIZE }
     ensures cause { HaltCause (S.faults src.old) (S.faults src.new) result }
 {
     let before = bytes_of(wide, start as u64);
@@ -89,7 +94,7 @@ fn read_piece<S: Source>(
         Err(_) => return Err(Halt::ReadFault),
     };
     let count = parse(&bytes[..came], wide, samples);
-    if let Some(k) = first_large(&samples[..count], bound) {
+    if let Some(k) = first_large(&samples[..count], wide, bound) {
         return Err(Halt::Large((start + k) as u64));
     }
     if (came as u64) < want {
@@ -118,11 +123,12 @@ fn read_component<S: Source>(
     let wide = are_wide(picture.shape());
     let bound = bound_of(depth_of(picture.shape(), c));
     let count = picture.samples(c).len();
-    let mut bytes = [0u8; 2 * PIECE];
-    let mut samples = [0u16; PIECE];
-    for piece in 0..(count + PIECE - 1) / PIECE {
-        let from = PIECE * piece;
-        let n = (count - from).min(PIECE);
+    let most = samples_a_read(wide);
+    let mut bytes = [0u8; READ_SIZE];
+    let mut samples = [0u16; READ_SIZE];
+    for piece in 0..(count + most - 1) / most {
+        let from = most * piece;
+        let n = (count - from).min(most);
         read_piece(
             src,
             &mut bytes,

@@ -1,16 +1,13 @@
-use Rattle.std.proofs.Common.{◌≡◌, ℕ, ◌+◌, ◌<◌, true, false, ◌++◌, Ok, Err, refl, sym, ap, subst, ◌∙◌, arith}
-use Rattle.std.specs.Io.KnownBytes.{Appends}
-use Rattle.vc2_io.specs.Outside.{GrewShort}
+use Rattle.std.proofs.Common.{◌≡◌, ℕ, ◌+◌, ◌<◌, Ok, Err, refl, sym, ap, subst, ◌∙◌, arith}
 use Rattle.vc2_io.proofs.Known.{Appends-none}
 use Rattle.slice_geometry.specs.declared.PictureShape.{PictureShape}
 use Rattle.slice_geometry.specs.Frames.{Frame, frame_of}
-use Rattle.raw_video.specs.RawText.{raw_text}
 use Rattle.raw_video.specs.RawParse.{raw_length}
 use Rattle.raw_video.specs.Reading.{RawReaderSeen, ReadsFront, reader_after}
 use Rattle.raw_video.specs.declared.reader.RawStep.{RawStep}
 use Rattle.raw_video.specs.declared.reader.RawStep.TheVariants.{Picture, End}
 use Rattle.field_weave.specs.declared.weaver.WeaveStop.{WeaveStop}
-use Rattle.field_weave.specs.Weaving.{doubled, split}
+use Rattle.field_weave.specs.Weaving.{doubled}
 use Rattle.raw_video.specs.PictureRuns.{BehindPictures, Goes}
 use Rattle.field_weave.specs.WeaveRuns.{splitting, split_machine, Weaves}
 use Rattle.raw_video.proofs.PictureTurns.{some_raw, goes_first, goes_more}
@@ -29,11 +26,10 @@ frames-init g c =
     let rest = g.S.Source.rest c.args.src.now in
     let out = g.K.Sink.written c.args.out.now in
     let order = c.args.order in
-    let f = frame_of c.args.field.now.shape in
+    let f = frame_of c.args.field.now in
     record {
       unrefused = ap (λ (r : RawReaderSeen). r.refused) c.new-reader.ensures;
       shape = ap (λ (r : RawReaderSeen). r.shape) c.new-reader.ensures ∙ c.shape.ensures;
-      field_shape = refl;
       frame_shape = refl;
       few = omega arith;
       goes = subst (λ (k : ℕ). Goes (doubled f) (splitting order f) (behind k 0) rest rest out out) (sym (ap (λ (r : RawReaderSeen). r.place) c.new-reader.ensures))
@@ -47,7 +43,7 @@ returns-in-Ok-End-clause-weaves g c =
     let l = c.frames in
     let i = l.invariant in
     let order = c.args.order in
-    let f = frame_of c.args.field.now.shape in
+    let f = frame_of c.args.field.now in
     let rest = g.S.Source.rest in
     let written = g.K.Sink.written in
     let faults = g.S.Source.faults in
@@ -64,7 +60,7 @@ returns-in-Err-clause-weaves g c =
     let l = c.frames in
     let i = l.invariant in
     let order = c.args.order in
-    let f = frame_of c.args.field.now.shape in
+    let f = frame_of c.args.field.now in
     let rest = g.S.Source.rest in
     let written = g.K.Sink.written in
     let faults = g.S.Source.faults in
@@ -82,17 +78,16 @@ returns-in-Err-write_fields-clause-weaves g c =
     let l = c.frames in
     let i = l.invariant in
     let order = c.args.order in
-    let f = frame_of c.args.field.now.shape in
+    let f = frame_of c.args.field.now in
     let rest = g.S.Source.rest in
     let written = g.K.Sink.written in
     let faults = g.S.Source.faults in
     let out_faults = g.K.Sink.faults in
     let p = c.next.new.picture.samples in
     let shape = ap (λ (s : PictureShape). frame_of s) (i.shape ∙ i.frame_shape) ∙ c.requires in
-    let is : frame_of l.field.shape ≡ f = ap (λ (s : PictureShape). frame_of s) i.field_shape in
     let front = subst (λ (h : Frame). ReadsFront h l.reader.place (rest l.src) (rest c.next.new.src) p (Ok Picture)) shape
     (subst (λ (s : RawStep). ReadsFront (frame_of l.reader.shape) l.reader.place (rest l.src) (rest c.next.new.src) p (Ok s)) c.in-Ok-Picture.field-0-is c.in-Ok-Picture.ensures.front) in
-    let short = subst (λ (h : Frame). GrewShort (written l.out) (written c.write_fields.new.out) (raw_text h (split order h false p) ++ raw_text h (split order h true p))) is c.in-Err-write_fields.ensures.err in
+    let short = c.in-Err-write_fields.ensures.err in
     weaves_short (doubled f) (splitting order f) (some_frame c.args.frame.now.shape f c.requires) refl (behind l.reader.place l.frames) (rest c.args.src.now) (rest l.src) (written c.args.out.now) (written l.out) i.goes
     (faults c.args.src.now) (faults l.src) (faults c.next.new.src) (out_faults c.args.out.now) (out_faults l.out) i.steady i.steady_out (rest c.next.new.src) p (written c.write_fields.new.out) (out_faults c.write_fields.new.out) front refl short
     c.in-Ok-Picture.ensures.cause c.in-Err-write_fields.ensures.cause
@@ -102,24 +97,22 @@ frames-preserved g c =
     let l = c.frames in
     let i = l.invariant in
     let order = c.args.order in
-    let f = frame_of c.args.field.now.shape in
+    let f = frame_of c.args.field.now in
     let rest = g.S.Source.rest in
     let written = g.K.Sink.written in
     let p = c.next.new.picture.samples in
     let out1 = written l.out in
     let out2 = written c.write_fields.new.out in
     let shape = ap (λ (s : PictureShape). frame_of s) (i.shape ∙ i.frame_shape) ∙ c.requires in
-    let is : frame_of l.field.shape ≡ f = ap (λ (s : PictureShape). frame_of s) i.field_shape in
     let after : c.next.new.self ≡ reader_after l.reader (Ok Picture) = subst (λ (s : RawStep). c.next.new.self ≡ reader_after l.reader (Ok s)) c.in-Ok-Picture.field-0-is c.in-Ok-Picture.ensures.after in
     let place : c.next.new.self.place ≡ l.reader.place + raw_length (doubled f) = ap (λ (r : RawReaderSeen). r.place) after ∙ ap (λ (h : Frame). l.reader.place + raw_length h) shape in
     let front = subst (λ (h : Frame). ReadsFront h l.reader.place (rest l.src) (rest c.next.new.src) p (Ok Picture)) shape
     (subst (λ (s : RawStep). ReadsFront (frame_of l.reader.shape) l.reader.place (rest l.src) (rest c.next.new.src) p (Ok s)) c.in-Ok-Picture.field-0-is c.in-Ok-Picture.ensures.front) in
-    let wrote = subst (λ (h : Frame). Appends out1 out2 (raw_text h (split order h false p) ++ raw_text h (split order h true p))) is c.in-Ok.ensures.ok in
+    let wrote = c.in-Ok.ensures.ok in
     let some = some_frame c.args.frame.now.shape f c.requires in
     record {
       unrefused = ap (λ (r : RawReaderSeen). r.refused) after ∙ i.unrefused;
       shape = ap (λ (r : RawReaderSeen). r.shape) after ∙ i.shape ∙ sym c.in-Ok-Picture.ensures.same_shape;
-      field_shape = c.in-Ok.ensures.same_shape ∙ i.field_shape;
       frame_shape = c.in-Ok-Picture.ensures.same_shape ∙ i.frame_shape;
       few = omega (arith, i.few, place, some);
       goes = subst (λ (k : ℕ). Goes (doubled f) (splitting order f) (behind k (l.frames + 1)) (rest c.args.src.now) (rest c.next.new.src) (written c.args.out.now) out2) (sym place)

@@ -9,11 +9,10 @@ abbrev pub invariant-frames : goal.invariant-frames
 invariant-frames g l =
     let rest = g.S.Source.rest in
     let written = g.K.Sink.written in
-    let f = frame_of l.fn.field.shape in
+    let f = frame_of l.field in
     record {
       unrefused : l.reader.refused ≡ false;
       shape : l.reader.shape ≡ l.frame.shape;
-      field_shape : l.field.shape ≡ l.fn.field.shape;
       frame_shape : l.frame.shape ≡ l.fn.frame.shape;
       few : l.frames ≤ l.reader.place;
       goes : Goes (doubled f) (splitting l.order f) (record { place = l.reader.place; own = l.frames }) (rest l.fn.src) (rest l.src) (written l.fn.out) (written l.out);

@@ -1,47 +1,42 @@
-use Rattle.std.proofs.Common.{◌≡◌, ℕ, ◌+◌, ◌≤◌, not, cond, Bool, true, false, [], Some, None, Ok, Err, refl, sym, ap, subst, ◌∙◌, arith}
+use Rattle.std.proofs.Common.{◌≡◌, ℕ, ◌+◌, ◌≤◌, not, cond, Bool, true, false, Some, None, Ok, Err, refl, sym, ap, subst, ◌∙◌, arith}
 use Rattle.std.specs.Io.KnownBytes.{Appends}
 use Rattle.vc2_io.specs.Outside.{GrewShort}
 use Rattle.vc2_io.proofs.Known.{Appends-none}
 use Rattle.slice_geometry.specs.declared.PictureShape.{PictureShape}
 use Rattle.slice_geometry.specs.Frames.{Frame, frame_of}
-use Rattle.picture_codec.specs.Samples.{PictureSamples, PictureSeen}
-use Rattle.raw_video.specs.RawParse.{raw_length, IsOfFrame}
+use Rattle.picture_codec.specs.Samples.{PictureSamples}
+use Rattle.raw_video.specs.RawParse.{raw_length}
 use Rattle.raw_video.specs.Reading.{RawReaderSeen, ReadsFront, reader_after}
 use Rattle.raw_video.specs.declared.reader.RawStep.{RawStep}
 use Rattle.raw_video.specs.declared.reader.RawStep.TheVariants.{Picture, End}
-use Rattle.raw_video.proofs.ReadBack.{of_its_shape}
-use Rattle.field_weave.specs.declared.Order.{Order}
 use Rattle.field_weave.specs.declared.weaver.WeaveStop.{WeaveStop}
 use Rattle.field_weave.specs.declared.weaver.WeaveStop.TheVariants.{HalfFrame}
-use Rattle.field_weave.specs.Weaving.{placed}
 use Rattle.raw_video.specs.PictureRuns.{BehindPictures, Goes}
-use Rattle.field_weave.specs.WeaveRuns.{FieldsSoFar, weaving, weave_machine, field_more, field_text, fields_end, first_of, Weaves}
-use Rattle.field_weave.proofs.WeaveLaws.{split_of_placed}
+use Rattle.field_weave.specs.WeaveRuns.{FieldsSoFar, weaving, weave_machine, field_more, field_text, fields_end, kept_first, Weaves}
 use Rattle.raw_video.proofs.PictureTurns.{some_raw, goes_first, goes_more}
 use Rattle.field_weave.proofs.Weaves.{weaves_refused, weaves_ended, weaves_half, weaves_short}
 use Rattle.field_weave.proofs.weaver.weave_fields.Goals.{then-begun-2, else-begun-2}
 use Rattle.field_weave.proofs.weaver.weave_fields.Goals as goal
 
 -- what the fields so far leave, by the frame that they are put in
-abbrev own_of : Order → Frame → ℕ → Bool → PictureSamples → FieldsSoFar
-own_of order f frames begun frame = record { frames = frames; first = first_of order f begun frame }
+abbrev own_of : ℕ → Bool → PictureSamples → FieldsSoFar
+own_of frames begun first = record { frames = frames; first = kept_first begun first }
 
-abbrev behind : Order → Frame → ℕ → ℕ → Bool → PictureSamples → BehindPictures FieldsSoFar
-behind order f place frames begun frame = record { place = place; own = own_of order f frames begun frame }
+abbrev behind : ℕ → ℕ → Bool → PictureSamples → BehindPictures FieldsSoFar
+behind place frames begun first = record { place = place; own = own_of frames begun first }
 
-half_end : (order : Order) (f : Frame) (place frames : ℕ) (begun : Bool) (frame : PictureSamples) → begun ≡ true → fields_end place (own_of order f frames begun frame) (first_of order f begun frame) ≡ Err (HalfFrame place)
-half_end order f place frames false frame t = absurd cc
-half_end order f place frames true frame t = refl
+half_end : (place frames : ℕ) (begun : Bool) (first : PictureSamples) → begun ≡ true → fields_end place (own_of frames begun first) (kept_first begun first) ≡ Err (HalfFrame place)
+half_end place frames false first t = absurd cc
+half_end place frames true first t = refl
 
-whole_end : (order : Order) (f : Frame) (place frames : ℕ) (begun : Bool) (frame : PictureSamples) → begun ≡ false → fields_end place (own_of order f frames begun frame) (first_of order f begun frame) ≡ Ok frames
-whole_end order f place frames false frame t = refl
-whole_end order f place frames true frame t = absurd cc
+whole_end : (place frames : ℕ) (begun : Bool) (first : PictureSamples) → begun ≡ false → fields_end place (own_of frames begun first) (kept_first begun first) ≡ Ok frames
+whole_end place frames false first t = refl
+whole_end place frames true first t = absurd cc
 
--- the frame that a field is put in has what the field leaves
-own_next : (order : Order) (f : Frame) (frames : ℕ) (begun : Bool) (field frame : PictureSamples) → IsOfFrame f field
-    → field_more (own_of order f frames begun frame) field (first_of order f begun frame) ≡ own_of order f (cond begun (frames + 1) frames) (not begun) (placed order f begun field frame)
-own_next order f frames true field frame is = refl
-own_next order f frames false field frame is = ap (λ (p : PictureSamples). let own : FieldsSoFar = record { frames = frames; first = Some p } in own) (sym (split_of_placed order f false field frame is))
+-- a field that begins a frame is the one that is kept
+own_next : (frames : ℕ) (begun : Bool) (field first kept : PictureSamples) → (begun ≡ false → kept ≡ field) → field_more (own_of frames begun first) field (kept_first begun first) ≡ own_of (cond begun (frames + 1) frames) (not begun) kept
+own_next frames true field first kept is = refl
+own_next frames false field first kept is = ap (λ (p : PictureSamples). let own : FieldsSoFar = record { frames = frames; first = Some p } in own) (sym (is refl))
 
 pub fields-init : goal.fields-init
 fields-init g c =
@@ -53,7 +48,7 @@ fields-init g c =
       unrefused = ap (λ (r : RawReaderSeen). r.refused) c.new-reader.ensures;
       shape = ap (λ (r : RawReaderSeen). r.shape) c.new-reader.ensures ∙ c.shape.ensures;
       field_shape = refl;
-      frame_shape = refl;
+      first_shape = refl;
       few = omega arith;
       goes = subst (λ (k : ℕ). Goes f (weaving order f) (record { place = k; own = record { frames = 0; first = None } }) rest rest out out) (sym (ap (λ (r : RawReaderSeen). r.place) c.new-reader.ensures))
           (goes_first f (weaving order f) (some_raw c.args.field.now.shape) rest out out (Appends-none out out refl));
@@ -77,9 +72,9 @@ returns-then-begun-clause-weaves g c =
     (subst (λ (s : RawStep). ReadsFront (frame_of l.reader.shape) l.reader.place (rest l.src) (rest c.next.new.src) p (Ok s)) c.in-Ok-End.field-0-is c.in-Ok-End.ensures.front) in
     subst (λ (k : ℕ). Weaves (weave_machine order f) (rest c.args.src.now) (rest c.next.new.src) (written c.args.out.now) (written l.out) (faults c.args.src.now) (faults c.next.new.src) (out_faults c.args.out.now) (out_faults l.out) (Err (HalfFrame k)))
     (sym c.place-place.ensures.value)
-    (weaves_half f (weaving order f) (some_raw c.args.field.now.shape) refl (behind order f l.reader.place l.frames l.begun l.frame.samples) (rest c.args.src.now) (rest l.src) (written c.args.out.now) (written l.out) i.goes
+    (weaves_half f (weaving order f) (some_raw c.args.field.now.shape) refl (behind l.reader.place l.frames l.begun l.first.samples) (rest c.args.src.now) (rest l.src) (written c.args.out.now) (written l.out) i.goes
     (faults c.args.src.now) (faults l.src) (faults c.next.new.src) (out_faults c.args.out.now) (out_faults l.out) i.steady i.steady_out (rest c.next.new.src) p l.reader.place front
-    (half_end order f l.reader.place l.frames l.begun l.frame.samples c.if-begun.true) refl c.in-Ok-End.ensures.cause)
+    (half_end l.reader.place l.frames l.begun l.first.samples c.if-begun.true) refl c.in-Ok-End.ensures.cause)
 
 pub returns-in-Ok-End-clause-weaves : goal.returns-in-Ok-End-clause-weaves
 returns-in-Ok-End-clause-weaves g c =
@@ -95,9 +90,9 @@ returns-in-Ok-End-clause-weaves g c =
     let shape = ap (λ (s : PictureShape). frame_of s) (i.shape ∙ i.field_shape) in
     let front = subst (λ (h : Frame). ReadsFront h l.reader.place (rest l.src) (rest c.next.new.src) p (Ok End)) shape
     (subst (λ (s : RawStep). ReadsFront (frame_of l.reader.shape) l.reader.place (rest l.src) (rest c.next.new.src) p (Ok s)) c.in-Ok-End.field-0-is c.in-Ok-End.ensures.front) in
-    weaves_ended f (weaving order f) (some_raw c.args.field.now.shape) refl (behind order f l.reader.place l.frames l.begun l.frame.samples) (rest c.args.src.now) (rest l.src) (written c.args.out.now) (written l.out) i.goes
+    weaves_ended f (weaving order f) (some_raw c.args.field.now.shape) refl (behind l.reader.place l.frames l.begun l.first.samples) (rest c.args.src.now) (rest l.src) (written c.args.out.now) (written l.out) i.goes
     (faults c.args.src.now) (faults l.src) (faults c.next.new.src) (out_faults c.args.out.now) (out_faults l.out) i.steady i.steady_out (rest c.next.new.src) p l.frames front
-    (whole_end order f l.reader.place l.frames l.begun l.frame.samples c.if-begun.false) refl c.in-Ok-End.ensures.cause
+    (whole_end l.reader.place l.frames l.begun l.first.samples c.if-begun.false) refl c.in-Ok-End.ensures.cause
 
 pub returns-in-Err-clause-weaves : goal.returns-in-Err-clause-weaves
 returns-in-Err-clause-weaves g c =
@@ -114,11 +109,11 @@ returns-in-Err-clause-weaves g c =
     let front = subst (λ (h : Frame). ReadsFront h l.reader.place (rest l.src) (rest c.next.new.src) p (Err c.in-Err.fault)) shape c.in-Err.ensures.front in
     subst (λ (s : WeaveStop). Weaves (weave_machine order f) (rest c.args.src.now) (rest c.next.new.src) (written c.args.out.now) (written l.out) (faults c.args.src.now) (faults c.next.new.src) (out_faults c.args.out.now) (out_faults l.out) (Err s))
     (sym c.stop_of.ensures)
-    (weaves_refused f (weaving order f) (some_raw c.args.field.now.shape) refl (behind order f l.reader.place l.frames l.begun l.frame.samples) (rest c.args.src.now) (rest l.src) (written c.args.out.now) (written l.out) i.goes
+    (weaves_refused f (weaving order f) (some_raw c.args.field.now.shape) refl (behind l.reader.place l.frames l.begun l.first.samples) (rest c.args.src.now) (rest l.src) (written c.args.out.now) (written l.out) i.goes
     (faults c.args.src.now) (faults l.src) (faults c.next.new.src) (out_faults c.args.out.now) (out_faults l.out) i.steady i.steady_out (rest c.next.new.src) p c.in-Err.fault front c.in-Err.ensures.cause)
 
-pub returns-in-Err-take_field-clause-weaves : goal.returns-in-Err-take_field-clause-weaves
-returns-in-Err-take_field-clause-weaves g c =
+pub returns-in-Err-keep_or_write-clause-weaves : goal.returns-in-Err-keep_or_write-clause-weaves
+returns-in-Err-keep_or_write-clause-weaves g c =
     let l = c.fields in
     let i = l.invariant in
     let order = c.args.order in
@@ -132,10 +127,10 @@ returns-in-Err-take_field-clause-weaves g c =
     let is : frame_of c.next.new.picture.shape ≡ f = ap (λ (s : PictureShape). frame_of s) (c.in-Ok-Picture.ensures.same_shape ∙ i.field_shape) in
     let front = subst (λ (h : Frame). ReadsFront h l.reader.place (rest l.src) (rest c.next.new.src) p (Ok Picture)) shape
     (subst (λ (s : RawStep). ReadsFront (frame_of l.reader.shape) l.reader.place (rest l.src) (rest c.next.new.src) p (Ok s)) c.in-Ok-Picture.field-0-is c.in-Ok-Picture.ensures.front) in
-    let short = subst (λ (h : Frame). GrewShort (written l.out) (written c.take_field.new.out) (field_text order h p (first_of order h l.begun l.frame.samples))) is c.in-Err-take_field.ensures.err in
-    weaves_short f (weaving order f) (some_raw c.args.field.now.shape) refl (behind order f l.reader.place l.frames l.begun l.frame.samples) (rest c.args.src.now) (rest l.src) (written c.args.out.now) (written l.out) i.goes
-    (faults c.args.src.now) (faults l.src) (faults c.next.new.src) (out_faults c.args.out.now) (out_faults l.out) i.steady i.steady_out (rest c.next.new.src) p (written c.take_field.new.out) (out_faults c.take_field.new.out) front refl short
-    c.in-Ok-Picture.ensures.cause c.in-Err-take_field.ensures.cause
+    let short = subst (λ (h : Frame). GrewShort (written l.out) (written c.keep_or_write.new.out) (field_text order h p (kept_first l.begun l.first.samples))) is c.in-Err-keep_or_write.ensures.err in
+    weaves_short f (weaving order f) (some_raw c.args.field.now.shape) refl (behind l.reader.place l.frames l.begun l.first.samples) (rest c.args.src.now) (rest l.src) (written c.args.out.now) (written l.out) i.goes
+    (faults c.args.src.now) (faults l.src) (faults c.next.new.src) (out_faults c.args.out.now) (out_faults l.out) i.steady i.steady_out (rest c.next.new.src) p (written c.keep_or_write.new.out) (out_faults c.keep_or_write.new.out) front refl short
+    c.in-Ok-Picture.ensures.cause c.in-Err-keep_or_write.ensures.cause
 
 pub fields-preserved : goal.fields-preserved
 fields-preserved g c =
@@ -147,35 +142,32 @@ fields-preserved g c =
     let written = g.K.Sink.written in
     let p = c.next.new.picture.samples in
     let out1 = written l.out in
-    let out2 = written c.take_field.new.out in
+    let out2 = written c.keep_or_write.new.out in
     let shape = ap (λ (s : PictureShape). frame_of s) (i.shape ∙ i.field_shape) in
     let is : frame_of c.next.new.picture.shape ≡ f = ap (λ (s : PictureShape). frame_of s) (c.in-Ok-Picture.ensures.same_shape ∙ i.field_shape) in
     let after : c.next.new.self ≡ reader_after l.reader (Ok Picture) = subst (λ (s : RawStep). c.next.new.self ≡ reader_after l.reader (Ok s)) c.in-Ok-Picture.field-0-is c.in-Ok-Picture.ensures.after in
     let place : c.next.new.self.place ≡ l.reader.place + raw_length f = ap (λ (r : RawReaderSeen). r.place) after ∙ ap (λ (h : Frame). l.reader.place + raw_length h) shape in
     let front = subst (λ (h : Frame). ReadsFront h l.reader.place (rest l.src) (rest c.next.new.src) p (Ok Picture)) shape
     (subst (λ (s : RawStep). ReadsFront (frame_of l.reader.shape) l.reader.place (rest l.src) (rest c.next.new.src) p (Ok s)) c.in-Ok-Picture.field-0-is c.in-Ok-Picture.ensures.front) in
-    let wrote = subst (λ (h : Frame). Appends out1 out2 (field_text order h p (first_of order h l.begun l.frame.samples))) is c.in-Ok.ensures.ok in
+    let wrote = subst (λ (h : Frame). Appends out1 out2 (field_text order h p (kept_first l.begun l.first.samples))) is c.in-Ok.ensures.ok in
     let some = some_raw c.args.field.now.shape in
     let count : c.if-begun-2.frames ≡ cond l.begun (l.frames + 1) l.frames = elim c.if-begun-2.branch [
       | then-begun-2 w ↦ w.frames-is ∙ sym (ap (λ (b : Bool). cond b (l.frames + 1) l.frames) w.if-begun-2.true)
       | else-begun-2 w ↦ w.frames-is ∙ sym (ap (λ (b : Bool). cond b (l.frames + 1) l.frames) w.if-begun-2.false)
     ] in
-    let frame : c.take_field.new.frame.samples ≡ placed order f l.begun p l.frame.samples =
-    ap (λ (q : PictureSeen). q.samples) c.in-Ok.ensures.frame ∙ ap (λ (h : Frame). placed order h l.begun p l.frame.samples) is in
-    let own : field_more (own_of order f l.frames l.begun l.frame.samples) p (first_of order f l.begun l.frame.samples) ≡ own_of order f c.if-begun-2.frames (not l.begun) c.take_field.new.frame.samples =
-    own_next order f l.frames l.begun p l.frame.samples (of_its_shape f l.reader.place _ p (front.front.2 []))
-    ∙ ap (λ (n : ℕ). own_of order f n (not l.begun) (placed order f l.begun p l.frame.samples)) (sym count)
-    ∙ ap (λ (s : PictureSamples). own_of order f c.if-begun-2.frames (not l.begun) s) (sym frame) in
+    let own : field_more (own_of l.frames l.begun l.first.samples) p (kept_first l.begun l.first.samples) ≡ own_of c.if-begun-2.frames (not l.begun) c.keep_or_write.new.first.samples =
+    own_next l.frames l.begun p l.first.samples c.keep_or_write.new.first.samples c.in-Ok.ensures.kept
+    ∙ ap (λ (n : ℕ). own_of n (not l.begun) c.keep_or_write.new.first.samples) (sym count) in
     let most : (b : Bool) → cond b (l.frames + 1) l.frames ≤ l.frames + 1 = most_of l.frames in
     record {
       unrefused = ap (λ (r : RawReaderSeen). r.refused) after ∙ i.unrefused;
-      shape = ap (λ (r : RawReaderSeen). r.shape) after ∙ i.shape ∙ sym c.in-Ok-Picture.ensures.same_shape;
-      field_shape = c.in-Ok-Picture.ensures.same_shape ∙ i.field_shape;
-      frame_shape = ap (λ (q : PictureSeen). q.shape) c.in-Ok.ensures.frame ∙ i.frame_shape;
+      shape = ap (λ (r : RawReaderSeen). r.shape) after ∙ i.shape ∙ sym c.in-Ok-Picture.ensures.same_shape ∙ sym c.in-Ok.ensures.field_shape;
+      field_shape = c.in-Ok.ensures.field_shape ∙ c.in-Ok-Picture.ensures.same_shape ∙ i.field_shape;
+      first_shape = c.in-Ok.ensures.first_shape ∙ i.first_shape;
       few = omega (arith, count, most l.begun, i.few, place, some);
-      goes = subst (λ (k : ℕ). Goes f (weaving order f) (record { place = k; own = own_of order f c.if-begun-2.frames (not l.begun) c.take_field.new.frame.samples }) (rest c.args.src.now) (rest c.next.new.src) (written c.args.out.now) out2) (sym place)
+      goes = subst (λ (k : ℕ). Goes f (weaving order f) (record { place = k; own = own_of c.if-begun-2.frames (not l.begun) c.keep_or_write.new.first.samples }) (rest c.args.src.now) (rest c.next.new.src) (written c.args.out.now) out2) (sym place)
           (subst (λ (o : FieldsSoFar). Goes f (weaving order f) (record { place = l.reader.place + raw_length f; own = o }) (rest c.args.src.now) (rest c.next.new.src) (written c.args.out.now) out2) own
-          (goes_more f (weaving order f) some (behind order f l.reader.place l.frames l.begun l.frame.samples) (rest c.args.src.now) (rest l.src) (written c.args.out.now) out1 i.goes (rest c.next.new.src) p front out2 refl wrote));
+          (goes_more f (weaving order f) some (behind l.reader.place l.frames l.begun l.first.samples) (rest c.args.src.now) (rest l.src) (written c.args.out.now) out1 i.goes (rest c.next.new.src) p front out2 refl wrote));
       steady = c.in-Ok-Picture.ensures.cause ∙ i.steady;
       steady_out = c.in-Ok.ensures.cause ∙ i.steady_out;
     }

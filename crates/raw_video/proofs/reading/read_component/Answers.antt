@@ -1,4 +1,4 @@
-use Rattle.std.proofs.Common.{◌≡◌, ◌+◌, ◌*◌, ◌^◌, ◌<◌, ℕ, All, length, take, replicate, min, Ok, Err, sym, ap, subst, ◌∙◌, arith}
+use Rattle.std.proofs.Common.{◌≡◌, ◌+◌, ◌*◌, ◌^◌, ◌<◌, ◌≤◌, ℕ, Bool, List, All, refl, length, take, replicate, min, Ok, Err, sym, ap, subst, ◌∙◌, arith}
 use Rattle.std.proofs.lemmas.Grind.{common_steps}
 use Rattle.std.proofs.lemmas.List.{length-take}
 use Rattle.std.proofs.lemmas.Result.{err_from_is_err_and}
@@ -7,18 +7,43 @@ use Rattle.picture_codec.specs.Pictures.{depth_of}
 use Rattle.slice_geometry.specs.Frames.{frame_of}
 use Rattle.picture_codec.specs.Samples.{PictureSeen, SamplesSeen, shown, with_run, width_of, height_of, bits_of}
 use Rattle.raw_video.specs.RawText.{is_wide}
+use Rattle.raw_video.specs.RawParse.{sample_size}
 use Rattle.raw_video.specs.Reading.{ReadsSamples}
+use Rattle.raw_video.proofs.PieceTurns.{size_is, piece_inside, piece_next}
+use Rattle.raw_video.proofs.ReadTurns.{reads_nothing}
 use Rattle.raw_video.proofs.ComponentTurns.{piece_more, piece_halted, piece_below, run_front, run_long, put_here, put_others}
 use Rattle.raw_video.proofs.reading.read_component.Goals as goal
+
+pub loop-piece-init : goal.loop-piece-init
+loop-piece-init g c =
+    let rest = g.S.Source.rest c.args.src.now in
+    let count = length c.samples-count.result.now in
+    let most = c.samples_a_read-most.result in
+    let picture = c.args.picture.now in
+    let wide = c.are_wide-wide.ensures ∙ ap (λ (s : PictureShape). is_wide (frame_of s)) c.shape.ensures in
+    let bound : c.bound_of-bound.result ≡ 2 ^ bits_of picture c.args.c = c.bound_of-bound.ensures ∙ ap (λ (d : ℕ). 2 ^ d) (c.depth_of.ensures.value ∙ ap (λ (s : PictureShape). depth_of (frame_of s) c.args.c) c.shape-2.ensures) in
+    record {
+      bytes_long = refl;
+      long = refl;
+      same_shape = refl;
+      many = ap (λ (l : List ℕ). length l) (sym c.samples-count.ensures.value);
+      size = sym c.samples-count.ensures.count;
+      below = sym bound;
+      so_far =
+          reads_nothing c.are_wide-wide.result c.args.start c.args.room c.bound_of-bound.result rest (shown picture c.args.c).cells (min count (most * 0)) (omega arith)
+          (subst (λ (w : Bool). sample_size w * c.args.start ≤ c.args.room) (sym wide) c.requires.inside);
+      others = λ other ne. refl;
+      steady = refl;
+    }
 
 pub returns-in_err-read_piece-clause-read : goal.returns-in_err-read_piece-clause-read
 returns-in_err-read_piece-clause-read g c =
     let rest = g.S.Source.rest in
     let i = c.loop-piece.invariant in
     let count = length c.samples-count.result.now in
-    let from : ℕ = 2048 * c.loop-piece.piece in
+    let from : ℕ = c.samples_a_read-most.result * c.loop-piece.piece in
     let n = c.min-n.result in
-    let inside : from < count = omega (arith, c.loop-piece-test.true) in
+    let inside : from < count = piece_inside c.are_wide-wide.result c.samples_a_read-most.result count c.loop-piece.piece c.samples_a_read-most.ensures c.loop-piece-test.true in
     let done : min count from ≡ from = omega (arith, inside) in
     let wide = c.are_wide-wide.ensures ∙ ap (λ (s : PictureShape). is_wide (frame_of s)) c.shape.ensures in
     let bound : c.bound_of-bound.result ≡ 2 ^ bits_of c.args.picture.now c.args.c = c.bound_of-bound.ensures ∙ ap (λ (d : ℕ). 2 ^ d) (c.depth_of.ensures.value ∙ ap (λ (s : PictureShape). depth_of (frame_of s) c.args.c) c.shape-2.ensures) in
@@ -36,27 +61,27 @@ pub put_samples-requires-clause-small : goal.put_samples-requires-clause-small
 put_samples-requires-clause-small g c =
     let rest = g.S.Source.rest in
     subst (λ (b : ℕ). All (λ v. v < b) (take c.min-n.result c.read_piece.new.samples)) (sym c.loop-piece.invariant.below)
-    (piece_below c.are_wide-wide.result (c.args.start + 2048 * c.loop-piece.piece) c.args.room c.min-n.result c.bound_of-bound.result (rest c.loop-piece.src) (rest c.read_piece.new.src) (take c.min-n.result c.read_piece.new.samples) c.in_ok-read_piece.ensures.piece)
+    (piece_below c.are_wide-wide.result (c.args.start + c.samples_a_read-most.result * c.loop-piece.piece) c.args.room c.min-n.result c.bound_of-bound.result (rest c.loop-piece.src) (rest c.read_piece.new.src) (take c.min-n.result c.read_piece.new.samples) c.in_ok-read_piece.ensures.piece)
 
 pub loop-piece-preserved : goal.loop-piece-preserved
 loop-piece-preserved g c =
     let rest = g.S.Source.rest in
     let i = c.loop-piece.invariant in
     let count = length c.samples-count.result.now in
-    let from : ℕ = 2048 * c.loop-piece.piece in
+    let from : ℕ = c.samples_a_read-most.result * c.loop-piece.piece in
     let n = c.min-n.result in
     let old = c.loop-piece.picture in
     let new = c.put_samples.new.self in
     let rows : SamplesSeen = shown old c.args.c in
     let samples = take n c.read_piece.new.samples in
-    let inside : from < count = omega (arith, c.loop-piece-test.true) in
+    let inside : from < count = piece_inside c.are_wide-wide.result c.samples_a_read-most.result count c.loop-piece.piece c.samples_a_read-most.ensures c.loop-piece-test.true in
     let done : min count from ≡ from = omega (arith, inside) in
-    let many : length samples ≡ n = omega (arith, length-take n c.read_piece.new.samples, c.read_piece.ensures.len, c.min-n.ensures) in
+    let many : length samples ≡ n = omega (arith, length-take n c.read_piece.new.samples, c.read_piece.ensures.len, c.min-n.ensures, (size_is c.are_wide-wide.result).1, c.samples_a_read-most.ensures) in
     let is = c.put_samples.ensures in
     let here : shown new c.args.c ≡ with_run rows from samples = ap (λ (p : PictureSeen). shown p c.args.c) is ∙ put_here old.samples c.args.c (with_run rows from samples) in
     let same_shape : new.shape ≡ old.shape = ap (λ (p : PictureSeen). p.shape) is in
     let so_far = subst (λ (m : ℕ). ReadsSamples c.are_wide-wide.result c.args.start c.args.room (replicate m c.bound_of-bound.result) (rest c.args.src.now) (rest c.loop-piece.src) (take m rows.cells) (Ok tt)) done i.so_far in
-    let next : min count (2048 * (c.loop-piece.piece + 1)) ≡ from + n = omega (arith, c.min-n.ensures, inside) in
+    let next : min count (c.samples_a_read-most.result * (c.loop-piece.piece + 1)) ≡ from + n = omega (arith, c.min-n.ensures, inside, piece_next c.are_wide-wide.result c.samples_a_read-most.result count c.loop-piece.piece c.samples_a_read-most.ensures) in
     record {
       bytes_long = c.read_piece.ensures.bytes_len;
       long = c.read_piece.ensures.len;
@@ -66,7 +91,7 @@ loop-piece-preserved g c =
       below = ap (λ (p : PictureSeen). 2 ^ bits_of p c.args.c) is ∙ i.below;
       so_far =
           piece_more c.are_wide-wide.result c.args.start c.args.room from n c.bound_of-bound.result (rest c.args.src.now) (rest c.loop-piece.src) (rest c.read_piece.new.src) (take from rows.cells) so_far samples
-          (take (min count (2048 * (c.loop-piece.piece + 1))) (shown new c.args.c).cells) (min count (2048 * (c.loop-piece.piece + 1))) next
+          (take (min count (c.samples_a_read-most.result * (c.loop-piece.piece + 1))) (shown new c.args.c).cells) (min count (c.samples_a_read-most.result * (c.loop-piece.piece + 1))) next
           (ap (λ (m : ℕ). take m (shown new c.args.c).cells) next ∙ ap (λ (r : SamplesSeen). take (from + n) r.cells) here ∙ run_front rows from n samples (omega (arith, i.many, inside)) many)
           c.in_ok-read_piece.ensures.piece;
       others = λ other ne. ap (λ (p : PictureSeen). shown p other) is ∙ put_others old.samples c.args.c other (with_run rows from samples) ne ∙ i.others other ne;

@@ -8,10 +8,10 @@ abbrev pub invariant-loop-piece : goal.invariant-loop-piece
 invariant-loop-piece g l =
     let rest = g.S.Source.rest in
     let faults = g.S.Source.faults in
-    let done = min l.count (2048 * l.piece) in
+    let done = min l.count (l.most * l.piece) in
     record {
       bytes_long : length l.bytes ≡ 4096;
-      long : length l.samples ≡ 2048;
+      long : length l.samples ≡ 4096;
       same_shape : l.picture.shape ≡ l.fn.picture.shape;
       many : length (shown l.picture l.c).cells ≡ l.count;
       size : height_of l.picture l.c * width_of l.picture l.c ≡ l.count;
