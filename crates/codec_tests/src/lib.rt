@@ -6,6 +6,8 @@ mod check_rows;
 #[cfg(test)]
 mod codes;
 #[cfg(test)]
+mod cut_words;
+#[cfg(test)]
 mod field_words;
 #[cfg(test)]
 mod group_rows;

@@ -3,7 +3,7 @@
 //! A row of words tells what is read of them, and has each word behind a bar.
 
 use crate::told::{assert_told, behind};
-use crate::{check_rows, field_words, group_rows, idle_rows, settings_rows};
+use crate::{check_rows, cut_words, field_words, group_rows, idle_rows, settings_rows};
 use std::alloc::Global;
 use std::process::Abort;
 use vc2_words::{Command, WordFault, read_words};
@@ -56,6 +56,7 @@ fn words_are_read_as_worked(rt: HostRuntime) {
     expect_rows(&rt, rt.alloc(), group_rows::ROWS);
     expect_rows(&rt, rt.alloc(), settings_rows::ROWS);
     expect_rows(&rt, rt.alloc(), field_words::ROWS);
+    expect_rows(&rt, rt.alloc(), cut_words::ROWS);
 }
 
 /// A command and a word, and what is read of it and of ten thousand times the other.

@@ -135,6 +135,34 @@ fn levels_in_place(rt: HostRuntime) -> Result<(), Fail> {
     Ok(())
 }
 
+/// LL 20, HL 3, LH -4 and HH 1 make a level of 2 by 2. Its analysis gives others, which make it again.
+#[test]
+fn a_level_of_four(rt: HostRuntime) -> Result<(), Fail> {
+    let mut plane = Plane::new(rt.alloc(), 2, 2)?;
+    plane.row_mut(0).copy_from_slice(&[20, 3]);
+    plane.row_mut(1).copy_from_slice(&[-4, 1]);
+    assert!(&rt; is_band(&plane, 2, 2));
+    synth_level(Wavelet::LeGall, &mut plane, 2, 2);
+    assert_same(&rt, (plane.row(0), plane.row(1)), (&[11, 12], &[8, 10]));
+    assert!(&rt; is_of_samples(&plane));
+    analyse_level(Wavelet::LeGall, &mut plane, 2, 2);
+    assert_same(&rt, (plane.row(0), plane.row(1)), (&[21, 3], &[-5, 2]));
+    drop(plane);
+    Ok(())
+}
+
+/// With no level the plane is the lowest band itself.
+#[test]
+fn no_level(rt: HostRuntime) -> Result<(), Fail> {
+    let mut bands = Bands::new(rt.alloc(), 0, 1, 1)?;
+    let (mut plane, mut scratch) = (Plane::new(rt.alloc(), 1, 1)?, Plane::new(rt.alloc(), 1, 1)?);
+    let _ = put_rows(&rt, bands.band_mut(0, 0), &[-77]);
+    assert!(&rt; can_synth(&bands, &plane, &scratch));
+    synth(Wavelet::LeGall, &bands, &mut plane, &mut scratch);
+    assert_same(&rt, plane.row(0), &[-77]);
+    Ok(())
+}
+
 /// The values of a plane of 8 by 4, row by row, or of its two levels of bands: the lowest band of one row and two columns, and
 /// then those of each level by their orientation.
 type Values = [i64; 32];

@@ -1,10 +1,12 @@
-//! Lifting steps on rows of eleven places, whole blocks and single places behind them.
+//! Lifting steps on rows of many lengths: no place, single ones, whole blocks, and places behind them.
 
 ghost use Rattle.std.specs.Prelude.{◌≡◌, ◌^◌, true};
 ghost use Rattle.lifting.specs.Places.{EachWithin};
 
 use lifting::{OneStep, PairStep, lift_one, lift_one_narrow, lift_pair, lift_pair_narrow};
+use std::alloc::{AllocError, Global};
 use std::process::Abort;
+use std::test::Fail;
 
 /// Three rows of magnitudes up to 2^61.
 const WIDE: [[i64; 11]; 3] = [
@@ -264,6 +266,22 @@ fn is_narrow(row: &[i32]) -> bool
     true
 }
 
+/// How long rows are: blocks of lanes have four and eight places.
+const LENGTHS: [usize; 6] = [0, 1, 7, 8, 9, 17];
+
+/// A row of so many places, of those of another one over and over.
+fn repeated<T: Copy + Drop>(
+    alloc: Global,
+    row: &[T; 11],
+    len: usize,
+) -> Result<Vec<T>, AllocError> {
+    let mut places = Vec::new(alloc);
+    for x in 0..len {
+        places.push(row[x % 11])?;
+    }
+    Ok(places)
+}
+
 fn wide(rt: &impl Abort, pair: PairStep, one: OneStep) -> ([i64; 11], [i64; 11]) {
     let [row, a, b] = WIDE;
     assert!(rt; is_wide(&row) && is_wide(&a) && is_wide(&b));
@@ -294,4 +312,76 @@ fn narrow_rows(rt: HostRuntime) {
     for (pair, one, between, beside) in &NARROW_STEPS {
         assert_eq!(&rt; narrow(&rt, *pair, *one), (*between, *beside));
     }
+}
+
+/// Whether a step between two neighbours leaves of rows of a length what it leaves of each place.
+fn wide_pair_agrees(
+    rt: &impl Abort,
+    alloc: Global,
+    step: PairStep,
+    left: &[i64; 11],
+    len: usize,
+) -> Result<(), AllocError> {
+    let [row, a, b] = WIDE;
+    let mut row = repeated(alloc, &row, len)?;
+    let (a, b) = (repeated(alloc, &a, len)?, repeated(alloc, &b, len)?);
+    assert!(rt;
+        row.len() == a.len() && row.len() == b.len() && is_wide(&row) && is_wide(&a) && is_wide(&b)
+    );
+    lift_pair(&mut row, &a, &b, step);
+    assert!(rt; row == repeated(alloc, left, len)?);
+    Ok(())
+}
+
+fn narrow_pair_agrees(
+    rt: &impl Abort,
+    alloc: Global,
+    step: PairStep,
+    left: &[i32; 11],
+    len: usize,
+) -> Result<(), AllocError> {
+    let [row, a, b] = NARROW;
+    let mut row = repeated(alloc, &row, len)?;
+    let (a, b) = (repeated(alloc, &a, len)?, repeated(alloc, &b, len)?);
+    assert!(rt;
+        row.len() == a.len()
+            && row.len() == b.len()
+            && is_narrow(&row)
+            && is_narrow(&a)
+            && is_narrow(&b)
+    );
+    lift_pair_narrow(&mut row, &a, &b, step);
+    assert!(rt; row == repeated(alloc, left, len)?);
+    Ok(())
+}
+
+/// The same beside one neighbour, at both widths.
+fn ones_agree(
+    rt: &impl Abort,
+    alloc: Global,
+    step: OneStep,
+    left: (&[i64; 11], &[i32; 11]),
+    len: usize,
+) -> Result<(), AllocError> {
+    let ([row, a, _], [small, near, _]) = (WIDE, NARROW);
+    let (mut row, a) = (repeated(alloc, &row, len)?, repeated(alloc, &a, len)?);
+    let (mut small, near) = (repeated(alloc, &small, len)?, repeated(alloc, &near, len)?);
+    assert!(rt; row.len() == a.len() && is_wide(&row) && is_wide(&a));
+    assert!(rt; small.len() == near.len() && is_narrow(&small) && is_narrow(&near));
+    lift_one(&mut row, &a, step);
+    lift_one_narrow(&mut small, &near, step);
+    assert!(rt; row == repeated(alloc, left.0, len)? && small == repeated(alloc, left.1, len)?);
+    Ok(())
+}
+
+#[test]
+fn rows_of_each_length(rt: HostRuntime) -> Result<(), Fail> {
+    for len in &LENGTHS {
+        for ((pair, one, between, beside), narrow) in WIDE_STEPS.iter().zip(NARROW_STEPS.iter()) {
+            wide_pair_agrees(&rt, rt.alloc(), *pair, between, *len)?;
+            narrow_pair_agrees(&rt, rt.alloc(), narrow.0, &narrow.2, *len)?;
+            ones_agree(&rt, rt.alloc(), *one, (beside, &narrow.3), *len)?;
+        }
+    }
+    Ok(())
 }

@@ -8,16 +8,32 @@ ghost use Rattle.planes.specs.Raster.{height, at};
 ghost use Rattle.dc_prediction.specs.Restoring.{CanRestore};
 
 use dc_prediction::restore_rect;
-use planes::{Plane, Rect};
+use planes::{Bands, NoMemory, Plane, Rect};
 use std::alloc::Global;
 use std::process::Abort;
 
-/// The residuals of a band of four columns and three rows, and its values, worked out by hand.
-const RESIDUALS: [[i64; 4]; 3] = [[-3, 1, -4, 2], [5, -2, 0, -7], [-1, -1, 8, -6]];
+/// A band of four columns and three rows.
+type Rows = [[i64; 4]; 3];
 
-const VALUES: [[i64; 4]; 3] = [[-3, -2, -6, -4], [2, -3, -4, -12], [1, -1, 5, -10]];
+/// The residuals of a band, and its values, worked out by hand.
+const RESIDUALS: Rows = [[-3, 1, -4, 2], [5, -2, 0, -7], [-1, -1, 8, -6]];
 
-fn plane_of(rt: &impl Abort, alloc: Global, rows: &[[i64; 4]; 3]) -> Plane
+const VALUES: Rows = [[-3, -2, -6, -4], [2, -3, -4, -12], [1, -1, 5, -10]];
+
+/// The same of bands of which a mean is no whole number: it rounds down.
+const MEANS: [(Rows, Rows); 3] = [
+    (RESIDUALS, VALUES),
+    (
+        [[-1, -1, 0, 0], [0; 4], [0; 4]],
+        [[-1, -2, -2, -2], [-1, -1, -2, -2], [-1, -1, -1, -2]],
+    ),
+    (
+        [[0, -1, 0, 0], [-1, 0, 0, 0], [0; 4]],
+        [[0, -1, -1, -1], [-1; 4], [-1; 4]],
+    ),
+];
+
+fn plane_of(rt: &impl Abort, alloc: Global, rows: &Rows) -> Plane
     ensures width { result.w ≡ 4 }
     ensures height { height result ≡ 3 }
 {
@@ -72,7 +88,7 @@ fn restore_all(rt: &impl Abort, plane: &mut Plane, rects: &[Rect]) {
 }
 
 /// Whether a band has these rows.
-fn has_rows(band: &Plane, rows: &[[i64; 4]; 3]) -> bool {
+fn has_rows(band: &Plane, rows: &Rows) -> bool {
     band.h() == 3
         && band.row(0) == rows[0].as_slice()
         && band.row(1) == rows[1].as_slice()
@@ -89,13 +105,20 @@ pub(crate) const SLICES: [Rect; 5] = [
     Rect { x0: 2, x1: 4, y0: 2, y1: 3 },
 ];
 
-#[test]
-fn a_band_restored(rt: HostRuntime) {
-    let mut plane = plane_of(&rt, rt.alloc(), &RESIDUALS);
-    restore_all(&rt, &mut plane, &SLICES);
-    let restored = has_rows(&plane, &VALUES);
+/// Asserts what a band's residuals are restored to.
+fn expect_restored(rt: &impl Abort, alloc: Global, residuals: &Rows, values: &Rows) {
+    let mut plane = plane_of(rt, alloc, residuals);
+    restore_all(rt, &mut plane, &SLICES);
+    let restored = has_rows(&plane, values);
     drop(plane);
-    assert!(&rt; restored);
+    assert!(rt; restored);
+}
+
+#[test]
+fn bands_are_restored(rt: HostRuntime) {
+    for (residuals, values) in &MEANS {
+        expect_restored(&rt, rt.alloc(), residuals, values);
+    }
 }
 
 /// What is left of the residuals where the edges behind two columns and two rows are filled.
@@ -108,4 +131,26 @@ fn edges_are_filled(rt: HostRuntime) {
     let filled = has_rows(&plane, &FILLED);
     drop(plane);
     assert!(&rt; filled);
+}
+
+/// A number, the least bound that holds it, and the greatest that doesn't.
+const GREATEST: [(i64, i64, i64); 3] = [(9, 9, 8), (-9, 9, 8), (1 << 36, 1 << 36, (1 << 36) - 1)];
+
+/// Puts a number into the last band of the only level.
+fn put_last(rt: &impl Abort, bands: &mut Bands, number: i64) {
+    assert!(rt; bands.depth() == 1);
+    let band = bands.band_mut(1, 3);
+    assert!(rt; band.h() > 0 && band.w() > 1);
+    band.set(0, 1, number);
+}
+
+#[test]
+fn bands_are_within_their_greatest_magnitude(rt: HostRuntime) -> Result<(), NoMemory> {
+    let mut bands = Bands::new(rt.alloc(), 1, 4, 2)?;
+    for (number, within, beyond) in &GREATEST {
+        put_last(&rt, &mut bands, *number);
+        assert!(&rt; bands.within(*within) && !bands.within(*beyond));
+    }
+    drop(bands);
+    Ok(())
 }

@@ -1,6 +1,6 @@
 -- What a command over the units answers to a stream, and to bytes that are refused.
 use Rattle.std.proofs.Common.{◌≡◌, ℕ, zero, suc, ◌+◌, ◌-◌, ◌*◌, ◌<◌, ◌≤◌, true, false, List, [], ◌∷◌, ◌++◌, length, take, drop, refl, sym, ap, subst, ◌∙◌, arith, append_assoc, append-nil}
-use Rattle.std.specs.List.{AllByRecursion, flat_map}
+use Rattle.std.specs.List.{AllByRecursion}
 use Rattle.std.proofs.lemmas.List.{length-take, length-drop, take_all, drop-take}
 use Rattle.bit_codes.specs.Bits.{Cursor, bits_of, bytes_of, cursor_at}
 use Rattle.bit_codes.proofs.ByteLemmas.{bytes_of-bits_of}
@@ -10,11 +10,11 @@ use Rattle.field_rows.proofs.Words.{split-bits}
 use Rattle.vc2_run.specs.Walk.{Machine, IsMachine, Ends, Answer, answer_from, answer_to, before, after_step}
 use Rattle.vc2_run.proofs.Walks.{answer_step}
 use Rattle.unit_table.specs.Grammar.{bytes_at, unit_at}
-use Rattle.unit_table.specs.Fronts.{Front, Stands, Finishes, Refuses, front_by, front_of, front_within, Between, Command, step_by, machine_of}
+use Rattle.unit_table.specs.Fronts.{Close, Front, Stands, Finishes, Refuses, front_by, front_of, front_within, Between, Command, step_by, machine_of}
 use Rattle.unit_table.proofs.FrontLaws.{front_stands, front_near, front_before, front_past, step-stands, machine_laws}
 use Rattle.stream_rows.specs.declared.reason.Reason.{Reason}
 use Rattle.stream_rows.specs.declared.reason.Reason.TheVariants as reasons
-use Rattle.stream_rows.specs.declared.reason.Refusal.{Refusal}
+use Rattle.stream_rows.specs.Refusals.{Refusal}
 use Rattle.stream_rows.specs.Units.{Past, nothing_yet, DataUnit, Sequence, Repeated, Picture, Skipped, End, reason_of, unit_rows, after, units}
 use Rattle.stream_rows.specs.Streams.{bytes_between, ends, Entry, total, Units, IsStreamFrom, IsRefusalFrom, limit, IsStream, past_limit, IsFault, WithinLimit, PastLimit, BehindLimit, IsRefusal}
 use Rattle.stream_rows.proofs.Steady.{units_laws}
@@ -160,21 +160,21 @@ units-stood {W} command plain (e ∷ es) z own z' v c' le fits f =
 -- ---- the end
 
 -- the answer of a command without an opening, by its ending behind units
-abbrev pub ending-of : {W E : Type 0} (command : Command Past Reason DataUnit W E) → Past → W → E → List ℕ → Answer E
-ending-of command z own ending text = record { ending = ending; text = command.opening ++ text; last = command.last z own ending }
+abbrev pub ending-of : {W E : Type 0} (command : Command Past Reason DataUnit W E) → Past → W → Close E → List ℕ → Answer E
+ending-of command z own close text = record { ending = close.ending; text = command.opening ++ text; last = close.last }
 
 -- what the units so far and the ending behind them make
-joined : {W E : Type 0} (command : Command Past Reason DataUnit W E) (plain : IsPlain command) (z' : Past) (v : List ℕ) (es : List Entry) (c' : Cursor) (front : Front Reason DataUnit) (ending : E) (s : Stood command plain nothing_yet command.start v es z' c') → front_within limit past_limit units z' s.tail ≡ front
-    → (let own = own_behind plain.step command.start es in step_by units command z' own s.tail front ≡ Ends ending (command.last z' own ending))
-    → answer_to (machine command) v ≡ ending-of command z' (own_behind plain.step command.start es) ending (texts plain.text plain.step command.start es)
-joined {W} command plain z' v es c' front ending s here ends =
+joined : {W E : Type 0} (command : Command Past Reason DataUnit W E) (plain : IsPlain command) (z' : Past) (v : List ℕ) (es : List Entry) (c' : Cursor) (front : Front Reason DataUnit) (close : Close E) (s : Stood command plain nothing_yet command.start v es z' c') → front_within limit past_limit units z' s.tail ≡ front
+    → (let own = own_behind plain.step command.start es in step_by units command z' own s.tail front ≡ Ends close.ending close.last)
+    → answer_to (machine command) v ≡ ending-of command z' (own_behind plain.step command.start es) close (texts plain.text plain.step command.start es)
+joined {W} command plain z' v es c' front close s here ends =
     let own = own_behind plain.step command.start es in
     let b : Between Past W = record { past = z'; own = own } in
-    let last = command.last z' own ending in
+    let last = close.last in
     ap (before command.opening) (s.same
     ∙ ap (before (texts plain.text plain.step command.start es)) (answer_step (machine command) (laws_of command) b s.tail
     ∙ ap (λ p. after_step p (λ size left. answer_from (machine command) left (drop size s.tail))) (ap (step_by units command z' own s.tail) here ∙ ends)))
-    ∙ ap (λ l. record { ending = ending; text = command.opening ++ l; last = last }) (append-nil (texts plain.text plain.step command.start es))
+    ∙ ap (λ l. record { ending = close.ending; text = command.opening ++ l; last = last }) (append-nil (texts plain.text plain.step command.start es))
 
 -- the last unit, which ends the stream, in front of bytes
 pub last-front : (z : Past) (t : List ℕ) (last : Entry) (behind : Cursor) → Stand (unit_rows z) last.fields (bytes_at z.place t) last.unit behind → ends last.unit behind ≡ true → front_of units z t ≡ Finishes (length t) last.unit
@@ -203,7 +203,7 @@ answer_stream command plain bytes es last fits s =
       stood.tail,
       omega (arith, stood.total),
       joined command plain f.left bytes es f.mid (Finishes (length stood.tail) last.unit) (command.finished f.left own last.unit stood.tail) stood here
-          (ap (λ l. let ending = command.finished f.left own last.unit l in Ends ending (command.last f.left own ending)) (take_all (length stood.tail) stood.tail (omega arith))),
+          (ap (λ l. let close = command.finished f.left own last.unit l in Ends close.ending close.last) (take_all (length stood.tail) stood.tail (omega arith))),
     )
 
 -- A refusal behind units: the texts of these, and the ending of a refusal.

@@ -1,5 +1,5 @@
 -- Of whatever rows make something is so, and so of the units of streams and of those before a fault.
-use Rattle.std.proofs.Common.{◌≡◌, ℕ, ◌-◌, subst, sym, Bool, true, false, Option, Some, None, List, [], ◌∷◌, ◌++◌, length, take, map, Result, Ok, Err, ap, refl, if◌then◌else◌}
+use Rattle.std.proofs.Common.{◌≡◌, ℕ, ◌-◌, subst, sym, Bool, true, false, Option, Some, None, List, [], ◌∷◌, ◌++◌, length, take, map, Result, Ok, Err, ap, refl, if◌then◌else◌, ◌⊎◌, inl, inr}
 use Rattle.std.specs.Prelude.{unwrap_or, nat_lt}
 use Rattle.bit_codes.specs.declared.CodeFault.{CodeFault}
 use Rattle.bit_codes.specs.Bits.{Cursor}
@@ -7,10 +7,9 @@ use Rattle.field_rows.specs.Rows.{Value, Fault, ◌or_else◌, Rule, first_broke
 use Rattle.field_rows.specs.Standing.{Stand}
 use Rattle.unit_table.specs.Grammar.{Behind, Inner, Final, unit_at}
 use Rattle.unit_table.specs.Fronts.{Stands, front_behind, front_by, front_within}
-use Rattle.unit_table.specs.Turn.{TakesUnit}
 use Rattle.stream_rows.specs.declared.reason.Reason.{Reason}
-use Rattle.stream_rows.specs.declared.reason.Refusal.{Refusal}
-use Rattle.stream_rows.specs.Units.{Past, DataUnit, nothing_yet, after, unit_rows, units}
+use Rattle.stream_rows.specs.Refusals.{Refusal}
+use Rattle.stream_rows.specs.Units.{Past, DataUnit, Sequence, Repeated, Picture, Skipped, End, nothing_yet, after, unit_behind, unit_rows, units}
 use Rattle.stream_rows.specs.Streams.{Entry, Units, bytes_between, limit, past_limit, IsStream, IsFault, WithinLimit, PastLimit, BehindLimit, IsRefusal}
 
 -- of whatever the rows make this is so
@@ -94,8 +93,8 @@ stands_same Final false size size' made unit e = cc
 
 module _ (P : Past → DataUnit → Type 0) (made : (z : Past) → Make (P z) (unit_rows z)) where
   -- the unit that stands in front of bytes
-  front_made : (z : Past) (bytes : List ℕ) (size : ℕ) (unit : DataUnit) → front_within limit past_limit units z bytes ≡ Stands size unit → P z unit
-  front_made z bytes size unit e = by (unit_at units z there) refl e
+  front_such : (z : Past) (bytes : List ℕ) (size : ℕ) (unit : DataUnit) → front_within limit past_limit units z bytes ≡ Stands size unit → P z unit
+  front_such z bytes size unit e = by (unit_at units z there) refl e
     where
       there : List ℕ
       there = take (limit - z.place) bytes
@@ -106,8 +105,14 @@ module _ (P : Past → DataUnit → Type 0) (made : (z : Past) → Make (P z) (u
           let same = stands_same _ _ _ size x.0 unit e in
           subst (P z) same (read_made (P z) (units).reason_of (unit_rows z) _ x (made z).all is)
 
-  pub taken_such : (z : Past) (held bytes still : List ℕ) (rest0 rest1 : Option (List ℕ)) (unit : DataUnit) → TakesUnit limit past_limit units z held rest0 rest1 unit bytes still → P z unit
-  taken_such z held bytes still rest0 rest1 unit t = front_made z (bytes ++ still) (length bytes) unit (t.stands still (λ some. some))
+  -- a unit that is the last one, or stands in front of its bytes and of others
+  pub passed_such : (z : Past) (bytes : List ℕ) (unit : DataUnit) → P z End → (unit_behind unit ≡ Final) ⊎ ((still : List ℕ) × (front_within limit past_limit units z (bytes ++ still) ≡ Stands (length bytes) unit)) → P z unit
+  passed_such z bytes unit last (inr stands) = front_such z (bytes ++ stands.0) (length bytes) unit stands.1
+  passed_such z bytes End last (inl final) = last
+  passed_such z bytes (Sequence parts) last (inl final) = absurd cc
+  passed_such z bytes Repeated last (inl final) = absurd cc
+  passed_such z bytes (Picture parts number params slices) last (inl final) = absurd cc
+  passed_such z bytes Skipped last (inl final) = absurd cc
 
   stood_such : (z : Past) (vs : List Value) (c : Cursor) (unit : DataUnit) (mid : Cursor) → Stand (unit_rows z) vs c unit mid → P z unit
   stood_such z vs c unit mid s = stood (P z) (unit_rows z) vs c unit mid (made z).all s

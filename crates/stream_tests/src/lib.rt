@@ -3,6 +3,8 @@
 #![tactic(auto)]
 
 #[cfg(test)]
+mod cutting;
+#[cfg(test)]
 mod pictures;
 #[cfg(test)]
 mod reading;

@@ -10,20 +10,15 @@ use Rattle.unit_table.specs.Fronts.{Finishes}
 use Rattle.unit_table.specs.Turn.{MeetsFront}
 use Rattle.stream_rows.specs.declared.reason.Reason.{Reason}
 use Rattle.stream_rows.specs.declared.reason.Reason.TheVariants as reasons
-use Rattle.stream_rows.specs.declared.reason.Refusal.{Refusal}
 use Rattle.stream_rows.specs.Units.{Past, DataUnit, Sequence, Repeated, Picture, Skipped, End, unit_behind, units}
 use Rattle.stream_rows.specs.Streams.{limit, past_limit, frame_under}
-use Rattle.unit_reader.specs.declared.stop.Refusal.{Refusal as TableRefusal}
-use Rattle.unit_reader.specs.declared.stop.ReadStop.{ReadStop as TableStop}
-use Rattle.unit_reader.specs.declared.stop.ReadStop.TheVariants as table_stops
 use Rattle.unit_reader.specs.declared.reader.Turn.{Turn}
 use Rattle.unit_reader.specs.declared.reader.Turn.TheVariants as turns
-use Rattle.unit_reader.specs.Stops.{LimitStops as TableStops, StopCause as TableCause}
+use Rattle.unit_reader.specs.Stops.{StopCause}
 use Rattle.unit_reader.specs.Reading.{ReaderSeen, NextOver as TableNext}
-use Rattle.stream_units.specs.declared.stop.ReadStop.{ReadStop}
+use Rattle.stream_units.specs.ReadStops.{ReadStop}
 use Rattle.stream_units.specs.declared.stop.Item.{Item}
 use Rattle.stream_units.specs.declared.stop.Item.TheVariants as items
-use Rattle.stream_units.specs.StreamStops.{stop_told, StopCause, LimitStops}
 use Rattle.stream_units.specs.Held.{greatest_share, greatest_in}
 use Rattle.stream_units.specs.Turns.{shape_of}
 use Rattle.stream_units.specs.Reader.{StreamReaderSeen, item_of, is_end_item, IsPictureOf, IsTakerOf, TakesItem, NextOver, NextUnshown, GreatestOver}
@@ -35,26 +30,13 @@ abbrev Seen : Type 0
 Seen = ReaderSeen StreamTableSeen Reason
 
 abbrev TurnResult : Type 0
-TurnResult = Result (Turn Item) (TableStop Reason)
+TurnResult = Result (Turn Item) ReadStop
 
 abbrev past_of : StreamTableSeen → Past
 past_of table = table.past
 
 abbrev pub TurnOver : Seen → Seen → Option (List ℕ) → Option (List ℕ) → TurnResult → Type 0
 TurnOver old new rest0 rest1 result = TableNext units reasons.StreamTooLong past_of TellsUnit StopsTable old new rest0 rest1 result
-
-pub none_kept : (stop : Option (TableStop Reason)) → option_map stop_told stop ≡ None → stop ≡ None
-none_kept None e = refl
-none_kept (Some stop) e = absurd cc
-
-limit_told : (z : Past) (held : List ℕ) (rest0 rest1 : Option (List ℕ)) (stop : TableStop Reason) → TableStops units reasons.StreamTooLong z held rest0 rest1 stop → LimitStops units z held rest0 rest1 (stop_told stop)
-limit_told z held rest0 rest1 (table_stops.Refused refusal) n = record {
-  fault = n.fault;
-  there = ap (λ (r : TableRefusal Reason). let told : Refusal = record { place = r.place; reason = r.reason } in told) n.there;
-  meets = n.meets;
-}
-limit_told z held rest0 rest1 table_stops.ReadFault n = n
-limit_told z held rest0 rest1 table_stops.NoMemory n = n
 
 -- ---- the item of a unit
 
@@ -151,7 +133,7 @@ next_by old new was picture rest0 rest1 (Ok (turns.Unit item)) n is =
       few = n.tells.few;
       picture = is;
       decoder = subst (λ (b : Bool). IsTakerOf n.unit (taker_in b new.table.decoder)) (sym (shows_is n.unit item n.tells.is_item)) (taker_behind old.table.makes_pictures n.unit old.table.decoder new.table.decoder n.tells.decoder);
-      going = (ap (option_map stop_told) n.going.0, n.going.1);
+      going = n.going;
     })
 next_by old new was picture rest0 rest1 (Ok (turns.Last item)) n is =
     let e = is_end n.unit n.final in
@@ -166,12 +148,12 @@ next_by old new was picture rest0 rest1 (Ok (turns.Last item)) n is =
       header = t.header;
       shapes = t.shapes;
       none_taken = refl;
-      over = (n.none, is, ap (option_map stop_told) n.over.0, n.over.1);
+      over = (n.none, is, n.over.0, n.over.1);
     }
 next_by old new was picture rest0 rest1 (Ok turns.Rest) n is = absurd (let clash : false ≡ true = n.rests.may in cc)
 next_by old new was picture rest0 rest1 (Err stop) n is = (
-  limit_told old.table.past old.held rest0 rest1 stop n.0,
-  record { past = n.1; header = n.2.header; shapes = n.2.shapes; picture = is; decoder = refl; kept = ap (option_map stop_told) n.3; ended = n.4 },
+  n.0,
+  record { past = n.1; header = n.2.header; shapes = n.2.shapes; picture = is; decoder = refl; kept = n.3; ended = n.4 },
 )
 
 -- where pictures are made, the one of the unit is shown
@@ -242,28 +224,26 @@ greatest_told old new was is rest0 rest1 (Ok (turns.Last item)) n =
 greatest_told old new was is rest0 rest1 (Ok turns.Rest) n = absurd (let clash : false ≡ true = n.rests.may in cc)
 greatest_told old new was is rest0 rest1 (Err stop) n = stops_greatest old.table.past old.held rest0 old.table.decoder new.table.decoder new.held stop n.2.held
 
-pub cause_told : (before now : ℕ) (result : TurnResult) → TableCause before now result → StopCause before now (answer_of result)
+pub cause_told : (before now : ℕ) (result : TurnResult) → StopCause before now result → StopCause before now (answer_of result)
 cause_told before now (Ok (turns.Unit item)) h = h
 cause_told before now (Ok (turns.Last item)) h = h
 cause_told before now (Ok turns.Rest) h = h
-cause_told before now (Err (table_stops.Refused refusal)) h = h
-cause_told before now (Err table_stops.ReadFault) h = h
-cause_told before now (Err table_stops.NoMemory) h = h
+cause_told before now (Err stop) h = h
 
 -- nothing was read, and the stop is answered again
-pub kept_as : (old new : Seen) (was is : StreamReaderSeen) (rest0 rest1 : Option (List ℕ)) (before now : ℕ) (result : TurnResult) → ((stop : TableStop Reason) → old.stop ≡ Some stop → result ≡ Err stop → new ≡ old → is ≡ was)
+pub kept_as : (old new : Seen) (was is : StreamReaderSeen) (rest0 rest1 : Option (List ℕ)) (before now : ℕ) (result : TurnResult) → ((stop : ReadStop) → old.stop ≡ Some stop → result ≡ Err stop → new ≡ old → is ≡ was)
     → IfSome old.stop (λ stop. (result ≡ Err stop) × (new ≡ old) × (rest1 ≡ rest0) × (now ≡ before))
-    → IfSome (option_map stop_told old.stop) (λ stop. (answer_of result ≡ Err stop) × (is ≡ was) × (rest1 ≡ rest0) × (now ≡ before))
+    → IfSome old.stop (λ stop. (answer_of result ≡ Err stop) × (is ≡ was) × (rest1 ≡ rest0) × (now ≡ before))
 kept_as old new was is rest0 rest1 before now result same h = by old.stop refl h
   where
-    by : (stop : Option (TableStop Reason)) → old.stop ≡ stop → IfSome stop (λ stop. (result ≡ Err stop) × (new ≡ old) × (rest1 ≡ rest0) × (now ≡ before))
-        → IfSome (option_map stop_told stop) (λ stop. (answer_of result ≡ Err stop) × (is ≡ was) × (rest1 ≡ rest0) × (now ≡ before))
+    by : (stop : Option ReadStop) → old.stop ≡ stop → IfSome stop (λ stop. (result ≡ Err stop) × (new ≡ old) × (rest1 ≡ rest0) × (now ≡ before))
+        → IfSome stop (λ stop. (answer_of result ≡ Err stop) × (is ≡ was) × (rest1 ≡ rest0) × (now ≡ before))
     by None e h = tt
     by (Some stop) e h = (ap answer_of h.0, same stop e h.0 h.1, h.2, h.3)
 
 pub kept_told : (old new : Seen) (was : Bool) (rest0 rest1 : Option (List ℕ)) (before now : ℕ) (result : TurnResult) → IsSound old was
     → IfSome old.stop (λ stop. (result ≡ Err stop) × (new ≡ old) × (rest1 ≡ rest0) × (now ≡ before))
-    → IfSome (option_map stop_told old.stop) (λ stop. (answer_of result ≡ Err stop) × (seen_by new (is_shown (answer_of result)) ≡ seen_by old was) × (rest1 ≡ rest0) × (now ≡ before))
+    → IfSome old.stop (λ stop. (answer_of result ≡ Err stop) × (seen_by new (is_shown (answer_of result)) ≡ seen_by old was) × (rest1 ≡ rest0) × (now ≡ before))
 kept_told old new was rest0 rest1 before now result sound h =
     kept_as old new (seen_by old was) (seen_by new (is_shown (answer_of result))) rest0 rest1 before now result
     (λ stop e told same. ap (λ (r : Seen). seen_by r (is_shown (answer_of result))) same ∙ ap (λ (b : Bool). seen_by old b) (ap (λ (r : TurnResult). is_shown (answer_of r)) told ∙ sym (sound.stopped stop e))) h
@@ -312,7 +292,7 @@ called : (old new : Seen) (rest0 rest1 : Option (List ℕ)) (before now : ℕ) (
     → (old.stop ≡ None → old.ended ≡ true → (result ≡ Ok turns.Rest) × (new ≡ old) × (rest1 ≡ rest0) × (now ≡ before)) → Called old new rest0 rest1 result
 called old new rest0 rest1 before now result next kept ended = by old.stop refl kept old.ended refl
   where
-    by : (stop : Option (TableStop Reason)) → old.stop ≡ stop → IfSome stop (λ stop. (result ≡ Err stop) × (new ≡ old) × (rest1 ≡ rest0) × (now ≡ before)) → (over : Bool) → old.ended ≡ over → Called old new rest0 rest1 result
+    by : (stop : Option ReadStop) → old.stop ≡ stop → IfSome stop (λ stop. (result ≡ Err stop) × (new ≡ old) × (rest1 ≡ rest0) × (now ≡ before)) → (over : Bool) → old.ended ≡ over → Called old new rest0 rest1 result
     by (Some stop) e h over o = inl (h.1, ap (λ (r : TurnResult). is_shown (answer_of r)) h.0)
     by None e h true o = let k = ended e o in inl (k.1, ap (λ (r : TurnResult). is_shown (answer_of r)) k.0)
     by None e h false o = inr (next e o)
@@ -357,7 +337,7 @@ showing_behind old new was rest0 rest1 before now result showing next few kept e
 -- the stop that is kept is answered again
 pub kept_unshown : (old new : Seen) (was : Bool) (rest0 rest1 : Option (List ℕ)) (before now : ℕ) (result : TurnResult) → IsShowing old was
     → IfSome old.stop (λ stop. (result ≡ Err stop) × (new ≡ old) × (rest1 ≡ rest0) × (now ≡ before))
-    → IfSome (option_map stop_told old.stop) (λ stop. (answer_of result ≡ Err stop) × (unshown_by new (is_shown (answer_of result)) ≡ unshown_by old was) × (rest1 ≡ rest0) × (now ≡ before))
+    → IfSome old.stop (λ stop. (answer_of result ≡ Err stop) × (unshown_by new (is_shown (answer_of result)) ≡ unshown_by old was) × (rest1 ≡ rest0) × (now ≡ before))
 kept_unshown old new was rest0 rest1 before now result showing h =
     kept_as old new (unshown_by old was) (unshown_by new (is_shown (answer_of result))) rest0 rest1 before now result
     (λ stop e told same. ap (λ (r : Seen). unshown_by r (is_shown (answer_of result))) same ∙ ap (λ (b : Bool). unshown_by old b) (ap (λ (r : TurnResult). is_shown (answer_of r)) told ∙ sym (showing.stopped stop e))) h

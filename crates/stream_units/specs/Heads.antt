@@ -10,8 +10,7 @@ use Rattle.sequence_header.specs.declared.parts.HeaderParts.{HeaderParts}
 use Rattle.unit_table.specs.Grammar.{bytes_at, unit_at}
 use Rattle.stream_rows.specs.declared.reason.Reason.{Reason}
 use Rattle.stream_rows.specs.declared.reason.Reason.TheVariants as reasons
-use Rattle.stream_rows.specs.declared.reason.Refusal.{Refusal}
-use Rattle.unit_reader.specs.declared.stop.Refusal.{Refusal as TableRefusal}
+use Rattle.stream_rows.specs.Refusals.{Refusal}
 use Rattle.stream_units.specs.declared.heads.Before.{Before}
 use Rattle.stream_rows.specs.Units.{First, Past, nothing_yet, Sequence, reason_of, is_header, is_end_code, next_rules, units}
 use Rattle.stream_rows.specs.Streams.{refusal_of}
@@ -103,7 +102,3 @@ head_only_judged place (Err (faults.NextShort code)) = Err (record { place = pla
 head_only_judged place (Err (faults.PreviousShort code next)) = and_then
     (passes (place + 5) (first_broken (head_only_rules code next)))
     (λ checked. Err (record { place = place + 9; reason = reasons.Truncated }))
-
--- a refusal, of a reader of any table
-abbrev pub asked_for : Refusal → TableRefusal Reason
-asked_for refusal = record { place = refusal.place; reason = refusal.reason }

@@ -9,7 +9,7 @@ ghost use Rattle.stream_units.specs.HeadUnits.{leads_on, payload_length, head_on
 ghost use Rattle.stream_units.specs.HeadLaws.{heads_laws};
 ghost use Rattle.stream_units.specs.Heads.{HeadAt, head_only_judged};
 
-use crate::heads::{asked_for, refuse};
+use crate::heads::refuse;
 use parse_info::{Code, InfoFault, ParseInfo};
 use stream_rows::{Reason, Refusal};
 use unit_reader::{After, ReadStop, Table, Units, Window, read_on, refused, stop_of};
@@ -86,11 +86,10 @@ fn head<S: Source>(
             }
             Err(refusal) => refusal,
         };
-        let told = asked_for(refusal);
         if !refusal.reason.is_truncated() {
-            return Err(ReadStop::Refused(told));
+            return Err(ReadStop::Refused(refusal));
         }
-        match read_on::<HeadTable, S>(window, src, told) {
+        match read_on::<HeadTable, S>(window, src, refusal) {
             Ok(()) => {}
             Err(stop) => return Err(stop),
         }
@@ -99,7 +98,7 @@ fn head<S: Source>(
 
 /// The table of units by their heads alone: the place of the next one.
 #[derive(Drop)]
-pub(crate) struct HeadTable {
+pub struct HeadTable {
     pub place: u64,
 }
 

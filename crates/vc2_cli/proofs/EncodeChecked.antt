@@ -41,15 +41,15 @@ use Rattle.stream_units.proofs.WriterCalls.{length-with}
 use Rattle.stream_units.proofs.WrittenShapes.{plain_length, picture_length}
 use Rattle.stream_units.proofs.EncodedUnits.{length-header_unit, length-picture_unit, length-end_unit}
 use Rattle.stream_units.proofs.EncodedStreams.{Going, going_start, header_small, encoded_fits, encoded_stream, encoded_pictures}
-use Rattle.unit_table.specs.Fronts.{Between, Command}
+use Rattle.unit_table.specs.Fronts.{Between, Command, Close}
 use Rattle.stream_rows.specs.declared.reason.Reason.{Reason}
 use Rattle.stream_rows.proofs.Answering.{machine}
 use Rattle.stream_units.proofs.EncodedPictures.{all_sliced}
 use Rattle.stream_units.proofs.SameShapes.{frame_is, steep_for}
 use Rattle.vc2_words.specs.Settings.{Asked}
 use Rattle.vc2_cli.specs.declared.status.Ending.{Ending}
-use Rattle.vc2_cli.specs.declared.status.Ending.TheVariants.{Scheduled}
-use Rattle.vc2_cli.specs.Decode.{pictures_in, slices_in, last_line}
+use Rattle.vc2_cli.specs.Decode.{pictures_in, slices_in}
+use Rattle.vc2_cli.specs.Endings.{replayed}
 use Rattle.vc2_cli.specs.Scheduled.{Replayed, nothing_replayed, shapes_in, outcome_of, replaying, replay_machine}
 use Rattle.vc2_words.specs.declared.keys.WordFault.{WordFault}
 use Rattle.vc2_words.specs.Commands.{AskedCommand}
@@ -122,8 +122,8 @@ module _ (s : Asked) (f : IsLawful s.params) where
 -- ---- the walk of `check` over what was written
 
 module _ (s : Asked) (schedule : Schedule) (f : AreLawful (written_under s)) where
-  abbrev ending : ℕ → ℕ → Ending
-  ending m slices = Scheduled m slices (stream_place s m + 13) (outcome_of schedule (shapes_at s m ++ plain_shape (stream_place s m) 13 ∷ []) (stream_place s m + 13))
+  abbrev close : ℕ → ℕ → Close Ending
+  close m slices = replayed m slices (stream_place s m + 13) (outcome_of schedule (shapes_at s m ++ plain_shape (stream_place s m) 13 ∷ []) (stream_place s m + 13))
 
   -- a picture's unit by its bytes
   picture_is : (z : Past) (number : ℕ) (slices : List (List ℕ)) (unit : List ℕ) (place : ℕ) → z.place ≡ place → length unit ≡ unit_length s.params → shape_of z (Picture s.parts number s.params slices) unit ≡ picture_shape s.params place
@@ -201,20 +201,20 @@ module _ (s : Asked) (schedule : Schedule) (f : AreLawful (written_under s)) whe
       subst (λ (k : ℕ). Stands (suc n) k (shapes_at s (suc n)) (behind_due command quiet (written_under s) f (begins_at s.group n) b previous number slices)) (sym (place_next s n))
       (stands_due (begins_at s.group n) n (stream_place s n) previous number (shapes_at s n) b slices sliced st)
 
-  finished_is : (n previous : ℕ) (b : Between Past Replayed) → StandsAt n b → command.finished b.past b.own End (end_unit previous) ≡ ending n (n * slice_count s.params.slicing)
+  finished_is : (n previous : ℕ) (b : Between Past Replayed) → StandsAt n b → command.finished b.past b.own End (end_unit previous) ≡ close n (n * slice_count s.params.slicing)
   finished_is n previous b st =
       let unit = end_unit previous in
       let place : b.past.place + length unit ≡ stream_place s n + 13 = omega (arith, st.at, length-end_unit previous) in
       let list : b.own.shapes ++ shape_of b.past End unit ∷ [] ≡ shapes_at s n ++ plain_shape (stream_place s n) 13 ∷ [] =
       ap (λ (k : ℕ). plain b.own k 13) st.at ∙ ap (λ (l : List UnitShape). l ++ plain_shape (stream_place s n) 13 ∷ []) st.shapes in
-      ap (λ (k : ℕ). Scheduled k b.own.slices (b.past.place + length unit) (outcome_of b.own.schedule (b.own.shapes ++ shape_of b.past End unit ∷ []) (b.past.place + length unit))) st.pictures
-      ∙ ap (λ (k : ℕ). Scheduled n k (b.past.place + length unit) (outcome_of b.own.schedule (b.own.shapes ++ shape_of b.past End unit ∷ []) (b.past.place + length unit))) st.slices
-      ∙ ap (λ (k : ℕ). Scheduled n (n * slice_count s.params.slicing) k (outcome_of b.own.schedule (b.own.shapes ++ shape_of b.past End unit ∷ []) k)) place
-      ∙ ap (λ (c : Schedule). Scheduled n (n * slice_count s.params.slicing) (stream_place s n + 13) (outcome_of c (b.own.shapes ++ shape_of b.past End unit ∷ []) (stream_place s n + 13))) st.of
-      ∙ ap (λ (l : List UnitShape). Scheduled n (n * slice_count s.params.slicing) (stream_place s n + 13) (outcome_of schedule l (stream_place s n + 13))) list
+      ap (λ (k : ℕ). replayed k b.own.slices (b.past.place + length unit) (outcome_of b.own.schedule (b.own.shapes ++ shape_of b.past End unit ∷ []) (b.past.place + length unit))) st.pictures
+      ∙ ap (λ (k : ℕ). replayed n k (b.past.place + length unit) (outcome_of b.own.schedule (b.own.shapes ++ shape_of b.past End unit ∷ []) (b.past.place + length unit))) st.slices
+      ∙ ap (λ (k : ℕ). replayed n (n * slice_count s.params.slicing) k (outcome_of b.own.schedule (b.own.shapes ++ shape_of b.past End unit ∷ []) k)) place
+      ∙ ap (λ (c : Schedule). replayed n (n * slice_count s.params.slicing) (stream_place s n + 13) (outcome_of c (b.own.shapes ++ shape_of b.past End unit ∷ []) (stream_place s n + 13))) st.of
+      ∙ ap (λ (l : List UnitShape). replayed n (n * slice_count s.params.slicing) (stream_place s n + 13) (outcome_of schedule l (stream_place s n + 13))) list
 
   abbrev answer : ℕ → Answer Ending
-  answer m = record { ending = ending m (m * slice_count s.params.slicing); text = []; last = last_line (ending m (m * slice_count s.params.slicing)) }
+  answer m = record { ending = (close m (m * slice_count s.params.slicing)).ending; text = []; last = (close m (m * slice_count s.params.slicing)).last }
 
   pub walked : (pictures : List (List (List ℕ))) (b : Between Past Replayed) (n m previous number : ℕ) → previous < 2 ^ 32 → number < 2 ^ 32 → Going s.parts b.past previous number n → AllByRecursion (IsSliced s.parts s.params) pictures
       → (s.parts.coding ≡ 1 → m % 2 ≡ 0) → m ≡ n + length pictures → stream_place s m + 13 ≤ limit → StandsAt n b
@@ -223,7 +223,7 @@ module _ (s : Asked) (schedule : Schedule) (f : AreLawful (written_under s)) whe
       let here : m ≡ n = omega (arith, e) in
       let room : stream_place s n + 13 ≤ limit = subst (λ (k : ℕ). stream_place s k + 13 ≤ limit) here within in
       front_last command quiet (written_under s) f b previous number n short g (λ c. subst (λ (k : ℕ). k % 2 ≡ 0) here (even c)) (omega (arith, st.at, room))
-      ∙ ap (λ (x : Ending). let a : Answer Ending = record { ending = x; text = []; last = last_line x } in a) (finished_is n previous b st)
+      ∙ ap (λ (x : Close Ending). let a : Answer Ending = record { ending = x.ending; text = []; last = x.last } in a) (finished_is n previous b st)
       ∙ ap answer (sym here)
   walked (slices ∷ pictures) b n m previous number short fits g sliced even e within st =
       let begins = begins_at s.group n in
@@ -286,8 +286,8 @@ module _ (s : Asked) (pictures : List PictureSamples) (settings : AreSettings s)
       let all = units_length s settings.lawful.params (map (slices_of (frame_under s.parts) s.params) pictures) (header_length s.parts) s.first 0 (length pictures) (omega (arith, many)) sliced in
       omega (arith, length-append unit rest, length-header_unit s.parts, place_first s, all)
 
-  replayed : reply_of [] (answer_to (replay_machine (plan_for s pictures)) (stream_of s pictures)) ≡ replayed_reply s pictures
-  replayed =
+  replays : reply_of [] (answer_to (replay_machine (plan_for s pictures)) (stream_of s pictures)) ≡ replayed_reply s pictures
+  replays =
       let schedule = plan_for s pictures in
       let unit = header_unit s.parts in
       let rest = units_behind (written_under s) 0 (header_length s.parts) s.first (map (slices_of (frame_under s.parts) s.params) pictures) in
@@ -305,7 +305,7 @@ module _ (s : Asked) (pictures : List PictureSamples) (settings : AreSettings s)
       let walk = walked s schedule f (map (slices_of (frame_under s.parts) s.params) pictures) first 0 (length pictures) (header_length s.parts) s.first (header_small (written_under s) f) f.first (going_start (written_under s) f) sliced may.even (omega (arith, many)) may.stream at_start in
       ap (λ (a : Answer Ending). reply_of [] (before [] a))
       (front_first command (λ z own unit bytes. refl) (written_under s) f (nothing_replayed schedule) rest (omega (arith, length_is, may.stream)) ∙ walk)
-      ∙ ap (λ (o : Outcome). let e : Ending = Scheduled (length pictures) (length pictures * slice_count s.params.slicing) (stream_place s (length pictures) + 13) o in reply_of [] (record { ending = e; text = []; last = last_line e })) (plan_runs s (length pictures) f.params settings.rate)
+      ∙ ap (λ (o : Outcome). let e : Close Ending = replayed (length pictures) (length pictures * slice_count s.params.slicing) (stream_place s (length pictures) + 13) o in reply_of [] (record { ending = e.ending; text = []; last = e.last })) (plan_runs s (length pictures) f.params settings.rate)
 
 -- its numbers are such that words can have
 held_low : (total came gone : ℕ) → min total came - gone ≤ total
@@ -329,7 +329,7 @@ plan_has_words s pictures settings may =
 pub the_schedule_runs : (s : Asked) (pictures : List PictureSamples) → TheScheduleRuns s pictures
 the_schedule_runs s pictures settings may =
     ap (λ (c : Result AskedCommand WordFault). command_reply c (stream_of s pictures)) (line_is_read (plan_for s pictures) (plan_has_words s pictures settings may)).asked
-    ∙ replayed s pictures settings may
+    ∙ replays s pictures settings may
 
 -- ---- and the pictures that are decoded
 

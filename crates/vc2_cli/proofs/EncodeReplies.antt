@@ -9,7 +9,7 @@ use Rattle.sequence_header.specs.Coding.{IsShapeOf, luma_size, colour_size, luma
 use Rattle.sequence_header.specs.Checking.{Passes}
 use Rattle.sequence_header.proofs.Shapes.{luma_fits, colour_fits, depth_fits, excursions}
 use Rattle.slice_geometry.specs.declared.PictureShape.{PictureShape}
-use Rattle.slice_geometry.specs.Frames.{Frame, frame_of}
+use Rattle.slice_geometry.specs.Frames.{Frame}
 use Rattle.slice_geometry.specs.Slicing.{slice_count}
 use Rattle.transform_params.specs.ParameterFields.{unit_length, IsLawful}
 use Rattle.picture_codec.specs.Samples.{PictureSamples}
@@ -30,7 +30,8 @@ use Rattle.stream_units.proofs.SameShapes.{frame_is}
 use Rattle.channel_schedule.specs.declared.schedule.Schedule.{Schedule}
 use Rattle.vc2_words.specs.Settings.{Asked}
 use Rattle.vc2_cli.specs.declared.status.Ending.{Ending}
-use Rattle.vc2_cli.specs.declared.status.Ending.TheVariants.{Encoded}
+use Rattle.vc2_cli.specs.declared.status.Note.TheVariants.{Encoded}
+use Rattle.vc2_cli.specs.declared.status.Ending.TheVariants.{Done}
 use Rattle.vc2_cli.specs.Encode.{written_under, raw_size, stream_place, previous_at, number_at, units_at, has_room, is_half, refused_at, shapes_at, ended_plan, ended_at, last_text, encoding, encode_machine}
 use Rattle.vc2_cli.specs.WholePictures.{raw_input, stream_of}
 use Rattle.vc2_cli.specs.EncodeReply.{MayBeWritten, encoded_reply, AreEncoded}
@@ -79,13 +80,13 @@ module _ (s : Asked) (q : Passes s.parts) where
   texts n (p ∷ ps) = units_at s n (slices_of (frame_under s.parts) s.params p) ++ texts (suc n) ps
 
   abbrev answer : ℕ → ℕ → List PictureSamples → Answer Ending
-  answer n m ps = record { ending = Encoded (ended_plan s (shapes_at s m) (stream_place s m)); text = texts n ps; last = end_unit (previous_at s m) }
+  answer n m ps = record { ending = Done (Encoded (ended_plan s (shapes_at s m) (stream_place s m))); text = texts n ps; last = end_unit (previous_at s m) }
 
   abbrev at : (place n : ℕ) → BehindPictures ℕ
   at place n = record { place = place; own = n }
 
   closed : (half : Bool) (place previous : ℕ) (schedule : Schedule) → half ≡ false
-      → (let a : Answer Ending = record { ending = ended_at half place schedule; text = []; last = last_text half previous } in a) ≡ record { ending = Encoded schedule; text = []; last = end_unit previous }
+      → (let a : Answer Ending = record { ending = ended_at half place schedule; text = []; last = last_text half previous } in a) ≡ record { ending = Done (Encoded schedule); text = []; last = end_unit previous }
   closed true place previous schedule e = absurd cc
   closed false place previous schedule e = refl
 

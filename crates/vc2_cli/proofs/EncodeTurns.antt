@@ -36,12 +36,14 @@ use Rattle.stream_units.specs.EncodedStream.{header_unit, end_unit}
 use Rattle.stream_units.specs.Writer.{StreamWriterSeen, total_length, next_place, next_previous, due_units, plain_shape, started, after_end, WritesPicture, WriteCause, Starts, IsSteepUnder}
 use Rattle.stream_units.proofs.WrittenShapes.{total_push, plain_length}
 use Rattle.vc2_cli.specs.declared.status.Ending.{Ending}
-use Rattle.vc2_cli.specs.declared.status.Ending.TheVariants.{Encoded}
-use Rattle.vc2_cli.specs.Running.{IsDone, Runs, Closes}
+use Rattle.vc2_cli.specs.declared.status.Note.TheVariants.{Encoded}
+use Rattle.vc2_cli.specs.declared.status.Ending.TheVariants.{Done}
+use Rattle.vc2_run.specs.Runs.{Runs, Closes}
+use Rattle.vc2_cli.specs.Endings.{IsDone}
 use Rattle.vc2_cli.specs.Encode.{written_under, raw_size, units_at, has_room, is_half, refused_at, ended_plan, ended_at, last_text, encoding, encode_machine, told_of_fault, told_of_stop}
 use Rattle.vc2_cli.specs.EncodeTurn.{IsBehind, Goes}
 use Rattle.vc2_cli.proofs.Behind.{behind_next, due_is, room_is, no_room_is}
-use Rattle.vc2_cli.proofs.Exits.{takes_none, cause_then}
+use Rattle.vc2_run.proofs.Closing.{takes_none, cause_then}
 
 pub encode_laws : (e : Asked) → 0 < raw_length (frame_under e.parts) → IsMachine (encode_machine e)
 encode_laws e some = turns.picture_laws (frame_under e.parts) (encoding e) some
@@ -68,9 +70,9 @@ pub with_end : (w : StreamWriterSeen) → total_length (after_end w).shapes ≡ 
 with_end w = total_push w.shapes (plain_shape (next_place w) 13) ∙ ap (λ (k : ℕ). next_place w + k) (plain_length (next_place w) 13)
 
 -- the run is over, and all was written
-pub closes_ended : (half : Bool) (place previous : ℕ) (schedule told : Schedule) (out0 out1 : Option (List ℕ)) → half ≡ false → told ≡ schedule → Appends out0 out1 (end_unit previous) → Closes (ended_at half place schedule) (last_text half previous) out0 out1 (Ok (Encoded told))
+pub closes_ended : (half : Bool) (place previous : ℕ) (schedule told : Schedule) (out0 out1 : Option (List ℕ)) → half ≡ false → told ≡ schedule → Appends out0 out1 (end_unit previous) → Closes (ended_at half place schedule) (last_text half previous) out0 out1 (Ok (Done (Encoded told)))
 closes_ended true place previous schedule told out0 out1 none same wrote = absurd cc
-closes_ended false place previous schedule told out0 out1 none same wrote = (ap (λ (x : Schedule). Encoded x) same, wrote)
+closes_ended false place previous schedule told out0 out1 none same wrote = (ap (λ (x : Schedule). Done (Encoded x)) same, wrote)
 
 -- ---- the loop
 

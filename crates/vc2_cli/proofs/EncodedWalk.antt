@@ -96,7 +96,7 @@ module _ {W E : Type 0} (command : Command Past Reason DataUnit W E) (quiet : (z
 
   -- the last end
   pub front_last : (b : Between Past W) (previous number position : ℕ) → previous < 2 ^ 32 → Going s.parts b.past previous number position → (s.parts.coding ≡ 1 → position % 2 ≡ 0) → b.past.place + 13 ≤ limit
-      → answer_from (machine command) b (end_unit previous) ≡ record { ending = command.finished b.past b.own End (end_unit previous); text = []; last = command.last b.past b.own (command.finished b.past b.own End (end_unit previous)) }
+      → answer_from (machine command) b (end_unit previous) ≡ record { ending = (command.finished b.past b.own End (end_unit previous)).ending; text = []; last = (command.finished b.past b.own End (end_unit previous)).last }
   front_last b previous number position short g even within =
       last_unit command b.past b.own (end_unit previous)
       (moves_end_unit b.past g.first previous g.there g.true_one short (end_code b.past g.first g.there (λ e. let c = ap (λ (q : HeaderParts). q.coding) (sym g.of) ∙ e in g.even_pictures c ∙ even c)))

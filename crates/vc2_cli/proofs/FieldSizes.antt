@@ -1,5 +1,5 @@
 -- The frames of fields under a header have the header's own size.
-use Rattle.std.proofs.Common.{◌≡◌, ℕ, ◌*◌, ◌/◌, ◌%◌, ◌≤◌, Bool, true, false, cond, eqb, not, ◌&&◌, ◌||◌, Option, Some, None, refl, sym, ap, subst, ◌∙◌, arith}
+use Rattle.std.proofs.Common.{◌≡◌, ℕ, ◌*◌, ◌/◌, ◌%◌, Bool, true, false, cond, eqb, not, ◌||◌, Option, Some, None, refl, sym, subst, arith}
 use Rattle.std.proofs.lemmas.Bool.{eqb-true, eq-eqb, ne_eqb, false≢true}
 use Rattle.field_rows.specs.Given.{Pass}
 use Rattle.field_rows.specs.Rows.{first_broken}
@@ -15,7 +15,6 @@ use Rattle.sequence_header.proofs.Failing.{coding_fail}
 use Rattle.sequence_header.proofs.Indices.{not_both}
 use Rattle.sequence_header.proofs.Groups.{coding_pass}
 use Rattle.sequence_header.proofs.Shapes.{luma_fits, colour_fits, and_both}
-use Rattle.field_weave.specs.Weaving.{twice_high}
 
 coding_kept : (size : Size) (sampling coding : ℕ) → Pass (coding_rows size sampling) (coding_fields coding) coding → first_broken (coding_rules size sampling coding) ≡ None
 coding_kept size sampling coding p = go (first_broken (coding_rules size sampling coding)) refl

@@ -5,14 +5,15 @@ use Rattle.sequence_header.specs.declared.parts.HeaderParts.{HeaderParts}
 use Rattle.picture_codec.specs.Samples.{PictureSamples, picture_of}
 use Rattle.raw_video.specs.RawText.{raw_text}
 use Rattle.vc2_run.specs.Walk.{answer_to}
-use Rattle.stream_rows.specs.declared.reason.Refusal.{Refusal}
+use Rattle.stream_rows.specs.Refusals.{Refusal}
 use Rattle.stream_rows.specs.Units.{Past, First, nothing_yet, DataUnit, Sequence, Repeated, Picture, Skipped, End, after}
 use Rattle.stream_rows.specs.Streams.{Entry, IsStream, IsRefusal, frame_under}
 use Rattle.stream_rows.proofs.Answering.{IsPlain, texts, own_behind, answer_stream, answer_refusal}
 use Rattle.stream_rows.proofs.Made.{AreSuch}
 use Rattle.field_weave.specs.declared.Order.{Order}
 use Rattle.field_weave.specs.Weaving.{doubled, woven}
-use Rattle.vc2_cli.specs.declared.status.Ending.TheVariants.{Framed, Refused}
+use Rattle.vc2_cli.specs.declared.status.Note.TheVariants.{Framed}
+use Rattle.vc2_cli.specs.declared.status.Ending.TheVariants.{Done, Refused}
 use Rattle.vc2_cli.specs.Telling.{IsUnder}
 use Rattle.vc2_cli.specs.Frames.{FramesSoFar, are_fields, no_frames, frames_more, frame_text, frames_after, frames_text, framing, frames_machine}
 use Rattle.vc2_cli.specs.Reply.{reply_of}
@@ -114,10 +115,10 @@ module _ (order : Order) where
       let w = write es nothing_yet (stream_under bytes es last s) 0 None in
       let n = length (frames_between order es) in
       let counted : own.frames ≡ n = w.1 ∙ omega arith in
-      let ending : Framed own.frames (left.place + length a.0) ≡ Framed n (length bytes) = ap (λ m. Framed m (left.place + length a.0)) counted ∙ ap (Framed n) a.1 in
+      let ending : Done (Framed own.frames (left.place + length a.0)) ≡ Done (Framed n (length bytes)) = ap (λ m. Done (Framed m (left.place + length a.0))) counted ∙ ap (λ k. Done (Framed n k)) a.1 in
       ap (reply_of []) a.2
       ∙ ap (λ e. reply_of [] (record { ending = e; text = written es; last = [] })) ending
-      ∙ ap (λ l. reply_of [] (record { ending = Framed n (length bytes); text = l; last = [] })) w.0
+      ∙ ap (λ l. reply_of [] (record { ending = Done (Framed n (length bytes)); text = l; last = [] })) w.0
       ∙ ap (λ l. record (framed_reply order bytes es) { out = l }) (append-nil (raw_texts (frames_between order es)))
 
   frames_refused : (bytes : List ℕ) (refusal : Refusal) → AreBytes bytes → (r : IsRefusal bytes refusal) → reply_of [] (answer_to (frames_machine order) bytes) ≡ refused_reply (raw_texts (frames_between order r.units)) refusal

@@ -1,5 +1,5 @@
 -- What `frames` makes of a unit that was read.
-use Rattle.std.proofs.Common.{◌≡◌, ℕ, ◌+◌, ◌≤◌, cond, not, Bool, true, false, List, [], length, drop, Option, Some, None, refl, sym, ap, subst, ◌∙◌, arith}
+use Rattle.std.proofs.Common.{◌≡◌, ℕ, ◌+◌, ◌≤◌, cond, not, Bool, true, false, List, length, drop, Option, Some, None, refl, sym, ap, subst, ◌∙◌, arith}
 use Rattle.std.proofs.lemmas.Bool.{false≢true}
 use Rattle.slice_geometry.specs.Frames.{Frame, frame_of}
 use Rattle.slice_geometry.specs.declared.Component.TheVariants.{Luma, C1, C2}
@@ -7,21 +7,25 @@ use Rattle.sequence_header.specs.declared.parts.HeaderParts.{HeaderParts}
 use Rattle.transform_params.specs.Params.{Params}
 use Rattle.picture_codec.specs.Pictures.{sample}
 use Rattle.picture_codec.specs.Samples.{PictureSamples, PictureSeen, picture_of}
+use Rattle.picture_codec.specs.Decoding.{PictureDecoderSeen}
+use Rattle.raw_video.specs.RawText.{raw_text}
 use Rattle.vc2_run.specs.Walk.{IsMachine}
-use Rattle.unit_table.proofs.FrontLaws.{machine_laws}
-use Rattle.stream_rows.specs.Units.{Past, First, nothing_yet, DataUnit, Sequence, Repeated, Picture, Skipped, End, units, after}
-use Rattle.stream_rows.specs.Streams.{limit, past_limit, frame_under}
-use Rattle.stream_rows.proofs.Steady.{units_laws}
-use Rattle.stream_rows.proofs.Answering.{after-place}
+use Rattle.stream_rows.specs.Units.{Past, First, DataUnit, Sequence, Repeated, Picture, Skipped, End, after}
+use Rattle.stream_rows.specs.Streams.{frame_under}
 use Rattle.stream_units.specs.declared.stop.Item.{Item}
-use Rattle.stream_units.specs.Reader.{StreamReaderSeen, IsPictureOf, header_behind}
+use Rattle.stream_units.specs.StreamTable.{StreamTableSeen}
+use Rattle.stream_units.specs.Reader.{IsPictureOf, header_behind}
 use Rattle.field_weave.specs.declared.Order.{Order}
-use Rattle.field_weave.specs.Weaving.{split, placed}
+use Rattle.field_weave.specs.Weaving.{doubled, split, placed}
 use Rattle.field_weave.specs.WeaveRuns.{field_text, first_of}
 use Rattle.field_weave.proofs.WeaveLaws.{split_of_placed_table}
 use Rattle.vc2_words.proofs.Plainness.{some_same, none_some}
-use Rattle.vc2_cli.proofs.Soon.{IsOpenMachine, opens_machine}
-use Rattle.vc2_cli.specs.Telling.{TellsPicture, IsUnder, begins}
+use Rattle.unit_reader.proofs.Opens.{IsOpenMachine}
+use Rattle.vc2_cli.specs.Endings.{MayGoOn}
+use Rattle.vc2_cli.specs.Telling.{PassesUnit, IsUnder, begins, tells_sequence, tells_picture}
+use Rattle.vc2_cli.proofs.Decoding.{stream_laws, stream_opens, item_tells}
+use Rattle.vc2_cli.proofs.Passing.{place_is, picture_is, shown_is}
+use Rattle.vc2_cli.proofs.PicturesUnder.{passed_under}
 use Rattle.vc2_cli.specs.Frames.{FramesSoFar, are_fields, frames_more, frame_text, frames_after, frames_text, framing, frames_machine, first_in, IsFrameFor, KeepsFrame}
 
 abbrev some_parts : HeaderParts → Option HeaderParts
@@ -31,10 +35,10 @@ abbrev pub left_of : Order → ℕ → Option PictureSamples → FramesSoFar
 left_of order frames first = record { order = order; frames = frames; first = first }
 
 pub frames_laws : (order : Order) → IsMachine (frames_machine order)
-frames_laws order = machine_laws limit past_limit units nothing_yet (framing order) units_laws
+frames_laws order = stream_laws (framing order)
 
-pub frames_opens : (order : Order) → IsOpenMachine (frames_machine order)
-frames_opens order = opens_machine units units_laws (λ reason. refl) nothing_yet (framing order) (record { finished = λ z w unit bytes. tt; rested = λ z w. tt; refused = λ z w fault short. short })
+pub frames_opens : (order : Order) → IsOpenMachine MayGoOn (frames_machine order)
+frames_opens order = stream_opens (framing order) (record { finished = λ z w unit bytes. tt; rested = λ z w. tt; refused = λ z w fault short. short })
 
 -- ---- what a unit leaves to the reader
 
@@ -53,34 +57,36 @@ header_kept (Picture parts number params slices) header b = refl
 header_kept Skipped header b = refl
 header_kept End header b = refl
 
-module _ (before now : StreamReaderSeen) (z : Past) (unit : DataUnit) (bytes : List ℕ) (item : Item) (t : TellsPicture before now z unit bytes item) (same : z ≡ before.past) where
-  pub place_is : now.past.place ≡ before.past.place + length bytes
-  place_is = ap (λ (x : Past). x.place) t.tells.past ∙ after-place z unit bytes ∙ ap (λ (x : Past). x.place + length bytes) same
+module _ (before now : StreamTableSeen) (item : Item) (p : PassesUnit before now item) where
+  pub sequence_is : tells_sequence item ≡ begins p.unit
+  sequence_is = ap tells_sequence p.tells.is_item ∙ item_tells p.unit
 
   -- no sequence begins
-  pub keeps_along : (written written' : ℕ) (held held' : Option PictureSeen) → begins unit ≡ false → KeepsFrame written held before → written' ≤ written + length bytes
+  pub keeps_along : (written written' : ℕ) (held held' : Option PictureSeen) → begins p.unit ≡ false → KeepsFrame written held before → written' ≤ written + length p.bytes
       → ((parts : HeaderParts) → IsFrameFor parts held → IsFrameFor parts held') → KeepsFrame written' held' now
   keeps_along written written' held held' none k few carry =
       let was : (first : First) → now.past.first ≡ Some first → before.past.first ≡ Some first = λ first is.
-      ap (λ (x : Past). x.first) (sym same) ∙ first_kept z unit bytes first none (ap (λ (x : Past). x.first) (sym t.tells.past) ∙ is) in
+      first_kept before.past p.unit p.bytes first none (ap (λ (x : Past). x.first) (sym p.past) ∙ is) in
       record {
-        few = omega (arith, few, k.few, place_is);
-        header = λ first is. t.header ∙ header_kept unit before.header none ∙ k.header first (was first is);
+        few = omega (arith, few, k.few, place_is before now item p);
+        makes = p.tells.makes ∙ k.makes;
+        header = λ first is. p.tells.header ∙ header_kept p.unit before.header none ∙ k.header first (was first is);
         frame = λ first is. carry first.parts (k.frame first (was first is));
       }
 
   -- a sequence begins
-  pub keeps_begun : (written : ℕ) (held held' : Option PictureSeen) → begins unit ≡ true → KeepsFrame written held before → ((parts : HeaderParts) → now.header ≡ Some parts → IsFrameFor parts held') → KeepsFrame written held' now
+  pub keeps_begun : (written : ℕ) (held held' : Option PictureSeen) → begins p.unit ≡ true → KeepsFrame written held before → ((parts : HeaderParts) → now.header ≡ Some parts → IsFrameFor parts held') → KeepsFrame written held' now
   keeps_begun written held held' begun k made =
-      let is : (first : First) → now.past.first ≡ Some first → now.header ≡ Some first.parts = λ first e. t.header ∙ by unit begun first (ap (λ (x : Past). x.first) (sym t.tells.past) ∙ e) in
+      let is : (first : First) → now.past.first ≡ Some first → now.header ≡ Some first.parts = λ first e. p.tells.header ∙ by p.unit begun first (ap (λ (x : Past). x.first) (sym p.past) ∙ e) in
       record {
-        few = omega (arith, k.few, place_is);
+        few = omega (arith, k.few, place_is before now item p);
+        makes = p.tells.makes ∙ k.makes;
         header = is;
         frame = λ first e. made first.parts (is first e);
       }
     where
-      by : (unit : DataUnit) → begins unit ≡ true → (first : First) → (after z unit bytes).first ≡ Some first → header_behind unit before.header ≡ Some first.parts
-      by (Sequence parts) b first e = let one : First = record { parts = parts; payload = drop 13 bytes } in let is : one ≡ first = some_same e in ap (λ (f : First). Some f.parts) is
+      by : (unit : DataUnit) → begins unit ≡ true → (first : First) → (after before.past unit p.bytes).first ≡ Some first → header_behind unit before.header ≡ Some first.parts
+      by (Sequence parts) b first e = let one : First = record { parts = parts; payload = drop 13 p.bytes } in let is : one ≡ first = some_same e in ap (λ (f : First). Some f.parts) is
       by Repeated b first e = absurd (false≢true b)
       by (Picture parts number params slices) b first e = absurd (false≢true b)
       by Skipped b first e = absurd (false≢true b)
@@ -94,7 +100,7 @@ module _ (before now : StreamReaderSeen) (z : Past) (unit : DataUnit) (bytes : L
     pub number : ℕ
     pub params : Params
     pub slices : List (List ℕ)
-    pub is : unit ≡ Picture parts number params slices
+    pub is : p.unit ≡ Picture parts number params slices
     pub frame : frame_of pic.shape ≡ frame_under parts
     pub samples : pic.samples ≡ picture_of (frame_under parts) params slices
     pub was : before.header ≡ Some parts
@@ -103,35 +109,73 @@ module _ (before now : StreamReaderSeen) (z : Past) (unit : DataUnit) (bytes : L
     pub there : before.past.first ≡ Some first
     pub of : parts ≡ first.parts
 
-  pub is_shown : (pic : PictureSeen) (written : ℕ) (held : Option PictureSeen) → now.picture ≡ Some pic → KeepsFrame written held before → IsShown pic
-  is_shown pic written held shown k = by unit refl t.picture t.under t.header
+  pub is_shown : (pic : PictureSeen) (written : ℕ) (held : Option PictureSeen) → IsPictureOf p.unit (Some pic) → KeepsFrame written held before → IsShown pic
+  is_shown pic written held shown k = by p.unit refl shown (passed_under before.past p.bytes p.unit p.stands) p.tells.header
     where
-      none : {P : Type 0} → now.picture ≡ None → P
-      none e = none_some (sym e ∙ shown)
+      none : {P : Type 0} → (let one : Option PictureSeen = Some pic in one) ≡ None → P
+      none e = none_some (sym e)
 
-      by : (u : DataUnit) → unit ≡ u → IsPictureOf u now.picture → IsUnder z u → now.header ≡ header_behind u before.header → IsShown pic
-      by (Sequence parts) is p under head = none p
-      by Repeated is p under head = none p
-      by Skipped is p under head = none p
-      by End is p under head = none p
-      by (Picture parts number params slices) is p under head =
-          let same_pic : p.0 ≡ pic = some_same (sym p.1 ∙ shown) in
-          let there : before.past.first ≡ Some under.0 = ap (λ (x : Past). x.first) (sym same) ∙ under.1 in
-          let was : before.header ≡ Some parts = k.header under.0 there ∙ ap (λ (q : HeaderParts). some_parts q) (sym under.2) in
+      by : (u : DataUnit) → p.unit ≡ u → IsPictureOf u (Some pic) → IsUnder before.past u → now.header ≡ header_behind u before.header → IsShown pic
+      by (Sequence parts) is of under head = none of
+      by Repeated is of under head = none of
+      by Skipped is of under head = none of
+      by End is of under head = none of
+      by (Picture parts number params slices) is of under head =
+          let same_pic : of.0 ≡ pic = some_same (sym of.1) in
+          let was : before.header ≡ Some parts = k.header under.0 under.1 ∙ ap (λ (q : HeaderParts). some_parts q) (sym under.2) in
           record {
             parts = parts;
             number = number;
             params = params;
             slices = slices;
             is = is;
-            frame = ap (λ (q : PictureSeen). frame_of q.shape) (sym same_pic) ∙ p.2;
-            samples = ap (λ (q : PictureSeen). q.samples) (sym same_pic) ∙ p.3;
+            frame = ap (λ (q : PictureSeen). frame_of q.shape) (sym same_pic) ∙ of.2;
+            samples = ap (λ (q : PictureSeen). q.samples) (sym same_pic) ∙ of.3;
             was = was;
             now_is = head ∙ was;
             first = under.0;
-            there = there;
+            there = under.1;
             of = under.2;
           }
+
+  -- the same of the picture that the unit's decoder lends
+  pub shown_by : tells_picture item ≡ true → (d : PictureDecoderSeen) → now.decoder ≡ Some d → (pic : PictureSeen) → pic.shape ≡ d.shape → Some pic.samples ≡ d.picture → (written : ℕ) (held : Option PictureSeen) → KeepsFrame written held before → IsShown pic
+  shown_by told d there pic shape samples written held k =
+      is_shown pic written held (subst (λ (o : Option PictureSeen). IsPictureOf p.unit o) (sym (shown_is d pic shape samples)) (picture_is before now item p told d there k.makes)) k
+
+  -- the frame that a field is put into
+  pub record HeldFor (pic : PictureSeen) (held : Option PictureSeen) : Type 0 where
+    pub seen : PictureSeen
+    pub is : held ≡ Some seen
+    pub frame : frame_of seen.shape ≡ doubled (frame_of pic.shape)
+
+  pub frame_held : tells_picture item ≡ true → (d : PictureDecoderSeen) → now.decoder ≡ Some d → (pic : PictureSeen) → pic.shape ≡ d.shape → Some pic.samples ≡ d.picture → (written : ℕ) (held : Option PictureSeen) → KeepsFrame written held before
+      → (fields : Bool) → ((parts : HeaderParts) → now.header ≡ Some parts → fields ≡ are_fields parts) → fields ≡ true → HeldFor pic held
+  frame_held told d there pic shape samples written held k fields same is =
+      let s = shown_by told d there pic shape samples written held k in
+      let coded : are_fields (s.first).parts ≡ true = ap are_fields (sym s.of) ∙ sym (same s.parts s.now_is) ∙ is in
+      let one = k.frame s.first s.there coded in
+      record { seen = one.0; is = one.1; frame = one.2 ∙ ap (λ (q : HeaderParts). doubled (frame_under q)) (sym s.of) ∙ ap doubled (sym s.frame) }
+
+-- ---- a frame that is a picture of its own
+
+pub frame_is : (own : FramesSoFar) (unit : DataUnit) (parts : HeaderParts) (number : ℕ) (params : Params) (slices : List (List ℕ)) (pic : PictureSeen)
+    → unit ≡ Picture parts number params slices → frame_of pic.shape ≡ frame_under parts → pic.samples ≡ picture_of (frame_under parts) params slices → are_fields parts ≡ false
+    → raw_text (frame_of pic.shape) pic.samples ≡ frames_text own unit
+frame_is own unit parts number params slices pic is frame samples whole =
+    ap (λ (h : Frame). raw_text h pic.samples) frame ∙ ap (raw_text (frame_under parts)) samples
+    ∙ ap (λ (b : Bool). frame_text own.order (frame_under parts) b (picture_of (frame_under parts) params slices) own.first) (sym whole)
+    ∙ ap (λ (u : DataUnit). frames_text own u) (sym is)
+
+pub frame_leaves : (order : Order) (frames : ℕ) (unit : DataUnit) (parts : HeaderParts) (number : ℕ) (params : Params) (slices : List (List ℕ)) (begun : Bool) (held : Option PictureSeen) (header header' : Option HeaderParts)
+    → unit ≡ Picture parts number params slices → are_fields parts ≡ false → header' ≡ header
+    → left_of order (frames + 1) (first_in order begun held header') ≡ frames_after (left_of order frames (first_in order begun held header)) unit
+frame_leaves order frames unit parts number params slices begun held header header' is whole same =
+    let p = picture_of (frame_under parts) params slices in
+    let own = left_of order frames (first_in order begun held header) in
+    ap (λ (h : Option HeaderParts). left_of order (frames + 1) (first_in order begun held h)) same
+    ∙ ap (λ (b : Bool). frames_more own b p own.first) (sym whole)
+    ∙ ap (λ (u : DataUnit). frames_after own u) (sym is)
 
 -- ---- a field
 

@@ -1,9 +1,11 @@
 pub mod Settling
+pub mod Told
 pub mod Parts
 mod RanBy
 pub mod WorkedRows
 pub mod HeaderRuns
 pub mod Decoding
+mod Passing
 pub mod Flat
 pub mod EncodeTurns
 pub mod EncodeReplies
@@ -15,13 +17,11 @@ pub mod Chaining
 pub mod StreamReplies
 pub mod LowDepths
 pub mod ProxyReplies
-pub mod Exits
 pub mod Replaying
 pub mod StreamSinks
 pub mod TrialWritten
 pub mod EncodedWords
 pub mod TrialCompared
-pub mod Soon
 pub mod SoonTold
 pub mod Mapped
 pub mod FieldSizes
@@ -30,3 +30,5 @@ pub mod PicturesUnder
 pub mod Framing
 pub mod FrameReplies
 pub mod Proxying
+pub mod Cutting
+pub mod CutReplies

@@ -1,5 +1,5 @@
 -- No picture of a stream has more than four levels, nor any before a fault.
-use Rattle.std.proofs.Common.{◌≡◌, ℕ, ◌≤◌, Option, Some, None, List, [], ◌∷◌, arith, lit≤}
+use Rattle.std.proofs.Common.{◌≡◌, ◌⊎◌, ℕ, ◌≤◌, Option, Some, None, List, [], ◌∷◌, ◌++◌, length, arith, lit≤}
 use Rattle.std.specs.Int.{is_in_range}
 use Rattle.std.proofs.lemmas.Bool.Decides.{nat_tests}
 use Rattle.field_rows.specs.Rows.{number_in, ◌or_else◌, first_broken, within, whole_bytes}
@@ -11,11 +11,12 @@ use Rattle.transform_params.specs.declared.faults.TransformReason.TheVariants.{D
 use Rattle.transform_params.specs.declared.faults.TransformReason.{TransformReason}
 use Rattle.slice_geometry.specs.Slicing.{Slicing}
 use Rattle.transform_params.specs.Params.{Params, slicing_rows, params_fields, params_rows}
-use Rattle.unit_table.specs.Turn.{TakesUnit}
-use Rattle.stream_rows.specs.declared.reason.Refusal.{Refusal}
-use Rattle.stream_rows.specs.Units.{transform_reason, Past, DataUnit, First, after, unit_head, first_payload, repeated_payload, picture_payload, skipped_payload, payload_of, payload_rows, unit_rows, nothing_yet, units}
+use Rattle.unit_table.specs.Grammar.{Final}
+use Rattle.unit_table.specs.Fronts.{Stands, front_within}
+use Rattle.stream_rows.specs.Refusals.{Refusal}
+use Rattle.stream_rows.specs.Units.{transform_reason, Past, DataUnit, First, after, unit_head, first_payload, repeated_payload, picture_payload, skipped_payload, payload_of, payload_rows, unit_behind, unit_rows, nothing_yet, units}
 use Rattle.stream_rows.specs.Streams.{Entry, limit, past_limit, IsStream, IsRefusal}
-use Rattle.stream_rows.proofs.Made.{Make, bind, skip, all_named, AreSuch, taken_such, stream_such, refusal_such}
+use Rattle.stream_rows.proofs.Made.{Make, bind, skip, all_named, AreSuch, passed_such, stream_such, refusal_such}
 use Rattle.vc2_cli.specs.Proxy.{levels_in}
 use Rattle.vc2_cli.specs.ProxyReplies.{HaveAtMost}
 
@@ -81,8 +82,8 @@ unit_low z = skip IsLowUnit (unit_head z) (payload_low z z.first)
 
 -- ---- and the units of a stream, or before a fault
 
-pub taken_low : (z : Past) (held bytes still : List ℕ) (rest0 rest1 : Option (List ℕ)) (unit : DataUnit) → TakesUnit limit past_limit units z held rest0 rest1 unit bytes still → levels_in unit ≤ 4
-taken_low = taken_such (λ z. IsLowUnit) unit_low
+pub passed_low : (z : Past) (bytes : List ℕ) (unit : DataUnit) → (unit_behind unit ≡ Final) ⊎ ((still : List ℕ) × (front_within limit past_limit units z (bytes ++ still) ≡ Stands (length bytes) unit)) → levels_in unit ≤ 4
+passed_low z bytes unit stands = passed_such (λ z. IsLowUnit) unit_low z bytes unit (lit≤ tt) stands
 
 all_low : (es : List Entry) (z : Past) → AreSuch (λ z. IsLowUnit) z es → HaveAtMost 4 es
 all_low [] z are = tt

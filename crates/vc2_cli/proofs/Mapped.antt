@@ -1,9 +1,11 @@
 -- A machine whose endings are told in other words runs as it did.
-use Rattle.std.proofs.Common.{◌≡◌, ℕ, zero, suc, List, [], ◌++◌, length, drop, Option, Some, Result, Ok, Err, refl, sym, ap, subst, ◌∙◌}
-use Rattle.std.specs.Io.KnownBytes.{Appends}
+use Rattle.std.proofs.Common.{◌≡◌, ℕ, zero, suc, List, ◌++◌, length, drop, Option, Result, Ok, Err, refl, sym, ap, subst, ◌∙◌}
+use Rattle.std.specs.Io.KnownBytes.{Appends, IsAtEnd}
 use Rattle.vc2_io.specs.Outside.{IsPrefix, IsProperPrefix}
 use Rattle.vc2_run.specs.Walk.{Step, Ends, Whole, Answer, Machine, IsMachine, before, after_step, walk, answer_from, answer_to, out_of, due, IsPrompt}
-use Rattle.vc2_run.specs.Ran.{Ran}
+use Rattle.vc2_run.specs.Ran.{Ran, HaltHasCause}
+use Rattle.vc2_run.specs.Runs.{Change, Runs}
+use Rattle.unit_reader.specs.Soon.{Soon, all_but}
 use Rattle.vc2_run.specs.declared.Halt.{Halt}
 use Rattle.vc2_run.specs.declared.Halt.TheVariants.{ReadFault, OutFault, NoMemory}
 use Rattle.vc2_cli.specs.Mapped.{step_told, answer_told, told_as, result_told}
@@ -17,6 +19,29 @@ whole_again {Z = Z} {E = E} a b t u l m e =
     let text : t ≡ u = cc in
     let left : l ≡ m = cc in
     ap (λ (n : ℕ). whole_of {E = E} n t l) size ∙ ap (λ (x : List ℕ). whole_of {E = E} b x l) text ∙ ap (λ (z : Z). whole_of {E = E} b u z) left
+
+module _ {E F : Type 0} (tell : E → F) where
+  causes_told : (src0 src1 to0 to1 : ℕ) (result : Result E Halt) → HaltHasCause {X = E} src0 src1 to0 to1 result → HaltHasCause {X = F} src0 src1 to0 to1 (result_told tell result)
+  causes_told src0 src1 to0 to1 (Ok ending) why = why
+  causes_told src0 src1 to0 to1 (Err ReadFault) why = why
+  causes_told src0 src1 to0 to1 (Err OutFault) why = why
+  causes_told src0 src1 to0 to1 (Err NoMemory) why = why
+
+  abbrev ok_told : F → Result F Halt
+  ok_told ending = Ok ending
+
+  same_told : {a b : F} → ok_told a ≡ ok_told b → a ≡ b
+  same_told e = cc
+
+  ended_told : (Was : E → Type 0) (Is : F → Type 0) (AtEnd : Type 0) → ((ending : E) → Is (tell ending) → Was ending) → (result : Result E Halt) → ((ending : E) → result ≡ Ok ending → Was ending → AtEnd) → (ending : F) → result_told tell result ≡ Ok ending → Is ending → AtEnd
+  ended_told Was Is AtEnd was (Ok ending) end told e done = end ending refl (was ending (subst Is (sym (same_told e)) done))
+  ended_told Was Is AtEnd was (Err halt) end told e done = absurd (let h = e in cc)
+
+  lost_told : (result : Result E Halt) → result_told tell result ≡ Err ReadFault → result ≡ Err ReadFault
+  lost_told (Ok ending) e = absurd (let h = e in cc)
+  lost_told (Err ReadFault) e = refl
+  lost_told (Err OutFault) e = absurd (let h = e in cc)
+  lost_told (Err NoMemory) e = absurd (let h = e in cc)
 
 module _ {Z E F : Type 0} (tell : E → F) where
   step_was : (s : Step Z E) (size : ℕ) (text : List ℕ) (left : Z) → step_told tell s ≡ Whole size text left → s ≡ Whole size text left
@@ -82,3 +107,21 @@ module _ {Z E F : Type 0} (tell : E → F) where
       λ more told. subst (λ (l : List ℕ). IsPrefix ran.2.0 l) (sym (told_out machine (ran.0 ++ more))) (ran.2.3 more told),
     ),
   )
+
+  -- ---- what a run leaves
+
+  pub runs_told : (Was : E → Type 0) (Is : F → Type 0) (machine : Machine Z E) (src out : Change) (result : Result E Halt) → ((ending : E) → Is (tell ending) → Was ending) → Runs machine Was src out result → Runs (told_as tell machine) Is src out (result_told tell result)
+  runs_told Was Is machine src out result was r = record {
+    ran = told_ran machine src.was src.is out.was out.is result r.ran;
+    limit = r.limit;
+    cause = causes_told tell src.faults_were src.faults_are out.faults_were out.faults_are result r.cause;
+    end = ended_told tell Was Is (IsAtEnd src.is) was result r.end;
+  }
+
+  pub soon_told : (Was : E → Type 0) (Is : F → Type 0) (machine : Machine Z E) (most : ℕ) (rest0 rest1 : Option (List ℕ)) (result : Result E Halt) → ((ending : E) → Was ending → Is (tell ending)) → Soon Was machine most rest0 rest1 result → Soon Is (told_as tell machine) most rest0 rest1 (result_told tell result)
+  soon_told Was Is machine most rest0 rest1 result keeps s = record {
+    taken = s.taken;
+    took = s.took;
+    goes = subst Is (sym (ap (λ (a : Answer F). a.ending) (told_answer machine (all_but most s.taken)))) (keeps _ s.goes);
+    lost = λ e. subst Is (sym (ap (λ (a : Answer F). a.ending) (told_answer machine s.taken))) (keeps _ (s.lost (lost_told tell result e)));
+  }

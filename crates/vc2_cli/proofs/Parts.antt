@@ -6,26 +6,28 @@ use Rattle.vc2_io.specs.Outside.{GrewShort}
 use Rattle.vc2_cli.specs.declared.status.Status.{Status}
 use Rattle.vc2_cli.specs.declared.status.Status.TheVariants as st
 use Rattle.vc2_cli.specs.declared.status.Ending.{Ending}
-use Rattle.vc2_cli.specs.declared.status.Ending.TheVariants.{Done, Decoded, Framed, Accepted, Scheduled, Encoded, Compared, Refused}
+use Rattle.vc2_cli.specs.declared.status.Ending.TheVariants.{Done, Scheduled, Refused}
 use Rattle.channel_schedule.specs.declared.schedule.Schedule.{Schedule}
 use Rattle.channel_schedule.specs.declared.schedule.Outcome.TheVariants as outcomes
 use Rattle.channel_schedule.specs.Rates.{IsSchedule}
 use Rattle.vc2_words.specs.declared.keys.WordFault.{WordFault}
 use Rattle.vc2_words.specs.declared.words.Command.{Command}
-use Rattle.vc2_words.specs.Commands.{AskedCommand, chain, header, decode, proxy, check, encode, trial, weave, split, frames, seen, asked_by}
+use Rattle.vc2_words.specs.Commands.{AskedCommand, chain, header, decode, proxy, check, encode, trial, weave, split, frames, cut, seen, asked_by}
 use Rattle.vc2_words.proofs.Settled.{words_say}
 use Rattle.vc2_words.specs.declared.keys.WordFault.TheVariants.{SettingsRefused}
 use Rattle.vc2_words.specs.declared.keys.Rule.TheVariants.{MatrixTooSteep}
 use Rattle.vc2_words.specs.Settings.{Asked}
 use Rattle.vc2_words.specs.declared.words.TrialPart.{TrialPart}
+use Rattle.vc2_words.specs.declared.settings.CutSettings.{CutSettings}
 use Rattle.vc2_words.specs.declared.settings.FieldVideo.{FieldVideo}
-use Rattle.vc2_words.specs.Lawful.{AreLawful, IsAskedSchedule, IsTrial, IsFieldVideo}
+use Rattle.vc2_words.specs.Lawful.{AreLawful, IsAskedSchedule, IsTrial, IsFieldVideo, IsCut}
 use Rattle.stream_units.specs.Writer.{IsSteepUnder}
 use Rattle.vc2_cli.specs.Encode.{written_under}
 use Rattle.vc2_cli.specs.Words.{seen_words, is_flat, unless_steep, checked, words_ask}
 use Rattle.vc2_cli.proofs.Flat.{flat_is_steep}
 use Rattle.vc2_cli.specs.Reply.{Reply, Breaks, Stops, StopsShort, IsStatusOf, command_reply, command_due, status_of, ReadsAll}
 use Rattle.vc2_cli.specs.Settled.{Settles}
+use Rattle.vc2_cli.specs.Running.{running_of}
 
 pub if_told : (known : Option (List ℕ)) (P : List ℕ → Type 0) → ((input : List ℕ) → known ≡ Some input → P input) → IfSome known P
 if_told None P h = tt
@@ -40,30 +42,15 @@ IsOwn st.NoMemory = ⊥
 IsOwn other = Unit {0}
 
 own_ending : (ending : Ending) → IsOwn (status_of ending)
-own_ending Done = tt
-own_ending (Decoded pictures bytes) = tt
-own_ending (Framed count bytes) = tt
-own_ending (Accepted pictures slices bytes) = tt
-own_ending (Scheduled pictures slices bytes outcomes.Runs) = tt
-own_ending (Scheduled pictures slices bytes (outcomes.Late slot have need)) = tt
-own_ending (Scheduled pictures slices bytes (outcomes.Overfull slot fill size)) = tt
-own_ending (Encoded schedule) = tt
-own_ending (Compared worst) = tt
+own_ending (Done note) = tt
+own_ending (Scheduled outcomes.Runs) = tt
+own_ending (Scheduled (outcomes.Late slot have need)) = tt
+own_ending (Scheduled (outcomes.Overfull slot fill size)) = tt
 own_ending (Refused refusal) = tt
 
 own : (command : Result AskedCommand WordFault) (input : List ℕ) → IsOwn (command_reply command input).status
 own (Err fault) input = tt
-own (Ok chain) input = own_ending _
-own (Ok header) input = own_ending _
-own (Ok decode) input = own_ending _
-own (Ok (proxy level)) input = own_ending _
-own (Ok (check None)) input = own_ending _
-own (Ok (check (Some schedule))) input = own_ending _
-own (Ok (encode settings)) input = own_ending _
-own (Ok (trial settings part)) input = tt
-own (Ok (frames top)) input = own_ending _
-own (Ok (weave video)) input = own_ending _
-own (Ok (split video)) input = own_ending _
+own (Ok asked) input = own_ending ((running_of asked).answer input).ending
 
 -- ---- the words
 
@@ -94,6 +81,7 @@ check_was (Ok (check other)) schedule e = e
 check_was (Ok (frames top)) schedule e = e
 check_was (Ok (weave video)) schedule e = e
 check_was (Ok (split video)) schedule e = e
+check_was (Ok (cut other)) schedule e = e
 check_was (Err fault) schedule e = e
 
 pub encode_was : (read : Result AskedCommand WordFault) (s : Asked) → checked read ≡ Ok (encode s) → (read ≡ Ok (encode s)) × (is_flat s ≡ true)
@@ -114,6 +102,7 @@ encode_was (Ok (check other)) s e = absurd cc
 encode_was (Ok (frames top)) s e = absurd cc
 encode_was (Ok (weave video)) s e = absurd cc
 encode_was (Ok (split video)) s e = absurd cc
+encode_was (Ok (cut other)) s e = absurd cc
 encode_was (Err fault) s e = absurd cc
 
 trial_was : (read : Result AskedCommand WordFault) (s : Asked) (part : TrialPart) → checked read ≡ Ok (trial s part) → (read ≡ Ok (trial s part)) × (is_flat s ≡ true)
@@ -134,6 +123,7 @@ trial_was (Ok (check other)) s part e = absurd cc
 trial_was (Ok (frames top)) s part e = absurd cc
 trial_was (Ok (weave video)) s part e = absurd cc
 trial_was (Ok (split video)) s part e = absurd cc
+trial_was (Ok (cut other)) s part e = absurd cc
 trial_was (Err fault) s part e = absurd cc
 
 -- fields pass the last rule as they are
@@ -148,6 +138,7 @@ weave_was (Ok (check other)) video e = e
 weave_was (Ok (frames top)) video e = e
 weave_was (Ok (weave other)) video e = e
 weave_was (Ok (split other)) video e = e
+weave_was (Ok (cut other)) video e = e
 weave_was (Err fault) video e = e
 
 split_was : (read : Result AskedCommand WordFault) (video : FieldVideo) → checked read ≡ Ok (split video) → read ≡ Ok (split video)
@@ -161,7 +152,23 @@ split_was (Ok (check other)) video e = e
 split_was (Ok (frames top)) video e = e
 split_was (Ok (weave other)) video e = e
 split_was (Ok (split other)) video e = e
+split_was (Ok (cut other)) video e = e
 split_was (Err fault) video e = e
+
+-- and so do the frames of a cut
+cut_was : (read : Result AskedCommand WordFault) (settings : CutSettings) → checked read ≡ Ok (cut settings) → read ≡ Ok (cut settings)
+cut_was (Ok (encode s)) settings e = let was = steep_or s (encode s) (cut settings) e in absurd (let w : encode s ≡ cut settings = was.0 in cc)
+cut_was (Ok (trial s part)) settings e = let was = steep_or s (trial s part) (cut settings) e in absurd (let w : trial s part ≡ cut settings = was.0 in cc)
+cut_was (Ok chain) settings e = e
+cut_was (Ok header) settings e = e
+cut_was (Ok decode) settings e = e
+cut_was (Ok (proxy level)) settings e = e
+cut_was (Ok (check other)) settings e = e
+cut_was (Ok (frames top)) settings e = e
+cut_was (Ok (weave other)) settings e = e
+cut_was (Ok (split other)) settings e = e
+cut_was (Ok (cut other)) settings e = e
+cut_was (Err fault) settings e = e
 
 -- fields that were read are lawful
 pub weave_is : (words : List (List ℕ)) (command : Result Command WordFault) (video : FieldVideo) → seen_words command ≡ words_ask words → seen_words command ≡ Ok (weave video) → IsFieldVideo video
@@ -169,6 +176,10 @@ weave_is words command video same is = words_say words (weave video) (weave_was 
 
 pub split_is : (words : List (List ℕ)) (command : Result Command WordFault) (video : FieldVideo) → seen_words command ≡ words_ask words → seen_words command ≡ Ok (split video) → IsFieldVideo video
 split_is words command video same is = words_say words (split video) (split_was (asked_by words) video (sym same ∙ is))
+
+-- a cut that was read is lawful
+pub cut_is : (words : List (List ℕ)) (command : Result Command WordFault) (settings : CutSettings) → seen_words command ≡ words_ask words → seen_words command ≡ Ok (cut settings) → IsCut settings
+cut_is words command settings same is = words_say words (cut settings) (cut_was (asked_by words) settings (sym same ∙ is))
 
 -- a schedule that was read is lawful
 pub schedule_is : (words : List (List ℕ)) (command : Result Command WordFault) (schedule : Schedule) → seen_words command ≡ words_ask words → seen_words command ≡ Ok (check (Some schedule)) → IsSchedule schedule

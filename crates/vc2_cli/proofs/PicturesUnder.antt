@@ -1,13 +1,14 @@
 -- A picture's header is that of its sequence.
-use Rattle.std.proofs.Common.{◌≡◌, ℕ, List, Option, Some, None, refl}
+use Rattle.std.proofs.Common.{◌≡◌, ◌⊎◌, ℕ, List, ◌++◌, length, Option, Some, None, refl}
 use Rattle.parse_info.specs.declared.ParseInfo.{ParseInfo}
 use Rattle.parse_info.specs.declared.Code.{Code}
 use Rattle.parse_info.specs.declared.Code.TheVariants.{SequenceHeader, EndOfSequence, Auxiliary, Padding, LowDelayPicture}
-use Rattle.unit_table.specs.Turn.{TakesUnit}
-use Rattle.stream_rows.specs.declared.reason.Refusal.{Refusal}
+use Rattle.unit_table.specs.Grammar.{Final}
+use Rattle.unit_table.specs.Fronts.{Stands, front_within}
+use Rattle.stream_rows.specs.Refusals.{Refusal}
 use Rattle.stream_rows.specs.Streams.{Entry, limit, past_limit, IsStream, IsRefusal}
-use Rattle.stream_rows.specs.Units.{Past, First, DataUnit, nothing_yet, unit_head, first_payload, repeated_payload, picture_payload, skipped_payload, payload_of, payload_rows, unit_rows, units}
-use Rattle.stream_rows.proofs.Made.{Make, skip, AreSuch, taken_such, stream_such, refusal_such}
+use Rattle.stream_rows.specs.Units.{Past, First, DataUnit, nothing_yet, unit_head, first_payload, repeated_payload, picture_payload, skipped_payload, payload_of, payload_rows, unit_behind, unit_rows, units}
+use Rattle.stream_rows.proofs.Made.{Make, skip, AreSuch, passed_such, stream_such, refusal_such}
 use Rattle.vc2_cli.specs.Telling.{IsUnder}
 
 -- ---- the rows of a unit
@@ -48,8 +49,8 @@ unit_under z = skip (IsUnder z) (unit_head z) (λ head. rows_under z z.first hea
 
 -- ---- and the units of a stream, or before a fault
 
-pub taken_under : (z : Past) (held bytes still : List ℕ) (rest0 rest1 : Option (List ℕ)) (unit : DataUnit) → TakesUnit limit past_limit units z held rest0 rest1 unit bytes still → IsUnder z unit
-taken_under = taken_such IsUnder unit_under
+pub passed_under : (z : Past) (bytes : List ℕ) (unit : DataUnit) → (unit_behind unit ≡ Final) ⊎ ((still : List ℕ) × (front_within limit past_limit units z (bytes ++ still) ≡ Stands (length bytes) unit)) → IsUnder z unit
+passed_under z bytes unit stands = passed_such IsUnder unit_under z bytes unit tt stands
 
 pub stream_under : (bytes : List ℕ) (es : List Entry) (last : Entry) → IsStream bytes es last → AreSuch IsUnder nothing_yet es
 stream_under = stream_such IsUnder unit_under

@@ -1,12 +1,13 @@
 -- The replies of `proxy` to streams and refusals.
 use Rattle.std.proofs.Common.{◌≡◌, ℕ, ◌+◌, ◌≤◌, List, [], ◌∷◌, ◌++◌, length, map, refl, sym, ap, ◌∙◌, arith, append-nil, inl, inr}
 use Rattle.vc2_run.specs.Walk.{answer_to}
-use Rattle.stream_rows.specs.declared.reason.Refusal.{Refusal}
+use Rattle.stream_rows.specs.Refusals.{Refusal}
 use Rattle.stream_rows.specs.Units.{DataUnit, Sequence, Repeated, Picture, Skipped, End}
 use Rattle.stream_rows.specs.Streams.{Entry, total, IsStream, IsRefusal, frame_under}
 use Rattle.stream_rows.proofs.OneAnswer.{one_answer}
 use Rattle.stream_rows.proofs.Answering.{IsPlain, texts, own_behind, answer_stream, answer_refusal}
-use Rattle.vc2_cli.specs.declared.status.Ending.TheVariants.{Decoded, Refused}
+use Rattle.vc2_cli.specs.declared.status.Note.TheVariants.{Decoded}
+use Rattle.vc2_cli.specs.declared.status.Ending.TheVariants.{Done, Refused}
 use Rattle.vc2_cli.specs.Decode.{unit_text, pictures_in, decode_machine}
 use Rattle.vc2_cli.specs.Proxy.{Proxied, levels_in, proxy_text, proxying, proxy_machine}
 use Rattle.vc2_cli.specs.Reply.{reply_of}
@@ -58,10 +59,10 @@ module _ (level : ℕ) where
       let a = answer_stream (proxying level) plain bytes es last fits s in
       let own = own_behind plain.step (behind 0) es in
       let counted : own.pictures ≡ total pictures_in es = ap (λ (w : Proxied). w.pictures) (pictures_behind es 0) ∙ omega arith in
-      let ending : Decoded own.pictures (left.place + length a.0) ≡ Decoded (total pictures_in es) (length bytes) = ap (λ n. Decoded n (left.place + length a.0)) counted ∙ ap (Decoded (total pictures_in es)) a.1 in
+      let ending : Done (Decoded own.pictures (left.place + length a.0)) ≡ Done (Decoded (total pictures_in es) (length bytes)) = ap (λ n. Done (Decoded n (left.place + length a.0))) counted ∙ ap (λ k. Done (Decoded (total pictures_in es) k)) a.1 in
       ap (reply_of []) a.2
       ∙ ap (λ e. reply_of [] (record { ending = e; text = written 0 es; last = [] })) ending
-      ∙ ap (λ l. reply_of [] (record { ending = Decoded (total pictures_in es) (length bytes); text = l; last = [] })) (written_proxies es 0)
+      ∙ ap (λ l. reply_of [] (record { ending = Done (Decoded (total pictures_in es) (length bytes)); text = l; last = [] })) (written_proxies es 0)
       ∙ ap (λ l. record (decoded_reply bytes es) { out = l }) (append-nil (proxies_text level es))
 
   proxy_refused : (bytes : List ℕ) (refusal : Refusal) → AreBytes bytes → (r : IsRefusal bytes refusal) → reply_of [] (answer_to (proxy_machine level) bytes) ≡ refused_reply (proxies_text level r.units) refusal

@@ -1,5 +1,5 @@
 -- What `proxy` writes of a unit.
-use Rattle.std.proofs.Common.{◌≡◌, ◌≤◌, ◌∙◌, refl, sym, ap, subst, ℕ, List, [], Option, Some, None, Err}
+use Rattle.std.proofs.Common.{◌≡◌, ◌≤◌, ◌∙◌, sym, ap, subst, ℕ, List, Option, Some}
 use Rattle.planes.specs.declared.Trio.{Trio}
 use Rattle.slice_geometry.specs.declared.PictureShape.{PictureShape}
 use Rattle.slice_geometry.specs.Frames.{Frame, frame_of}
@@ -8,29 +8,18 @@ use Rattle.picture_codec.specs.Decoding.{PictureDecoderSeen, CanSynthesise, AllC
 use Rattle.picture_codec.specs.Samples.{PictureSeen, picture_of}
 use Rattle.raw_video.specs.RawText.{raw_text}
 use Rattle.vc2_run.specs.Walk.{IsMachine}
-use Rattle.vc2_run.specs.declared.Halt.{Halt}
-use Rattle.vc2_run.specs.declared.Halt.TheVariants as halts
-use Rattle.unit_table.proofs.FrontLaws.{machine_laws}
-use Rattle.stream_rows.specs.Units.{DataUnit, Sequence, Repeated, Picture, Skipped, End, nothing_yet, units}
-use Rattle.stream_rows.specs.Streams.{limit, past_limit, frame_under}
-use Rattle.stream_rows.proofs.Steady.{units_laws}
+use Rattle.stream_rows.specs.Units.{DataUnit, Sequence, Repeated, Picture, Skipped, End}
+use Rattle.stream_rows.specs.Streams.{frame_under}
 use Rattle.stream_units.specs.Turns.{IsTaker}
 use Rattle.stream_units.specs.Reader.{IsPictureOf, IsTakerOf, AreBandsOf}
 use Rattle.proxy_picture.specs.Proxy.{proxy_frame, proxy_picture}
 use Rattle.proxy_picture.specs.Making.{ProxyDecoderSeen, reduced_picture}
 use Rattle.proxy_picture.proofs.Full.{full_is}
-use Rattle.vc2_cli.specs.Decode.{pictures_in, shown_text}
+use Rattle.vc2_cli.specs.Decode.{shown_text}
 use Rattle.vc2_cli.specs.Proxy.{proxy_text, levels_in, proxying, proxy_machine, MakesProxiesOf}
-use Rattle.vc2_cli.specs.Running.{WritesText}
-use Rattle.vc2_cli.proofs.Soon.{IsOpenMachine, opens_machine}
-
--- a unit without a picture
-pub nothing_told : (level : ℕ) (unit : DataUnit) (decoder : Option PictureDecoderSeen) → decoder ≡ None → IsTakerOf unit decoder → (proxy_text level unit ≡ []) × (pictures_in unit ≡ 0)
-nothing_told level (Sequence parts) decoder none t = (refl, refl)
-nothing_told level Repeated decoder none t = (refl, refl)
-nothing_told level (Picture parts number params slices) decoder none t = absurd (let clash : Some t.0 ≡ None = sym t.1 ∙ none in cc)
-nothing_told level Skipped decoder none t = (refl, refl)
-nothing_told level End decoder none t = (refl, refl)
+use Rattle.vc2_cli.specs.Endings.{MayGoOn}
+use Rattle.vc2_cli.proofs.Decoding.{stream_laws, stream_opens}
+use Rattle.unit_reader.proofs.Opens.{IsOpenMachine}
 
 some_same : {A : Type 0} {a b : A} → Some a ≡ Some b → a ≡ b
 some_same e = cc
@@ -53,38 +42,31 @@ module _ (d : PictureDecoderSeen) (m : ProxyDecoderSeen) (level : ℕ) (bands : 
 
   -- and what is written of them
   pub picture_told : ((slices : List (List ℕ)) → HoldUnit (frame_of m.shape) m.params slices bands → reduced_picture m bands ≡ proxy_picture (frame_of m.shape) m.params m.level slices)
-      → (unit : DataUnit) (decoder : Option PictureDecoderSeen) → decoder ≡ Some d → IsTakerOf unit decoder
-      → (raw_text (proxy_frame (frame_of m.shape) m.params m.level) (reduced_picture m bands) ≡ proxy_text level unit) × (1 ≡ pictures_in unit)
-  picture_told made (Sequence parts) decoder some t = absurd (let clash : Some d ≡ None = sym some ∙ t in cc)
-  picture_told made Repeated decoder some t = absurd (let clash : Some d ≡ None = sym some ∙ t in cc)
-  picture_told made Skipped decoder some t = absurd (let clash : Some d ≡ None = sym some ∙ t in cc)
-  picture_told made End decoder some t = absurd (let clash : Some d ≡ None = sym some ∙ t in cc)
-  picture_told made (Picture parts number params slices) decoder some t =
-      let same : t.0 ≡ d = some_same (sym t.1 ∙ some) in
+      → (unit : DataUnit) → IsTakerOf unit (Some d) → raw_text (proxy_frame (frame_of m.shape) m.params m.level) (reduced_picture m bands) ≡ proxy_text level unit
+  picture_told made (Sequence parts) t = absurd cc
+  picture_told made Repeated t = absurd cc
+  picture_told made Skipped t = absurd cc
+  picture_told made End t = absurd cc
+  picture_told made (Picture parts number params slices) t =
+      let same : t.0 ≡ d = some_same (sym t.1) in
       let taker = subst (IsTaker parts params slices) same t.2 in
-      let held = subst (λ (f : Frame). HoldUnit f m.params slices bands) (sym makes.frame) (subst (λ (p : Params). HoldUnit (frame_of d.shape) p slices bands) (sym makes.params_are) (of.unit slices taker.taken)) in (
-        ap (raw_text (proxy_frame (frame_of m.shape) m.params m.level)) (made slices held)
-            ∙ ap (λ (f : Frame). text_at f m.params m.level slices) (makes.frame ∙ taker.frame)
-            ∙ ap (λ (p : Params). text_at (frame_under parts) p m.level slices) (makes.params_are ∙ taker.params_are)
-            ∙ ap (λ (l : ℕ). text_at (frame_under parts) params l slices) makes.level_is,
-        refl,
-      )
+      let held = subst (λ (f : Frame). HoldUnit f m.params slices bands) (sym makes.frame) (subst (λ (p : Params). HoldUnit (frame_of d.shape) p slices bands) (sym makes.params_are) (of.unit slices taker.taken)) in
+      ap (raw_text (proxy_frame (frame_of m.shape) m.params m.level)) (made slices held)
+      ∙ ap (λ (f : Frame). text_at f m.params m.level slices) (makes.frame ∙ taker.frame)
+      ∙ ap (λ (p : Params). text_at (frame_under parts) p m.level slices) (makes.params_are ∙ taker.params_are)
+      ∙ ap (λ (l : ℕ). text_at (frame_under parts) params l slices) makes.level_is
 
--- a maker for what the reader shows serves its decoder's pictures
-pub makes_for : (decoder : Option PictureDecoderSeen) (d p s : PictureDecoderSeen) (shape : PictureShape) (params : Params) (level : ℕ) (m : ProxyDecoderSeen) → decoder ≡ Some d → decoder ≡ Some p → params ≡ p.params → decoder ≡ Some s → shape ≡ s.shape
-    → MakesProxiesOf shape params level m → MakesProxiesOf d.shape d.params level m
-makes_for decoder d p s shape params level m is_d is_p params_are is_s shape_is makes =
-    let same_p : p ≡ d = some_same (sym is_p ∙ is_d) in
-    let same_s : s ≡ d = some_same (sym is_s ∙ is_d) in
-    subst (λ (z : PictureShape). MakesProxiesOf z d.params level m) (shape_is ∙ ap (λ (x : PictureDecoderSeen). x.shape) same_s)
-    (subst (λ (q : Params). MakesProxiesOf shape q level m) (params_are ∙ ap (λ (x : PictureDecoderSeen). x.params) same_p) makes)
+-- a maker for what a decoder lends serves its pictures
+pub makes_for : (d : PictureDecoderSeen) (shape : PictureShape) (params : Params) (level : ℕ) (m : ProxyDecoderSeen) → shape ≡ d.shape → params ≡ d.params → MakesProxiesOf shape params level m → MakesProxiesOf d.shape d.params level m
+makes_for d shape params level m shape_is params_are makes =
+    subst (λ (z : PictureShape). MakesProxiesOf z d.params level m) shape_is (subst (λ (q : Params). MakesProxiesOf shape q level m) params_are makes)
 
 -- the machine of `proxy`
 pub proxy_laws : (level : ℕ) → IsMachine (proxy_machine level)
-proxy_laws level = machine_laws limit past_limit units nothing_yet (proxying level) units_laws
+proxy_laws level = stream_laws (proxying level)
 
-pub proxy_opens : (level : ℕ) → IsOpenMachine (proxy_machine level)
-proxy_opens level = opens_machine units units_laws (λ reason. refl) nothing_yet (proxying level) (record { finished = λ z w unit bytes. tt; rested = λ z w. tt; refused = λ z w fault short. short })
+pub proxy_opens : (level : ℕ) → IsOpenMachine MayGoOn (proxy_machine level)
+proxy_opens level = stream_opens (proxying level) (record { finished = λ z w unit bytes. tt; rested = λ z w. tt; refused = λ z w fault short. short })
 
 -- ---- where all levels are asked for
 
@@ -103,9 +85,3 @@ whole_told level End shown few is = ap shown_text is
 whole_told level (Picture parts number params slices) shown few is =
     ap shown_text is.1 ∙ ap (λ (x : Frame). raw_text x (is.0).samples) is.2 ∙ ap (raw_text (frame_under parts)) is.3
     ∙ sym (full_text (frame_under parts) params level slices few)
-
--- what a halt leaves written hangs on the halt alone
-pub halt_told : (X Y : Type 0) (text : List ℕ) (out0 out1 : Option (List ℕ)) (halt : Halt) → WritesText {X = X} text out0 out1 (Err halt) → WritesText {X = Y} text out0 out1 (Err halt)
-halt_told X Y text out0 out1 halts.ReadFault w = w
-halt_told X Y text out0 out1 halts.OutFault w = w
-halt_told X Y text out0 out1 halts.NoMemory w = w

@@ -1,29 +1,27 @@
 -- What `check` with a schedule makes of a unit that was read.
-use Rattle.std.proofs.Common.{◌≡◌, ℕ, ◌+◌, List, [], ◌∷◌, ◌++◌, length, ap, ◌∙◌, refl}
+use Rattle.std.proofs.Common.{◌≡◌, ℕ, ◌+◌, List, [], ◌∷◌, ◌++◌, length, ap, ◌∙◌}
 use Rattle.vc2_run.specs.Walk.{IsMachine}
 use Rattle.slice_geometry.specs.declared.unit_list.UnitShape.{UnitShape}
 use Rattle.slice_geometry.specs.UnitLengths.{UnitShapesSeen}
-use Rattle.unit_table.proofs.FrontLaws.{machine_laws}
-use Rattle.stream_rows.specs.Units.{Past, nothing_yet, DataUnit, units}
-use Rattle.stream_rows.specs.Streams.{limit, past_limit}
 use Rattle.stream_units.specs.Turns.{shape_of}
-use Rattle.stream_units.specs.Reader.{StreamReaderSeen}
-use Rattle.stream_rows.proofs.Steady.{units_laws}
-use Rattle.stream_rows.proofs.Answering.{after-place}
+use Rattle.stream_units.specs.declared.stop.Item.{Item}
+use Rattle.stream_units.specs.StreamTable.{StreamTableSeen}
 use Rattle.channel_schedule.specs.declared.schedule.Schedule.{Schedule}
 use Rattle.channel_schedule.specs.declared.schedule.Outcome.{Outcome}
 use Rattle.channel_schedule.specs.Courses.{course_of, count_in, IsOutcome}
 use Rattle.channel_schedule.proofs.Unique.{one_outcome}
-use Rattle.vc2_cli.specs.declared.status.Ending.TheVariants.{Scheduled}
-use Rattle.vc2_cli.proofs.Soon.{IsOpenMachine, opens_machine}
-use Rattle.vc2_cli.specs.Telling.{TellsUnit}
+use Rattle.unit_reader.proofs.Opens.{IsOpenMachine}
+use Rattle.vc2_cli.specs.Endings.{MayGoOn, replayed}
+use Rattle.vc2_cli.specs.Telling.{PassesUnit}
+use Rattle.vc2_cli.proofs.Decoding.{stream_laws, stream_opens}
+use Rattle.vc2_cli.proofs.Passing.{place_is}
 use Rattle.vc2_cli.specs.Scheduled.{outcome_of, replaying, replaying_any, replay_machine}
 
 pub replay_laws : (schedule : Schedule) → IsMachine (replay_machine schedule)
-replay_laws schedule = machine_laws limit past_limit units nothing_yet (replaying schedule) units_laws
+replay_laws schedule = stream_laws (replaying schedule)
 
-pub replay_opens : (schedule : Schedule) → IsOpenMachine (replay_machine schedule)
-replay_opens schedule = opens_machine units units_laws (λ reason. refl) nothing_yet (replaying schedule) (record { finished = λ z w unit bytes. tt; rested = λ z w. tt; refused = λ z w fault short. short })
+pub replay_opens : (schedule : Schedule) → IsOpenMachine MayGoOn (replay_machine schedule)
+replay_opens schedule = stream_opens (replaying schedule) (record { finished = λ z w unit bytes. tt; rested = λ z w. tt; refused = λ z w fault short. short })
 
 -- the outcome, as a value
 outcome_is : (shapes : UnitShapesSeen) (units : List UnitShape) (total : ℕ) (schedule : Schedule) (outcome : Outcome) → shapes.units ≡ units → shapes.total ≡ total
@@ -34,13 +32,13 @@ outcome_is shapes units total schedule outcome same_units same_total is =
     ∙ ap (λ (t : ℕ). outcome_of schedule units t) same_total
 
 -- the ending of a stream
-pub ending_is : (schedule : Schedule) (slices pictures taken : ℕ) (outcome : Outcome) (old new : StreamReaderSeen) (shapes : UnitShapesSeen) (z : Past) (unit : DataUnit) (bytes : List ℕ) → TellsUnit old new z unit bytes
-    → taken ≡ new.past.place → shapes.units ≡ new.shapes → shapes.total ≡ new.past.place
+pub ending_is : (schedule : Schedule) (slices pictures taken : ℕ) (outcome : Outcome) (before now : StreamTableSeen) (item : Item) (shapes : UnitShapesSeen) (p : PassesUnit before now item)
+    → taken ≡ now.past.place → shapes.units ≡ now.shapes.units → shapes.total ≡ now.past.place
     → IsOutcome (course_of shapes schedule.rate schedule.idle schedule.delay) schedule.size (count_in shapes) outcome
-    → Scheduled pictures slices taken outcome ≡ replaying_any.finished z (record { schedule = schedule; pictures = pictures; slices = slices; shapes = old.shapes }) unit bytes
-ending_is schedule slices pictures taken outcome old new shapes z unit bytes t is_taken is_units is_total is =
-    let place : new.past.place ≡ z.place + length bytes = ap (λ (p : Past). p.place) t.past ∙ after-place z unit bytes in
-    let all = old.shapes ++ shape_of z unit bytes ∷ [] in
-    let same_outcome : outcome ≡ outcome_of schedule all (z.place + length bytes) = outcome_is shapes all (z.place + length bytes) schedule outcome (is_units ∙ t.shapes) (is_total ∙ place) is in
-    ap (λ n. Scheduled pictures slices n outcome) (is_taken ∙ place)
-    ∙ ap (λ o. Scheduled pictures slices (z.place + length bytes) o) same_outcome
+    → replayed pictures slices taken outcome ≡ replaying_any.finished before.past (record { schedule = schedule; pictures = pictures; slices = slices; shapes = before.shapes.units }) p.unit p.bytes
+ending_is schedule slices pictures taken outcome before now item shapes p is_taken is_units is_total is =
+    let place : now.past.place ≡ before.past.place + length p.bytes = place_is before now item p in
+    let all = before.shapes.units ++ shape_of before.past p.unit p.bytes ∷ [] in
+    let same_outcome : outcome ≡ outcome_of schedule all (before.past.place + length p.bytes) = outcome_is shapes all (before.past.place + length p.bytes) schedule outcome (is_units ∙ p.tells.shapes) (is_total ∙ place) is in
+    ap (λ n. replayed pictures slices n outcome) (is_taken ∙ place)
+    ∙ ap (λ o. replayed pictures slices (before.past.place + length p.bytes) o) same_outcome

@@ -1,7 +1,6 @@
 -- How soon a run is over, by its status.
-use Rattle.std.proofs.Common.{◌≡◌, ℕ, List, Option, Some, IfSome, Result, Ok, Err, refl, sym, subst, inl}
+use Rattle.std.proofs.Common.{◌≡◌, ℕ, List, Option, None, Some, IfSome, Result, Ok, Err, refl, sym, subst, inl}
 use Rattle.std.specs.Io.KnownBytes.{Consumes}
-use Rattle.vc2_run.specs.Walk.{Machine, answer_to}
 use Rattle.vc2_run.specs.declared.Halt.{Halt}
 use Rattle.vc2_run.specs.declared.Halt.TheVariants.{ReadFault, OutFault, NoMemory}
 use Rattle.channel_schedule.specs.declared.schedule.Outcome.TheVariants as outcomes
@@ -11,25 +10,23 @@ use Rattle.vc2_words.specs.Commands.{AskedCommand}
 use Rattle.vc2_cli.specs.declared.status.Status.{Status}
 use Rattle.vc2_cli.specs.declared.status.Status.TheVariants as st
 use Rattle.vc2_cli.specs.declared.status.Ending.{Ending}
-use Rattle.vc2_cli.specs.declared.status.Ending.TheVariants.{Done, Decoded, Framed, Accepted, Scheduled, Encoded, Compared, Refused}
+use Rattle.vc2_cli.specs.declared.status.Ending.TheVariants.{Done, Scheduled, Refused}
 use Rattle.vc2_cli.specs.Words.{seen_words}
-use Rattle.vc2_cli.specs.Reply.{command_reply, status_of, reply_of}
+use Rattle.vc2_cli.specs.Running.{Running}
+use Rattle.vc2_cli.specs.RunsAs.{GoesOn}
+use Rattle.vc2_cli.specs.Reply.{command_reply, status_of, reply_by}
 use Rattle.vc2_cli.specs.Settled.{Concludes, status_of_halt}
-use Rattle.vc2_cli.specs.Soon.{IsOpen, StopsSoon, IfUnits, MayGoOn, Soon}
+use Rattle.vc2_cli.specs.Endings.{MayGoOn}
+use Rattle.vc2_cli.specs.Soon.{IsOpen, StopsSoon, IfUnits}
 use Rattle.vc2_cli.proofs.Parts.{if_told}
 use Rattle.vc2_cli.proofs.Settling.{not_outside}
 
 -- the status of an ending that may change may change
 status_open : (ending : Ending) → MayGoOn ending → IsOpen (status_of ending)
-status_open Done goes = tt
-status_open (Decoded pictures bytes) goes = tt
-status_open (Framed frames bytes) goes = tt
-status_open (Accepted pictures slices bytes) goes = tt
-status_open (Scheduled pictures slices bytes outcomes.Runs) goes = tt
-status_open (Scheduled pictures slices bytes (outcomes.Late slot have need)) goes = tt
-status_open (Scheduled pictures slices bytes (outcomes.Overfull slot fill size)) goes = tt
-status_open (Encoded schedule) goes = tt
-status_open (Compared worst) goes = tt
+status_open (Done note) goes = tt
+status_open (Scheduled outcomes.Runs) goes = tt
+status_open (Scheduled (outcomes.Late slot have need)) goes = tt
+status_open (Scheduled (outcomes.Overfull slot fill size)) goes = tt
 status_open (Refused refusal) goes = goes
 
 halt_is : (halt : Halt) → st.ReadFault ≡ status_of_halt halt → halt ≡ ReadFault
@@ -43,14 +40,23 @@ read_failed note0 note1 (Ok ending) ends = not_outside ending _ (inl ends.0)
 read_failed note0 note1 (Err halt) ends = let at : halt ≡ ReadFault = halt_is halt ends.0 in cc
 
 -- What was told of a command, by its run.
-pub told_soon : {Z : Type 0} (machine : Machine Z Ending) (left : List ℕ → List ℕ) (most : ℕ) (rest0 rest1 note0 note1 : Option (List ℕ)) (input : List ℕ) (outcome : Result Ending Halt) (status : Status) → rest0 ≡ Some input → Soon machine most rest0 rest1 outcome → Concludes outcome note0 note1 status
-    → StopsSoon (λ taken. reply_of (left taken) (answer_to machine taken)) most input rest1 status
-told_soon machine left most rest0 rest1 note0 note1 input outcome status e s ends = (
-  s.taken,
-  subst (λ r. Consumes r rest1 s.taken) e s.took,
-  status_open _ s.goes,
-  (λ is. status_open _ (s.lost (read_failed note0 note1 outcome (subst (Concludes outcome note0 note1) is ends)))),
+told_soon : (running : Running) (most : ℕ) (rest0 rest1 note0 note1 : Option (List ℕ)) (input : List ℕ) (outcome : Result Ending Halt) (status : Status) → rest0 ≡ Some input → GoesOn running.answer most rest0 rest1 outcome → Concludes outcome note0 note1 status
+    → StopsSoon (reply_by running) most input rest1 status
+told_soon running most rest0 rest1 note0 note1 input outcome status e s ends = (
+  s.0,
+  subst (λ r. Consumes r rest1 s.0) e s.1,
+  status_open _ s.2,
+  (λ is. status_open _ (s.3 (read_failed note0 note1 outcome (subst (Concludes outcome note0 note1) is ends)))),
 )
+
+if_some : (most : Option ℕ) (P Q : ℕ → Type 0) → ((n : ℕ) → P n → Q n) → IfSome most P → IfSome most Q
+if_some None P Q f h = tt
+if_some (Some n) P Q f h = f n h
+
+pub units_soon : (running : Running) (rest0 rest1 note0 note1 : Option (List ℕ)) (input : List ℕ) (outcome : Result Ending Halt) (status : Status) → rest0 ≡ Some input → IfSome running.most (λ most. GoesOn running.answer most rest0 rest1 outcome) → Concludes outcome note0 note1 status
+    → IfSome running.most (λ most. StopsSoon (reply_by running) most input rest1 status)
+units_soon running rest0 rest1 note0 note1 input outcome status e soon ends =
+    if_some running.most _ _ (λ most s. told_soon running most rest0 rest1 note0 note1 input outcome status e s ends) soon
 
 -- the same command by another name
 pub units_at : (P : Result AskedCommand WordFault → ℕ → Type 0) (command is : Result Command WordFault) → command ≡ is → IfUnits (seen_words is) (P (seen_words is)) → IfUnits (seen_words command) (P (seen_words command))

@@ -27,8 +27,8 @@ use Rattle.stream_rows.proofs.Answering.{machine}
 use Rattle.vc2_words.specs.declared.words.TrialPart.{TrialPart}
 use Rattle.vc2_words.specs.Settings.{Asked}
 use Rattle.vc2_words.specs.Lawful.{IsTrial}
-use Rattle.vc2_cli.specs.declared.status.Ending.{Ending}
-use Rattle.vc2_cli.specs.declared.status.Ending.TheVariants.{Compared}
+use Rattle.vc2_cli.specs.declared.comparing.ComparisonEnd.{ComparisonEnd}
+use Rattle.vc2_cli.specs.declared.comparing.ComparisonEnd.TheVariants.{Compared}
 use Rattle.vc2_cli.specs.Encode.{written_under, stream_place}
 use Rattle.vc2_cli.specs.WholePictures.{stream_of}
 use Rattle.vc2_cli.specs.Trial.{Comparison, comparing, nothing_compared, trial_pictures, trial_worst}
@@ -57,13 +57,13 @@ module _ (s : Asked) (seed : ℕ) (f : AreLawful (written_under s)) (start : Com
   abbrev own_at : ℕ → ℕ → ℕ → Comparison
   own_at n left most = record { frame = frame_under s.parts; seed = seed; pictures = n; left = left; worst = most }
 
-  abbrev command : Command Past Reason DataUnit Comparison Ending
+  abbrev command : Command Past Reason DataUnit Comparison ComparisonEnd
   command = comparing start
 
   abbrev quiet : (z : Past) (own : Comparison) (unit : DataUnit) (bytes : List ℕ) → command.text z own unit bytes ≡ []
   quiet z own unit bytes = refl
 
-  abbrev answer : ℕ → Answer Ending
+  abbrev answer : ℕ → Answer ComparisonEnd
   answer most = record { ending = Compared most; text = []; last = [] }
 
   -- what stands before a picture is not compared
@@ -125,17 +125,17 @@ compared_whole s part t flat =
     let at_start : z.place ≡ stream_place s 0 = omega (arith, length-header_unit s.parts, place_first s) in
     let fits : stream_place s part.pictures + 13 ≤ limit = omega (arith, t.short, length_behind s part.pictures) in
     let walk = walked s part.seed f start part.pictures 0 part.pictures 0 (header_length s.parts) s.first z (header_small (written_under s) f) f.first (going_start (written_under s) f) all t.even (omega arith) fits at_start in
-    ap (λ (a : Answer Ending). a.ending)
+    ap (λ (a : Answer ComparisonEnd). a.ending)
     (front_first (comparing start) (λ z own unit bytes. refl) (written_under s) f start rest (omega (arith, length_is s pictures settings may, may.stream)) ∙ walk)
     ∙ ap Compared (worst_is s part.seed f start 0 pictures ∙ from_none (trial_worst s part))
 
 -- what a run over it comes to, from memory to memory
-pub is_compared : {Z : Type 0} (m : Machine Z Ending) (rest : Option (List ℕ)) (stream : List ℕ) (most : ℕ) (result : Result Ending Halt) → Ran m (Some stream) rest None None result → HaltHasCause 0 0 0 0 result → (answer_to m stream).ending ≡ Compared most → IsCompared most result
+pub is_compared : {Z : Type 0} (m : Machine Z ComparisonEnd) (rest : Option (List ℕ)) (stream : List ℕ) (most : ℕ) (result : Result ComparisonEnd Halt) → Ran m (Some stream) rest None None result → HaltHasCause 0 0 0 0 result → (answer_to m stream).ending ≡ Compared most → IsCompared most result
 is_compared m rest stream most (Ok ending) ran why e =
     let t = told (Some stream) rest stream ran.0 refl ran.1 in
     let got = ran.2.2 t.0 t.1 in
     let same : ending ≡ Compared most = sym got.1 ∙ ap (λ (l : List ℕ). (answer_to m l).ending) (sym t.2) ∙ e in
-    subst (λ (x : Ending). IsCompared most (Ok x)) (sym same) refl
+    subst (λ (x : ComparisonEnd). IsCompared most (Ok x)) (sym same) refl
 is_compared m rest stream most (Err halts.ReadFault) ran why e = absurd (omega (arith, why.1))
 is_compared m rest stream most (Err halts.OutFault) ran why e = absurd (omega (arith, why.2))
 is_compared m rest stream most (Err halts.NoMemory) ran why e = tt

@@ -1,5 +1,5 @@
 -- `weave` and `split` run as their machines do.
-use Rattle.std.proofs.Common.{◌≡◌, ℕ, ◌+◌, ◌*◌, ◌<◌, List, Option, Result, Ok, Err, refl, sym, ap, subst, ◌∙◌, arith}
+use Rattle.std.proofs.Common.{◌≡◌, ℕ, ◌+◌, ◌*◌, ◌<◌, List, Option, Result, Ok, Err, sym, ap, subst, ◌∙◌, arith}
 use Rattle.raw_video.specs.RawText.{is_wide}
 use Rattle.std.specs.Io.KnownBytes.{IsAtEnd}
 use Rattle.slice_geometry.specs.Frames.{Frame}
@@ -9,7 +9,6 @@ use Rattle.field_weave.specs.WeaveAnswers.{woven_answer, split_answer}
 use Rattle.field_weave.proofs.Answers.{weave_answer, split_answers}
 use Rattle.vc2_run.specs.Ran.{HaltHasCause}
 use Rattle.vc2_run.specs.declared.Halt.{Halt}
-use Rattle.vc2_run.specs.declared.Halt.TheVariants as halts
 use Rattle.sequence_header.specs.Checking.{Passes}
 use Rattle.sequence_header.specs.declared.parts.HeaderParts.{HeaderParts}
 use Rattle.stream_rows.specs.Streams.{frame_under}
@@ -17,15 +16,15 @@ use Rattle.stream_units.proofs.SameShapes.{frame_is}
 use Rattle.field_weave.specs.Weaving.{doubled}
 use Rattle.field_weave.specs.declared.weaver.WeaveStop.{WeaveStop}
 use Rattle.field_weave.specs.declared.weaver.WeaveStop.TheVariants as stops
-use Rattle.raw_video.specs.PictureRuns.{picture_machine}
 use Rattle.field_weave.specs.WeaveRuns.{WeaveEnd, weaving, splitting, told, Weaves}
 use Rattle.field_weave.specs.WeaveRuns as weaver
 use Rattle.raw_video.proofs.PictureTurns.{picture_laws, some_raw}
 use Rattle.vc2_words.specs.declared.settings.FieldVideo.{FieldVideo}
 use Rattle.vc2_words.specs.Lawful.{IsFieldVideo}
 use Rattle.vc2_cli.specs.declared.status.Ending.{Ending}
-use Rattle.vc2_cli.specs.Running.{IsDone, Runs}
-use Rattle.vc2_cli.specs.Mapped.{told_as, result_told, answer_told}
+use Rattle.vc2_run.specs.Runs.{Runs}
+use Rattle.vc2_cli.specs.Endings.{IsDone}
+use Rattle.vc2_cli.specs.Mapped.{told_as, answer_told}
 use Rattle.vc2_cli.specs.Weave.{order_of, ending_of, weave_machine, split_machine, outcome_of}
 use Rattle.vc2_cli.proofs.Mapped.{told_laws, told_answer, told_ran}
 use Rattle.vc2_cli.proofs.EncodeReplies.{header_shape, header_has}

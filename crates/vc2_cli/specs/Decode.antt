@@ -1,5 +1,5 @@
 -- The commands over the units of a stream: `decode` writes their pictures, and `check` counts them.
-use Rattle.std.specs.Prelude.{◌≡◌, ℕ, ◌+◌, List, [], length, ◌++◌, ◌∷◌, Option, Some, None}
+use Rattle.std.specs.Prelude.{◌≡◌, ◌≤◌, ℕ, ◌+◌, true, List, [], length, ◌++◌, ◌∷◌, Option, Some, None}
 use Rattle.slice_geometry.specs.Slicing.{slice_count}
 use Rattle.slice_geometry.specs.declared.unit_list.UnitShape.{UnitShape}
 use Rattle.slice_geometry.specs.Frames.{frame_of}
@@ -10,11 +10,13 @@ use Rattle.unit_table.specs.Fronts.{Between, Command, machine_of}
 use Rattle.stream_rows.specs.declared.reason.Reason.{Reason}
 use Rattle.stream_rows.specs.Units.{Past, nothing_yet, DataUnit, Sequence, Repeated, Picture, Skipped, End, units}
 use Rattle.stream_rows.specs.Streams.{limit, past_limit, refusal_of, frame_under}
+use Rattle.stream_units.specs.StreamTable.{StreamTableSeen}
 use Rattle.stream_units.specs.declared.stop.Item.{Item}
 use Rattle.stream_units.specs.declared.stop.Item.TheVariants as items
-use Rattle.vc2_cli.specs.Texts.{accepted_line, replayed_lines}
+use Rattle.vc2_cli.specs.Endings.{closed, accepted}
 use Rattle.vc2_cli.specs.declared.status.Ending.{Ending}
-use Rattle.vc2_cli.specs.declared.status.Ending.TheVariants.{Done, Decoded, Accepted, Scheduled, Refused}
+use Rattle.vc2_cli.specs.declared.status.Ending.TheVariants.{Done, Refused}
+use Rattle.vc2_cli.specs.declared.status.Note.TheVariants.{Nothing, Decoded}
 
 -- the raw text of a unit's picture, if it has one
 abbrev pub unit_text : DataUnit → List ℕ
@@ -40,18 +42,11 @@ decoding = record {
   start = 0;
   next = λ z pictures unit bytes. pictures + pictures_in unit;
   text = λ z pictures unit bytes. unit_text unit;
-  finished = λ z pictures unit bytes. Decoded pictures (z.place + length bytes);
-  rested = λ z pictures. Done;
-  refused = λ z pictures fault. Refused (refusal_of fault);
-  last = λ z pictures ending. [];
-  endless = Done;
+  finished = λ z pictures unit bytes. closed (Done (Decoded pictures (z.place + length bytes)));
+  rested = λ z pictures. closed (Done Nothing);
+  refused = λ z pictures fault. closed (Refused (refusal_of fault));
+  endless = Done Nothing;
 }
-
--- the lines of a stream that was accepted
-abbrev pub last_line : Ending → List ℕ
-last_line (Accepted pictures slices bytes) = accepted_line pictures slices bytes
-last_line (Scheduled pictures slices bytes outcome) = replayed_lines pictures slices bytes outcome
-last_line other = []
 
 -- the slices of a unit
 abbrev pub slices_in : DataUnit → ℕ
@@ -80,11 +75,10 @@ checking = record {
   start = nothing_counted;
   next = λ z own unit bytes. counted own unit;
   text = λ z own unit bytes. [];
-  finished = λ z own unit bytes. Accepted own.pictures own.slices (z.place + length bytes);
-  rested = λ z own. Done;
-  refused = λ z own fault. Refused (refusal_of fault);
-  last = λ z own ending. last_line ending;
-  endless = Done;
+  finished = λ z own unit bytes. accepted own.pictures own.slices (z.place + length bytes);
+  rested = λ z own. closed (Done Nothing);
+  refused = λ z own fault. closed (Refused (refusal_of fault));
+  endless = Done Nothing;
 }
 
 abbrev pub decode_machine : Machine (Between Past ℕ) Ending
@@ -100,11 +94,6 @@ abbrev pub shown_text : Option PictureSeen → List ℕ
 shown_text None = []
 shown_text (Some seen) = raw_text (frame_of seen.shape) seen.samples
 
--- the pictures that are shown
-abbrev pub shown_count : Option PictureSeen → ℕ
-shown_count None = 0
-shown_count (Some seen) = 1
-
 -- the pictures that an item tells
 abbrev pub pictures_told : Item → ℕ
 pictures_told (items.Picture number) = 1
@@ -113,3 +102,13 @@ pictures_told other = 0
 -- so many slices has the last of these units
 abbrev pub IsLastCount : List UnitShape → ℕ → Type 0
 IsLastCount shapes count = (before : List UnitShape) (last : UnitShape) → shapes ≡ before ++ last ∷ [] → count ≡ last.slices
+
+-- no more pictures and slices than bytes
+pub record KeepsFew (pictures slices : ℕ) (table : StreamTableSeen) : Type 0 where
+  pub pictures_few : pictures ≤ table.past.place
+  pub slices_few : slices ≤ table.past.place
+
+-- no more pictures than bytes, by a table that makes them
+pub record KeepsPictures (pictures : ℕ) (table : StreamTableSeen) : Type 0 where
+  pub few : pictures ≤ table.past.place
+  pub makes : table.makes_pictures ≡ true

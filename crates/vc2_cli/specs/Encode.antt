@@ -1,6 +1,6 @@
 -- The command `encode`, over raw pictures: a picture's text is its unit, behind an end and a header where a new sequence begins
 -- with it.
-use Rattle.std.specs.Prelude.{ℕ, zero, suc, ◌+◌, ◌*◌, ◌%◌, ◌^◌, ◌==◌, ◌&&◌, nat_le, Bool, List, [], ◌∷◌, ◌++◌, Option, Some, None, Result, Ok, Err, if◌then◌else◌}
+use Rattle.std.specs.Prelude.{ℕ, zero, suc, ◌+◌, ◌%◌, ◌^◌, ◌==◌, ◌&&◌, nat_le, Bool, List, [], ◌∷◌, ◌++◌, Some, None, Result, Ok, Err, if◌then◌else◌}
 use Rattle.parse_info.specs.declared.TheConstants.{HEAD_SIZE}
 use Rattle.transform_params.specs.ParameterFields.{unit_length}
 use Rattle.picture_codec.specs.Encoding.{slices_of}
@@ -23,7 +23,8 @@ use Rattle.vc2_words.specs.Settings.{Asked}
 use Rattle.stream_units.specs.declared.write_stop.WriteStop.{WriteStop}
 use Rattle.stream_units.specs.declared.write_stop.WriteStop.TheVariants as stops
 use Rattle.vc2_cli.specs.declared.status.Ending.{Ending}
-use Rattle.vc2_cli.specs.declared.status.Ending.TheVariants.{Done, Encoded, Refused}
+use Rattle.vc2_cli.specs.declared.status.Ending.TheVariants.{Done, Refused}
+use Rattle.vc2_cli.specs.declared.status.Note.TheVariants.{Nothing, Encoded}
 use Rattle.vc2_cli.specs.Scheduled.{shapes_in}
 
 -- what the stream is written under
@@ -81,7 +82,7 @@ refused_at place reason = Refused (record { place = place; reason = reason })
 
 -- the end of the input at this place: half a frame is refused there
 abbrev pub ended_at : (half : Bool) (place : ℕ) → Schedule → Ending
-ended_at half place schedule = if half then refused_at place HalfFrame else Encoded schedule
+ended_at half place schedule = if half then refused_at place HalfFrame else Done (Encoded schedule)
 
 -- and what is written last, behind a unit of so many bytes
 abbrev pub last_text : (half : Bool) (previous : ℕ) → List ℕ
@@ -105,7 +106,7 @@ encoding s = record {
   finished = λ place n. ended_at (is_half s.parts.coding n) place (ended_plan s (shapes_at s n) (stream_place s n));
   last = λ place n. last_text (is_half s.parts.coding n) (previous_at s n);
   refused = told_of_front;
-  endless = Done;
+  endless = Done Nothing;
 }
 
 abbrev pub encode_machine : Asked → Machine (BehindPictures ℕ) Ending

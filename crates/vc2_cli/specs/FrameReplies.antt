@@ -1,9 +1,8 @@
 -- What `frames` replies to a stream, and to an input that is refused.
 use Rattle.std.specs.Prelude.{◌≡◌, ℕ, Bool, true, false, List, [], ◌∷◌, ◌++◌, length, map, Ok}
 use Rattle.slice_geometry.specs.Frames.{Frame}
-use Rattle.sequence_header.specs.declared.parts.HeaderParts.{HeaderParts}
 use Rattle.picture_codec.specs.Samples.{PictureSamples, picture_of}
-use Rattle.stream_rows.specs.declared.reason.Refusal.{Refusal}
+use Rattle.stream_rows.specs.Refusals.{Refusal}
 use Rattle.stream_rows.specs.Units.{DataUnit, Sequence, Repeated, Picture, Skipped, End}
 use Rattle.stream_rows.specs.Streams.{Entry, IsStream, IsRefusal, frame_under}
 use Rattle.field_weave.specs.Weaving.{doubled, frames_of}

@@ -1,5 +1,5 @@
 -- The command `frames`: the frames of a stream. Fields are woven, two and two, and other pictures are frames.
-use Rattle.std.specs.Prelude.{◌≡◌, ◌≤◌, ◌==◌, ℕ, ◌+◌, Bool, true, false, List, [], length, Option, Some, None, IfOk, Result}
+use Rattle.std.specs.Prelude.{◌≡◌, ◌≤◌, ◌==◌, ℕ, ◌+◌, Bool, true, false, List, [], length, Option, Some, None}
 use Rattle.slice_geometry.specs.Frames.{Frame, frame_of}
 use Rattle.sequence_header.specs.declared.parts.HeaderParts.{HeaderParts}
 use Rattle.picture_codec.specs.Samples.{PictureSamples, PictureSeen, picture_of}
@@ -9,13 +9,15 @@ use Rattle.unit_table.specs.Fronts.{Between, Command, machine_of}
 use Rattle.stream_rows.specs.declared.reason.Reason.{Reason}
 use Rattle.stream_rows.specs.Units.{Past, First, nothing_yet, DataUnit, Sequence, Repeated, Picture, Skipped, End, units}
 use Rattle.stream_rows.specs.Streams.{limit, past_limit, refusal_of, frame_under}
-use Rattle.stream_units.specs.Reader.{StreamReaderSeen}
+use Rattle.stream_units.specs.StreamTable.{StreamTableSeen}
 use Rattle.field_weave.specs.declared.Order.{Order}
 use Rattle.field_weave.specs.declared.Order.TheVariants.{Top}
 use Rattle.field_weave.specs.Weaving.{doubled, split}
 use Rattle.field_weave.specs.WeaveRuns.{field_text}
+use Rattle.vc2_cli.specs.Endings.{closed}
 use Rattle.vc2_cli.specs.declared.status.Ending.{Ending}
-use Rattle.vc2_cli.specs.declared.status.Ending.TheVariants.{Done, Framed, Refused}
+use Rattle.vc2_cli.specs.declared.status.Ending.TheVariants.{Done, Refused}
+use Rattle.vc2_cli.specs.declared.status.Note.TheVariants.{Nothing, Framed}
 
 -- the pictures under a header are fields
 abbrev pub are_fields : HeaderParts → Bool
@@ -68,11 +70,10 @@ framing order = record {
   start = no_frames order;
   next = λ z own unit bytes. frames_after own unit;
   text = λ z own unit bytes. frames_text own unit;
-  finished = λ z own unit bytes. Framed own.frames (z.place + length bytes);
-  rested = λ z own. Done;
-  refused = λ z own fault. Refused (refusal_of fault);
-  last = λ z own ending. [];
-  endless = Done;
+  finished = λ z own unit bytes. closed (Done (Framed own.frames (z.place + length bytes)));
+  rested = λ z own. closed (Done Nothing);
+  refused = λ z own fault. closed (Refused (refusal_of fault));
+  endless = Done Nothing;
 }
 
 abbrev pub frames_machine : Order → Machine (Between Past FramesSoFar) Ending
@@ -97,7 +98,8 @@ IsFrameFor parts frame = are_fields parts ≡ true
 
 -- behind the units so far: no more frames than bytes; and the sequence's header is the one that was read last, with a frame
 -- for its fields
-pub record KeepsFrame (written : ℕ) (held : Option PictureSeen) (r : StreamReaderSeen) : Type 0 where
-  pub few : written ≤ r.past.place
-  pub header : (first : First) → r.past.first ≡ Some first → r.header ≡ Some first.parts
-  pub frame : (first : First) → r.past.first ≡ Some first → IsFrameFor first.parts held
+pub record KeepsFrame (written : ℕ) (held : Option PictureSeen) (table : StreamTableSeen) : Type 0 where
+  pub few : written ≤ table.past.place
+  pub makes : table.makes_pictures ≡ true
+  pub header : (first : First) → table.past.first ≡ Some first → table.header ≡ Some first.parts
+  pub frame : (first : First) → table.past.first ≡ Some first → IsFrameFor first.parts held

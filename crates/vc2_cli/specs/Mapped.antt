@@ -1,5 +1,5 @@
 -- A machine whose endings are told in other words.
-use Rattle.std.specs.Prelude.{List, Result, Ok, Err}
+use Rattle.std.specs.Prelude.{Result, Ok, Err}
 use Rattle.vc2_run.specs.Walk.{Step, Ends, Whole, Answer, Machine}
 
 abbrev pub step_told : {Z E F : Type 0} → (E → F) → Step Z E → Step Z F

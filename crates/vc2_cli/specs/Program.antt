@@ -8,7 +8,7 @@ use Rattle.vc2_io.specs.Outside.{GrewShort}
 use Rattle.vc2_run.specs.Ran.{TakesAtMost}
 use Rattle.vc2_cli.specs.declared.status.Status.{Status}
 use Rattle.vc2_cli.specs.declared.status.Status.TheVariants as st
-use Rattle.vc2_cli.specs.Change.{Change, IsSteady, IsUntouched}
+use Rattle.vc2_run.specs.Runs.{Change, IsSteady, IsUntouched}
 use Rattle.vc2_cli.specs.Exit.{exit_code_of}
 use Rattle.vc2_cli.specs.Trial.{trial_text}
 use Rattle.vc2_cli.specs.Words.{words_ask}

@@ -9,12 +9,14 @@ use Rattle.unit_table.specs.Fronts.{Between, Command, machine_of}
 use Rattle.stream_rows.specs.declared.reason.Reason.{Reason}
 use Rattle.stream_rows.specs.Units.{Past, nothing_yet, DataUnit, Sequence, Repeated, Picture, Skipped, End, units}
 use Rattle.stream_rows.specs.Streams.{limit, past_limit, refusal_of, frame_under}
-use Rattle.stream_units.specs.Reader.{StreamReaderSeen}
+use Rattle.stream_units.specs.StreamTable.{StreamTableSeen}
 use Rattle.proxy_picture.specs.Proxy.{proxy_frame, proxy_picture}
 use Rattle.proxy_picture.specs.Making.{ProxyDecoderSeen}
-use Rattle.vc2_cli.specs.Decode.{pictures_in}
+use Rattle.vc2_cli.specs.Decode.{pictures_in, KeepsPictures}
+use Rattle.vc2_cli.specs.Endings.{closed}
 use Rattle.vc2_cli.specs.declared.status.Ending.{Ending}
-use Rattle.vc2_cli.specs.declared.status.Ending.TheVariants.{Done, Decoded, Refused}
+use Rattle.vc2_cli.specs.declared.status.Ending.TheVariants.{Done, Refused}
+use Rattle.vc2_cli.specs.declared.status.Note.TheVariants.{Nothing, Decoded}
 
 -- the level that is asked for, and the pictures so far
 pub record Proxied : Type 0 where
@@ -40,11 +42,10 @@ proxying level = record {
   start = nothing_proxied level;
   next = λ z own unit bytes. record { level = own.level; pictures = own.pictures + pictures_in unit };
   text = λ z own unit bytes. proxy_text own.level unit;
-  finished = λ z own unit bytes. Decoded own.pictures (z.place + length bytes);
-  rested = λ z own. Done;
-  refused = λ z own fault. Refused (refusal_of fault);
-  last = λ z own ending. [];
-  endless = Done;
+  finished = λ z own unit bytes. closed (Done (Decoded own.pictures (z.place + length bytes)));
+  rested = λ z own. closed (Done Nothing);
+  refused = λ z own fault. closed (Refused (refusal_of fault));
+  endless = Done Nothing;
 }
 
 abbrev pub proxy_machine : ℕ → Machine (Between Past Proxied) Ending
@@ -71,6 +72,6 @@ pub record MakesProxiesOf (shape : PictureShape) (params : Params) (level : ℕ)
   pub level_is : d.level ≡ level
 
 -- where all levels are asked for: no more pictures than bytes
-pub record KeepsWhole (level pictures : ℕ) (r : StreamReaderSeen) : Type 0 where
+pub record KeepsWhole (level pictures : ℕ) (table : StreamTableSeen) : Type 0 where
   pub all : 4 ≤ level
-  pub few : pictures ≤ r.past.place
+  pub keeps : KeepsPictures pictures table

@@ -3,8 +3,8 @@ use Rattle.std.specs.Prelude.{◌≡◌, ◌≤◌, ℕ, List, [], ◌∷◌, ma
 use Rattle.std.specs.List.{AllByRecursion}
 use Rattle.slice_geometry.specs.Frames.{Frame}
 use Rattle.picture_codec.specs.Samples.{PictureSamples}
-use Rattle.stream_rows.specs.declared.reason.Refusal.{Refusal}
-use Rattle.stream_rows.specs.Units.{DataUnit, Sequence, Repeated, Picture, Skipped, End}
+use Rattle.stream_rows.specs.Refusals.{Refusal}
+use Rattle.stream_rows.specs.Units.{DataUnit, Picture}
 use Rattle.stream_rows.specs.Streams.{Entry, IsStream, IsRefusal, frame_under}
 use Rattle.proxy_picture.specs.Proxy.{proxy_frame, proxy_picture}
 use Rattle.vc2_words.specs.Commands.{decode, proxy}

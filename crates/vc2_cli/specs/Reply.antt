@@ -2,30 +2,24 @@
 use Rattle.std.specs.Prelude.{◌≡◌, ◌⊎◌, ℕ, List, [], Option, Some, None, Result, Ok, Err}
 use Rattle.std.specs.Io.KnownBytes.{Appends, Consumes, Keeps}
 use Rattle.vc2_io.specs.Outside.{IsPrefix, IsProperPrefix, GrewShort}
-use Rattle.vc2_run.specs.Walk.{Answer, answer_to, out_of, due, IsPrompt}
+use Rattle.vc2_run.specs.Walk.{Answer, out_of, IsPrompt}
 use Rattle.channel_schedule.specs.declared.schedule.Outcome.{Outcome}
 use Rattle.channel_schedule.specs.declared.schedule.Outcome.TheVariants as outcomes
 use Rattle.vc2_words.specs.declared.keys.WordFault.{WordFault}
 use Rattle.vc2_words.specs.declared.words.TrialPart.{TrialPart}
 use Rattle.vc2_words.specs.Settings.{Asked}
-use Rattle.vc2_words.specs.Commands.{AskedCommand, chain, header, decode, proxy, check, encode, trial, weave, split, frames}
-use Rattle.vc2_cli.specs.Change.{Change, IsSteady, HasFailed}
+use Rattle.vc2_words.specs.Commands.{AskedCommand, header, trial}
+use Rattle.vc2_run.specs.Runs.{Change, IsSteady, HasFailed}
 use Rattle.vc2_cli.specs.declared.status.ScheduleFault.{ScheduleFault}
 use Rattle.vc2_cli.specs.declared.status.ScheduleFault.TheVariants.{Late, Overfull}
 use Rattle.vc2_cli.specs.declared.status.Status.{Status}
 use Rattle.vc2_cli.specs.declared.status.Status.TheVariants as status
+use Rattle.vc2_cli.specs.declared.status.Note.{Note}
+use Rattle.vc2_cli.specs.declared.status.Note.TheVariants as notes
 use Rattle.vc2_cli.specs.declared.status.Ending.{Ending}
 use Rattle.vc2_cli.specs.declared.status.Ending.TheVariants as ending
 use Rattle.vc2_cli.specs.Texts.{refusal_line, usage_line, decoded_line, framed_line, schedule_line, fault_line}
-use Rattle.vc2_cli.specs.ChainLines.{chain_machine}
-use Rattle.vc2_cli.specs.First.{header_machine, behind_first}
-use Rattle.vc2_cli.specs.Decode.{decode_machine, check_machine}
-use Rattle.vc2_cli.specs.Proxy.{proxy_machine}
-use Rattle.vc2_cli.specs.Scheduled.{replay_machine}
-use Rattle.vc2_cli.specs.Encode.{encode_machine}
-use Rattle.vc2_cli.specs.Trial.{trial_text}
-use Rattle.vc2_cli.specs.Weave.{order_of, weave_machine, split_machine}
-use Rattle.vc2_cli.specs.Frames.{frames_machine}
+use Rattle.vc2_cli.specs.Running.{Running, running_of}
 use Rattle.vc2_cli.specs.Words.{words_ask}
 
 -- a status with its texts for `out` and `note`, and what is left of the input where the status is `Done` or `Schedule`
@@ -50,23 +44,20 @@ schedule_note None = []
 schedule_note (Some fault) = fault_line fault
 
 abbrev pub status_of : Ending → Status
-status_of ending.Done = status.Done
-status_of (ending.Decoded pictures bytes) = status.Done
-status_of (ending.Framed count bytes) = status.Done
-status_of (ending.Accepted pictures slices bytes) = status.Done
-status_of (ending.Scheduled pictures slices bytes outcome) = schedule_status (fault_of outcome)
-status_of (ending.Encoded schedule) = status.Done
-status_of (ending.Compared worst) = status.Done
+status_of (ending.Done note) = status.Done
+status_of (ending.Scheduled outcome) = schedule_status (fault_of outcome)
 status_of (ending.Refused refusal) = status.Refused refusal
 
+-- what is told of a command that is done
+abbrev pub note_line : Note → List ℕ
+note_line notes.Nothing = []
+note_line (notes.Decoded pictures bytes) = decoded_line pictures bytes
+note_line (notes.Framed count bytes) = framed_line count bytes
+note_line (notes.Encoded schedule) = schedule_line schedule
+
 abbrev pub note_of : Ending → List ℕ
-note_of ending.Done = []
-note_of (ending.Decoded pictures bytes) = decoded_line pictures bytes
-note_of (ending.Framed count bytes) = framed_line count bytes
-note_of (ending.Accepted pictures slices bytes) = []
-note_of (ending.Scheduled pictures slices bytes outcome) = schedule_note (fault_of outcome)
-note_of (ending.Encoded schedule) = schedule_line schedule
-note_of (ending.Compared worst) = []
+note_of (ending.Done note) = note_line note
+note_of (ending.Scheduled outcome) = schedule_note (fault_of outcome)
 note_of (ending.Refused refusal) = refusal_line refusal
 
 -- the reply by a run's answer, of a command that leaves so much of its input
@@ -77,39 +68,19 @@ reply_of left answer = record { status = status_of answer.ending; rest = left; o
 abbrev pub usage_reply : WordFault → List ℕ → Reply
 usage_reply fault input = record { status = status.Usage fault; rest = input; out = []; note = usage_line fault }
 
--- The reply to a trial, which reads nothing.
-abbrev pub trial_reply : Asked → TrialPart → List ℕ → Reply
-trial_reply s part input = record { status = status.Done; rest = input; out = trial_text s part; note = [] }
+-- the reply by what a command comes to
+abbrev pub reply_by : Running → List ℕ → Reply
+reply_by running input = reply_of (running.rest input) (running.answer input)
 
 -- The reply to a command, or to words that are refused.
 abbrev pub command_reply : Result AskedCommand WordFault → List ℕ → Reply
 command_reply (Err fault) input = usage_reply fault input
-command_reply (Ok chain) input = reply_of [] (answer_to chain_machine input)
-command_reply (Ok header) input = reply_of (behind_first input) (answer_to header_machine input)
-command_reply (Ok decode) input = reply_of [] (answer_to decode_machine input)
-command_reply (Ok (proxy level)) input = reply_of [] (answer_to (proxy_machine level) input)
-command_reply (Ok (check None)) input = reply_of [] (answer_to check_machine input)
-command_reply (Ok (check (Some schedule))) input = reply_of [] (answer_to (replay_machine schedule) input)
-command_reply (Ok (encode settings)) input = reply_of [] (answer_to (encode_machine settings) input)
-command_reply (Ok (trial settings part)) input = trial_reply settings part input
-command_reply (Ok (frames top)) input = reply_of [] (answer_to (frames_machine (order_of top)) input)
-command_reply (Ok (weave video)) input = reply_of [] (answer_to (weave_machine video) input)
-command_reply (Ok (split video)) input = reply_of [] (answer_to (split_machine video) input)
+command_reply (Ok asked) input = reply_by (running_of asked) input
 
 -- the text for `out` that is due once these bytes were taken
 abbrev pub command_due : Result AskedCommand WordFault → List ℕ → List ℕ
 command_due (Err fault) taken = []
-command_due (Ok chain) taken = due chain_machine taken
-command_due (Ok header) taken = due header_machine taken
-command_due (Ok decode) taken = due decode_machine taken
-command_due (Ok (proxy level)) taken = due (proxy_machine level) taken
-command_due (Ok (check None)) taken = due check_machine taken
-command_due (Ok (check (Some schedule))) taken = due (replay_machine schedule) taken
-command_due (Ok (encode settings)) taken = due (encode_machine settings) taken
-command_due (Ok (trial settings part)) taken = []
-command_due (Ok (frames top)) taken = due (frames_machine (order_of top)) taken
-command_due (Ok (weave video)) taken = due (weave_machine video) taken
-command_due (Ok (split video)) taken = due (split_machine video) taken
+command_due (Ok asked) taken = (running_of asked).due taken
 
 -- the same by the words
 abbrev pub reply_to : List (List ℕ) → List ℕ → Reply

@@ -1,109 +1,63 @@
--- What a loop knows of a reader of units, and what the run of a command over one leaves.
-use Rattle.std.specs.Prelude.{◌≡◌, ℕ, ◌+◌, Bool, false, List, [], ◌++◌, length, Option, Some, None, Result, Ok, Err}
-use Rattle.vc2_io.specs.declared.TheConstants.{INPUT_LIMIT}
-use Rattle.std.specs.Io.KnownBytes.{Appends, IsAtEnd}
-use Rattle.vc2_io.specs.Outside.{GrewShort}
-use Rattle.vc2_run.specs.Walk.{Machine}
-use Rattle.vc2_run.specs.Ran.{Ran, TakesAtMost, HaltHasCause}
-use Rattle.vc2_run.specs.declared.Halt.{Halt}
-use Rattle.vc2_run.specs.declared.Halt.TheVariants as halts
-use Rattle.unit_table.specs.Grammar.{Grammar, Final}
-use Rattle.unit_table.specs.Fronts.{Finishes, Command}
-use Rattle.unit_table.specs.Turn.{TakesUnit, MeetsFront, RestsHere}
-use Rattle.stream_rows.specs.declared.reason.Reason.{Reason}
-use Rattle.stream_units.specs.declared.stop.ReadStop.{ReadStop}
-use Rattle.stream_rows.specs.Streams.{limit, past_limit}
-use Rattle.stream_units.specs.StreamStops.{LimitStops}
-use Rattle.vc2_cli.specs.Change.{Change}
+-- The one table of the commands: what each comes to, with no word of what its machine keeps between units.
+use Rattle.std.specs.Prelude.{ℕ, List, [], Option, Some, None}
+use Rattle.vc2_io.specs.declared.TheConstants.{READ_SIZE}
+use Rattle.vc2_run.specs.Walk.{Machine, Answer, answer_to, due}
+use Rattle.vc2_words.specs.declared.words.TrialPart.{TrialPart}
+use Rattle.vc2_words.specs.Settings.{Asked}
+use Rattle.vc2_words.specs.Commands.{AskedCommand, chain, header, decode, proxy, check, encode, trial, weave, split, frames, cut}
 use Rattle.vc2_cli.specs.declared.status.Ending.{Ending}
-use Rattle.vc2_cli.specs.declared.status.Ending.TheVariants.{Done, Decoded, Framed, Accepted, Scheduled, Encoded, Compared, Refused}
-use Rattle.vc2_cli.specs.declared.running.Turn.{Turn}
-use Rattle.vc2_cli.specs.declared.running.Turn.TheVariants as turns
+use Rattle.vc2_cli.specs.declared.status.Ending.TheVariants.{Done}
+use Rattle.vc2_cli.specs.declared.status.Note.TheVariants.{Nothing}
+use Rattle.vc2_cli.specs.ChainLines.{chain_machine}
+use Rattle.vc2_cli.specs.First.{header_machine, behind_first}
+use Rattle.vc2_cli.specs.Decode.{decode_machine, check_machine}
+use Rattle.vc2_cli.specs.Proxy.{proxy_machine}
+use Rattle.vc2_cli.specs.Scheduled.{replay_machine}
+use Rattle.vc2_cli.specs.Encode.{encode_machine}
+use Rattle.vc2_cli.specs.Trial.{trial_text}
+use Rattle.vc2_cli.specs.Weave.{order_of, weave_machine, split_machine}
+use Rattle.vc2_cli.specs.Frames.{frames_machine}
+use Rattle.vc2_cli.specs.Cut.{cut_machine}
 
--- ---- the reader
+-- what a command answers to an input, the text that is due once bytes were taken, what it leaves of the input where it
+-- ends well, and the most bytes that one read of it takes, where it reads units
+pub record Running : Type 0 where
+  pub answer : List ℕ → Answer Ending
+  pub due : List ℕ → List ℕ
+  pub rest : List ℕ → List ℕ
+  pub most : Option ℕ
 
--- what is seen of it: what the units so far leave, the bytes that it holds, the stop that it keeps, and whether the input is over
-pub record ReaderSeen (Z : Type 0) : Type 0 where
-  pub past : Z
-  pub held : List ℕ
-  pub stop : Option ReadStop
-  pub ended : Bool
+-- the answers of a machine
+abbrev pub running : {Z : Type 0} → Machine Z Ending → (List ℕ → List ℕ) → Option ℕ → Running
+running machine rest most = record { answer = answer_to machine; due = due machine; rest = rest; most = most }
 
-abbrev pub first_seen : {Z : Type 0} → Z → ReaderSeen Z
-first_seen z = record { past = z; held = []; stop = None; ended = false }
+-- those of a command that reads units to the end, and of one that reads raw video to the end
+abbrev pub over_units : {Z : Type 0} → Machine Z Ending → Running
+over_units machine = running machine (λ input. []) (Some READ_SIZE)
 
--- The unit in front was taken: the bytes behind it are held, and the reader is behind it.
-pub record TakesItem {Z U I : Type 0} (g : Grammar Z Reason U) (Tells : Z → U → List ℕ → I → Type 0)
-    (old new : ReaderSeen Z) (rest0 rest1 : Option (List ℕ)) (item : I) : Type 0 where
-  pub unit : U
-  pub bytes : List ℕ
-  pub tells : Tells old.past unit bytes item
-  pub takes : TakesUnit limit past_limit g old.past old.held rest0 rest1 unit bytes new.held
-  pub past : new.past ≡ g.after old.past unit bytes
-  pub going : (new.stop ≡ None) × (new.ended ≡ false)
+abbrev pub over_video : {Z : Type 0} → Machine Z Ending → Running
+over_video machine = running machine (λ input. []) None
 
--- The last unit was taken, and nothing is behind it.
-pub record TakesLast {Z U I : Type 0} (g : Grammar Z Reason U) (Tells : Z → U → List ℕ → I → Type 0) (old : ReaderSeen Z)
-    (rest0 rest1 : Option (List ℕ)) (item : I) : Type 0 where
-  pub unit : U
-  pub bytes : List ℕ
-  pub tells : Tells old.past unit bytes item
-  pub meets : MeetsFront limit past_limit g old.past old.held rest0 rest1 (Finishes (length bytes) unit)
-  pub whole : (more : List ℕ) → rest1 ≡ Some more → old.held ++ meets.read ++ more ≡ bytes
-  pub last : IsAtEnd rest1
-  pub final : g.behind unit ≡ Final
+-- a trial reads nothing
+abbrev pub trial_running : Asked → TrialPart → Running
+trial_running s part = record {
+  answer = λ input. record { ending = Done Nothing; text = []; last = trial_text s part };
+  due = λ taken. [];
+  rest = λ input. input;
+  most = None;
+}
 
-abbrev pub NextOver : {Z U I : Type 0} → Grammar Z Reason U → (Z → U → List ℕ → I → Type 0) → Type 0 → ReaderSeen Z
-    → ReaderSeen Z → Option (List ℕ) → Option (List ℕ) → Result (Turn I) ReadStop → Type 0
-NextOver g Tells Stays old new rest0 rest1 (Ok (turns.Unit item)) = TakesItem g Tells old new rest0 rest1 item
-NextOver g Tells Stays old new rest0 rest1 (Ok (turns.Last item)) = TakesLast g Tells old rest0 rest1 item
-NextOver g Tells Stays old new rest0 rest1 (Ok turns.Rest) = RestsHere g old.past old.held rest0 rest1 × Stays
-NextOver g Tells Stays old new rest0 rest1 (Err stop) = LimitStops g old.past old.held rest0 rest1 stop × Stays
-
--- ---- the run
-
--- an ending of an input that was read to its end
-abbrev pub IsDone : Ending → Type 0
-IsDone Done = Unit {0}
-IsDone (Decoded pictures bytes) = Unit {0}
-IsDone (Framed frames bytes) = Unit {0}
-IsDone (Accepted pictures slices bytes) = Unit {0}
-IsDone (Scheduled pictures slices bytes outcome) = Unit {0}
-IsDone (Encoded schedule) = Unit {0}
-IsDone (Compared worst) = Unit {0}
-IsDone (Refused refusal) = ⊥
-
--- What a run leaves: it ran, took at most the limit and one byte more, each halt has its cause, and where all is done the
--- input is over.
-pub record Runs {Z E : Type 0} (machine : Machine Z E) (IsDone : E → Type 0) (src out : Change)
-    (result : Result E Halt) : Type 0 where
-  pub ran : Ran machine src.was src.is out.was out.is result
-  pub limit : TakesAtMost (INPUT_LIMIT + 1) src.was src.is
-  pub cause : HaltHasCause src.faults_were src.faults_are out.faults_were out.faults_are result
-  pub end : (ending : E) → result ≡ Ok ending → IsDone ending → IsAtEnd src.is
-
--- the command, where it begins with this
-abbrev pub begun : {Z R U W E : Type 0} → Command Z R U W E → W → Command Z R U W E
-begun command own = record command { start = own }
-
--- how a text is written
-abbrev pub WritesText : {X : Type 0} → List ℕ → Option (List ℕ) → Option (List ℕ) → Result X Halt → Type 0
-WritesText text out0 out1 (Ok x) = Appends out0 out1 text
-WritesText text out0 out1 (Err halts.ReadFault) = ⊥
-WritesText text out0 out1 (Err halts.OutFault) = GrewShort out0 out1 text
-WritesText text out0 out1 (Err halts.NoMemory) = out1 ≡ out0
-
--- the same, and then there is an ending
-abbrev pub Closes : {E : Type 0} → E → List ℕ → Option (List ℕ) → Option (List ℕ) → Result E Halt → Type 0
-Closes ending last out0 out1 (Ok told) = (told ≡ ending) × Appends out0 out1 last
-Closes ending last out0 out1 (Err halts.ReadFault) = ⊥
-Closes ending last out0 out1 (Err halts.OutFault) = GrewShort out0 out1 last
-Closes ending last out0 out1 (Err halts.NoMemory) = out1 ≡ out0
-
--- a unit's text, and what the unit leaves to the command
-abbrev pub Turns : {Z U W E X : Type 0} → Command Z Reason U W E → Z → U → List ℕ → W → W → Option (List ℕ)
-    → Option (List ℕ) → Result X Halt → Type 0
-Turns command z unit bytes w w' out0 out1 (Ok x) =
-    Appends out0 out1 (command.text z w unit bytes) × (w' ≡ command.next z w unit bytes)
-Turns {X = X} command z unit bytes w w' out0 out1 (Err halt) =
-    WritesText {X = X} (command.text z w unit bytes) out0 out1 (Err halt)
+-- the table
+abbrev pub running_of : AskedCommand → Running
+running_of chain = over_units chain_machine
+running_of header = running header_machine behind_first (Some 1)
+running_of decode = over_units decode_machine
+running_of (proxy level) = over_units (proxy_machine level)
+running_of (check None) = over_units check_machine
+running_of (check (Some schedule)) = over_units (replay_machine schedule)
+running_of (encode settings) = over_video (encode_machine settings)
+running_of (trial settings part) = trial_running settings part
+running_of (frames top) = over_units (frames_machine (order_of top))
+running_of (weave video) = over_video (weave_machine video)
+running_of (split video) = over_video (split_machine video)
+running_of (cut settings) = over_units (cut_machine settings)

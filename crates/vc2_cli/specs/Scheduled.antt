@@ -11,9 +11,11 @@ use Rattle.stream_units.specs.Turns.{shape_of}
 use Rattle.channel_schedule.specs.declared.schedule.Schedule.{Schedule}
 use Rattle.channel_schedule.specs.declared.schedule.Outcome.{Outcome}
 use Rattle.channel_schedule.specs.Courses.{course_of, count_in, outcome_from}
-use Rattle.vc2_cli.specs.Decode.{pictures_in, slices_in, last_line}
+use Rattle.vc2_cli.specs.Decode.{pictures_in, slices_in}
+use Rattle.vc2_cli.specs.Endings.{closed, replayed}
 use Rattle.vc2_cli.specs.declared.status.Ending.{Ending}
-use Rattle.vc2_cli.specs.declared.status.Ending.TheVariants.{Done, Scheduled, Refused}
+use Rattle.vc2_cli.specs.declared.status.Ending.TheVariants.{Done, Refused}
+use Rattle.vc2_cli.specs.declared.status.Note.TheVariants.{Nothing}
 
 -- the schedule that is asked for, and of the units so far the numbers of pictures and slices and the shapes
 pub record Replayed : Type 0 where
@@ -44,12 +46,11 @@ replaying schedule = record {
     shapes = own.shapes ++ shape_of z unit bytes ∷ [];
   };
   text = λ z own unit bytes. [];
-  finished = λ z own unit bytes. Scheduled own.pictures own.slices (z.place + length bytes)
+  finished = λ z own unit bytes. replayed own.pictures own.slices (z.place + length bytes)
       (outcome_of own.schedule (own.shapes ++ shape_of z unit bytes ∷ []) (z.place + length bytes));
-  rested = λ z own. Done;
-  refused = λ z own fault. Refused (refusal_of fault);
-  last = λ z own ending. last_line ending;
-  endless = Done;
+  rested = λ z own. closed (Done Nothing);
+  refused = λ z own fault. closed (Refused (refusal_of fault));
+  endless = Done Nothing;
 }
 
 abbrev pub replay_machine : Schedule → Machine (Between Past Replayed) Ending

@@ -4,7 +4,7 @@ use Rattle.std.specs.List.{AllByRecursion, flat_map}
 use Rattle.slice_geometry.specs.Frames.{Frame}
 use Rattle.picture_codec.specs.Samples.{PictureSamples}
 use Rattle.raw_video.specs.RawText.{raw_text}
-use Rattle.stream_rows.specs.declared.reason.Refusal.{Refusal}
+use Rattle.stream_rows.specs.Refusals.{Refusal}
 use Rattle.stream_rows.specs.Streams.{Entry, total, IsStream, IsRefusal}
 use Rattle.stream_units.specs.StreamPictures.{pictures_of}
 use Rattle.vc2_words.specs.Commands.{decode, check}

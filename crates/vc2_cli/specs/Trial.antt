@@ -1,18 +1,18 @@
 -- The command `trial`: the video of a number goes through the encoder, the channel and the decoder.
-use Rattle.std.specs.Prelude.{ℕ, zero, suc, ◌+◌, ◌*◌, max, List, [], length}
+use Rattle.std.specs.Prelude.{◌≡◌, true, ℕ, zero, suc, ◌+◌, ◌*◌, max, List, [], length}
 use Rattle.slice_geometry.specs.Frames.{Frame}
 use Rattle.slice_geometry.specs.Slicing.{slice_count}
 use Rattle.picture_codec.specs.Samples.{PictureSamples, picture_of}
 use Rattle.trial_video.specs.Video.{video, video_picture}
 use Rattle.trial_video.specs.Worst.{worst, worst_of}
 use Rattle.stream_rows.specs.declared.reason.Reason.{Reason}
-use Rattle.stream_rows.specs.Units.{Past, DataUnit, Sequence, Repeated, Picture, Skipped, End}
+use Rattle.stream_rows.specs.Units.{is_truncated, Past, DataUnit, Sequence, Repeated, Picture, Skipped, End}
 use Rattle.stream_rows.specs.Streams.{frame_under, refusal_of}
 use Rattle.unit_table.specs.Fronts.{Command}
 use Rattle.vc2_words.specs.declared.words.TrialPart.{TrialPart}
 use Rattle.vc2_words.specs.Settings.{Asked}
-use Rattle.vc2_cli.specs.declared.status.Ending.{Ending}
-use Rattle.vc2_cli.specs.declared.status.Ending.TheVariants.{Done, Compared, Refused}
+use Rattle.vc2_cli.specs.declared.comparing.ComparisonEnd.{ComparisonEnd}
+use Rattle.vc2_cli.specs.declared.comparing.ComparisonEnd.TheVariants.{Compared, Refused}
 use Rattle.vc2_cli.specs.Texts.{trial_lines}
 use Rattle.vc2_cli.specs.WholePictures.{stream_of, decoded_of, plan_for}
 
@@ -30,6 +30,16 @@ trial_text s part =
     (trial_worst s part)
 
 -- ---- the comparison, as a command over the units of the stream
+
+-- it went through the whole stream
+abbrev pub IsWhole : ComparisonEnd → Type 0
+IsWhole (Compared worst) = Unit {0}
+IsWhole (Refused refusal) = ⊥
+
+-- more bytes may still change how it ends
+abbrev pub MayChange : ComparisonEnd → Type 0
+MayChange (Compared worst) = Unit {0}
+MayChange (Refused refusal) = is_truncated refusal.reason ≡ true
 
 -- the frame and the seed of the video, how many of its pictures were compared and how many are left, and the greatest
 -- difference so far
@@ -59,17 +69,16 @@ with_unit own Repeated = own
 with_unit own Skipped = own
 with_unit own End = own
 
-abbrev pub comparing : Comparison → Command Past Reason DataUnit Comparison Ending
+abbrev pub comparing : Comparison → Command Past Reason DataUnit Comparison ComparisonEnd
 comparing start = record {
   opening = [];
   start = start;
   next = λ z own unit bytes. with_unit own unit;
   text = λ z own unit bytes. [];
-  finished = λ z own unit bytes. Compared own.worst;
-  rested = λ z own. Done;
-  refused = λ z own fault. Refused (refusal_of fault);
-  last = λ z own ending. [];
-  endless = Done;
+  finished = λ z own unit bytes. record { ending = Compared own.worst; last = [] };
+  rested = λ z own. record { ending = Compared own.worst; last = [] };
+  refused = λ z own fault. record { ending = Refused (refusal_of fault); last = [] };
+  endless = Compared 0;
 }
 
 -- before the first picture

@@ -15,8 +15,8 @@ use Rattle.stream_units.specs.declared.write_stop.WriteStop.{WriteStop}
 use Rattle.stream_units.specs.declared.write_stop.WriteStop.TheVariants as stops
 use Rattle.vc2_words.specs.declared.words.TrialPart.{TrialPart}
 use Rattle.vc2_words.specs.Settings.{Asked}
-use Rattle.vc2_cli.specs.declared.status.Ending.{Ending}
-use Rattle.vc2_cli.specs.declared.status.Ending.TheVariants.{Compared}
+use Rattle.vc2_cli.specs.declared.comparing.ComparisonEnd.{ComparisonEnd}
+use Rattle.vc2_cli.specs.declared.comparing.ComparisonEnd.TheVariants.{Compared}
 use Rattle.vc2_cli.specs.Encode.{previous_at, units_at}
 use Rattle.vc2_cli.specs.EncodeTurn.{IsBehind}
 use Rattle.vc2_cli.specs.WholePictures.{stream_of}
@@ -68,7 +68,7 @@ comparison_of video left worst =
     record { frame = frame_of video.shape; seed = video.seed; pictures = video.pictures; left = left; worst = worst }
 
 -- the comparison ended with this difference, or memory was wanting
-abbrev pub IsCompared : ℕ → Result Ending Halt → Type 0
+abbrev pub IsCompared : ℕ → Result ComparisonEnd Halt → Type 0
 IsCompared worst (Ok (Compared told)) = told ≡ worst
 IsCompared worst (Ok other) = ⊥
 IsCompared worst (Err NoMemory) = Unit {0}

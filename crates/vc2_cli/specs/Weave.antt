@@ -14,6 +14,7 @@ use Rattle.field_weave.specs.WeaveRuns as weaver
 use Rattle.vc2_words.specs.declared.settings.FieldVideo.{FieldVideo}
 use Rattle.vc2_cli.specs.declared.status.Ending.{Ending}
 use Rattle.vc2_cli.specs.declared.status.Ending.TheVariants.{Done}
+use Rattle.vc2_cli.specs.declared.status.Note.TheVariants.{Nothing}
 use Rattle.vc2_cli.specs.Encode.{refused_at}
 use Rattle.vc2_cli.specs.Mapped.{told_as, result_told}
 
@@ -23,7 +24,7 @@ order_of false = Bottom
 
 -- how a run is told
 abbrev pub ending_of : WeaveEnd → Ending
-ending_of (Ok frames) = Done
+ending_of (Ok frames) = Done Nothing
 ending_of (Err (stops.SampleTooLarge place)) = refused_at place reasons.SampleTooLarge
 ending_of (Err (stops.RawTruncated place)) = refused_at place reasons.RawTruncated
 ending_of (Err stops.TooLong) = refused_at limit reasons.StreamTooLong

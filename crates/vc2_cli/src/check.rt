@@ -1,18 +1,18 @@
 // The command `check`.
 ghost use Rattle.vc2_io.specs.declared.TheConstants.{READ_SIZE};
-ghost use Rattle.std.specs.Prelude.{◌≡◌, ◌≤◌};
+ghost use Rattle.std.specs.Prelude.{◌≡◌, refl};
+ghost use Rattle.stream_rows.specs.Units.{nothing_yet};
 ghost use Rattle.vc2_run.specs.Ran.{HaltHasCause};
-ghost use Rattle.vc2_cli.specs.declared.status.Ending.TheVariants as ending;
-ghost use Rattle.vc2_cli.specs.Change.{change};
-ghost use Rattle.vc2_cli.specs.Running.{IsDone, Runs, Closes};
-ghost use Rattle.vc2_cli.specs.Soon.{Soon};
-ghost use Rattle.vc2_cli.specs.Decode.{Counts, nothing_counted, checking, check_machine, last_line, pictures_told, IsLastCount};
+ghost use Rattle.vc2_run.specs.Runs.{change, Runs, Closes};
+ghost use Rattle.vc2_cli.specs.Endings.{IsDone, MayGoOn, accepted};
+ghost use Rattle.unit_reader.specs.Soon.{Soon};
+ghost use Rattle.vc2_cli.specs.Decode.{Counts, nothing_counted, checking, check_machine, pictures_told, IsLastCount, KeepsFew};
 
-use crate::running::{UnitCommand, run_units};
-use crate::status::Ending;
+use crate::status::{Ending, Note};
 use crate::texts::accepted_text;
 use std::alloc::Global;
-use stream_units::{Item, Refusal, StreamChecker};
+use stream_units::{Item, Reason, Refusal, StreamTable};
+use unit_reader::{Reader, UnitCommand, run_units};
 use vc2_io::{Sink, Source, write_whole};
 use vc2_run::Halt;
 
@@ -24,7 +24,7 @@ fn accept<K: Sink>(
     slices: u64,
     bytes: u64,
 ) -> Result<Ending, Halt>
-    ensures wrote { Closes (ending.Accepted pictures slices bytes) (last_line (ending.Accepted pictures slices bytes)) (K.written out.old) (K.written out.new) result }
+    ensures wrote { Closes (accepted pictures slices bytes).ending (accepted pictures slices bytes).last (K.written out.old) (K.written out.new) result }
     ensures cause { HaltHasCause 0 0 (K.faults out.old) (K.faults out.new) result }
 {
     let line = match accepted_text(alloc, pictures, slices, bytes) {
@@ -32,11 +32,7 @@ fn accept<K: Sink>(
         Err(_) => return Err(Halt::NoMemory),
     };
     match write_whole(out, line.as_bytes()) {
-        Ok(()) => Ok(Ending::Accepted {
-            pictures,
-            slices,
-            bytes,
-        }),
+        Ok(()) => Ok(Ending::Done(Note::Nothing)),
         Err(_) => Err(Halt::OutFault),
     }
 }
@@ -52,10 +48,10 @@ pub(crate) fn pictures_told(item: Item) -> u64
 }
 
 // The number of slices of the last unit.
-pub(crate) fn last_count(reader: &StreamChecker) -> u32
-    ensures { IsLastCount reader.now.shapes result }
+pub(crate) fn last_count(table: &StreamTable) -> u32
+    ensures { IsLastCount table.now.shapes.units result }
 {
-    let shapes = reader.shapes();
+    let shapes = table.shapes();
     match shapes.len() {
         0 => 0,
         count => shapes.get(count - 1).slices,
@@ -70,59 +66,70 @@ struct Checking {
     slices: u64,
 }
 
-impl UnitCommand<StreamChecker> for Checking {
+impl UnitCommand<StreamTable> for Checking {
+    type Ending = Ending;
+
     ghost Own = { Counts };
 
     ghost command = { checking };
 
-    ghost own = { λ c r. record { pictures = c.pictures; slices = c.slices } };
+    ghost first = { nothing_yet };
+
+    ghost own = { λ c t. record { pictures = c.pictures; slices = c.slices } };
 
     ghost start = { λ c. nothing_counted };
 
-    ghost keeps = { λ c r. (c.pictures ≤ r.past.place) × (c.slices ≤ r.past.place) };
+    ghost keeps = { λ c t. KeepsFew c.pictures c.slices t };
 
     ghost is_done = { IsDone };
 
     ghost refused_is_no_end = { λ z w fault done. done };
 
-    ghost opens = { record { finished = λ z w unit bytes. tt; rested = λ z w. tt; refused = λ z w fault short. short } };
+    ghost may_go_on = { MayGoOn };
 
     fn open<K: Sink>(&mut self, _out: &mut K) -> Result<(), Halt> {
         Ok(())
     }
 
-    fn turn<K: Sink>(
-        &mut self,
-        reader: &StreamChecker,
-        item: Item,
-        _out: &mut K,
-    ) -> Result<(), Halt> {
+    fn turn<K: Sink>(&mut self, table: &StreamTable, item: Item, _out: &mut K) -> Result<(), Halt> {
         self.pictures += pictures_told(item);
-        self.slices += u64::from(last_count(reader));
+        self.slices += u64::from(last_count(table));
         Ok(())
     }
 
     fn finish<K: Sink>(
         &mut self,
-        reader: &StreamChecker,
+        table: &StreamTable,
         _item: Item,
         out: &mut K,
     ) -> Result<Ending, Halt> {
-        accept(self.alloc, out, self.pictures, self.slices, reader.taken())
+        accept(
+            self.alloc,
+            out,
+            self.pictures,
+            self.slices,
+            table.earlier().place(),
+        )
     }
 
-    fn rest<K: Sink>(&mut self, _reader: &StreamChecker, _out: &mut K) -> Result<Ending, Halt> {
-        Ok(Ending::Done)
+    fn rest<K: Sink>(&mut self, _table: &StreamTable, _out: &mut K) -> Result<Ending, Halt> {
+        // A stream ends with a unit, so this never comes.
+        Ok(Ending::Done(Note::Nothing))
     }
 
     fn refuse<K: Sink>(
         &mut self,
-        _reader: &StreamChecker,
-        refusal: Refusal,
+        _table: &StreamTable,
+        place: u64,
+        reason: Reason,
         _out: &mut K,
     ) -> Result<Ending, Halt> {
-        Ok(Ending::Refused(refusal))
+        Ok(Ending::Refused(Refusal { place, reason }))
     }
+
+    ghost begins = { refl };
+
+    ghost opens = { record { finished = λ z w unit bytes. tt; rested = λ z w. tt; refused = λ z w fault short. short } };
 }
 
 /// Reads the whole stream, and writes how many pictures, slices and bytes it has.
@@ -132,9 +139,9 @@ pub(crate) fn check<S: Source, K: Sink>(
     out: &mut K,
 ) -> Result<Ending, Halt>
     ensures runs { Runs check_machine IsDone (change S.rest S.faults src.old src.new) (change K.written K.faults out.old out.new) result }
-    ensures soon { Soon check_machine READ_SIZE (S.rest src.old) (S.rest src.new) result }
+    ensures soon { Soon MayGoOn check_machine READ_SIZE (S.rest src.old) (S.rest src.new) result }
 {
-    match StreamChecker::new(alloc) {
+    match Reader::made(alloc, StreamTable::new(alloc, false)) {
         Ok(mut reader) => {
             let mut command = Checking {
                 alloc,

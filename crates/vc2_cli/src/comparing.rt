@@ -1,23 +1,30 @@
 // The pictures of a stream beside those of a video.
-ghost use Rattle.std.specs.Prelude.{◌≡◌, ◌≤◌, ◌+◌, ◌^◌, ℕ, IfOk};
+ghost use Rattle.std.specs.Prelude.{◌≡◌, ◌≤◌, ◌+◌, ◌^◌, ℕ, true, refl, IfOk};
 ghost use Rattle.stream_units.specs.Writer.{IsSteepUnder};
 ghost use Rattle.vc2_words.specs.Shown.{shown};
 ghost use Rattle.vc2_words.specs.Lawful.{IsTrial};
-ghost use Rattle.vc2_cli.specs.Running.{IsDone};
+ghost use Rattle.stream_rows.specs.Units.{nothing_yet};
 ghost use Rattle.vc2_cli.specs.Encode.{written_under};
 ghost use Rattle.vc2_cli.specs.WholePictures.{stream_of};
-ghost use Rattle.vc2_cli.specs.Trial.{Comparison, with_picture, comparing, trial_pictures, trial_worst};
+ghost use Rattle.vc2_cli.specs.Trial.{IsWhole, MayChange, Comparison, with_picture, comparing, trial_pictures, trial_worst};
 ghost use Rattle.vc2_cli.specs.TrialTurn.{comparison_of, IsCompared};
 
-use crate::running::{UnitCommand, run_units};
-use crate::status::Ending;
+use crate::decode::decoder_of;
 use picture_codec::Picture;
 use std::alloc::Global;
-use stream_units::{Item, Refusal, StreamReader};
+use stream_units::{Item, Reason, Refusal, StreamTable};
 use trial_video::{TrialVideo, worst_difference};
+use unit_reader::{Reader, UnitCommand, run_units};
 use vc2_io::{NoMemory, NullSink, Sink, SteadySource};
 use vc2_run::Halt;
 use vc2_words::{Settings, TrialPart};
+
+/// How a comparison ends: with the greatest difference of a sample, or the stream is refused.
+#[derive(Clone, Copy, Debug, PartialEq, Eq)]
+pub enum ComparisonEnd {
+    Compared(u16),
+    Refused(Refusal),
+}
 
 /// The video before its next picture, a picture for it, how many are left to compare, and the greatest difference so far.
 #[derive(Drop)]
@@ -47,35 +54,34 @@ impl Comparing {
     }
 }
 
-impl UnitCommand<StreamReader> for Comparing {
+impl UnitCommand<StreamTable> for Comparing {
+    type Ending = ComparisonEnd;
+
     ghost Own = { Comparison };
 
     ghost command = { comparing (record { frame = record { luma = record { w = 0; h = 0 }; colour = record { w = 0; h = 0 }; luma_depth = 0; colour_depth = 0 }; seed = 0; pictures = 0; left = 0; worst = 0 }) };
 
-    ghost own = { λ c r. comparison_of c.video c.left c.worst };
+    ghost first = { nothing_yet };
+
+    ghost own = { λ c t. comparison_of c.video c.left c.worst };
 
     ghost start = { λ c. comparison_of c.video c.left c.worst };
 
-    ghost keeps = { λ c r. (c.picture.shape ≡ c.video.shape) × (c.video.pictures + c.left ≤ 2 ^ 32) };
+    ghost keeps = { λ c t. (c.picture.shape ≡ c.video.shape) × (c.video.pictures + c.left ≤ 2 ^ 32) × (t.makes_pictures ≡ true) };
 
-    ghost is_done = { IsDone };
+    ghost is_done = { IsWhole };
 
     ghost refused_is_no_end = { λ z w fault done. done };
 
-    ghost opens = { record { finished = λ z w unit bytes. tt; rested = λ z w. tt; refused = λ z w fault short. short } };
+    ghost may_go_on = { MayChange };
 
     fn open<K: Sink>(&mut self, _out: &mut K) -> Result<(), Halt> {
         Ok(())
     }
 
-    fn turn<K: Sink>(
-        &mut self,
-        reader: &StreamReader,
-        _item: Item,
-        _out: &mut K,
-    ) -> Result<(), Halt> {
-        match reader.picture() {
-            Some(decoded) => self.compare(decoded),
+    fn turn<K: Sink>(&mut self, table: &StreamTable, item: Item, _out: &mut K) -> Result<(), Halt> {
+        match decoder_of(table, item) {
+            Some(decoder) => self.compare(decoder.picture()),
             None => {}
         }
         Ok(())
@@ -83,35 +89,41 @@ impl UnitCommand<StreamReader> for Comparing {
 
     fn finish<K: Sink>(
         &mut self,
-        _reader: &StreamReader,
+        _table: &StreamTable,
         _item: Item,
         _out: &mut K,
-    ) -> Result<Ending, Halt> {
-        Ok(Ending::Compared(self.worst))
+    ) -> Result<ComparisonEnd, Halt> {
+        Ok(ComparisonEnd::Compared(self.worst))
     }
 
-    fn rest<K: Sink>(&mut self, _reader: &StreamReader, _out: &mut K) -> Result<Ending, Halt> {
-        Ok(Ending::Done)
+    fn rest<K: Sink>(&mut self, _table: &StreamTable, _out: &mut K) -> Result<ComparisonEnd, Halt> {
+        // A stream ends with a unit, so this never comes.
+        Ok(ComparisonEnd::Compared(self.worst))
     }
 
     fn refuse<K: Sink>(
         &mut self,
-        _reader: &StreamReader,
-        refusal: Refusal,
+        _table: &StreamTable,
+        place: u64,
+        reason: Reason,
         _out: &mut K,
-    ) -> Result<Ending, Halt> {
-        Ok(Ending::Refused(refusal))
+    ) -> Result<ComparisonEnd, Halt> {
+        Ok(ComparisonEnd::Refused(Refusal { place, reason }))
     }
+
+    ghost begins = { refl };
+
+    ghost opens = { record { finished = λ z w unit bytes. tt; rested = λ z w. tt; refused = λ z w fault short. short } };
 }
 
 // The difference, of a comparison that went through the whole stream.
-fn found_worst(outcome: Result<Ending, Halt>) -> Result<u16, NoMemory>
+fn found_worst(outcome: Result<ComparisonEnd, Halt>) -> Result<u16, NoMemory>
     requires { (worst : ℕ) × IsCompared worst outcome }
     ensures { (worst : ℕ) → IsCompared worst outcome → IfOk result (λ told. told ≡ worst) }
 {
     match outcome {
         Ok(ending) => match ending {
-            Ending::Compared(worst) => Ok(worst),
+            ComparisonEnd::Compared(worst) => Ok(worst),
             _ => unreachable!(),
         },
         Err(halt) => match halt {
@@ -144,7 +156,7 @@ pub(crate) fn compare_video(
         left: part.pictures,
         worst: 0,
     };
-    match StreamReader::new(alloc) {
+    match Reader::made(alloc, StreamTable::new(alloc, true)) {
         Ok(mut reader) => {
             let mut src = SteadySource::new(stream);
             let mut out = NullSink::new();

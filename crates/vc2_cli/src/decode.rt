@@ -1,41 +1,48 @@
 // The command `decode`.
 ghost use Rattle.vc2_io.specs.declared.TheConstants.{READ_SIZE};
-ghost use Rattle.std.specs.Prelude.{◌≡◌, ℕ, ◌≤◌, OnOk, OnErr};
+ghost use Rattle.std.specs.Prelude.{◌≡◌, ◌≢◌, ℕ, Some, None, true, false, refl, OnOk, OnErr, IfSome, IsNone};
 ghost use Rattle.std.specs.Io.KnownBytes.{Appends};
 ghost use Rattle.vc2_io.specs.Outside.{HasCause, GrewShort};
-ghost use Rattle.vc2_cli.specs.Change.{change};
-ghost use Rattle.vc2_cli.specs.Running.{IsDone, Runs};
-ghost use Rattle.vc2_cli.specs.Soon.{Soon};
-ghost use Rattle.vc2_cli.specs.Decode.{decoding, decode_machine, shown_count, shown_text};
+ghost use Rattle.vc2_run.specs.Runs.{change, Runs};
+ghost use Rattle.vc2_cli.specs.Endings.{IsDone, MayGoOn};
+ghost use Rattle.unit_reader.specs.Soon.{Soon};
+ghost use Rattle.stream_rows.specs.Units.{nothing_yet};
+ghost use Rattle.stream_units.specs.ReaderInside.{seen_of};
+ghost use Rattle.vc2_cli.specs.Telling.{tells_picture};
+ghost use Rattle.vc2_cli.specs.Decode.{decoding, decode_machine, shown_text, KeepsPictures};
 
-use crate::running::{UnitCommand, run_units};
-use crate::status::Ending;
+use crate::status::{Ending, Note};
+use picture_codec::PictureDecoder;
 use raw_video::write_picture;
 use std::alloc::Global;
-use stream_units::{Item, Refusal, StreamReader};
+use stream_units::{Item, Reason, Refusal, StreamTable};
+use unit_reader::{Reader, UnitCommand, run_units};
 use vc2_io::{Failed, Sink, Source};
 use vc2_run::Halt;
 
-/// Writes the raw text of the picture that the reader shows, if it shows one.
-pub(crate) fn write_shown<K: Sink>(out: &mut K, reader: &StreamReader) -> Result<(), Failed>
-    ensures ok { OnOk result (Appends (K.written out.old) (K.written out.new) (shown_text reader.now.picture)) }
-    ensures err { OnErr result (GrewShort (K.written out.old) (K.written out.new) (shown_text reader.now.picture)) }
-    ensures cause { HasCause (K.faults out.old) (K.faults out.new) result }
+/// The decoder of the picture that the item tells, if it tells one.
+pub(crate) fn decoder_of(table: &StreamTable, item: Item) -> Option<&PictureDecoder>
+    requires { tells_picture item ≡ true → table.now.decoder ≢ None }
+    ensures some { IfSome result (λ decoder. (tells_picture item ≡ true) × (table.now.decoder ≡ Some decoder.now)) }
+    ensures none { IsNone result → tells_picture item ≡ false }
 {
-    match reader.picture() {
-        Some(picture) => write_picture(out, picture),
-        None => Ok(()),
+    match item {
+        Item::Picture(_) => match table.decoder() {
+            Some(decoder) => Some(decoder),
+            None => unreachable!(),
+        },
+        _ => None,
     }
 }
 
-/// How many pictures the reader shows.
-pub(crate) fn shown_count(reader: &StreamReader) -> u64
-    ensures { result ≡ shown_count reader.now.picture }
+/// Writes the raw text of the picture that the decoder made.
+pub(crate) fn write_shown<K: Sink>(out: &mut K, decoder: &PictureDecoder) -> Result<(), Failed>
+    requires { decoder.now.picture ≢ None }
+    ensures ok { OnOk result (Appends (K.written out.old) (K.written out.new) (shown_text (seen_of decoder.now))) }
+    ensures err { OnErr result (GrewShort (K.written out.old) (K.written out.new) (shown_text (seen_of decoder.now))) }
+    ensures cause { HasCause (K.faults out.old) (K.faults out.new) result }
 {
-    match reader.picture() {
-        Some(_) => 1,
-        None => 0,
-    }
+    write_picture(out, decoder.picture())
 }
 
 /// How many pictures there were.
@@ -44,65 +51,74 @@ struct Decoding {
     pictures: u64,
 }
 
-impl UnitCommand<StreamReader> for Decoding {
+impl UnitCommand<StreamTable> for Decoding {
+    type Ending = Ending;
+
     ghost Own = { ℕ };
 
     ghost command = { decoding };
 
-    ghost own = { λ c r. c.pictures };
+    ghost first = { nothing_yet };
+
+    ghost own = { λ c t. c.pictures };
 
     ghost start = { λ c. 0 };
 
-    ghost keeps = { λ c r. c.pictures ≤ r.past.place };
+    ghost keeps = { λ c t. KeepsPictures c.pictures t };
 
     ghost is_done = { IsDone };
 
     ghost refused_is_no_end = { λ z w fault done. done };
 
-    ghost opens = { record { finished = λ z w unit bytes. tt; rested = λ z w. tt; refused = λ z w fault short. short } };
+    ghost may_go_on = { MayGoOn };
 
     fn open<K: Sink>(&mut self, _out: &mut K) -> Result<(), Halt> {
         Ok(())
     }
 
-    fn turn<K: Sink>(
-        &mut self,
-        reader: &StreamReader,
-        _item: Item,
-        out: &mut K,
-    ) -> Result<(), Halt> {
-        match write_shown(out, reader) {
+    fn turn<K: Sink>(&mut self, table: &StreamTable, item: Item, out: &mut K) -> Result<(), Halt> {
+        let decoder = match decoder_of(table, item) {
+            Some(decoder) => decoder,
+            None => return Ok(()),
+        };
+        match write_shown(out, decoder) {
             Ok(()) => {}
             Err(_) => return Err(Halt::OutFault),
         }
-        self.pictures += shown_count(reader);
+        self.pictures += 1;
         Ok(())
     }
 
     fn finish<K: Sink>(
         &mut self,
-        reader: &StreamReader,
+        table: &StreamTable,
         _item: Item,
         _out: &mut K,
     ) -> Result<Ending, Halt> {
-        Ok(Ending::Decoded {
+        Ok(Ending::Done(Note::Decoded {
             pictures: self.pictures,
-            bytes: reader.taken(),
-        })
+            bytes: table.earlier().place(),
+        }))
     }
 
-    fn rest<K: Sink>(&mut self, _reader: &StreamReader, _out: &mut K) -> Result<Ending, Halt> {
-        Ok(Ending::Done)
+    fn rest<K: Sink>(&mut self, _table: &StreamTable, _out: &mut K) -> Result<Ending, Halt> {
+        // A stream ends with a unit, so this never comes.
+        Ok(Ending::Done(Note::Nothing))
     }
 
     fn refuse<K: Sink>(
         &mut self,
-        _reader: &StreamReader,
-        refusal: Refusal,
+        _table: &StreamTable,
+        place: u64,
+        reason: Reason,
         _out: &mut K,
     ) -> Result<Ending, Halt> {
-        Ok(Ending::Refused(refusal))
+        Ok(Ending::Refused(Refusal { place, reason }))
     }
+
+    ghost begins = { refl };
+
+    ghost opens = { record { finished = λ z w unit bytes. tt; rested = λ z w. tt; refused = λ z w fault short. short } };
 }
 
 /// Writes the raw text of each picture, once its unit is accepted whole.
@@ -112,9 +128,9 @@ pub(crate) fn decode<S: Source, K: Sink>(
     out: &mut K,
 ) -> Result<Ending, Halt>
     ensures runs { Runs decode_machine IsDone (change S.rest S.faults src.old src.new) (change K.written K.faults out.old out.new) result }
-    ensures soon { Soon decode_machine READ_SIZE (S.rest src.old) (S.rest src.new) result }
+    ensures soon { Soon MayGoOn decode_machine READ_SIZE (S.rest src.old) (S.rest src.new) result }
 {
-    match StreamReader::new(alloc) {
+    match Reader::made(alloc, StreamTable::new(alloc, true)) {
         Ok(mut reader) => {
             let mut command = Decoding { pictures: 0 };
             let result = run_units(&mut reader, &mut command, src, out);

@@ -7,12 +7,12 @@ ghost use Rattle.vc2_words.specs.Shown.{shown};
 ghost use Rattle.vc2_words.specs.Lawful.{AreLawful};
 ghost use Rattle.vc2_run.specs.Ran.{HaltHasCause};
 ghost use Rattle.stream_units.specs.Writer.{next_place, next_previous, IsSteepUnder};
-ghost use Rattle.vc2_cli.specs.Change.{change};
-ghost use Rattle.vc2_cli.specs.Running.{IsDone, Runs, Closes};
+ghost use Rattle.vc2_run.specs.Runs.{change, Runs, Closes};
+ghost use Rattle.vc2_cli.specs.Endings.{IsDone};
 ghost use Rattle.vc2_cli.specs.Encode.{written_under, raw_size, encode_machine, refused_at, is_half, ended_plan, ended_at, last_text, told_of_fault, told_of_stop};
 ghost use Rattle.vc2_cli.specs.EncodeTurn.{Goes};
 
-use crate::status::Ending;
+use crate::status::{Ending, Note};
 use channel_schedule::plan;
 use picture_codec::Picture;
 use raw_video::{RawFault, RawReader, RawStep};
@@ -78,7 +78,10 @@ fn finish<K: Sink>(
         return refused(place, Reason::HalfFrame);
     }
     match writer.end(out) {
-        Ok(()) => Ok(Ending::Encoded(plan(writer.shapes(), settings.rate, settings.idle))),
+        Ok(()) => {
+            let schedule = plan(writer.shapes(), settings.rate, settings.idle);
+            Ok(Ending::Done(Note::Encoded(schedule)))
+        }
         Err(WriteStop::OutFault) => Err(Halt::OutFault),
         Err(_) => Err(Halt::NoMemory),
     }

@@ -1,47 +1,49 @@
 // The command `frames`.
 ghost use Rattle.vc2_io.specs.declared.TheConstants.{READ_SIZE};
-ghost use Rattle.std.specs.Prelude.{◌≡◌, ◌≤◌, ◌+◌, ◌^◌, ◌<◌, Some, None, true, Option, IfOk, OnOk, OnErr};
+ghost use Rattle.std.specs.Prelude.{◌≡◌, ◌≤◌, ◌+◌, ◌^◌, ◌<◌, Some, None, true, refl, Option, IfOk, OnOk, OnErr};
 ghost use Rattle.std.specs.Io.KnownBytes.{Appends};
 ghost use Rattle.vc2_io.specs.Outside.{HasCause, GrewShort};
 ghost use Rattle.vc2_run.specs.Ran.{HaltHasCause};
 ghost use Rattle.slice_geometry.specs.Frames.{frame_of};
 ghost use Rattle.sequence_header.specs.declared.parts.HeaderParts.{HeaderParts};
 ghost use Rattle.picture_codec.specs.Samples.{PictureSeen, PictureSamples};
+ghost use Rattle.stream_rows.specs.Units.{nothing_yet};
 ghost use Rattle.field_weave.specs.Weaving.{doubled, split};
-ghost use Rattle.vc2_cli.specs.Change.{change};
-ghost use Rattle.vc2_cli.specs.Running.{IsDone, Runs, WritesText};
-ghost use Rattle.vc2_cli.specs.Soon.{Soon};
+ghost use Rattle.vc2_run.specs.Runs.{change, Runs, WritesText};
+ghost use Rattle.vc2_cli.specs.Endings.{IsDone, MayGoOn};
+ghost use Rattle.unit_reader.specs.Soon.{Soon};
 ghost use Rattle.vc2_cli.specs.Telling.{tells_sequence};
 ghost use Rattle.vc2_cli.specs.Weave.{order_of};
 ghost use Rattle.vc2_cli.specs.Frames.{FramesSoFar, framing_any, no_frames, frames_machine, are_fields, first_in, frame_text, IsFrameFor, KeepsFrame};
 
-use crate::running::{UnitCommand, run_units};
-use crate::status::Ending;
+use crate::decode::decoder_of;
+use crate::status::{Ending, Note};
 use crate::weave::order_of;
 use field_weave::{Order, frame_shape, take_field};
 use picture_codec::Picture;
 use planes::NoMemory;
 use raw_video::write_picture;
 use std::alloc::Global;
-use stream_units::{Item, Refusal, StreamReader};
+use stream_units::{Item, Reason, Refusal, StreamTable};
+use unit_reader::{Reader, UnitCommand, run_units};
 use vc2_io::{Failed, Sink, Source};
 use vc2_run::Halt;
 
 // Whether the pictures under the header that was read last are fields.
-fn are_fields(reader: &StreamReader) -> bool
-    ensures { (parts : HeaderParts) → reader.now.header ≡ Some parts → result ≡ are_fields parts }
+fn are_fields(table: &StreamTable) -> bool
+    ensures { (parts : HeaderParts) → table.now.header ≡ Some parts → result ≡ are_fields parts }
 {
-    match reader.header() {
+    match table.header() {
         Some(header) => header.parts().coding == 1,
         None => false,
     }
 }
 
 // The frame that the fields under the header that was read last are put in; none for frames.
-fn frame_for(alloc: Global, reader: &StreamReader) -> Result<Option<Picture>, NoMemory>
-    ensures { IfOk result (λ frame. (parts : HeaderParts) → reader.now.header ≡ Some parts → IsFrameFor parts frame) }
+fn frame_for(alloc: Global, table: &StreamTable) -> Result<Option<Picture>, NoMemory>
+    ensures { IfOk result (λ frame. (parts : HeaderParts) → table.now.header ≡ Some parts → IsFrameFor parts frame) }
 {
-    let header = match reader.header() {
+    let header = match table.header() {
         Some(header) => header,
         None => return Ok(None),
     };
@@ -71,46 +73,46 @@ struct Framing {
     frame: Option<Picture>,
 }
 
-impl UnitCommand<StreamReader> for Framing {
+impl UnitCommand<StreamTable> for Framing {
+    type Ending = Ending;
+
     ghost Own = { FramesSoFar };
 
     ghost command = { framing_any };
 
-    ghost own = { λ c r. record { order = c.order; frames = c.frames; first = first_in c.order c.begun c.frame r.header } };
+    ghost first = { nothing_yet };
+
+    ghost own = { λ c t. record { order = c.order; frames = c.frames; first = first_in c.order c.begun c.frame t.header } };
 
     ghost start = { λ c. no_frames c.order };
 
-    ghost keeps = { λ c r. KeepsFrame c.frames c.frame r };
+    ghost keeps = { λ c t. KeepsFrame c.frames c.frame t };
 
     ghost is_done = { IsDone };
 
     ghost refused_is_no_end = { λ z w fault done. done };
 
-    ghost opens = { record { finished = λ z w unit bytes. tt; rested = λ z w. tt; refused = λ z w fault short. short } };
+    ghost may_go_on = { MayGoOn };
 
     fn open<K: Sink>(&mut self, _out: &mut K) -> Result<(), Halt> {
         Ok(())
     }
 
-    fn turn<K: Sink>(
-        &mut self,
-        reader: &StreamReader,
-        item: Item,
-        out: &mut K,
-    ) -> Result<(), Halt> {
+    fn turn<K: Sink>(&mut self, table: &StreamTable, item: Item, out: &mut K) -> Result<(), Halt> {
         if tells_sequence(item) {
             self.begun = false;
-            match frame_for(self.alloc, reader) {
+            match frame_for(self.alloc, table) {
                 Ok(frame) => self.frame = frame,
                 Err(_) => return Err(Halt::NoMemory),
             }
             return Ok(());
         }
-        let picture = match reader.picture() {
-            Some(picture) => picture,
+        let decoder = match decoder_of(table, item) {
+            Some(decoder) => decoder,
             None => return Ok(()),
         };
-        if !are_fields(reader) {
+        let picture = decoder.picture();
+        if !are_fields(table) {
             match write_picture(out, picture) {
                 Ok(()) => {}
                 Err(_) => return Err(Halt::OutFault),
@@ -135,28 +137,34 @@ impl UnitCommand<StreamReader> for Framing {
 
     fn finish<K: Sink>(
         &mut self,
-        reader: &StreamReader,
+        table: &StreamTable,
         _item: Item,
         _out: &mut K,
     ) -> Result<Ending, Halt> {
-        Ok(Ending::Framed {
+        Ok(Ending::Done(Note::Framed {
             frames: self.frames,
-            bytes: reader.taken(),
-        })
+            bytes: table.earlier().place(),
+        }))
     }
 
-    fn rest<K: Sink>(&mut self, _reader: &StreamReader, _out: &mut K) -> Result<Ending, Halt> {
-        Ok(Ending::Done)
+    fn rest<K: Sink>(&mut self, _table: &StreamTable, _out: &mut K) -> Result<Ending, Halt> {
+        // A stream ends with a unit, so this never comes.
+        Ok(Ending::Done(Note::Nothing))
     }
 
     fn refuse<K: Sink>(
         &mut self,
-        _reader: &StreamReader,
-        refusal: Refusal,
+        _table: &StreamTable,
+        place: u64,
+        reason: Reason,
         _out: &mut K,
     ) -> Result<Ending, Halt> {
-        Ok(Ending::Refused(refusal))
+        Ok(Ending::Refused(Refusal { place, reason }))
     }
+
+    ghost begins = { refl };
+
+    ghost opens = { record { finished = λ z w unit bytes. tt; rested = λ z w. tt; refused = λ z w fault short. short } };
 }
 
 /// Writes the frames of a stream, each once its last unit is accepted whole: fields woven in this order, and other pictures
@@ -168,9 +176,9 @@ pub(crate) fn frames<S: Source, K: Sink>(
     out: &mut K,
 ) -> Result<Ending, Halt>
     ensures runs { Runs (frames_machine (order_of top)) IsDone (change S.rest S.faults src.old src.new) (change K.written K.faults out.old out.new) result }
-    ensures soon { Soon (frames_machine (order_of top)) READ_SIZE (S.rest src.old) (S.rest src.new) result }
+    ensures soon { Soon MayGoOn (frames_machine (order_of top)) READ_SIZE (S.rest src.old) (S.rest src.new) result }
 {
-    match StreamReader::new(alloc) {
+    match Reader::made(alloc, StreamTable::new(alloc, true)) {
         Ok(mut reader) => {
             let mut command = Framing {
                 alloc,

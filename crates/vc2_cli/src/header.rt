@@ -4,10 +4,11 @@ ghost use Rattle.vc2_run.specs.Ran.{Ran, TakesAtMost, HaltHasCause};
 ghost use Rattle.vc2_cli.specs.Reply.{ReadsAll, status_of};
 ghost use Rattle.vc2_cli.specs.First.{header_machine, behind_first};
 ghost use Rattle.vc2_cli.specs.FirstTurn.{TookFirst};
-ghost use Rattle.vc2_cli.specs.Soon.{Soon};
+ghost use Rattle.unit_reader.specs.Soon.{Soon};
+ghost use Rattle.vc2_cli.specs.Endings.{MayGoOn};
 
 use crate::header_texts::header_text;
-use crate::status::Ending;
+use crate::status::{Ending, Note};
 use sequence_header::SequenceHeader;
 use std::alloc::Global;
 use stream_units::{Refusal, first_unit};
@@ -28,7 +29,7 @@ pub(crate) enum First {
 fn take_first<S: Source>(alloc: Global, src: &mut S) -> Result<First, Halt>
     ensures took { TookFirst (S.rest src.old) (S.rest src.new) result }
     ensures cause { HaltHasCause (S.faults src.old) (S.faults src.new) 0 0 result }
-    ensures soon { Soon header_machine 1 (S.rest src.old) (S.rest src.new) result }
+    ensures soon { Soon MayGoOn header_machine 1 (S.rest src.old) (S.rest src.new) result }
 {
     let mut bytes = Vec::new(alloc);
     loop {
@@ -67,7 +68,7 @@ pub(crate) fn header<S: Source, K: Sink>(
     ensures limit { TakesAtMost 250 (S.rest src.old) (S.rest src.new) }
     ensures ran { Ran header_machine (S.rest src.old) (S.rest src.new) (K.written out.old) (K.written out.new) result }
     ensures cause { HaltHasCause (S.faults src.old) (S.faults src.new) (K.faults out.old) (K.faults out.new) result }
-    ensures soon { Soon header_machine 1 (S.rest src.old) (S.rest src.new) result }
+    ensures soon { Soon MayGoOn header_machine 1 (S.rest src.old) (S.rest src.new) result }
 {
     let first = match take_first(alloc, src) {
         Ok(first) => first,
@@ -82,7 +83,7 @@ pub(crate) fn header<S: Source, K: Sink>(
         Err(_) => return Err(Halt::NoMemory),
     };
     match write_whole(out, text.as_bytes()) {
-        Ok(()) => Ok(Ending::Done),
+        Ok(()) => Ok(Ending::Done(Note::Nothing)),
         Err(_) => Err(Halt::OutFault),
     }
 }

@@ -4,6 +4,7 @@
 mod chain;
 mod check;
 mod comparing;
+mod cut;
 mod decode;
 mod encode;
 mod frames;
@@ -12,8 +13,6 @@ mod header_texts;
 mod laws;
 mod program;
 mod proxy;
-mod readers;
-mod running;
 mod scheduled;
 mod status;
 mod stream_sink;
@@ -24,13 +23,13 @@ mod weave;
 mod words;
 
 pub use laws::{
-    fields_have_replies, lines_are_read, one_answer, one_check_answer, one_decode_answer,
-    one_encode_answer, one_frames_answer, one_header_answer, one_proxy_answer, one_schedule_answer,
-    one_split_answer, one_weave_answer, pictures_go_there_and_back, proxies_have_replies,
-    streams_have_replies, words_are_encoded,
+    cuts_have_replies, fields_have_replies, lines_are_read, one_answer, one_check_answer,
+    one_cut_answer, one_decode_answer, one_encode_answer, one_frames_answer, one_header_answer,
+    one_proxy_answer, one_schedule_answer, one_split_answer, one_weave_answer,
+    pictures_go_there_and_back, proxies_have_replies, streams_have_replies, words_are_encoded,
 };
 pub use program::run_to_exit;
-pub use status::{Ending, ScheduleFault, Status, exit_code};
+pub use status::{Ending, Note, ScheduleFault, Status, exit_code};
 pub use stream_units::{Reason, Refusal};
 pub use top::run;
 pub use vc2_words::{Key, Rule, WordFault};

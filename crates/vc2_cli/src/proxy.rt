@@ -1,6 +1,6 @@
 // The command `proxy`.
 ghost use Rattle.vc2_io.specs.declared.TheConstants.{READ_SIZE};
-ghost use Rattle.std.specs.Prelude.{◌≡◌, ◌≤◌, ℕ, List, OnOk, OnErr, IfOk};
+ghost use Rattle.std.specs.Prelude.{◌≡◌, ◌≤◌, ℕ, Some, List, refl, OnOk, OnErr, IfOk};
 ghost use Rattle.std.specs.Io.KnownBytes.{Appends};
 ghost use Rattle.vc2_io.specs.Outside.{HasCause, GrewShort};
 ghost use Rattle.vc2_run.specs.Ran.{HaltHasCause};
@@ -8,27 +8,27 @@ ghost use Rattle.slice_geometry.specs.Frames.{frame_of};
 ghost use Rattle.transform_params.specs.Views.{params_of};
 ghost use Rattle.picture_codec.specs.Decoding.{AllCanSynthesise, HoldUnit};
 ghost use Rattle.raw_video.specs.RawText.{raw_text};
-ghost use Rattle.stream_rows.specs.Units.{DataUnit};
-ghost use Rattle.stream_units.specs.Reader.{IsPictureOf, IsTakerOf};
+ghost use Rattle.stream_rows.specs.Units.{DataUnit, nothing_yet};
+ghost use Rattle.stream_units.specs.Turns.{IsWhole};
+ghost use Rattle.stream_units.specs.Reader.{IsTakerOf};
 ghost use Rattle.proxy_picture.specs.Proxy.{proxy_frame, proxy_picture};
 ghost use Rattle.proxy_picture.specs.Making.{reduced_picture};
-ghost use Rattle.vc2_cli.specs.Change.{change};
-ghost use Rattle.vc2_cli.specs.Running.{IsDone, Runs, WritesText};
-ghost use Rattle.vc2_cli.specs.Soon.{Soon};
-ghost use Rattle.vc2_cli.specs.Decode.{pictures_in};
-ghost use Rattle.vc2_cli.specs.Proxy.{Proxied, nothing_proxied, proxying_any, proxy_machine, proxy_text, levels_in, KeepsWhole, MakesProxiesOf};
+ghost use Rattle.vc2_run.specs.Runs.{change, Runs, WritesText};
+ghost use Rattle.vc2_cli.specs.Endings.{IsDone, MayGoOn};
+ghost use Rattle.unit_reader.specs.Soon.{Soon};
+ghost use Rattle.vc2_cli.specs.Proxy.{Proxied, nothing_proxied, proxying_any, proxy_machine, proxy_text, KeepsWhole, MakesProxiesOf};
 
-use crate::decode::{shown_count, write_shown};
-use crate::running::{UnitCommand, run_units};
-use crate::status::Ending;
-use picture_codec::DecodedBands;
+use crate::decode::{decoder_of, write_shown};
+use crate::status::{Ending, Note};
+use picture_codec::{DecodedBands, PictureDecoder};
 use planes::NoMemory;
 use proxy_picture::ProxyDecoder;
 use raw_video::write_picture;
 use slice_geometry::PictureShape;
 use std::alloc::Global;
-use stream_units::{Item, Refusal, StreamChecker, StreamReader};
+use stream_units::{Item, Reason, Refusal, StreamTable};
 use transform_params::TransformParams;
+use unit_reader::{Reader, UnitCommand, run_units};
 use vc2_io::{Failed, Sink, Source};
 use vc2_run::Halt;
 
@@ -67,35 +67,26 @@ fn write_made<K: Sink>(
     write_picture(out, maker.make(bands))
 }
 
-// Writes the raw text of the proxy of the reader's picture, if it has one, and gives how many that is.
+// Writes the raw text of the proxy of the picture that the decoder took.
 fn write_proxy<K: Sink>(
     alloc: Global,
     out: &mut K,
     kept: &mut Option<ProxyDecoder>,
     level: u32,
-    reader: &StreamChecker,
-) -> Result<u64, Halt>
-    ensures wrote { (unit : DataUnit) → IsTakerOf unit reader.now.decoder → WritesText (proxy_text level unit) (K.written out.old) (K.written out.new) result }
-    ensures count { (unit : DataUnit) → IsTakerOf unit reader.now.decoder → IfOk result (λ count. count ≡ pictures_in unit) }
+    decoder: &PictureDecoder,
+) -> Result<(), Halt>
+    requires { IsWhole decoder.now }
+    ensures wrote { (unit : DataUnit) → IsTakerOf unit (Some decoder.now) → WritesText (proxy_text level unit) (K.written out.old) (K.written out.new) result }
     ensures cause { HaltHasCause 0 0 (K.faults out.old) (K.faults out.new) result }
 {
-    let Some(bands) = reader.bands() else {
-        return Ok(0);
-    };
-    let Some(params) = reader.params() else {
-        return Ok(0);
-    };
-    let Some(shape) = reader.picture_shape() else {
-        return Ok(0);
-    };
-    let mut maker = match ready(alloc, kept, shape, params, level) {
+    let mut maker = match ready(alloc, kept, decoder.shape(), decoder.params(), level) {
         Ok(maker) => maker,
         Err(_) => return Err(Halt::NoMemory),
     };
-    let result = write_made(out, &mut maker, bands);
+    let result = write_made(out, &mut maker, decoder.bands());
     drop(kept.replace(maker));
     match result {
-        Ok(()) => Ok(1),
+        Ok(()) => Ok(()),
         Err(_) => Err(Halt::OutFault),
     }
 }
@@ -109,66 +100,74 @@ struct Proxying {
     pictures: u64,
 }
 
-impl UnitCommand<StreamChecker> for Proxying {
+impl UnitCommand<StreamTable> for Proxying {
+    type Ending = Ending;
+
     ghost Own = { Proxied };
 
     ghost command = { proxying_any };
 
-    ghost own = { λ c r. record { level = c.level; pictures = c.pictures } };
+    ghost first = { nothing_yet };
+
+    ghost own = { λ c t. record { level = c.level; pictures = c.pictures } };
 
     ghost start = { λ c. nothing_proxied c.level };
 
-    ghost keeps = { λ c r. c.pictures ≤ r.past.place };
+    ghost keeps = { λ c t. c.pictures ≤ t.past.place };
 
     ghost is_done = { IsDone };
 
     ghost refused_is_no_end = { λ z w fault done. done };
 
-    ghost opens = { record { finished = λ z w unit bytes. tt; rested = λ z w. tt; refused = λ z w fault short. short } };
+    ghost may_go_on = { MayGoOn };
 
     fn open<K: Sink>(&mut self, _out: &mut K) -> Result<(), Halt> {
         Ok(())
     }
 
-    fn turn<K: Sink>(
-        &mut self,
-        reader: &StreamChecker,
-        _item: Item,
-        out: &mut K,
-    ) -> Result<(), Halt> {
-        match write_proxy(self.alloc, out, &mut self.maker, self.level, reader) {
-            Ok(count) => {
-                self.pictures += count;
-                Ok(())
-            }
-            Err(halt) => Err(halt),
+    fn turn<K: Sink>(&mut self, table: &StreamTable, item: Item, out: &mut K) -> Result<(), Halt> {
+        let decoder = match decoder_of(table, item) {
+            Some(decoder) => decoder,
+            None => return Ok(()),
+        };
+        match write_proxy(self.alloc, out, &mut self.maker, self.level, decoder) {
+            Ok(()) => {}
+            Err(halt) => return Err(halt),
         }
+        self.pictures += 1;
+        Ok(())
     }
 
     fn finish<K: Sink>(
         &mut self,
-        reader: &StreamChecker,
+        table: &StreamTable,
         _item: Item,
         _out: &mut K,
     ) -> Result<Ending, Halt> {
-        Ok(Ending::Decoded {
+        Ok(Ending::Done(Note::Decoded {
             pictures: self.pictures,
-            bytes: reader.taken(),
-        })
+            bytes: table.earlier().place(),
+        }))
     }
 
-    fn rest<K: Sink>(&mut self, _reader: &StreamChecker, _out: &mut K) -> Result<Ending, Halt> {
-        Ok(Ending::Done)
+    fn rest<K: Sink>(&mut self, _table: &StreamTable, _out: &mut K) -> Result<Ending, Halt> {
+        // A stream ends with a unit, so this never comes.
+        Ok(Ending::Done(Note::Nothing))
     }
 
     fn refuse<K: Sink>(
         &mut self,
-        _reader: &StreamChecker,
-        refusal: Refusal,
+        _table: &StreamTable,
+        place: u64,
+        reason: Reason,
         _out: &mut K,
     ) -> Result<Ending, Halt> {
-        Ok(Ending::Refused(refusal))
+        Ok(Ending::Refused(Refusal { place, reason }))
     }
+
+    ghost begins = { refl };
+
+    ghost opens = { record { finished = λ z w unit bytes. tt; rested = λ z w. tt; refused = λ z w fault short. short } };
 }
 
 // The proxies of pictures that may have more levels than are asked for.
@@ -179,9 +178,9 @@ fn lower_proxies<S: Source, K: Sink>(
     out: &mut K,
 ) -> Result<Ending, Halt>
     ensures runs { Runs (proxy_machine level) IsDone (change S.rest S.faults src.old src.new) (change K.written K.faults out.old out.new) result }
-    ensures soon { Soon (proxy_machine level) READ_SIZE (S.rest src.old) (S.rest src.new) result }
+    ensures soon { Soon MayGoOn (proxy_machine level) READ_SIZE (S.rest src.old) (S.rest src.new) result }
 {
-    match StreamChecker::new(alloc) {
+    match Reader::made(alloc, StreamTable::new(alloc, false)) {
         Ok(mut reader) => {
             let mut command = Proxying {
                 alloc,
@@ -197,19 +196,6 @@ fn lower_proxies<S: Source, K: Sink>(
     }
 }
 
-// Writes the raw text of the picture that the reader shows, if it shows one, and gives how many that is. The picture is its own
-// proxy where all its levels are asked for.
-fn write_whole<K: Sink>(out: &mut K, reader: &StreamReader) -> Result<u64, Halt>
-    ensures wrote { (level : ℕ) (unit : DataUnit) → levels_in unit ≤ level → IsPictureOf unit reader.now.picture → WritesText (proxy_text level unit) (K.written out.old) (K.written out.new) result }
-    ensures count { (unit : DataUnit) → IsPictureOf unit reader.now.picture → IfOk result (λ count. count ≡ pictures_in unit) }
-    ensures cause { HaltHasCause 0 0 (K.faults out.old) (K.faults out.new) result }
-{
-    match write_shown(out, reader) {
-        Ok(()) => Ok(shown_count(reader)),
-        Err(_) => Err(Halt::OutFault),
-    }
-}
-
 /// The level that is asked for, which no picture passes, and how many pictures there were.
 #[derive(Drop)]
 struct WholeProxying {
@@ -217,69 +203,78 @@ struct WholeProxying {
     pictures: u64,
 }
 
-impl UnitCommand<StreamReader> for WholeProxying {
+impl UnitCommand<StreamTable> for WholeProxying {
+    type Ending = Ending;
+
     ghost Own = { Proxied };
 
     ghost command = { proxying_any };
 
-    ghost own = { λ c r. record { level = c.level; pictures = c.pictures } };
+    ghost first = { nothing_yet };
+
+    ghost own = { λ c t. record { level = c.level; pictures = c.pictures } };
 
     ghost start = { λ c. nothing_proxied c.level };
 
-    ghost keeps = { λ c r. KeepsWhole c.level c.pictures r };
+    ghost keeps = { λ c t. KeepsWhole c.level c.pictures t };
 
     ghost is_done = { IsDone };
 
     ghost refused_is_no_end = { λ z w fault done. done };
 
-    ghost opens = { record { finished = λ z w unit bytes. tt; rested = λ z w. tt; refused = λ z w fault short. short } };
+    ghost may_go_on = { MayGoOn };
 
     fn open<K: Sink>(&mut self, _out: &mut K) -> Result<(), Halt> {
         Ok(())
     }
 
-    fn turn<K: Sink>(
-        &mut self,
-        reader: &StreamReader,
-        _item: Item,
-        out: &mut K,
-    ) -> Result<(), Halt> {
-        match write_whole(out, reader) {
-            Ok(count) => {
-                self.pictures += count;
-                Ok(())
-            }
-            Err(halt) => Err(halt),
+    fn turn<K: Sink>(&mut self, table: &StreamTable, item: Item, out: &mut K) -> Result<(), Halt> {
+        let decoder = match decoder_of(table, item) {
+            Some(decoder) => decoder,
+            None => return Ok(()),
+        };
+        // The picture is its own proxy where all its levels are asked for.
+        match write_shown(out, decoder) {
+            Ok(()) => {}
+            Err(_) => return Err(Halt::OutFault),
         }
+        self.pictures += 1;
+        Ok(())
     }
 
     fn finish<K: Sink>(
         &mut self,
-        reader: &StreamReader,
+        table: &StreamTable,
         _item: Item,
         _out: &mut K,
     ) -> Result<Ending, Halt> {
-        Ok(Ending::Decoded {
+        Ok(Ending::Done(Note::Decoded {
             pictures: self.pictures,
-            bytes: reader.taken(),
-        })
+            bytes: table.earlier().place(),
+        }))
     }
 
-    fn rest<K: Sink>(&mut self, _reader: &StreamReader, _out: &mut K) -> Result<Ending, Halt> {
-        Ok(Ending::Done)
+    fn rest<K: Sink>(&mut self, _table: &StreamTable, _out: &mut K) -> Result<Ending, Halt> {
+        // A stream ends with a unit, so this never comes.
+        Ok(Ending::Done(Note::Nothing))
     }
 
     fn refuse<K: Sink>(
         &mut self,
-        _reader: &StreamReader,
-        refusal: Refusal,
+        _table: &StreamTable,
+        place: u64,
+        reason: Reason,
         _out: &mut K,
     ) -> Result<Ending, Halt> {
-        Ok(Ending::Refused(refusal))
+        Ok(Ending::Refused(Refusal { place, reason }))
     }
+
+    ghost begins = { refl };
+
+    ghost opens = { record { finished = λ z w unit bytes. tt; rested = λ z w. tt; refused = λ z w fault short. short } };
 }
 
-// The proxies of pictures that have no more levels than are asked for: the reader makes the pictures whole, as for `decode`.
+// The proxies of pictures that have no more levels than are asked for: the table makes the pictures whole, as for `decode`.
 fn whole_proxies<S: Source, K: Sink>(
     alloc: Global,
     level: u32,
@@ -288,9 +283,9 @@ fn whole_proxies<S: Source, K: Sink>(
 ) -> Result<Ending, Halt>
     requires { 4 ≤ level }
     ensures runs { Runs (proxy_machine level) IsDone (change S.rest S.faults src.old src.new) (change K.written K.faults out.old out.new) result }
-    ensures soon { Soon (proxy_machine level) READ_SIZE (S.rest src.old) (S.rest src.new) result }
+    ensures soon { Soon MayGoOn (proxy_machine level) READ_SIZE (S.rest src.old) (S.rest src.new) result }
 {
-    match StreamReader::new(alloc) {
+    match Reader::made(alloc, StreamTable::new(alloc, true)) {
         Ok(mut reader) => {
             let mut command = WholeProxying { level, pictures: 0 };
             let result = run_units(&mut reader, &mut command, src, out);
@@ -309,7 +304,7 @@ pub(crate) fn proxy<S: Source, K: Sink>(
     out: &mut K,
 ) -> Result<Ending, Halt>
     ensures runs { Runs (proxy_machine level) IsDone (change S.rest S.faults src.old src.new) (change K.written K.faults out.old out.new) result }
-    ensures soon { Soon (proxy_machine level) READ_SIZE (S.rest src.old) (S.rest src.new) result }
+    ensures soon { Soon MayGoOn (proxy_machine level) READ_SIZE (S.rest src.old) (S.rest src.new) result }
 {
     // No picture has more than four levels.
     if level >= 4 {

@@ -1,22 +1,22 @@
 // The command `check` with a schedule.
 ghost use Rattle.vc2_io.specs.declared.TheConstants.{READ_SIZE};
-ghost use Rattle.std.specs.Prelude.{◌≤◌};
+ghost use Rattle.std.specs.Prelude.{refl};
+ghost use Rattle.stream_rows.specs.Units.{nothing_yet};
 ghost use Rattle.vc2_run.specs.Ran.{HaltHasCause};
 ghost use Rattle.channel_schedule.specs.Rates.{IsSchedule};
-ghost use Rattle.vc2_cli.specs.declared.status.Ending.TheVariants as ending;
-ghost use Rattle.vc2_cli.specs.Change.{change};
-ghost use Rattle.vc2_cli.specs.Running.{IsDone, Runs, Closes};
-ghost use Rattle.vc2_cli.specs.Soon.{Soon};
-ghost use Rattle.vc2_cli.specs.Decode.{last_line};
+ghost use Rattle.vc2_run.specs.Runs.{change, Runs, Closes};
+ghost use Rattle.vc2_cli.specs.Endings.{IsDone, MayGoOn, replayed};
+ghost use Rattle.unit_reader.specs.Soon.{Soon};
+ghost use Rattle.vc2_cli.specs.Decode.{KeepsFew};
 ghost use Rattle.vc2_cli.specs.Scheduled.{Replayed, nothing_replayed, replaying_any, replay_machine};
 
 use crate::check::{last_count, pictures_told};
-use crate::running::{UnitCommand, run_units};
-use crate::status::Ending;
+use crate::status::{Ending, Note};
 use crate::texts::replayed_text;
 use channel_schedule::{Outcome, Schedule, replay};
 use std::alloc::Global;
-use stream_units::{Item, Refusal, StreamChecker};
+use stream_units::{Item, Reason, Refusal, StreamTable};
+use unit_reader::{Reader, UnitCommand, run_units};
 use vc2_io::{Sink, Source, write_whole};
 use vc2_run::Halt;
 
@@ -29,7 +29,7 @@ fn accept<K: Sink>(
     bytes: u64,
     outcome: Outcome,
 ) -> Result<Ending, Halt>
-    ensures wrote { Closes (ending.Scheduled pictures slices bytes outcome) (last_line (ending.Scheduled pictures slices bytes outcome)) (K.written out.old) (K.written out.new) result }
+    ensures wrote { Closes (replayed pictures slices bytes outcome).ending (replayed pictures slices bytes outcome).last (K.written out.old) (K.written out.new) result }
     ensures cause { HaltHasCause 0 0 (K.faults out.old) (K.faults out.new) result }
 {
     let lines = match replayed_text(alloc, pictures, slices, bytes, &outcome) {
@@ -37,12 +37,7 @@ fn accept<K: Sink>(
         Err(_) => return Err(Halt::NoMemory),
     };
     match write_whole(out, lines.as_bytes()) {
-        Ok(()) => Ok(Ending::Scheduled {
-            pictures,
-            slices,
-            bytes,
-            outcome,
-        }),
+        Ok(()) => Ok(Ending::Scheduled(outcome)),
         Err(_) => Err(Halt::OutFault),
     }
 }
@@ -57,67 +52,72 @@ struct Replaying {
     ghost lawful: { IsSchedule schedule },
 }
 
-impl UnitCommand<StreamChecker> for Replaying {
+impl UnitCommand<StreamTable> for Replaying {
+    type Ending = Ending;
+
     ghost Own = { Replayed };
 
     ghost command = { replaying_any };
 
-    ghost own = { λ c r. record { schedule = c.schedule; pictures = c.pictures; slices = c.slices; shapes = r.shapes } };
+    ghost first = { nothing_yet };
+
+    ghost own = { λ c t. record { schedule = c.schedule; pictures = c.pictures; slices = c.slices; shapes = t.shapes.units } };
 
     ghost start = { λ c. nothing_replayed c.schedule };
 
-    ghost keeps = { λ c r. (c.pictures ≤ r.past.place) × (c.slices ≤ r.past.place) };
+    ghost keeps = { λ c t. KeepsFew c.pictures c.slices t };
 
     ghost is_done = { IsDone };
 
     ghost refused_is_no_end = { λ z w fault done. done };
 
-    ghost opens = { record { finished = λ z w unit bytes. tt; rested = λ z w. tt; refused = λ z w fault short. short } };
+    ghost may_go_on = { MayGoOn };
 
     fn open<K: Sink>(&mut self, _out: &mut K) -> Result<(), Halt> {
         Ok(())
     }
 
-    fn turn<K: Sink>(
-        &mut self,
-        reader: &StreamChecker,
-        item: Item,
-        _out: &mut K,
-    ) -> Result<(), Halt> {
+    fn turn<K: Sink>(&mut self, table: &StreamTable, item: Item, _out: &mut K) -> Result<(), Halt> {
         self.pictures += pictures_told(item);
-        self.slices += u64::from(last_count(reader));
+        self.slices += u64::from(last_count(table));
         Ok(())
     }
 
     fn finish<K: Sink>(
         &mut self,
-        reader: &StreamChecker,
+        table: &StreamTable,
         _item: Item,
         out: &mut K,
     ) -> Result<Ending, Halt> {
-        let outcome = replay(reader.shapes(), &self.schedule);
+        let outcome = replay(table.shapes(), &self.schedule);
         accept(
             self.alloc,
             out,
             self.pictures,
             self.slices,
-            reader.taken(),
+            table.earlier().place(),
             outcome,
         )
     }
 
-    fn rest<K: Sink>(&mut self, _reader: &StreamChecker, _out: &mut K) -> Result<Ending, Halt> {
-        Ok(Ending::Done)
+    fn rest<K: Sink>(&mut self, _table: &StreamTable, _out: &mut K) -> Result<Ending, Halt> {
+        // A stream ends with a unit, so this never comes.
+        Ok(Ending::Done(Note::Nothing))
     }
 
     fn refuse<K: Sink>(
         &mut self,
-        _reader: &StreamChecker,
-        refusal: Refusal,
+        _table: &StreamTable,
+        place: u64,
+        reason: Reason,
         _out: &mut K,
     ) -> Result<Ending, Halt> {
-        Ok(Ending::Refused(refusal))
+        Ok(Ending::Refused(Refusal { place, reason }))
     }
+
+    ghost begins = { refl };
+
+    ghost opens = { record { finished = λ z w unit bytes. tt; rested = λ z w. tt; refused = λ z w fault short. short } };
 }
 
 /// Reads the whole stream, replays the schedule over its slices, and writes how many pictures, slices and bytes it has,
@@ -130,9 +130,9 @@ pub(crate) fn check_schedule<S: Source, K: Sink>(
 ) -> Result<Ending, Halt>
     requires { IsSchedule schedule }
     ensures runs { Runs (replay_machine schedule) IsDone (change S.rest S.faults src.old src.new) (change K.written K.faults out.old out.new) result }
-    ensures soon { Soon (replay_machine schedule) READ_SIZE (S.rest src.old) (S.rest src.new) result }
+    ensures soon { Soon MayGoOn (replay_machine schedule) READ_SIZE (S.rest src.old) (S.rest src.new) result }
 {
-    match StreamChecker::new(alloc) {
+    match Reader::made(alloc, StreamTable::new(alloc, false)) {
         Ok(mut reader) => {
             let mut command = Replaying {
                 alloc,

@@ -6,38 +6,26 @@ use channel_schedule::{Outcome, Schedule};
 use stream_units::Refusal;
 use vc2_words::WordFault;
 
+/// What a command that is done has to tell.
+#[derive(Clone, Copy, Debug, PartialEq, Eq)]
+pub enum Note {
+    /// There is no more to tell.
+    Nothing,
+    /// The pictures of a stream were written.
+    Decoded { pictures: u64, bytes: u64 },
+    /// The frames of a stream were written.
+    Framed { frames: u64, bytes: u64 },
+    /// A stream was written, of raw video or of another stream; with this schedule it runs.
+    Encoded(Schedule),
+}
+
 /// How a command ends where nothing outside fails.
 #[derive(Clone, Copy, Debug, PartialEq, Eq)]
 pub enum Ending {
-    /// All is done, and there is no more to tell.
-    Done,
-    /// The pictures of a stream were written.
-    Decoded {
-        pictures: u64,
-        bytes: u64,
-    },
-    /// The frames of a stream were written.
-    Framed {
-        frames: u64,
-        bytes: u64,
-    },
-    /// A stream was accepted.
-    Accepted {
-        pictures: u64,
-        slices: u64,
-        bytes: u64,
-    },
-    /// A stream was accepted, and a schedule was replayed over it.
-    Scheduled {
-        pictures: u64,
-        slices: u64,
-        bytes: u64,
-        outcome: Outcome,
-    },
-    /// Raw video was encoded; with this schedule the stream runs.
-    Encoded(Schedule),
-    /// The pictures of a trial were compared with the decoded ones: the greatest difference of a sample.
-    Compared(u16),
+    /// All is done, with this note.
+    Done(Note),
+    /// The input is a stream, and a schedule was replayed over it.
+    Scheduled(Outcome),
     /// The input is refused.
     Refused(Refusal),
 }

@@ -5,29 +5,33 @@ ghost use Rattle.vc2_run.specs.Ran.{TakesAtMost};
 ghost use Rattle.channel_schedule.specs.declared.schedule.Schedule.{Schedule};
 ghost use Rattle.channel_schedule.specs.Rates.{IsSchedule};
 ghost use Rattle.vc2_words.specs.Commands as asked;
+ghost use Rattle.vc2_words.specs.Commands.{seen};
 ghost use Rattle.vc2_words.specs.Settings.{Asked};
 ghost use Rattle.vc2_words.specs.declared.words.TrialPart.{TrialPart};
+ghost use Rattle.vc2_words.specs.declared.settings.CutSettings.{CutSettings};
 ghost use Rattle.vc2_words.specs.declared.settings.FieldVideo.{FieldVideo};
-ghost use Rattle.vc2_words.specs.Lawful.{AreLawful, IsTrial, IsFieldVideo};
+ghost use Rattle.vc2_words.specs.Lawful.{AreLawful, IsTrial, IsFieldVideo, IsCut};
 ghost use Rattle.stream_units.specs.Writer.{IsSteepUnder};
 ghost use Rattle.vc2_cli.specs.Encode.{written_under};
 ghost use Rattle.vc2_cli.specs.Words.{seen_words};
 ghost use Rattle.vc2_cli.specs.Trial.{trial_text};
-ghost use Rattle.vc2_cli.specs.Change.{change};
+ghost use Rattle.vc2_run.specs.Runs.{change};
 ghost use Rattle.vc2_cli.specs.Program.{Ran};
-ghost use Rattle.vc2_cli.specs.Reply.{command_reply, command_due, status_of, note_of, fault_of, schedule_status, schedule_note, HasCauses, AnswersUsage, AnswersTrial, IfTrial, IfHeader};
+ghost use Rattle.vc2_cli.specs.Reply.{command_reply, command_due, status_of, note_line, note_of, fault_of, schedule_status, schedule_note, HasCauses, AnswersUsage, AnswersTrial, IfTrial, IfHeader};
 ghost use Rattle.vc2_cli.specs.Soon.{StopsSoon, IfUnits};
+ghost use Rattle.vc2_cli.specs.RunsAs.{Does};
 ghost use Rattle.vc2_cli.specs.Settled.{Settles, Concludes, HasNoteCause, status_of_halt};
 
 use crate::chain::chain;
 use crate::check::check;
+use crate::cut::cut;
 use crate::decode::decode;
 use crate::encode::encode;
 use crate::frames::frames;
 use crate::header::header;
 use crate::proxy::proxy;
 use crate::scheduled::check_schedule;
-use crate::status::{Ending, ScheduleFault, Status};
+use crate::status::{Ending, Note, ScheduleFault, Status};
 use crate::texts::{
     decoded_text, fault_text, framed_text, refusal_text, schedule_text, usage_text,
 };
@@ -87,14 +91,21 @@ fn status_of(ending: Ending) -> Status
     ensures { result ≡ status_of ending }
 {
     match ending {
-        Ending::Done
-        | Ending::Decoded { .. }
-        | Ending::Framed { .. }
-        | Ending::Accepted { .. }
-        | Ending::Encoded(_)
-        | Ending::Compared(_) => Status::Done,
-        Ending::Scheduled { outcome, .. } => schedule_status(outcome),
+        Ending::Done(_) => Status::Done,
+        Ending::Scheduled(outcome) => schedule_status(outcome),
         Ending::Refused(refusal) => Status::Refused(refusal),
+    }
+}
+
+// The text of a note.
+fn note_line(alloc: Global, note: &Note) -> Result<String, AllocError>
+    ensures { IfOk result (λ text. string_bytes text ≡ note_line note.now) }
+{
+    match note {
+        Note::Nothing => Ok(String::new(alloc)),
+        Note::Decoded { pictures, bytes } => decoded_text(alloc, *pictures, *bytes),
+        Note::Framed { frames, bytes } => framed_text(alloc, *frames, *bytes),
+        Note::Encoded(schedule) => schedule_text(alloc, schedule),
     }
 }
 
@@ -102,11 +113,8 @@ fn note_text(alloc: Global, ending: &Ending) -> Result<String, AllocError>
     ensures { IfOk result (λ text. string_bytes text ≡ note_of ending.now) }
 {
     match ending {
-        Ending::Done | Ending::Accepted { .. } | Ending::Compared(_) => Ok(String::new(alloc)),
-        Ending::Decoded { pictures, bytes } => decoded_text(alloc, *pictures, *bytes),
-        Ending::Framed { frames, bytes } => framed_text(alloc, *frames, *bytes),
-        Ending::Scheduled { outcome, .. } => schedule_note(alloc, *outcome),
-        Ending::Encoded(schedule) => schedule_text(alloc, schedule),
+        Ending::Done(note) => note_line(alloc, note),
+        Ending::Scheduled(outcome) => schedule_note(alloc, *outcome),
         Ending::Refused(refusal) => refusal_text(alloc, refusal),
     }
 }
@@ -145,8 +153,40 @@ fn refuse<N: Sink>(alloc: Global, fault: WordFault, note: &mut N) -> Status
     }
 }
 
-// Does what the command is, or tells the fault of the words. Each command has its arm, and its line in `command_reply`
-// and `command_due`.
+// Does what the command is. Each command has its arm here, and its line in the table `running_of` (specs/Running).
+fn perform<S: Source, K: Sink>(
+    alloc: Global,
+    command: Command,
+    src: &mut S,
+    out: &mut K,
+) -> Result<Ending, Halt>
+    requires schedule { (schedule : Schedule) → seen command ≡ asked.check (Some schedule) → IsSchedule schedule }
+    requires settings { (s : Asked) → seen command ≡ asked.encode s → AreLawful s × IsSteepUnder (written_under s) }
+    requires trial { (s : Asked) (part : TrialPart) → seen command ≡ asked.trial s part → IsTrial s part × IsSteepUnder (written_under s) }
+    requires weave { (video : FieldVideo) → seen command ≡ asked.weave video → IsFieldVideo video }
+    requires split { (video : FieldVideo) → seen command ≡ asked.split video → IsFieldVideo video }
+    requires cut { (settings : CutSettings) → seen command ≡ asked.cut settings → IsCut settings }
+    ensures { Does (seen command) (change S.rest S.faults src.old src.new) (change K.written K.faults out.old out.new) result }
+{
+    match command {
+        Command::Chain => chain(alloc, src, out),
+        Command::Header => header(alloc, src, out),
+        Command::Decode => decode(alloc, src, out),
+        Command::Check(schedule) => match schedule {
+            None => check(alloc, src, out),
+            Some(schedule) => check_schedule(alloc, schedule, src, out),
+        },
+        Command::Proxy(level) => proxy(alloc, level, src, out),
+        Command::Encode(settings) => encode(alloc, &settings, src, out),
+        Command::Trial(settings, part) => trial(alloc, &settings, part, out),
+        Command::Frames(top) => frames(alloc, top, src, out),
+        Command::Weave(video) => weave(alloc, &video, src, out),
+        Command::Split(video) => split(alloc, &video, src, out),
+        Command::Cut(settings) => cut(alloc, &settings, src, out),
+    }
+}
+
+// Does what the command is and tells how it came out, or tells the fault of the words.
 fn answer<S: Source, K: Sink, N: Sink>(
     alloc: Global,
     command: Result<Command, WordFault>,
@@ -159,6 +199,7 @@ fn answer<S: Source, K: Sink, N: Sink>(
     requires trial { (s : Asked) (part : TrialPart) → seen_words command ≡ Ok (asked.trial s part) → IsTrial s part × IsSteepUnder (written_under s) }
     requires weave { (video : FieldVideo) → seen_words command ≡ Ok (asked.weave video) → IsFieldVideo video }
     requires split { (video : FieldVideo) → seen_words command ≡ Ok (asked.split video) → IsFieldVideo video }
+    requires cut { (settings : CutSettings) → seen_words command ≡ Ok (asked.cut settings) → IsCut settings }
     ensures settled { (input : List ℕ) → S.rest src.old ≡ Some input →
         Settles (command_reply (seen_words command) input) (command_due (seen_words command)) input (S.rest src.new)
         (K.written out.old) (K.written out.new) (N.written note.old) (N.written note.new) result }
@@ -172,23 +213,7 @@ fn answer<S: Source, K: Sink, N: Sink>(
     ensures soon { (input : List ℕ) → S.rest src.old ≡ Some input → IfUnits (seen_words command) (λ most. StopsSoon (command_reply (seen_words command)) most input (S.rest src.new) result) }
 {
     match command {
-        Ok(command) => match command {
-            Command::Chain => conclude(alloc, chain(alloc, src, out), note),
-            Command::Header => conclude(alloc, header(alloc, src, out), note),
-            Command::Decode => conclude(alloc, decode(alloc, src, out), note),
-            Command::Check(schedule) => match schedule {
-                None => conclude(alloc, check(alloc, src, out), note),
-                Some(schedule) => conclude(alloc, check_schedule(alloc, schedule, src, out), note),
-            },
-            Command::Proxy(level) => conclude(alloc, proxy(alloc, level, src, out), note),
-            Command::Encode(settings) => conclude(alloc, encode(alloc, &settings, src, out), note),
-            Command::Trial(settings, part) => {
-                conclude(alloc, trial(alloc, &settings, part, out), note)
-            }
-            Command::Frames(top) => conclude(alloc, frames(alloc, top, src, out), note),
-            Command::Weave(video) => conclude(alloc, weave(alloc, &video, src, out), note),
-            Command::Split(video) => conclude(alloc, split(alloc, &video, src, out), note),
-        },
+        Ok(command) => conclude(alloc, perform(alloc, command, src, out), note),
         Err(fault) => refuse(alloc, fault, note),
     }
 }

@@ -9,14 +9,15 @@ ghost use Rattle.vc2_words.specs.Lawful.{IsTrial};
 ghost use Rattle.vc2_run.specs.Ran.{HaltHasCause};
 ghost use Rattle.stream_units.specs.Writer.{IsSteepUnder};
 ghost use Rattle.vc2_cli.specs.declared.status.Ending.TheVariants as ending;
-ghost use Rattle.vc2_cli.specs.Running.{Closes};
+ghost use Rattle.vc2_cli.specs.declared.status.Note.TheVariants as note;
+ghost use Rattle.vc2_run.specs.Runs.{Closes};
 ghost use Rattle.vc2_cli.specs.Encode.{written_under};
 ghost use Rattle.vc2_cli.specs.WholePictures.{stream_of, plan_for};
 ghost use Rattle.vc2_cli.specs.Trial.{trial_pictures, trial_worst, trial_text};
 ghost use Rattle.vc2_cli.specs.TrialTurn.{HasWritten, IsWant};
 
 use crate::comparing::compare_video;
-use crate::status::Ending;
+use crate::status::{Ending, Note};
 use crate::stream_sink::StreamSink;
 use crate::texts::trial_text;
 use channel_schedule::{Outcome, Rate, Schedule, plan, replay};
@@ -181,7 +182,7 @@ pub(crate) fn trial<K: Sink>(
 ) -> Result<Ending, Halt>
     requires lawful { IsTrial (shown settings.now) part }
     requires flat { IsSteepUnder (written_under (shown settings.now)) }
-    ensures told { Closes (ending.Compared (trial_worst (shown settings.now) part)) (trial_text (shown settings.now) part) (K.written out.old) (K.written out.new) result }
+    ensures told { Closes (ending.Done note.Nothing) (trial_text (shown settings.now) part) (K.written out.old) (K.written out.new) result }
     ensures cause { HaltHasCause 0 0 (K.faults out.old) (K.faults out.new) result }
 {
     let found = match go_through(alloc, settings, part) {
@@ -202,7 +203,7 @@ pub(crate) fn trial<K: Sink>(
         Err(_) => return Err(Halt::NoMemory),
     };
     match write_whole(out, text.as_bytes()) {
-        Ok(()) => Ok(Ending::Compared(found.worst)),
+        Ok(()) => Ok(Ending::Done(Note::Nothing)),
         Err(_) => Err(Halt::OutFault),
     }
 }

@@ -1,12 +1,12 @@
 // The commands `weave` and `split`.
 ghost use Rattle.std.specs.Prelude.{◌≡◌, Ok};
 ghost use Rattle.vc2_words.specs.Lawful.{IsFieldVideo};
-ghost use Rattle.vc2_cli.specs.Change.{change};
-ghost use Rattle.vc2_cli.specs.Running.{IsDone, Runs};
+ghost use Rattle.vc2_run.specs.Runs.{change, Runs};
+ghost use Rattle.vc2_cli.specs.Endings.{IsDone};
 ghost use Rattle.vc2_cli.specs.Encode.{refused_at};
 ghost use Rattle.vc2_cli.specs.Weave.{order_of, weave_machine, split_machine, outcome_of};
 
-use crate::status::Ending;
+use crate::status::{Ending, Note};
 use field_weave::{Order, WeaveStop, Weaver};
 use std::alloc::Global;
 use stream_units::{Reason, Refusal};
@@ -31,7 +31,7 @@ fn outcome_of(came: Result<u64, WeaveStop>) -> Result<Ending, Halt>
     ensures { result ≡ outcome_of came }
 {
     match came {
-        Ok(_) => Ok(Ending::Done),
+        Ok(_) => Ok(Ending::Done(Note::Nothing)),
         Err(WeaveStop::SampleTooLarge(place)) => refused(place, Reason::SampleTooLarge),
         Err(WeaveStop::RawTruncated(place)) => refused(place, Reason::RawTruncated),
         Err(WeaveStop::TooLong) => refused(INPUT_LIMIT, Reason::StreamTooLong),

@@ -118,7 +118,7 @@ taken_at : (name : Name) (i : ℕ) (given : Table) (word : List ℕ) (next : Tab
 taken_at name i given word next t other free = rw (t.cut, t.named_key, t.may, free, t.reads) refl
 
 abbrev HasPlaces : Table → Type 0
-HasPlaces given = length given ≡ 21
+HasPlaces given = length given ≡ 23
 
 -- two words that are taken, exchanged
 exchanged : (name : Name) (i : ℕ) (given one two : Table) (a b : List ℕ) (back : List (List ℕ)) → HasPlaces given → operand name i given a ≡ Ok one → operand name (i + 1) one b ≡ Ok two

@@ -1,8 +1,8 @@
 -- Settings that break no rule are lawful: their header passes, and so do their parameters.
-use Rattle.std.proofs.Common.{◌≡◌, ℕ, ◌+◌, ◌*◌, ◌≤◌, ◌<◌, ◌^◌, true, List, [], ◌∷◌, Some, None, Ok, Err, refl, sym, ◌∙◌, subst, ◌%◌, arith, ap}
-use Rattle.std.specs.Prelude.{Option, Result, ◌==◌, slice_index}
+use Rattle.std.proofs.Common.{◌≡◌, ℕ, ◌+◌, ◌*◌, ◌≤◌, ◌<◌, ◌^◌, true, false, List, [], ◌∷◌, Some, None, Ok, Err, refl, sym, ◌∙◌, subst, ◌%◌, arith, ap}
+use Rattle.std.specs.Prelude.{Option, Result, ◌==◌, slice_index, is_some, not}
 use Rattle.std.specs.List.{AllByRecursion}
-use Rattle.std.proofs.lemmas.Bool.{leb-true, eqb-true, eq-eqb}
+use Rattle.std.proofs.lemmas.Bool.{leb-true, eqb-true, eq-eqb, true≢false}
 use Rattle.field_rows.specs.Rows.{Rule, first_broken}
 use Rattle.sequence_header.specs.Checking.{Passes}
 use Rattle.slice_geometry.specs.Slicing.{Slicing, slice_count, AreSlicesAllowed, IsShareAllowed}
@@ -15,21 +15,21 @@ use Rattle.std.proofs.Math.Nat.{mul-le-mul_left}
 use Rattle.vc2_words.specs.declared.keys.Key.TheVariants as of_key
 use Rattle.vc2_words.specs.declared.keys.Rule as settings
 use Rattle.vc2_words.specs.Forms.{greatest, cut_at, slash, number_in, number_from}
-use Rattle.vc2_words.specs.Operands.{Table, value_of, and_then, operands_of}
+use Rattle.vc2_words.specs.Operands.{Table, value_of, has_schedule, and_then, operands_of}
 use Rattle.vc2_words.specs.Plain.{IsPlain, IsPlainFor}
-use Rattle.vc2_words.specs.Lawful.{AreLawful, IsGroup, IsAskedSchedule, IsTrial, IsFieldVideo}
+use Rattle.vc2_words.specs.Lawful.{AreLawful, IsGroup, IsAskedSchedule, IsTrial, IsFieldVideo, IsCut}
 use Rattle.vc2_words.specs.declared.keys.Name.{Name}
 use Rattle.vc2_words.specs.declared.keys.Name.TheVariants as names
 use Rattle.vc2_words.specs.declared.keys.WordFault.{WordFault}
-use Rattle.vc2_words.specs.Keys.{name_of}
-use Rattle.vc2_words.specs.Commands.{AskedCommand, check, encode, trial, weave, split, unless_broken, schedule_from, schedule_of, command_of, part_of, named, asked_by}
-use Rattle.vc2_words.proofs.Plainness.{IsWhole, plain_of, whole_of, pair_is, single_is, range_is, none_some, some_same}
+use Rattle.vc2_words.specs.Keys.{name_of, all_keys}
+use Rattle.vc2_words.specs.Commands.{AskedCommand, check, encode, trial, weave, split, cut, unless_broken, schedule_from, schedule_of, command_of, part_of, named, asked_by}
+use Rattle.vc2_words.proofs.Plainness.{IsWhole, missing_none, plain_of, whole_of, pair_is, single_is, range_is, none_some, some_same}
 use Rattle.vc2_words.specs.Read.{IsRead, IsValue}
 use Rattle.vc2_words.proofs.Small.{AreSmall, given_small, number_small}
 use Rattle.vc2_words.proofs.HeaderNumbers.{parts_lawful, field_parts_lawful}
 use Rattle.vc2_words.proofs.Trials.{seed_low, pictures_of}
 use Rattle.transform_params.proofs.Bounds.{unit_small}
-use Rattle.vc2_words.specs.Settings.{number_of, number_at, entries_of, parts_of, params_of, slicing_of, are_slices, is_share, number_rules, trial_rules, broken_rule, or_first, is_even_with, are_paired, group_of, asked_of, field_parts, field_rules, video_of, rate_or, rate_given, buffer_given}
+use Rattle.vc2_words.specs.Settings.{number_of, number_at, entries_of, parts_of, params_of, slicing_of, are_slices, is_share, number_rules, trial_rules, broken_rule, or_first, is_even_with, are_paired, group_of, asked_of, field_parts, field_rules, video_of, cut_of, cut_rules, rate_or, rate_given, buffer_given}
 use Rattle.vc2_words.proofs.Lawful.{range_of, and_both, passes}
 use Rattle.vc2_words.proofs.Rules.{all_hold, slices_hold, share_holds, count_holds}
 
@@ -218,12 +218,40 @@ fields_lawful given read plain none =
     let all = all_hold (field_rules (field_parts given)) none in
     record { header = field_parts_lawful given read plain (passes (field_parts given) plain all.0 all.1.0 all.1.1.0); fields = refl }
 
+-- ---- a cut
+
+-- a rate that is given is one
+rate_in : (given : Table) → IsRead given → not (is_some (value_of given of_key.Rate)) ≡ false → HasRate (record { num = number_at given of_key.Rate 0; den = number_at given of_key.Rate 1 })
+rate_in given read some = here (value_of given of_key.Rate) refl some
+  where
+    here : (v : Option (List ℕ)) → value_of given of_key.Rate ≡ v → not (is_some v) ≡ false → HasRate (record { num = number_of v 0; den = number_of v 1 })
+    here None is some = absurd (true≢false some)
+    here (Some ns) is some =
+        let value = read.read of_key.Rate ns is in
+        let pair = pair_is 1 (cut_at slash value.text) ns value.reads in
+        rw pair.2 (record { rate = record { some_bytes = pair.3; some_slots = pair.5 }; bytes = omega (arith, pair.4); slots = omega (arith, pair.6) })
+
+pub cut_lawful : (given : Table) → IsWhole names.Cut given → first_broken (cut_rules (cut_of given)) ≡ None → IsCut (cut_of given)
+cut_lawful given whole none =
+    let all = missing_none names.Cut (has_schedule given) given all_keys whole.whole in
+    let rate = rate_in given whole.read all.1.1.1.1.1.1.1.1.1.1.1.1.0 in
+    let order = leb-true (number_at given of_key.From 0 + 1) (number_at given of_key.To 0) (all_hold (cut_rules (cut_of given)) none).0 in
+    record {
+      some = omega (arith, order);
+      last = omega (arith, number_small given of_key.To 0 whole.read);
+      rate = rate.rate;
+      bytes = rate.bytes;
+      slots = rate.slots;
+      idle = number_small given of_key.Idle 0 whole.read;
+    }
+
 abbrev Says : AskedCommand → Type 0
 Says (check schedule) = SaysOf schedule
 Says (encode s) = AreLawful s
 Says (trial s part) = IsTrial s part
 Says (weave video) = IsFieldVideo video
 Says (split video) = IsFieldVideo video
+Says (cut c) = IsCut c
 Says _ = Unit {0}
 
 abbrev fine : AskedCommand → Result AskedCommand WordFault
@@ -249,6 +277,13 @@ unbroken_fields given told c good e = here (first_broken (field_rules (field_par
     here (Some rule) is e = failed e
     here None is e = subst (λ (k : AskedCommand). Says k) (fine_same e) (good is)
 
+unbroken_cut : (given : Table) (told c : AskedCommand) → (first_broken (cut_rules (cut_of given)) ≡ None → Says told) → unless_broken (first_broken (cut_rules (cut_of given))) told ≡ fine c → Says c
+unbroken_cut given told c good e = here (first_broken (cut_rules (cut_of given))) refl e
+  where
+    here : (r : Option settings.Rule) → first_broken (cut_rules (cut_of given)) ≡ r → unless_broken r told ≡ fine c → Says c
+    here (Some rule) is e = failed e
+    here None is e = subst (λ (k : AskedCommand). Says k) (fine_same e) (good is)
+
 command_says : (name : Name) (given : Table) (c : AskedCommand) → IsWhole name given → IsPlainFor name (parts_of given) → command_of name given ≡ fine c → Says c
 command_says names.Chain given c whole plain e = subst (λ (k : AskedCommand). Says k) (fine_same e) tt
 command_says names.Header given c whole plain e = subst (λ (k : AskedCommand). Says k) (fine_same e) tt
@@ -260,6 +295,7 @@ command_says names.Trial given c whole plain e =
     unbroken given (Some (number_at given of_key.Pictures 0)) (trial (asked_of given) (part_of given)) c (trial_lawful given whole plain) e
 command_says names.Weave given c whole plain e = unbroken_fields given (weave (video_of given)) c (fields_lawful given whole.read plain) e
 command_says names.Split given c whole plain e = unbroken_fields given (split (video_of given)) c (fields_lawful given whole.read plain) e
+command_says names.Cut given c whole plain e = unbroken_cut given (cut (cut_of given)) c (cut_lawful given whole) e
 command_says names.Frames given c whole plain e = subst (λ (k : AskedCommand). Says k) (fine_same e) tt
 
 pub words_say : (words : List (List ℕ)) (c : AskedCommand) → asked_by words ≡ fine c → Says c

@@ -91,6 +91,8 @@ value_small of_key.Pictures text ns e = range_small 1 1000 text ns (omega arith)
 value_small of_key.Group text ns e = range_small 1 greatest text ns (omega arith) e
 value_small of_key.Idle text ns e = range_up_to 0 (2 ^ 20) text ns e
 value_small of_key.Order text ns e = one_small (Forms.top_or_bottom text) ns (λ n is. let low = two (bytes_eq text (codes "bottom")) (bytes_eq text (codes "top")) n is in omega (arith, low)) e
+value_small of_key.From text ns e = range_small 0 greatest text ns (omega arith) e
+value_small of_key.To text ns e = range_small 0 greatest text ns (omega arith) e
 value_small of_key.Level text ns e = range_small 0 4 text ns (omega arith) e
 
 index_up_to : (bound : ℕ) (ns : List ℕ) (i : ℕ) → AreUpTo bound ns → slice_index ns i ≤ bound
@@ -122,7 +124,7 @@ value_fit key text ns e = λ i. index_up_to (bound_of key) ns i (value_small key
 
 pub nothing_fit : IsFit nothing
 nothing_fit = record {
-  fits = λ key ns i e. none_some (sym (get_or-replicate 21 (place_of key) None None (in_table key)) ∙ e);
+  fits = λ key ns i e. none_some (sym (get_or-replicate 23 (place_of key) None None (in_table key)) ∙ e);
   many = refl;
 }
 

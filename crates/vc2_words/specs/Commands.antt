@@ -9,13 +9,14 @@ use Rattle.vc2_words.specs.declared.keys.WordFault.TheVariants as faults
 use Rattle.channel_schedule.specs.declared.schedule.Rate.{Rate}
 use Rattle.channel_schedule.specs.declared.schedule.Schedule.{Schedule}
 use Rattle.field_rows.specs.Rows.{first_broken}
+use Rattle.vc2_words.specs.declared.settings.CutSettings.{CutSettings}
 use Rattle.vc2_words.specs.declared.settings.FieldVideo.{FieldVideo}
 use Rattle.vc2_words.specs.declared.words.TrialPart.{TrialPart}
 use Rattle.vc2_words.specs.declared.words.Command.{Command}
 use Rattle.vc2_words.specs.declared.words.Command.TheVariants as commands
 use Rattle.vc2_words.specs.Keys.{name_of}
 use Rattle.vc2_words.specs.Operands.{Table, value_of, and_then, operands_of}
-use Rattle.vc2_words.specs.Settings.{Asked, asked_of, broken_rule, field_parts, field_rules, video_of, is_top, number_at, rate_given, buffer_given}
+use Rattle.vc2_words.specs.Settings.{Asked, asked_of, broken_rule, field_parts, field_rules, video_of, cut_of, cut_rules, is_top, number_at, rate_given, buffer_given}
 use Rattle.vc2_words.specs.Shown.{shown}
 
 pub data AskedCommand : Type 0 where
@@ -29,6 +30,7 @@ pub data AskedCommand : Type 0 where
   split : FieldVideo → AskedCommand
   frames : (top : Bool) → AskedCommand
   proxy : ℕ → AskedCommand
+  cut : CutSettings → AskedCommand
 
 -- a schedule, where all of it is given, with so many idle slots
 abbrev pub schedule_from : Option Rate → Option (List ℕ) → Option ℕ → ℕ → Option Schedule
@@ -59,6 +61,7 @@ command_of names.Weave given = unless_broken (first_broken (field_rules (field_p
 command_of names.Split given = unless_broken (first_broken (field_rules (field_parts given))) (split (video_of given))
 command_of names.Frames given = Ok (frames (is_top given))
 command_of names.Proxy given = Ok (proxy (number_at given of_key.Level 0))
+command_of names.Cut given = unless_broken (first_broken (cut_rules (cut_of given))) (cut (cut_of given))
 
 abbrev pub named : Option Name → List (List ℕ) → Result AskedCommand WordFault
 named None words = Err faults.UnknownCommand
@@ -81,3 +84,4 @@ seen (commands.Weave video) = weave video
 seen (commands.Split video) = split video
 seen (commands.Frames top) = frames top
 seen (commands.Proxy level) = proxy level
+seen (commands.Cut settings) = cut settings

@@ -4,6 +4,7 @@ use Rattle.sequence_header.specs.Checking as checking
 use Rattle.transform_params.specs.ParameterFields.{IsLawful}
 use Rattle.channel_schedule.specs.declared.schedule.Schedule.{Schedule}
 use Rattle.channel_schedule.specs.Rates.{IsRate, IsSchedule}
+use Rattle.vc2_words.specs.declared.settings.CutSettings.{CutSettings}
 use Rattle.vc2_words.specs.declared.settings.FieldVideo.{FieldVideo}
 use Rattle.vc2_words.specs.declared.words.TrialPart.{TrialPart}
 use Rattle.vc2_words.specs.Settings.{Asked, stream_length}
@@ -43,3 +44,12 @@ pub record IsTrial (s : Asked) (part : TrialPart) : Type 0 where
   pub few : part.pictures ≤ 1000
   pub even : s.parts.coding ≡ 1 → part.pictures % 2 ≡ 0
   pub short : stream_length s.parts s.params s.group part.pictures ≤ 2 ^ 28
+
+-- A cut: some frames, a rate, and at most so many idle slots. Each number is one that its field holds.
+pub record IsCut (c : CutSettings) : Type 0 where
+  pub some : c.from < c.to
+  pub last : c.to < 2 ^ 32
+  pub rate : IsRate c.rate
+  pub bytes : c.rate.num < 2 ^ 32
+  pub slots : c.rate.den < 2 ^ 32
+  pub idle : c.idle ≤ 2 ^ 20

@@ -12,7 +12,7 @@ pub record IsValue (key : Key) (ns : List ℕ) : Type 0 where
 
 pub record IsRead (given : Table) : Type 0 where
   pub read : (key : Key) (ns : List ℕ) → value_of given key ≡ Some ns → IsValue key ns
-  pub many : length given ≡ 21
+  pub many : length given ≡ 23
 
 -- the greatest number that a value of this key can hold: 32 bits, but for a schedule's delay, buffer and idle slots
 abbrev pub bound_of : Key → ℕ
@@ -27,4 +27,4 @@ IsFitValue key ns = (i : ℕ) → slice_index ns i ≤ bound_of key
 -- the numbers of each key are within its bound
 pub record IsFit (given : Table) : Type 0 where
   pub fits : (key : Key) (ns : List ℕ) (i : ℕ) → value_of given key ≡ Some ns → slice_index ns i ≤ bound_of key
-  pub many : length given ≡ 21
+  pub many : length given ≡ 23

@@ -3,6 +3,7 @@ use Rattle.std.specs.Prelude.{ℕ, zero, suc, ◌+◌, ◌-◌, ◌*◌, ◌/◌
 use Rattle.std.specs.Int.{is_in_range}
 use Rattle.field_rows.specs.Rows.{Rule, ◌or_else◌, first_broken}
 use Rattle.sequence_header.specs.declared.parts.HeaderParts.{HeaderParts}
+use Rattle.vc2_words.specs.declared.settings.CutSettings.{CutSettings}
 use Rattle.vc2_words.specs.declared.settings.FieldVideo.{FieldVideo}
 use Rattle.sequence_header.specs.declared.parts.RateField.{RateField}
 use Rattle.sequence_header.specs.declared.parts.RateField.TheVariants as rates
@@ -239,3 +240,18 @@ asked_of given = record {
   group = group_of (value_of given of_key.Group);
   idle = number_at given of_key.Idle 0;
 }
+
+-- ---- a cut
+
+-- its rate is given, since the command has to have one
+abbrev pub cut_of : Table → CutSettings
+cut_of given = record {
+  from = number_at given of_key.From 0;
+  to = number_at given of_key.To 0;
+  rate = record { num = number_at given of_key.Rate 0; den = number_at given of_key.Rate 1 };
+  idle = number_at given of_key.Idle 0;
+}
+
+-- the frames from one number on, and before another, are some
+abbrev pub cut_rules : CutSettings → List (Rule settings.Rule)
+cut_rules c = (nat_le (c.from + 1) c.to or_else broken.CutOrder) ∷ []

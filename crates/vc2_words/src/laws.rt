@@ -3,10 +3,11 @@
 ghost use Rattle.std.specs.Prelude.{◌≡◌, ℕ, List, Ok, Some};
 ghost use Rattle.channel_schedule.specs.declared.schedule.Schedule.{Schedule};
 ghost use Rattle.vc2_words.specs.declared.words.TrialPart.{TrialPart};
+ghost use Rattle.vc2_words.specs.declared.settings.CutSettings.{CutSettings};
 ghost use Rattle.vc2_words.specs.declared.settings.FieldVideo.{FieldVideo};
 ghost use Rattle.vc2_words.specs.Settings.{Asked};
-ghost use Rattle.vc2_words.specs.Commands.{asked_by, check, encode, trial, weave, split};
-ghost use Rattle.vc2_words.specs.Lawful.{AreLawful, IsAskedSchedule, IsTrial, IsFieldVideo};
+ghost use Rattle.vc2_words.specs.Commands.{asked_by, check, encode, trial, weave, split, cut};
+ghost use Rattle.vc2_words.specs.Lawful.{AreLawful, IsAskedSchedule, IsTrial, IsFieldVideo, IsCut};
 ghost use Rattle.vc2_words.specs.Order.{FirstFaultIsTold, OrderIsFree};
 
 /// The settings that words ask for are lawful: their header and parameters pass the rules, each number is one that its field
@@ -28,6 +29,12 @@ pub fn schedules_are_lawful()
 pub fn fields_are_lawful()
     ensures weave { (words : List (List ℕ)) (video : FieldVideo) → asked_by words ≡ Ok (weave video) → IsFieldVideo video }
     ensures split { (words : List (List ℕ)) (video : FieldVideo) → asked_by words ≡ Ok (split video) → IsFieldVideo video }
+{}
+
+/// The cut that words ask for is lawful: its first frame is before the first one behind it, its rate is one of 32 bit numbers
+/// that are at least 1, and at most 2^20 slots are idle behind a picture.
+pub fn cuts_are_lawful()
+    ensures { (words : List (List ℕ)) (c : CutSettings) → asked_by words ≡ Ok (cut c) → IsCut c }
 {}
 
 /// The fault that is told of operands is that of the first word that is refused, and of no other.

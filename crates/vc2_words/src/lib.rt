@@ -10,5 +10,5 @@ mod values;
 mod words;
 
 pub use keys::{Key, Name, Rule, WordFault};
-pub use settings::{FieldVideo, Settings, later_sequences};
+pub use settings::{CutSettings, FieldVideo, Settings, later_sequences};
 pub use words::{Command, TrialPart, read_words};

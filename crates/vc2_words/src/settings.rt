@@ -45,6 +45,17 @@ pub struct FieldVideo {
     pub top: bool,
 }
 
+/// What is asked of a cut: the frames of a stream from one number on, and before another, and a schedule of the new stream.
+#[derive(Clone, Copy, Debug, PartialEq, Eq)]
+pub struct CutSettings {
+    pub from: u32,
+    /// The first frame behind them.
+    pub to: u32,
+    pub rate: Rate,
+    /// The slots behind each picture in which no slice is taken.
+    pub idle: u32,
+}
+
 /// The number of this place in a key's value, or 0.
 fn number(given: &Given, key: Key, i: usize) -> u32
     requires { bound_of key ≤ greatest }
@@ -477,5 +488,25 @@ pub fn given_buffer(given: &Given) -> Option<u64>
             Ok(size) => Some(size),
             Err(_) => unreachable!(),
         },
+    }
+}
+
+/// The cut of these operands, or the rule that they break.
+pub fn cut_of(given: &Given) -> Result<CutSettings, Rule>
+    ensures { MatchResult result (λ cut. (first_broken (asked.cut_rules (asked.cut_of given.now.values)) ≡ None) × (cut ≡ asked.cut_of given.now.values)) (λ rule. first_broken (asked.cut_rules (asked.cut_of given.now.values)) ≡ Some rule) }
+{
+    let cut = CutSettings {
+        from: single(given, Key::From),
+        to: single(given, Key::To),
+        rate: Rate {
+            num: number(given, Key::Rate, 0),
+            den: number(given, Key::Rate, 1),
+        },
+        idle: idle_of(given),
+    };
+    if cut.from < cut.to {
+        Ok(cut)
+    } else {
+        Err(Rule::CutOrder)
     }
 }

@@ -10,7 +10,8 @@ ghost use Rattle.vc2_words.specs.Plain.{IsPlain, IsPlainFor};
 use crate::keys::{Key, Name, WordFault, name_of};
 use crate::operands::{Given, read_operands};
 use crate::settings::{
-    FieldVideo, Settings, given_buffer, given_rate, idle_of, is_top, settings_of, single, video_of,
+    CutSettings, FieldVideo, Settings, cut_of, given_buffer, given_rate, idle_of, is_top,
+    settings_of, single, video_of,
 };
 use channel_schedule::Schedule;
 
@@ -35,6 +36,7 @@ pub enum Command {
     /// By whether the first field has line 0 of the frame.
     Frames(bool),
     Proxy(u32),
+    Cut(CutSettings),
 }
 
 fn schedule_of(given: &Given) -> Option<Schedule>
@@ -96,6 +98,15 @@ fn split_of(given: &Given) -> Result<Command, WordFault>
     }
 }
 
+fn cut_command_of(given: &Given) -> Result<Command, WordFault>
+    ensures { MatchResult result (λ command. commands.command_of names.Cut given.now.values ≡ Ok (seen command)) (λ fault. commands.command_of names.Cut given.now.values ≡ Err fault) }
+{
+    match cut_of(given) {
+        Ok(settings) => Ok(Command::Cut(settings)),
+        Err(rule) => Err(WordFault::SettingsRefused(rule)),
+    }
+}
+
 fn command_of(name: Name, given: &Given) -> Result<Command, WordFault>
     requires { IsPlainFor name (parts_of given.now.values) }
     ensures { MatchResult result (λ command. commands.command_of name given.now.values ≡ Ok (seen command)) (λ fault. commands.command_of name given.now.values ≡ Err fault) }
@@ -111,6 +122,7 @@ fn command_of(name: Name, given: &Given) -> Result<Command, WordFault>
         Name::Split => split_of(given),
         Name::Frames => Ok(Command::Frames(is_top(given))),
         Name::Proxy => Ok(Command::Proxy(single(given, Key::Level))),
+        Name::Cut => cut_command_of(given),
     }
 }
 

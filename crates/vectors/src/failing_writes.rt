@@ -93,6 +93,8 @@ fn each_write_may_fail(rt: HostRuntime) -> Result<(), Fail> {
     check_writes(&rt, rt.alloc(), "frames order=top", SMALLEST)?;
     check_writes(&rt, rt.alloc(), "proxy level=0", SMALLEST)?;
     check_writes(&rt, rt.alloc(), "proxy level=4", SMALLEST)?;
+    check_writes(&rt, rt.alloc(), "cut from=0 to=1 rate=21/1", SMALLEST)?;
+    check_writes(&rt, rt.alloc(), "cut from=1 to=2 rate=21/1", SMALLEST)?;
     check_writes(&rt, rt.alloc(), WEAVE, b"\x01\x02\x03\x04\x05\x06")?;
     check_writes(&rt, rt.alloc(), SPLIT, b"\x01\x02\x03\x04\x05\x06")?;
     check_writes(&rt, rt.alloc(), "trial .. seed=0 pictures=1", b"")

@@ -1,12 +1,11 @@
 use Rattle.std.proofs.Common.{◌≡◌, ◌∙◌, ℕ, List, ap, sym, length, take, min, true, arith}
 use Rattle.std.proofs.lemmas.List.{length-drop, length-take}
 use Rattle.field_rows.specs.Rows.{◌>>=◌}
-use Rattle.stream_rows.specs.declared.reason.Refusal.{Refusal}
+use Rattle.stream_rows.specs.Refusals.{Refusal}
 use Rattle.stream_rows.specs.Units.{is_truncated}
 use Rattle.unit_reader.proofs.Gets.{got_most}
 use Rattle.unit_reader.proofs.Stopping.{stops_told}
 use Rattle.stream_units.specs.HeadUnits.{head_only_head}
-use Rattle.stream_units.specs.Heads.{asked_for}
 use Rattle.stream_units.specs.HeadLaws.{head_only_steady, heads_laws}
 use Rattle.stream_units.proofs.HeadOnlyRows.{heads_table}
 use Rattle.stream_units.proofs.HeadTurns.{head_stands, head_fault, head_few}
@@ -28,7 +27,7 @@ returns-then-not-is_truncated-clause-part g c = λ others held0 rest0 b.
     let held = c.loop-info.window.held in
     let front : c.front.result.now ≡ take (min (length held) 13) held = c.front.ensures.value ∙ ap (λ n. take n held) (c.min-count.ensures ∙ ap (λ n. min n 13) c.len.ensures) in
     let f = head_fault heads_table c.args.place held head_only_head others c.front.result.now c.in-Err.refusal head_only_steady front c.in-Err.ensures in
-    stops_told heads_laws f.0 c.loop-info.window.room c.asked_for-told.result (c.loop-info.invariant.begun others held0 rest0 b) f.2 (ap (λ (r : Refusal). is_truncated r.reason) (sym f.1) ∙ sym c.is_truncated.ensures ∙ c.if-not-is_truncated.true) (c.asked_for-told.ensures ∙ ap asked_for f.1) c.loop-info.invariant.total
+    stops_told heads_laws f.0 c.loop-info.window.room c.in-Err.refusal (c.loop-info.invariant.begun others held0 rest0 b) f.2 (ap (λ (r : Refusal). is_truncated r.reason) (sym f.1) ∙ sym c.is_truncated.ensures ∙ c.if-not-is_truncated.true) f.1 c.loop-info.invariant.total
 
 pub loop-info-preserved : goal.loop-info-preserved
 loop-info-preserved g c =
@@ -39,7 +38,7 @@ loop-info-preserved g c =
     record {
       begun = λ others held0 rest0 b.
           let f = head_fault heads_table c.args.place held head_only_head others c.front.result.now c.in-Err.refusal head_only_steady front c.in-Err.ensures in
-          c.in-Ok-read_on.ensures.more c.args.place held0 rest0 c.args.place (head_only_head >>= others) f.0 (c.loop-info.invariant.begun others held0 rest0 b) f.2 (ap (λ (r : Refusal). is_truncated r.reason) (sym f.1) ∙ cut) (c.asked_for-told.ensures ∙ ap asked_for f.1) c.loop-info.invariant.total;
+          c.in-Ok-read_on.ensures.more c.args.place held0 rest0 c.args.place (head_only_head >>= others) f.0 (c.loop-info.invariant.begun others held0 rest0 b) f.2 (ap (λ (r : Refusal). is_truncated r.reason) (sym f.1) ∙ cut) f.1 c.loop-info.invariant.total;
       total = omega (arith, c.loop-info.invariant.total, c.read_on.ensures.room);
       room = omega (arith, c.loop-info.invariant.room, c.read_on.ensures.room, c.in-Ok-read_on.ensures.longer);
       few = got_most 4108 c.read_on.ensures.got c.loop-info.invariant.few (omega (arith, short));
@@ -57,4 +56,4 @@ returns-in-Err-read_on-clause-part g c = λ others held0 rest0 b.
     let held = c.loop-info.window.held in
     let front : c.front.result.now ≡ take (min (length held) 13) held = c.front.ensures.value ∙ ap (λ n. take n held) (c.min-count.ensures ∙ ap (λ n. min n 13) c.len.ensures) in
     let f = head_fault heads_table c.args.place held head_only_head others c.front.result.now c.in-Err.refusal head_only_steady front c.in-Err.ensures in
-    c.in-Err-read_on.ensures.more c.args.place held0 rest0 c.args.place (head_only_head >>= others) f.0 (c.loop-info.invariant.begun others held0 rest0 b) f.2 (ap (λ (r : Refusal). is_truncated r.reason) (sym f.1) ∙ sym c.is_truncated.ensures ∙ c.if-not-is_truncated.false) (c.asked_for-told.ensures ∙ ap asked_for f.1) c.loop-info.invariant.total
+    c.in-Err-read_on.ensures.more c.args.place held0 rest0 c.args.place (head_only_head >>= others) f.0 (c.loop-info.invariant.begun others held0 rest0 b) f.2 (ap (λ (r : Refusal). is_truncated r.reason) (sym f.1) ∙ sym c.is_truncated.ensures ∙ c.if-not-is_truncated.false) f.1 c.loop-info.invariant.total

@@ -1,14 +1,13 @@
 use Rattle.std.proofs.Common.{◌≡◌, ◌∙◌, ℕ, List, ap, sym, length, take, min, true, arith}
 use Rattle.std.proofs.lemmas.List.{length-drop, length-take}
 use Rattle.field_rows.specs.Rows.{◌>>=◌}
-use Rattle.stream_rows.specs.declared.reason.Refusal.{Refusal}
+use Rattle.stream_rows.specs.Refusals.{Refusal}
 use Rattle.stream_rows.specs.Units.{is_truncated, unit_head}
 use Rattle.stream_rows.proofs.Steady.{head_steady}
 use Rattle.unit_reader.proofs.Gets.{got_most}
 use Rattle.stream_units.proofs.Reasons.{units_table}
 use Rattle.unit_reader.proofs.Stopping.{stops_told}
 use Rattle.stream_rows.proofs.Steady.{units_laws}
-use Rattle.stream_units.specs.Heads.{asked_for}
 use Rattle.stream_units.proofs.HeadTurns.{head_stands, head_fault, head_few}
 use Rattle.stream_units.proofs.HeldTurns.{drop_most}
 use Rattle.stream_units.proofs.units.head.Goals as goal
@@ -33,7 +32,7 @@ returns-then-not-is_truncated-clause-part g c = λ others held0 rest0 b.
     let held = c.loop-info.window.held in
     let front : c.front.result.now ≡ take (min (length held) 13) held = c.front.ensures.value ∙ ap (λ n. take n held) (c.min-count.ensures ∙ ap (λ n. min n 13) c.len.ensures) in
     let f = head_fault units_table c.args.earlier.now.place held (unit_head c.args.earlier.now) others c.front.result.now c.in-Err.refusal (head_steady c.args.earlier.now) front c.in-Err.ensures in
-    stops_told units_laws f.0 c.loop-info.window.room c.asked_for-told.result (c.loop-info.invariant.begun others held0 rest0 b) f.2 (ap (λ (r : Refusal). is_truncated r.reason) (sym f.1) ∙ sym c.is_truncated.ensures ∙ c.if-not-is_truncated.true) (c.asked_for-told.ensures ∙ ap asked_for f.1) c.loop-info.invariant.total
+    stops_told units_laws f.0 c.loop-info.window.room c.in-Err.refusal (c.loop-info.invariant.begun others held0 rest0 b) f.2 (ap (λ (r : Refusal). is_truncated r.reason) (sym f.1) ∙ sym c.is_truncated.ensures ∙ c.if-not-is_truncated.true) f.1 c.loop-info.invariant.total
 
 pub loop-info-preserved : goal.loop-info-preserved
 loop-info-preserved g c =
@@ -44,7 +43,7 @@ loop-info-preserved g c =
     record {
       begun = λ others held0 rest0 b.
           let f = head_fault units_table c.args.earlier.now.place held (unit_head c.args.earlier.now) others c.front.result.now c.in-Err.refusal (head_steady c.args.earlier.now) front c.in-Err.ensures in
-          c.in-Ok-read_on.ensures.more c.args.earlier.now held0 rest0 c.args.earlier.now.place ((unit_head c.args.earlier.now) >>= others) f.0 (c.loop-info.invariant.begun others held0 rest0 b) f.2 (ap (λ (r : Refusal). is_truncated r.reason) (sym f.1) ∙ cut) (c.asked_for-told.ensures ∙ ap asked_for f.1) c.loop-info.invariant.total;
+          c.in-Ok-read_on.ensures.more c.args.earlier.now held0 rest0 c.args.earlier.now.place ((unit_head c.args.earlier.now) >>= others) f.0 (c.loop-info.invariant.begun others held0 rest0 b) f.2 (ap (λ (r : Refusal). is_truncated r.reason) (sym f.1) ∙ cut) f.1 c.loop-info.invariant.total;
       total = omega (arith, c.loop-info.invariant.total, c.read_on.ensures.room);
       few = got_most 4108 c.read_on.ensures.got c.loop-info.invariant.few (omega (arith, short));
       steady = cc (c.in-Ok-read_on.ensures.cause, c.loop-info.invariant.steady);
@@ -61,7 +60,7 @@ returns-in-Err-read_on-clause-part g c = λ others held0 rest0 b.
     let held = c.loop-info.window.held in
     let front : c.front.result.now ≡ take (min (length held) 13) held = c.front.ensures.value ∙ ap (λ n. take n held) (c.min-count.ensures ∙ ap (λ n. min n 13) c.len.ensures) in
     let f = head_fault units_table c.args.earlier.now.place held (unit_head c.args.earlier.now) others c.front.result.now c.in-Err.refusal (head_steady c.args.earlier.now) front c.in-Err.ensures in
-    c.in-Err-read_on.ensures.more c.args.earlier.now held0 rest0 c.args.earlier.now.place ((unit_head c.args.earlier.now) >>= others) f.0 (c.loop-info.invariant.begun others held0 rest0 b) f.2 (ap (λ (r : Refusal). is_truncated r.reason) (sym f.1) ∙ sym c.is_truncated.ensures ∙ c.if-not-is_truncated.false) (c.asked_for-told.ensures ∙ ap asked_for f.1) c.loop-info.invariant.total
+    c.in-Err-read_on.ensures.more c.args.earlier.now held0 rest0 c.args.earlier.now.place ((unit_head c.args.earlier.now) >>= others) f.0 (c.loop-info.invariant.begun others held0 rest0 b) f.2 (ap (λ (r : Refusal). is_truncated r.reason) (sym f.1) ∙ sym c.is_truncated.ensures ∙ c.if-not-is_truncated.false) f.1 c.loop-info.invariant.total
 
 pub returns-in-Ok-clause-held : goal.returns-in-Ok-clause-held
 returns-in-Ok-clause-held g c = drop_most 13 8192 c.loop-info.window.held c.advance.new.self.held c.advance.ensures.held (omega (arith, c.loop-info.invariant.few))

@@ -9,7 +9,8 @@ use Rattle.vc2_run.specs.declared.Halt.{Halt}
 use Rattle.stream_units.specs.Writer.{StreamWriterSeen}
 use Rattle.vc2_words.specs.Shown.{shown}
 use Rattle.vc2_cli.specs.declared.status.Ending.{Ending}
-use Rattle.vc2_cli.specs.Running.{IsDone, Runs}
+use Rattle.vc2_run.specs.Runs.{Runs}
+use Rattle.vc2_cli.specs.Endings.{IsDone}
 use Rattle.vc2_cli.specs.Encode.{encode_machine}
 use Rattle.vc2_cli.proofs.EncodeTurns.{at_place, goes_more, runs_closed, runs_refused, runs_stopped, runs_on}
 use Rattle.vc2_cli.proofs.encode.encode_pictures.Goals as goal

@@ -1,8 +1,7 @@
-use Rattle.std.proofs.Common.{◌≡◌, ℕ, ◌*◌, Some, refl, sym, ap, subst, ◌∙◌, arith}
+use Rattle.std.proofs.Common.{◌≡◌, ◌*◌, refl, sym, ap, subst, ◌∙◌, arith}
 use Rattle.slice_geometry.specs.declared.Size.{Size}
-use Rattle.slice_geometry.specs.declared.PictureShape.{PictureShape}
 use Rattle.slice_geometry.specs.Shape.{IsSize}
-use Rattle.slice_geometry.specs.Frames.{Frame, frame_of}
+use Rattle.slice_geometry.specs.Frames.{frame_of}
 use Rattle.sequence_header.specs.declared.parts.HeaderParts.{HeaderParts}
 use Rattle.picture_codec.specs.Samples.{PictureSeen}
 use Rattle.stream_rows.specs.Streams.{frame_under}

@@ -1,4 +1,4 @@
-use Rattle.std.proofs.Common.{◌≡◌, ℕ, ◌*◌, Result, sym, ap, subst, ◌∙◌}
+use Rattle.std.proofs.Common.{◌≡◌, ◌*◌, Result, sym, ap, subst, ◌∙◌}
 use Rattle.slice_geometry.specs.declared.Size.{Size}
 use Rattle.slice_geometry.specs.Shape.{IsSize}
 use Rattle.slice_geometry.specs.Frames.{Frame, frame_of}
@@ -9,10 +9,10 @@ use Rattle.field_weave.specs.WeaveRuns as weaver
 use Rattle.field_weave.specs.WeaveRuns.{WeaverSeen, Weaves}
 use Rattle.field_weave.specs.declared.Order.{Order}
 use Rattle.vc2_cli.specs.declared.status.Ending.{Ending}
-use Rattle.vc2_cli.specs.Change.{change}
-use Rattle.vc2_cli.specs.Running.{IsDone, Runs}
-use Rattle.vc2_cli.specs.Weave.{order_of, split_machine, outcome_of}
-use Rattle.vc2_cli.proofs.Exits.{runs_unbegun}
+use Rattle.vc2_run.specs.Runs.{change, Runs}
+use Rattle.vc2_cli.specs.Endings.{IsDone}
+use Rattle.vc2_cli.specs.Weave.{order_of, split_machine}
+use Rattle.vc2_run.proofs.Closing.{runs_unbegun}
 use Rattle.vc2_cli.proofs.FieldSizes.{luma_doubled, colour_doubled}
 use Rattle.vc2_cli.proofs.Weaving.{runs_told}
 use Rattle.vc2_cli.proofs.weave.split.Goals as goal

@@ -1,0 +1,25 @@
+mod Fields
+mod Skimming
+mod WorkedCut
+mod SkimmedParts
+mod ParamsRead
+mod UnitsRead
+mod Written
+mod Cuts
+mod NoLonger
+mod Bridge
+mod CutStreams
+pub mod Running
+mod HeaderReads
+mod OpeningReads
+mod SameRows
+mod OpenTurns
+mod Keeps
+mod SliceBytes
+mod OpenMoves
+mod PictureTurns
+mod SkippedTurns
+mod SkimReads
+mod CutTurns
+mod CutUnits
+mod CutOpen

@@ -1,0 +1,11 @@
+pub mod RowStreams
+pub mod Skim
+pub mod SkimLaws
+pub mod Cut
+pub mod CutLaws
+pub mod SkimGrammar
+pub mod Opening
+pub mod SkimTable
+pub mod SkimReader
+pub mod Keeping
+pub mod Cutter

@@ -1,0 +1,13 @@
+//! Cutting a stream without decoding it.
+#![tactic(auto)]
+
+mod cutter;
+mod laws;
+mod opening;
+mod skim_reader;
+mod table;
+
+pub use cutter::{CutStop, Cutter};
+pub use laws::{cuts_by_running, cuts_to_streams, skims_to_the_same};
+pub use skim_reader::SkimReader;
+pub use table::SkimItem;

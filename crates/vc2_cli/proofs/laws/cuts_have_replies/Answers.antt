@@ -1,0 +1,8 @@
+use Rattle.vc2_cli.proofs.CutReplies.{are_cut, is_cut_whole}
+use Rattle.vc2_cli.proofs.laws.cuts_have_replies.Goals as goal
+
+pub returns-clause-stream : goal.returns-clause-stream
+returns-clause-stream c = is_cut_whole
+
+pub returns-clause-units : goal.returns-clause-units
+returns-clause-units c = are_cut

@@ -1,0 +1,32 @@
+-- How a command ends: three ways, whatever the command is. Which are of an input that was read whole, and which may change.
+use Rattle.std.specs.Prelude.{◌≡◌, true, ℕ, []}
+use Rattle.unit_table.specs.Fronts.{Close}
+use Rattle.stream_rows.specs.Units.{is_truncated}
+use Rattle.channel_schedule.specs.declared.schedule.Outcome.{Outcome}
+use Rattle.vc2_cli.specs.Texts.{accepted_line, replayed_lines}
+use Rattle.vc2_cli.specs.declared.status.Note.TheVariants.{Nothing}
+use Rattle.vc2_cli.specs.declared.status.Ending.{Ending}
+use Rattle.vc2_cli.specs.declared.status.Ending.TheVariants.{Done, Scheduled, Refused}
+
+-- an ending of an input that was read to its end
+abbrev pub IsDone : Ending → Type 0
+IsDone (Done note) = Unit {0}
+IsDone (Scheduled outcome) = Unit {0}
+IsDone (Refused refusal) = ⊥
+
+-- more bytes may still change it: it is no refusal, or only that of a field that is short
+abbrev pub MayGoOn : Ending → Type 0
+MayGoOn (Refused refusal) = is_truncated refusal.reason ≡ true
+MayGoOn other = Unit {0}
+
+-- an ending without a last text
+abbrev pub closed : Ending → Close Ending
+closed ending = record { ending = ending; last = [] }
+
+-- that of a stream of so many pictures, slices and bytes which was accepted, with its line
+abbrev pub accepted : ℕ → ℕ → ℕ → Close Ending
+accepted pictures slices bytes = record { ending = Done Nothing; last = accepted_line pictures slices bytes }
+
+-- and with how a schedule came out, with its lines
+abbrev pub replayed : ℕ → ℕ → ℕ → Outcome → Close Ending
+replayed pictures slices bytes outcome = record { ending = Scheduled outcome; last = replayed_lines pictures slices bytes outcome }

@@ -1,0 +1,53 @@
+-- What the run of any command leaves, by its line of the table.
+use Rattle.std.specs.Prelude.{◌≡◌, ◌+◌, ℕ, List, Option, Some, IfSome, Result, Ok, Err}
+use Rattle.std.specs.Io.KnownBytes.{Appends, Consumes}
+use Rattle.vc2_io.specs.declared.TheConstants.{INPUT_LIMIT}
+use Rattle.vc2_run.specs.Walk.{Answer, out_of}
+use Rattle.vc2_run.specs.Ran.{TakesAtMost, HaltHasCause}
+use Rattle.vc2_run.specs.Runs.{Change, IsSteady, Closes}
+use Rattle.vc2_run.specs.declared.Halt.{Halt}
+use Rattle.vc2_run.specs.declared.Halt.TheVariants.{ReadFault, OutFault, NoMemory}
+use Rattle.unit_reader.specs.Soon.{all_but}
+use Rattle.vc2_words.specs.Commands.{AskedCommand, header, trial}
+use Rattle.vc2_cli.specs.declared.status.Ending.{Ending}
+use Rattle.vc2_cli.specs.declared.status.Ending.TheVariants.{Done}
+use Rattle.vc2_cli.specs.declared.status.Note.TheVariants.{Nothing}
+use Rattle.vc2_cli.specs.Endings.{MayGoOn}
+use Rattle.vc2_cli.specs.Trial.{trial_text}
+use Rattle.vc2_cli.specs.Running.{Running, running_of}
+use Rattle.vc2_cli.specs.Reply.{Breaks, Stops, StopsShort, ReadsAll, reply_by, status_of}
+
+-- How a command came out over an input that the source tells. At an ending, its answer's, all of its text was written, and
+-- where all was read so much is left; and should there be no memory for the note, that stands as for a halt.
+abbrev pub ComesOut : Running → List ℕ → Option (List ℕ) → Option (List ℕ) → Option (List ℕ) → Result Ending Halt → Type 0
+ComesOut running input rest out0 out1 (Ok ending) = (ending ≡ (running.answer input).ending)
+    × Appends out0 out1 (out_of (running.answer input))
+    × (ReadsAll (status_of ending) → (left : List ℕ) → rest ≡ Some left → left ≡ running.rest input)
+    × Stops (reply_by running input) running.due input rest out0 out1
+ComesOut running input rest out0 out1 (Err ReadFault) = Breaks running.due input rest out0 out1
+ComesOut running input rest out0 out1 (Err OutFault) = StopsShort (reply_by running input) running.due input rest out0 out1
+ComesOut running input rest out0 out1 (Err NoMemory) = Stops (reply_by running input) running.due input rest out0 out1
+
+-- More bytes may still change what those come to that were taken, without the last ones; and at a failed read, with all.
+abbrev pub GoesOn : (List ℕ → Answer Ending) → ℕ → Option (List ℕ) → Option (List ℕ) → Result Ending Halt → Type 0
+GoesOn answer most rest0 rest1 result = (taken : List ℕ) × Consumes rest0 rest1 taken
+    × MayGoOn (answer (all_but most taken)).ending × (result ≡ Err ReadFault → MayGoOn (answer taken).ending)
+
+-- what the run of a command leaves
+pub record RunsAs (running : Running) (src out : Change) (result : Result Ending Halt) : Type 0 where
+  pub comes : (input : List ℕ) → src.was ≡ Some input → ComesOut running input src.is out.was out.is result
+  pub limit : TakesAtMost (INPUT_LIMIT + 1) src.was src.is
+  pub cause : HaltHasCause src.faults_were src.faults_are out.faults_were out.faults_are result
+  pub soon : IfSome running.most (λ most. GoesOn running.answer most src.was src.is result)
+
+-- what more is said of two commands
+abbrev pub SaysMore : AskedCommand → Change → Change → Result Ending Halt → Type 0
+SaysMore (trial s part) src out result =
+    Closes (Done Nothing) (trial_text s part) out.was out.is result × (src.is ≡ src.was) × IsSteady src
+SaysMore header src out result = TakesAtMost 250 src.was src.is
+SaysMore other src out result = Unit {0}
+
+-- a command was done
+pub record Does (asked : AskedCommand) (src out : Change) (result : Result Ending Halt) : Type 0 where
+  pub runs : RunsAs (running_of asked) src out result
+  pub more : SaysMore asked src out result
