@@ -54,6 +54,17 @@ def luma_size(header):
     return bits.uints(2) if bits.flag() else sys.exit("the stream's size isn't a custom one")
 
 
+def transform_words(data):
+    """The words of `encode` for the transform of a stream's first picture."""
+    bits = Bits(next(unit for unit in units_of(data) if unit[4] == 0xC8)[17:200])
+    wavelet, depth, across, down, a, b = bits.uints(6)
+    if not bits.flag():
+        sys.exit("the stream carries no matrix")
+    matrix = ",".join(map(str, bits.uints(1 + 3 * depth)))
+    name = {1: "legall", 3: "haar-flat", 4: "haar-shift"}[wavelet]
+    return [f"wavelet={name}", f"depth={depth}", f"slices={across}x{down}", f"bytes={a}/{b}", f"matrix={matrix}"]
+
+
 class Slices:
     """The slices of a picture unit, with what its parameters say of them."""
 

@@ -8,7 +8,8 @@ SLICES_A/B is the bytes of a slice, RATE the bytes in slots of the channel, IDLE
 picture is written to OUT, or to standard output, as SVG. The plan is found here by search, apart from the program. VC2 names
 another program than the checkout's.
 
-    tools/schedule_picture.py examples/frames_422.vc2 40/1 1947/48 docs/schedule.svg
+    tools/schedule_picture.py examples/pair_422.vc2 64/1 1561/24 docs/schedule.svg
+    tools/schedule_picture.py examples/pair_422.vc2 64/1 1561/30 docs/schedule_idle.svg 6
 """
 import os
 import re
@@ -16,7 +17,7 @@ import subprocess
 import sys
 
 VC2 = os.environ.get("VC2") or os.path.join(os.path.dirname(os.path.dirname(os.path.realpath(__file__))), "vc2")
-WIDTH, HEIGHT, LEFT, BOTTOM = 720, 300, 64, 44
+WIDTH, HEIGHT, LEFT, BOTTOM = 720, 320, 64, 62
 
 
 def vc2(command, stream):
@@ -85,18 +86,24 @@ def svg(delay, size, steps):
         for i, (slot, before, behind) in enumerate(steps)
     )
     text = lambda px, py, words, anchor="start": f'<text x="{px:.1f}" y="{py:.1f}" text-anchor="{anchor}">{words}</text>'
+    floor, last = HEIGHT - BOTTOM, steps[-1][0]
+    each = next(n for n in (1, 2, 5, 10, 20, 50, 100, 200, 500, 1000, 10**9) if last <= 12 * n)
+    ticks = range(0, last + 1, each)
     return "\n".join([
         f'<svg xmlns="http://www.w3.org/2000/svg" width="{WIDTH}" height="{HEIGHT}" font-family="sans-serif" font-size="13">',
         f'<rect width="{WIDTH}" height="{HEIGHT}" fill="white"/>',
         f'<path d="M{LEFT},{y(size):.1f} H{WIDTH - 16}" stroke="#b33" stroke-dasharray="6 4"/>',
         f'<path d="M{x(delay):.1f},{y(0):.1f} V16" stroke="#888" stroke-dasharray="2 4"/>',
         f'<path d="{path}" fill="none" stroke="#246" stroke-width="1.2"/>',
-        f'<path d="M{LEFT},16 V{HEIGHT - BOTTOM} H{WIDTH - 16}" fill="none" stroke="black"/>',
+        f'<path d="M{LEFT},16 V{floor} H{WIDTH - 16}" fill="none" stroke="black"/>',
         text(LEFT - 6, y(size) + 4, f"{size}", "end"),
         text(LEFT - 6, y(0) + 4, "0", "end"),
         text(LEFT + 6, y(size) - 6, "size of the buffer, bytes"),
-        text(x(delay), HEIGHT - BOTTOM + 16, f"slot {delay}: the first slice is taken", "start"),
-        text(x(steps[-1][0]), HEIGHT - BOTTOM + 32, f"slot {steps[-1][0]}: the tail", "end"),
+        *(f'<path d="M{x(slot):.1f},{floor} v5" stroke="black"/>' for slot in ticks),
+        *(text(x(slot), floor + 18, f"{slot}", "middle") for slot in ticks),
+        text(x(delay), floor + 36, f"slot {delay}: the first slice is taken", "start"),
+        text(x(last), floor + 36, f"slot {last}: the tail", "end"),
+        text((LEFT + WIDTH - 16) / 2, floor + 54, "time, in slots", "middle"),
         "</svg>",
         "",
     ])
