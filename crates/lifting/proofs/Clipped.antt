@@ -1,14 +1,13 @@
 -- A number that was clipped and is counted from the lowest one, at any width.
-use Rattle.std.proofs.Common.{◌≡◌, sym, ap, subst, ◌∙◌, ℕ, arith, ◌≤◌, ℤ, pos, negsuc, neg_ℤ, ◌+ℤ◌, ◌-ℤ◌, ◌≤ℤ◌}
+use Rattle.std.proofs.Common.{◌≡◌, sym, ap, subst, ◌∙◌, ℕ, ◌+◌, ◌^◌, arith, ◌≤◌, ℤ, pos, negsuc, neg_ℤ, ◌+ℤ◌, ◌-ℤ◌, ◌≤ℤ◌, ◌<ℤ◌}
 use Rattle.std.proofs.lemmas.Int.{ints, to_z-of_z, int_max_is, int_min_is}
 use Rattle.std.specs.Int.{int_min, int_max}
 use Rattle.std.specs.Int.Signed.{non_neg, pos-nat_abs, yes_non_neg}
 use Rattle.std.proofs.Math.IntN.{nat_abs}
 use Rattle.std.proofs.Math.Dec.{T}
 use mir.Syntax.{Width, w16}
-use mir.Val.{SFits, Fits, to_z, of_z}
+use mir.Val.{SFits, Fits, to_z, of_z, hbits}
 use Rattle.lifting.specs.Clipping.{clipped_up}
-use Rattle.lifting.proofs.Lanes.{Room, fits}
 
 -- a number that was put into its bits and read back
 abbrev again : Width → ℤ → ℤ
@@ -25,12 +24,16 @@ short_fits : (z : ℤ) → pos 0 ≤ℤ z → z ≤ℤ pos 65535 → Fits w16 (n
 short_fits (pos n) low high = record { fits = omega (arith, ints) }
 short_fits (negsuc n) low high = absurd (omega (arith, ints))
 
-module _ (w : Width) (m : ℕ) (room : Room w m) (enough : 32768 ≤ m) where
-  up_fits : (half r : ℤ) → half ≤ℤ pos 32768 → pos 1 ≤ℤ half → IsBetween half r → SFits w (r +ℤ half)
-  up_fits half r most some between =
-      fits w m room (r +ℤ half) (record { low = omega (arith, ints, most, some, enough, between.low); high = omega (arith, ints, most, some, enough, between.high) })
+from_zero : (w : Width) (z : ℤ) → pos 0 ≤ℤ z → z <ℤ pos (2 ^ hbits w) → SFits w z
+from_zero w (pos a) low high = record { sfits = omega (arith, ints, high) }
+from_zero w (negsuc a) low high = absurd (omega (arith, ints, low))
 
-  module _ (half v r : ℤ) (some : pos 1 ≤ℤ half) (most : half ≤ℤ pos 32768) (fh : SFits w half) (fv : SFits w v) (fr : SFits w r)
+-- half of a range is at most `top`
+module _ (w : Width) (top : ℕ) (few : top ≤ 32768) (enough : top + top ≤ 2 ^ hbits w) where
+  up_fits : (half r : ℤ) → half ≤ℤ pos top → pos 1 ≤ℤ half → IsBetween half r → SFits w (r +ℤ half)
+  up_fits half r most some between = from_zero w (r +ℤ half) (omega (arith, ints, between.low)) (omega (arith, ints, most, enough, between.high))
+
+  module _ (half v r : ℤ) (some : pos 1 ≤ℤ half) (most : half ≤ℤ pos top) (fh : SFits w half) (fv : SFits w v) (fr : SFits w r)
       (is : r ≡ int_max (neg_ℤ (again w half)) (int_min (again w half -ℤ pos 1) (again w v))) where
     clip_is : r ≡ int_max (neg_ℤ half) (int_min (half -ℤ pos 1) v)
     clip_is =
@@ -44,7 +47,7 @@ module _ (w : Width) (m : ℕ) (room : Room w m) (enough : 32768 ≤ m) where
     least = let b = between in omega (arith, ints, b.low)
 
     greatest : (r +ℤ half) ≤ℤ pos 65535
-    greatest = let b = between in omega (arith, ints, b.high)
+    greatest = let b = between in omega (arith, ints, b.high, most, few)
 
     parts : again w r +ℤ again w half ≡ r +ℤ half
     parts = ap (λ (z : ℤ). z +ℤ again w half) (to_z-of_z w r fr) ∙ ap (λ (z : ℤ). r +ℤ z) (to_z-of_z w half fh)

@@ -6,7 +6,6 @@ use mir.Syntax.{Width, w32, w64}
 use mir.Val.{to_z, of_z}
 use Rattle.planes.specs.Numbers.{Within}
 use Rattle.lifting.specs.Places.{place}
-use Rattle.lifting.specs.Ranges.{even_reach, line_reach}
 use Rattle.lifting.specs.Steps.{pair_step, one_step}
 use Rattle.lifting.specs.Lanes.{zip3}
 use Rattle.lifting.specs.declared.PairStep.{PairStep}
@@ -81,14 +80,3 @@ one_small m some s d a r is pd pa = let P : List ℤ → Type 0 = Each1 (Within 
 
 pub two : (f : ℤ → ℤ → ℤ) (v x v2 x2 : ℤ) → v ≡ v2 → x ≡ x2 → f v x ≡ f v2 x2
 two f v x v2 x2 ev ex = ap (λ (z : ℤ). f z x) ev ∙ ap (λ (z : ℤ). f v2 z) ex
-
--- what there is room for in a width that has room for two lines
-
-pub start_fits : (m r : ℕ) → line_reach (line_reach m) ≤ r → m ≤ r
-start_fits m r le = omega (arith, le)
-
-pub even_fits : (m r : ℕ) → line_reach (line_reach m) ≤ r → even_reach m ≤ r
-even_fits m r le = omega (arith, le)
-
-pub line_fits : (m r : ℕ) → line_reach (line_reach m) ≤ r → line_reach m ≤ r
-line_fits m r le = omega (arith, le)

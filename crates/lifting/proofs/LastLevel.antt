@@ -6,11 +6,11 @@ use Rattle.planes.specs.Subbands.{BandsOf, band_of, HaveSizes}
 use Rattle.lifting.specs.declared.Wavelet.{Wavelet}
 use Rattle.lifting.specs.Bands.{coefficients_in, lowest}
 use Rattle.lifting.specs.Transform.{Grid, synthesis, synthesis_level, interleaved}
-use Rattle.lifting.specs.Ranges.{GridWithin, BandsWithin, SameInside, reach}
-use Rattle.lifting.proofs.Growth.{ll_within, hl_within, lh_within, hh_within}
-use Rattle.lifting.proofs.Levels.{half_size, whole_size, columns_of, rows_of, level_of, level_small}
+use Rattle.lifting.specs.Ranges.{SameInside}
+use Rattle.lifting.specs.Fits.{LevelFits, SynthesisFits}
+use Rattle.lifting.proofs.Levels.{half_size, whole_size, columns_of, rows_of, level_of, next_fits}
 
-module _ {X : Type 0} (value : X → ℤ) (none : X) (k : Wavelet) (w h : ℕ) (b : BandsOf X) (some : 1 ≤ b.depth) (four : b.depth ≤ 4) (whole_columns : w % 2 ^ b.depth ≡ 0) (whole_rows : h % 2 ^ b.depth ≡ 0) (sizes : HaveSizes b w h)
+module _ {X : Type 0} (value : X → ℤ) (none : X) (k : Wavelet) (w h : ℕ) (b : BandsOf X) (some : 1 ≤ b.depth) (whole_columns : w % 2 ^ b.depth ≡ 0) (whole_rows : h % 2 ^ b.depth ≡ 0) (sizes : HaveSizes b w h)
     (p hl lh hh : Raster X) (depth : ℕ) (is : depth ≡ b.depth) (ehl : hl ≡ band_of b depth 1) (elh : lh ≡ band_of b depth 2) (ehh : hh ≡ band_of b depth 3)
     (below : SameInside (lowest b.depth h * 2 ^ (b.depth - 1)) (lowest b.depth w * 2 ^ (b.depth - 1)) (grid_of value none p) (synthesis k (lowest b.depth h) (lowest b.depth w) (coefficients_in value none b) (b.depth - 1))) where
   abbrev n : ℕ
@@ -75,21 +75,7 @@ module _ {X : Type 0} (value : X → ℤ) (none : X) (k : Wavelet) (w h : ℕ) (
       ∙ ap (λ (m : ℕ). synthesis_level k (2 * height hl) (2 * m) g y x) wide
       ∙ whole y x (omega (arith, ly, whole_size h b.depth whole_rows)) (omega (arith, lx, whole_size w b.depth whole_columns))
 
-  -- from numbers within m in the lowest band, and within `others` in the others, no level below the last comes above `most`
-  module _ (m others most : ℕ) (reaches : (j : ℕ) → j ≤ 3 → reach m j ≤ most) (few : others ≤ m)
-      (small : BandsWithin (lowest b.depth h) (lowest b.depth w) b.depth m others (coefficients_in value none b)) where
-    all_small : GridWithin (2 * height hl) (2 * hl.w) most g
-    all_small = level_small value none k (lowest b.depth h) (lowest b.depth w) b n p hl lh hh (of_next hl 1 ehl) (of_next lh 2 elh) (of_next hh 3 ehh) rows columns below
-        m others most b.depth reaches few small lt four
-
-    pub ll_small : GridWithin (h / 2) (w / 2) most (grid_of value none p)
-    ll_small = ll_within (height hl) (h / 2) hl.w (w / 2) most (grid_of value none p) (grid_of value none hl) (grid_of value none lh) (grid_of value none hh) high wide all_small
-
-    pub hl_small : GridWithin (h / 2) (w / 2) most (grid_of value none hl)
-    hl_small = hl_within (height hl) (h / 2) hl.w (w / 2) most (grid_of value none p) (grid_of value none hl) (grid_of value none lh) (grid_of value none hh) high wide all_small
-
-    pub lh_small : GridWithin (h / 2) (w / 2) most (grid_of value none lh)
-    lh_small = lh_within (height hl) (h / 2) hl.w (w / 2) most (grid_of value none p) (grid_of value none hl) (grid_of value none lh) (grid_of value none hh) high wide all_small
-
-    pub hh_small : GridWithin (h / 2) (w / 2) most (grid_of value none hh)
-    hh_small = hh_within (height hl) (h / 2) hl.w (w / 2) most (grid_of value none p) (grid_of value none hl) (grid_of value none lh) (grid_of value none hh) high wide all_small
+  pub last_fits : (m : ℕ) → SynthesisFits k (lowest b.depth h) (lowest b.depth w) b.depth m (coefficients_in value none b) → LevelFits k (2 * (h / 2)) (2 * (w / 2)) m g
+  last_fits m fits =
+      rw (high, wide)
+      (next_fits value none k (lowest b.depth h) (lowest b.depth w) b n p hl lh hh (of_next hl 1 ehl) (of_next lh 2 elh) (of_next hh 3 ehh) rows columns below m b.depth fits lt)

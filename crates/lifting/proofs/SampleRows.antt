@@ -1,5 +1,5 @@
 -- Samples, row by row.
-use Rattle.std.proofs.Common.{◌≡◌, ◌≢◌, ◌∙◌, sym, ap, subst, ℕ, suc, ◌+◌, ◌-◌, ◌*◌, ◌/◌, ◌%◌, ◌^◌, ◌<◌, ◌≤◌, arith, inl, inr, List, ◌++◌, length, take, get_or, set, ℤ, pos}
+use Rattle.std.proofs.Common.{◌≡◌, ◌≢◌, ◌∙◌, sym, ap, subst, ℕ, suc, ◌+◌, ◌-◌, ◌*◌, ◌%◌, ◌^◌, ◌<◌, ◌≤◌, arith, inl, inr, List, ◌++◌, length, take, get_or, set, ℤ, pos}
 use Rattle.std.specs.Prelude.{if◌then◌else◌, ◌==◌, neg_ℤ, ◌+ℤ◌, ◌-ℤ◌, ◌≤ℤ◌, unsigned_abs}
 use Rattle.std.specs.Int.{int_min, int_max}
 use Rattle.std.proofs.Math.Nat.{pow-le-pow_right, mul-le-mul_right, suc-mul}
@@ -17,8 +17,8 @@ use Rattle.lifting.proofs.WovenLines.{at_even, at_odd}
 pub half_some : (depth : ℕ) → 1 ≤ 2 ^ (depth - 1)
 half_some depth = pow-le-pow_right {n = 2} (omega arith) {i = 0} {j = depth - 1} (omega arith)
 
-pub half_most : (depth : ℕ) → depth ≤ 16 → 2 ^ (depth - 1) ≤ 32768
-half_most depth le = pow-le-pow_right {n = 2} (omega arith) {i = depth - 1} {j = 15} (omega arith)
+half_most : (depth most : ℕ) → depth ≤ most → 2 ^ (depth - 1) ≤ 2 ^ (most - 1)
+half_most depth most le = pow-le-pow_right {n = 2} (omega arith) {i = depth - 1} {j = most - 1} (omega arith)
 
 -- what stands in the rows before and behind row y stands in each other row
 pub other_rows : (old new : List ℕ) (w y : ℕ) → ((k : ℕ) → k < y * w → get_or new k 0 ≡ get_or old k 0) → ((k : ℕ) → y * w + w ≤ k → get_or new k 0 ≡ get_or old k 0)
@@ -52,16 +52,6 @@ put_two P d x y out k room first even odd i lt = elim (cases_eq i (2 * k + 1)) [
     | inr ne2 ↦ rw (get_or-set_other (set out (2 * k) x) (2 * k + 1) i y d ne, get_or-set_other out (2 * k) i x d ne2) (first i (omega arith))
   ]
 ]
-
-pub woven_even : (e o : Line) (k : ℕ) → woven e o (2 * k) ≡ e k
-woven_even e o k =
-    let half : 2 * k / 2 ≡ k = omega arith in
-    at_even e o (2 * k) (omega arith) ∙ ap e half
-
-pub woven_odd : (e o : Line) (k : ℕ) → woven e o (2 * k + 1) ≡ o k
-woven_odd e o k =
-    let half : (2 * k + 1) / 2 ≡ k = omega arith in
-    at_odd e o (2 * k + 1) (omega arith) ∙ ap o half
 
 -- a step on each place of a line is one on each place of its halves
 pub woven_each : (f : ℤ → ℤ) (e o : Line) (i : ℕ) → woven (λ j. f (e j)) (λ j. f (o j)) i ≡ f (woven e o i)
@@ -111,5 +101,5 @@ last_is f n e o k is =
 pub half_some_of : (depth : ℕ) (half : ℤ) → half ≡ pos (2 ^ (depth - 1)) → pos 1 ≤ℤ half
 half_some_of depth half e = rw e (omega (arith, ints, half_some depth))
 
-pub half_most_of : (depth : ℕ) (half : ℤ) → depth ≤ 16 → half ≡ pos (2 ^ (depth - 1)) → half ≤ℤ pos 32768
-half_most_of depth half le e = rw e (omega (arith, ints, half_most depth le))
+pub half_most_of : (depth most : ℕ) (half : ℤ) → depth ≤ most → half ≡ pos (2 ^ (depth - 1)) → half ≤ℤ pos (2 ^ (most - 1))
+half_most_of depth most half le e = rw e (omega (arith, ints, half_most depth most le))

@@ -1,30 +1,24 @@
 //! Blocks of 8 numbers in lanes, at each width, and the lifting steps by them.
 
-ghost use Rattle.std.specs.Prelude.{◌≡◌, ℕ, ◌+◌, ◌*◌, ◌/◌, ◌^◌, ◌<◌, ◌≤◌, ℤ, List, length};
+ghost use Rattle.std.specs.Prelude.{◌≡◌, ℕ, ◌+◌, ◌*◌, ◌<◌, ◌≤◌, ℤ, List, length};
 ghost use Rattle.std.specs.Simd.Lanes.{Each1, zip2};
-ghost use Rattle.std.proofs.Common.{lit≤};
 ghost use Rattle.planes.specs.Numbers.{Within};
 ghost use Rattle.planes.specs.Valued.{valued};
 ghost use Rattle.lifting.specs.Places.{place};
 ghost use Rattle.lifting.specs.Steps.{pair_step, one_step};
 ghost use Rattle.lifting.specs.Lanes.{zip3};
-ghost use Rattle.lifting.specs.Ranges.{line_reach, reach};
-ghost use Rattle.lifting.specs.Rooms.{reach_narrow, reach_wide};
 
 use crate::{OneStep, PairStep};
 use planes::Number;
 use std::simd::prelude::*;
 
-/// Numbers that std has lanes of, with room for the levels of a transform.
+/// Numbers that are lifted by lanes.
 pub trait Laned: Number {
     /// 8 numbers.
     type Block: Copy + Drop;
 
     // What the lanes hold.
     ghost lanes: { Self.Block → List ℤ };
-
-    // The greatest magnitude that a level of synthesis takes.
-    ghost start: { ℕ };
 
     /// The 8 numbers of a row from `at` on.
     fn load(row: &[Self], at: usize) -> Self::Block
@@ -59,29 +53,12 @@ pub trait Laned: Number {
         requires d_small { Each1 (Within Self.reach) (lanes d) }
         requires a_small { Each1 (Within Self.reach) (lanes a) }
         ensures { lanes result ≡ zip2 (one_step step) (lanes d) (lanes a) };
-
-    // A level, whose numbers go through two lines.
-    ghost line_law: { line_reach (line_reach start) ≤ Self.Number.reach };
-
-    // Three levels, from the numbers of the bands.
-    ghost levels_law: { (n : ℕ) → n ≤ 3 → reach (start / 256) n ≤ start };
-
-    // A level of analysis, which takes numbers within 2 ^ 25.
-    ghost back_law: { 2 ^ 29 ≤ Self.Number.reach };
 }
 
 impl Laned for i32 {
     type Block = i32x8;
 
     ghost lanes = { λ v. v };
-
-    ghost start = { 2 ^ 26 };
-
-    ghost line_law = { lit≤ tt };
-
-    ghost levels_law = { reach_narrow };
-
-    ghost back_law = { lit≤ tt };
 
     #[inline(always)]
     fn load(row: &[i32], at: usize) -> i32x8 {
@@ -118,14 +95,6 @@ impl Laned for i64 {
     type Block = i64x8;
 
     ghost lanes = { λ v. v };
-
-    ghost start = { 2 ^ 58 };
-
-    ghost line_law = { lit≤ tt };
-
-    ghost levels_law = { reach_wide };
-
-    ghost back_law = { lit≤ tt };
 
     #[inline(always)]
     fn load(row: &[i64], at: usize) -> i64x8 {

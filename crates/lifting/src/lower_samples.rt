@@ -1,11 +1,12 @@
-//! Samples of a component from the first levels of its synthesis,.
+//! Samples of a component from the first levels of its synthesis.
 
 ghost use Rattle.std.specs.Prelude.{◌≡◌, ℕ, ◌*◌, ◌/◌, ◌^◌, ◌<◌, ◌≤◌, length};
 ghost use Rattle.planes.specs.Raster.{height};
 ghost use Rattle.planes.specs.Valued.{valued, EachValued, grid_of};
 ghost use Rattle.lifting.specs.Transform.{synthesis};
 ghost use Rattle.lifting.specs.Ranges.{GridWithin};
-ghost use Rattle.lifting.specs.Bands.{coefficients_of, coefficients_in, lowest, AreIn};
+ghost use Rattle.lifting.specs.Bands.{coefficients_of, coefficients_in, lowest};
+ghost use Rattle.lifting.specs.Fits.{FitIn};
 ghost use Rattle.lifting.specs.Clipping.{AreSamplesOf};
 ghost use Rattle.lifting.specs.SampleRoom.{AreNarrowIn, AreSmallIn, IsShownArea};
 ghost use Rattle.lifting.specs.LevelRoom.{HaveLevelRoom};
@@ -78,6 +79,8 @@ pub fn synth_lower_samples(
         AreSamplesOf area.w area.h area.depth samples.new
         (λ y x. rounded level.shift (synthesis wavelet (lowest depth h) (lowest depth w) (coefficients_of bands.now) level.levels y x)) }
 {
+    // A depth is at most 4.
+    let _ = bands.depth();
     synth_lower_samples_of(wavelet, bands, level, w, h, plane, scratch, samples, area);
 }
 
@@ -109,6 +112,8 @@ pub fn synth_lower_samples_narrow(
         AreSamplesOf area.w area.h area.depth samples.new
         (λ y x. rounded level.shift (synthesis wavelet (lowest depth h) (lowest depth w) (coefficients_of bands.now) level.levels y x)) }
 {
+    // A depth is at most 4.
+    let _ = bands.depth();
     synth_lower_samples_of(wavelet, bands, level, w, h, plane, scratch, samples, area);
 }
 
@@ -129,7 +134,11 @@ fn synth_lower_samples_of<T: Sampled>(
     requires room { HaveLevelRoom bands.now level.levels w h plane.old scratch.old }
     requires columns { plane.old.w ≡ lowest bands.now.depth w * 2 ^ level.levels }
     requires rows { height plane.old ≡ lowest bands.now.depth h * 2 ^ level.levels }
-    requires small { AreIn T.value T.none (T.start / 256) bands.now w h }
+    requires has_room { FitIn T.value T.none wavelet T.reach bands.now w h }
+    requires made { let depth = bands.now.depth in
+        GridWithin (lowest depth h * 2 ^ level.levels) (lowest depth w * 2 ^ level.levels) T.reach
+        (synthesis wavelet (lowest depth h) (lowest depth w) (coefficients_in T.value T.none bands.now) level.levels) }
+    requires bits { area.depth ≤ T.depths }
     requires shown { IsShownArea area (lowest bands.now.depth w * 2 ^ level.levels) (lowest bands.now.depth h * 2 ^ level.levels) samples.old }
     ensures same_width { plane.new.w ≡ plane.old.w }
     ensures same_height { height plane.new ≡ height plane.old }

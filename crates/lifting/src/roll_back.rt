@@ -15,12 +15,12 @@ ghost use Rattle.lifting.specs.Bands.{SameSizes, HoldLevel, OtherLevelsStay};
 
 use crate::columns::{lift_row_between, row_after, row_before};
 use crate::halves_back::analyse_sides;
-use crate::laned::Laned;
+use crate::lifted::Analysed;
 use crate::{PairStep, Wavelet};
 use planes::{Bands, Plane};
 
 // Row j of the plane as a line of a level, in row r of the scratch, its halves side by side.
-fn put_sides<T: Laned>(
+fn put_sides<T: Analysed>(
     scratch: &mut Plane<T>,
     r: u32,
     plane: &Plane<T>,
@@ -47,7 +47,7 @@ fn put_sides<T: Laned>(
 }
 
 // Rows 2y + 1 and, where the level has it, 2y + 2.
-fn put_two<T: Laned>(
+fn put_two<T: Analysed>(
     scratch: &mut Plane<T>,
     plane: &Plane<T>,
     y: u32,
@@ -83,7 +83,7 @@ fn put_two<T: Laned>(
 }
 
 // The last steps on rows 2y + 1 and 2y: down between 2y and 2y + 2, and then up between 2y - 1 and 2y + 1.
-fn finish_two<T: Laned>(scratch: &mut Plane<T>, y: u32, w: u32, h: u32, wavelet: Wavelet)
+fn finish_two<T: Analysed>(scratch: &mut Plane<T>, y: u32, w: u32, h: u32, wavelet: Wavelet)
     requires inside { y < h }
     requires short { w ≤ 4104 }
     requires low { h ≤ 4104 }
@@ -112,7 +112,7 @@ fn finish_two<T: Laned>(scratch: &mut Plane<T>, y: u32, w: u32, h: u32, wavelet:
 }
 
 // The w places of a row from x0 on.
-fn copy_from<T: Laned>(dst: &mut [T], row: &[T], x0: usize, w: usize)
+fn copy_from<T: Analysed>(dst: &mut [T], row: &[T], x0: usize, w: usize)
     requires short { w ≤ 8208 }
     requires left { x0 ≤ w }
     requires room { w ≤ length dst.old }
@@ -123,7 +123,7 @@ fn copy_from<T: Laned>(dst: &mut [T], row: &[T], x0: usize, w: usize)
 }
 
 // Row y of a band: the w places from x0 on of row r of the scratch.
-fn put_row<T: Laned>(band: &mut Plane<T>, y: u32, scratch: &Plane<T>, r: u32, x0: u32, w: u32)
+fn put_row<T: Analysed>(band: &mut Plane<T>, y: u32, scratch: &Plane<T>, r: u32, x0: u32, w: u32)
     requires short { w ≤ 4104 }
     requires left { x0 ≤ w }
     requires y_inside { y < height band.old }
@@ -139,7 +139,7 @@ fn put_row<T: Laned>(band: &mut Plane<T>, y: u32, scratch: &Plane<T>, r: u32, x0
     copy_from(band.row_mut(y), scratch.row(r), x0 as usize, w as usize);
 }
 
-fn deal_row<T: Laned>(
+fn deal_row<T: Analysed>(
     bands: &mut Bands<T>,
     level: u32,
     orient: u32,
@@ -167,7 +167,7 @@ fn deal_row<T: Laned>(
 }
 
 // Row y of the bands of a level: LL goes to the plane.
-fn deal_two<T: Laned>(
+fn deal_two<T: Analysed>(
     plane: &mut Plane<T>,
     bands: &mut Bands<T>,
     level: u32,
@@ -213,7 +213,7 @@ fn deal_two<T: Laned>(
 }
 
 /// A level: the plane's first 2w columns and 2h rows hold it, and then its first w and h hold LL.
-pub(crate) fn roll_back<T: Laned>(
+pub(crate) fn roll_back<T: Analysed>(
     plane: &mut Plane<T>,
     scratch: &mut Plane<T>,
     bands: &mut Bands<T>,

@@ -8,7 +8,7 @@ ghost use Rattle.lifting.specs.Places.{beside, woven};
 ghost use Rattle.lifting.specs.Steps.{step, halved};
 ghost use Rattle.lifting.specs.Lines.{synthesis_line};
 ghost use Rattle.lifting.specs.Transform.{interleaved, synthesis_level};
-ghost use Rattle.lifting.specs.Ranges.{LineWithin, GridWithin, line_reach};
+ghost use Rattle.lifting.specs.Fits.{LineFits, LevelFits};
 ghost use Rattle.lifting.specs.Clipping.{sample_of};
 
 use crate::roll::{make_even, make_odd};
@@ -28,7 +28,7 @@ fn sample_row<T: Sampled>(
     wavelet: Wavelet,
 )
     requires some_bits { 1 ≤ area.depth }
-    requires bits { area.depth ≤ 16 }
+    requires bits { area.depth ≤ T.depths }
     requires count { length samples.old ≡ area.h * area.w }
     requires few { area.h * area.w ≤ 2 ^ 30 }
     requires some { 1 ≤ w }
@@ -36,7 +36,8 @@ fn sample_row<T: Sampled>(
     requires r_inside { r < height scratch.old }
     requires fits { area.w ≤ 2 * w }
     requires fits_scratch { 2 * w ≤ scratch.old.w }
-    requires small { LineWithin (2 * w) (line_reach T.start) (grid_of T.value T.none scratch.old r) }
+    requires has_room { let grid = grid_of T.value T.none in
+        LineFits wavelet (2 * w) T.reach (woven (grid scratch.old r) (λ j. grid scratch.old r (w + j))) }
     ensures same_width_scratch { scratch.new.w ≡ scratch.old.w }
     ensures same_height_scratch { height scratch.new ≡ height scratch.old }
     ensures count { length samples.new ≡ length samples.old }
@@ -84,10 +85,8 @@ fn put_even<T: Sampled>(
     requires high_scratch { 3 ≤ height scratch.old }
     requires widths { (w ≤ hl.now.w) × (w ≤ lh.now.w) × (w ≤ hh.now.w) }
     requires heights { (h ≤ height hl.now) × (h ≤ height lh.now) × (h ≤ height hh.now) }
-    requires ll_small { GridWithin h w T.start (grid_of T.value T.none plane.now) }
-    requires hl_small { GridWithin h w T.start (grid_of T.value T.none hl.now) }
-    requires lh_small { GridWithin h w T.start (grid_of T.value T.none lh.now) }
-    requires hh_small { GridWithin h w T.start (grid_of T.value T.none hh.now) }
+    requires has_room { let grid = grid_of T.value T.none in
+        LevelFits wavelet (2 * h) (2 * w) T.reach (interleaved (grid plane.now) (grid hl.now) (grid lh.now) (grid hh.now)) }
     ensures same_width { scratch.new.w ≡ scratch.old.w }
     ensures same_height { height scratch.new ≡ height scratch.old }
     ensures row { let grid = grid_of T.value T.none in
@@ -122,10 +121,8 @@ fn put_below<T: Sampled>(
     requires high_scratch { 3 ≤ height scratch.old }
     requires widths { (w ≤ hl.now.w) × (w ≤ lh.now.w) × (w ≤ hh.now.w) }
     requires heights { (h ≤ height hl.now) × (h ≤ height lh.now) × (h ≤ height hh.now) }
-    requires ll_small { GridWithin h w T.start (grid_of T.value T.none plane.now) }
-    requires hl_small { GridWithin h w T.start (grid_of T.value T.none hl.now) }
-    requires lh_small { GridWithin h w T.start (grid_of T.value T.none lh.now) }
-    requires hh_small { GridWithin h w T.start (grid_of T.value T.none hh.now) }
+    requires has_room { let grid = grid_of T.value T.none in
+        LevelFits wavelet (2 * h) (2 * w) T.reach (interleaved (grid plane.now) (grid hl.now) (grid lh.now) (grid hh.now)) }
     ensures same_width { scratch.new.w ≡ scratch.old.w }
     ensures same_height { height scratch.new ≡ height scratch.old }
     ensures few { result < 2 }
@@ -162,7 +159,7 @@ pub(crate) fn roll_samples<T: Sampled>(
     wavelet: Wavelet,
 )
     requires some_bits { 1 ≤ area.depth }
-    requires bits { area.depth ≤ 16 }
+    requires bits { area.depth ≤ T.depths }
     requires count { length samples.old ≡ area.h * area.w }
     requires few { area.h * area.w ≤ 2 ^ 30 }
     requires across { area.w ≤ 2 * w }
@@ -177,10 +174,8 @@ pub(crate) fn roll_samples<T: Sampled>(
     requires high_scratch { 3 ≤ height scratch.old }
     requires widths { (w ≤ hl.now.w) × (w ≤ lh.now.w) × (w ≤ hh.now.w) }
     requires heights { (h ≤ height hl.now) × (h ≤ height lh.now) × (h ≤ height hh.now) }
-    requires ll_small { GridWithin h w T.start (grid_of T.value T.none plane.now) }
-    requires hl_small { GridWithin h w T.start (grid_of T.value T.none hl.now) }
-    requires lh_small { GridWithin h w T.start (grid_of T.value T.none lh.now) }
-    requires hh_small { GridWithin h w T.start (grid_of T.value T.none hh.now) }
+    requires has_room { let grid = grid_of T.value T.none in
+        LevelFits wavelet (2 * h) (2 * w) T.reach (interleaved (grid plane.now) (grid hl.now) (grid lh.now) (grid hh.now)) }
     ensures same_width_scratch { scratch.new.w ≡ scratch.old.w }
     ensures same_height_scratch { height scratch.new ≡ height scratch.old }
     ensures count { length samples.new ≡ length samples.old }

@@ -2,40 +2,46 @@
 
 ghost use Rattle.std.specs.Prelude.{◌≡◌, ℕ, ◌+◌, ◌-◌, ◌*◌, ◌/◌, ◌^◌, ◌<◌, ◌≤◌, length, slice_index_or, pos, neg_ℤ, ◌+ℤ◌, ◌-ℤ◌, ◌≤ℤ◌};
 ghost use Rattle.std.specs.Int.{int_min, int_max};
+ghost use Rattle.std.proofs.Common.{lit≤};
 ghost use Rattle.planes.specs.Numbers.{Within};
 ghost use Rattle.planes.specs.Valued.{valued, EachValued};
 ghost use Rattle.lifting.specs.declared.PairStep.TheVariants.{OddUp};
 ghost use Rattle.lifting.specs.Places.{woven, odd_stepped};
 ghost use Rattle.lifting.specs.Steps.{step, halved};
 ghost use Rattle.lifting.specs.Lines.{synthesis_line};
-ghost use Rattle.lifting.specs.Ranges.{LineWithin, line_reach};
+ghost use Rattle.lifting.specs.Fits.{LineFits};
 ghost use Rattle.lifting.specs.Clipping.{sample_of, clipped_up};
 ghost use Rattle.lifting.specs.LowerSamples.{rounded};
 
 use crate::halves::lift_even_half;
 use crate::kernels::{half_of, shifts, stepped};
-use crate::laned::Laned;
+use crate::lifted::Lifted;
 use crate::{PairStep, Wavelet};
 
 /// Numbers that become samples.
-pub trait Sampled: Laned {
+pub trait Sampled: Lifted {
+    // The most bits of a sample.
+    ghost depths: { ℕ };
+
+    ghost some_depths_law: { 4 ≤ depths };
+
     /// Half of the numbers of so many bits.
     fn half_range(depth: u32) -> Self
         requires some { 1 ≤ depth }
-        requires most { depth ≤ 16 }
+        requires most { depth ≤ depths }
         ensures { Self.value result ≡ pos (2 ^ (depth - 1)) };
 
     /// The nearest number from -half to half - 1.
     fn clip(v: Self, half: Self) -> Self
         requires some { pos 1 ≤ℤ Self.value half }
-        requires most { Self.value half ≤ℤ pos 32768 }
+        requires most { Self.value half ≤ℤ pos (2 ^ (depths - 1)) }
         ensures { Self.value result
             ≡ int_max (neg_ℤ (Self.value half)) (int_min (Self.value half -ℤ pos 1) (Self.value v)) };
 
     /// The same, counted from the lowest of them.
     fn offset(v: Self, half: Self) -> u16
         requires some { pos 1 ≤ℤ Self.value half }
-        requires most { Self.value half ≤ℤ pos 32768 }
+        requires most { Self.value half ≤ℤ pos (2 ^ (depths - 1)) }
         ensures { pos result ≡ clipped_up (Self.value half) (Self.value v) };
 
     /// A number over 2^shift, rounded, where half of that is `half`.
@@ -47,7 +53,39 @@ pub trait Sampled: Laned {
         ensures { Self.value result ≡ rounded shift (Self.value v) };
 }
 
+impl Sampled for i16 {
+    ghost depths = { 15 };
+
+    ghost some_depths_law = { lit≤ tt };
+
+    #[inline(always)]
+    fn half_range(depth: u32) -> i16 {
+        1 << (depth - 1)
+    }
+
+    #[inline(always)]
+    fn clip(v: i16, half: i16) -> i16 {
+        let most = half - 1;
+        let v = if most < v { most } else { v };
+        if v < -half { -half } else { v }
+    }
+
+    #[inline(always)]
+    fn offset(v: i16, half: i16) -> u16 {
+        (i16::clip(v, half) + half) as u16
+    }
+
+    #[inline(always)]
+    fn rounded(v: i16, half: i16, shift: u32) -> i16 {
+        (v + half) >> shift
+    }
+}
+
 impl Sampled for i32 {
+    ghost depths = { 16 };
+
+    ghost some_depths_law = { lit≤ tt };
+
     #[inline(always)]
     fn half_range(depth: u32) -> i32 {
         1 << (depth - 1)
@@ -72,6 +110,10 @@ impl Sampled for i32 {
 }
 
 impl Sampled for i64 {
+    ghost depths = { 16 };
+
+    ghost some_depths_law = { lit≤ tt };
+
     #[inline(always)]
     fn half_range(depth: u32) -> i64 {
         1 << (depth - 1)
@@ -98,7 +140,7 @@ impl Sampled for i64 {
 // A level's last step on a number.
 #[inline(always)]
 fn shifted<T: Sampled>(v: T, wavelet: Wavelet) -> T
-    requires { Within T.reach (T.value v) }
+    requires { Within (T.reach + T.reach) (T.value v) }
     ensures { T.value result ≡ halved wavelet (T.value v) }
 {
     if shifts(wavelet) { half_of(v) } else { v }
@@ -107,9 +149,9 @@ fn shifted<T: Sampled>(v: T, wavelet: Wavelet) -> T
 // The sample of a lifted number.
 #[inline(always)]
 fn sample<T: Sampled>(v: T, wavelet: Wavelet, half: T) -> u16
-    requires small { Within T.reach (T.value v) }
+    requires small { Within (T.reach + T.reach) (T.value v) }
     requires some { pos 1 ≤ℤ T.value half }
-    requires most { T.value half ≤ℤ pos 32768 }
+    requires most { T.value half ≤ℤ pos (2 ^ (T.depths - 1)) }
     ensures { pos result ≡ clipped_up (T.value half) (halved wavelet (T.value v)) }
 {
     T::offset(shifted(v, wavelet), half)
@@ -118,7 +160,7 @@ fn sample<T: Sampled>(v: T, wavelet: Wavelet, half: T) -> u16
 /// The samples of the first numbers of a band's row.
 pub(crate) fn sample_band<T: Sampled>(dst: &mut [u16], row: &[T], depth: u32)
     requires some_bits { 1 ≤ depth }
-    requires bits { depth ≤ 16 }
+    requires bits { depth ≤ T.depths }
     requires room { length dst.old ≤ length row.now }
     ensures { (i : ℕ) → i < length dst.old → slice_index_or dst.new i 0
         ≡ sample_of depth (valued T.value T.none row.now i) }
@@ -135,9 +177,8 @@ fn odd_sample<T: Sampled>(odd: T, a: T, b: T, wavelet: Wavelet, half: T) -> u16
     requires odd_small { Within T.reach (T.value odd) }
     requires a_small { Within T.reach (T.value a) }
     requires b_small { Within T.reach (T.value b) }
-    requires lifted_small { Within T.reach (step wavelet OddUp (T.value odd) (T.value a) (T.value b)) }
     requires some { pos 1 ≤ℤ T.value half }
-    requires most { T.value half ≤ℤ pos 32768 }
+    requires most { T.value half ≤ℤ pos (2 ^ (T.depths - 1)) }
     ensures { pos result
         ≡ clipped_up (T.value half) (halved wavelet (step wavelet OddUp (T.value odd) (T.value a) (T.value b))) }
 {
@@ -155,15 +196,13 @@ fn weave_each<T: Sampled>(
     half: T,
 )
     requires some { pos 1 ≤ℤ T.value half }
-    requires most { T.value half ≤ℤ pos 32768 }
+    requires most { T.value half ≤ℤ pos (2 ^ (T.depths - 1)) }
     requires short { length even.now ≤ 8208 }
     requires same_len { length odd.now ≡ length even.now }
     requires room { 2 * count ≤ length dst.old }
     requires inner { count < length even.now }
     requires even_small { EachValued T.value T.none T.reach even.now }
     requires odd_small { EachValued T.value T.none T.reach odd.now }
-    requires lifted_small { let at = valued T.value T.none in
-        LineWithin (length odd.now) T.reach (odd_stepped (step wavelet OddUp) (length odd.now) (at even.now) (at odd.now)) }
     ensures { let at = valued T.value T.none in
         (i : ℕ) → i < 2 * count → pos (slice_index_or dst.new i 0)
         ≡ clipped_up (T.value half)
@@ -186,15 +225,13 @@ fn weave_pairs<T: Sampled>(
     half: T,
 )
     requires some { pos 1 ≤ℤ T.value half }
-    requires most { T.value half ≤ℤ pos 32768 }
+    requires most { T.value half ≤ℤ pos (2 ^ (T.depths - 1)) }
     requires short { length even.now ≤ 8208 }
     requires same_len { length odd.now ≡ length even.now }
     requires room { 2 * count ≤ length dst.old }
     requires inner { count < length even.now }
     requires even_small { EachValued T.value T.none T.reach even.now }
     requires odd_small { EachValued T.value T.none T.reach odd.now }
-    requires lifted_small { let at = valued T.value T.none in
-        LineWithin (length odd.now) T.reach (odd_stepped (step wavelet OddUp) (length odd.now) (at even.now) (at odd.now)) }
     ensures { let at = valued T.value T.none in
         (i : ℕ) → i < 2 * count → pos (slice_index_or dst.new i 0)
         ≡ clipped_up (T.value half)
@@ -212,15 +249,13 @@ fn weave_pairs<T: Sampled>(
 // odd place there is no even one, and the even one before it stands for it.
 fn weave_samples<T: Sampled>(dst: &mut [u16], even: &[T], odd: &[T], wavelet: Wavelet, depth: u32)
     requires some_bits { 1 ≤ depth }
-    requires bits { depth ≤ 16 }
+    requires bits { depth ≤ T.depths }
     requires some { 1 ≤ length even.now }
     requires short { length even.now ≤ 8208 }
     requires same_len { length odd.now ≡ length even.now }
     requires room { length dst.old ≤ 2 * length even.now }
     requires even_small { EachValued T.value T.none T.reach even.now }
     requires odd_small { EachValued T.value T.none T.reach odd.now }
-    requires lifted_small { let at = valued T.value T.none in
-        LineWithin (length odd.now) T.reach (odd_stepped (step wavelet OddUp) (length odd.now) (at even.now) (at odd.now)) }
     ensures { let at = valued T.value T.none in
         (i : ℕ) → i < length dst.old → slice_index_or dst.new i 0
         ≡ sample_of depth (halved wavelet
@@ -248,13 +283,13 @@ fn sample_halves<T: Sampled>(
     depth: u32,
 )
     requires some_bits { 1 ≤ depth }
-    requires bits { depth ≤ 16 }
+    requires bits { depth ≤ T.depths }
     requires some { 1 ≤ length even.old }
     requires short { length even.old ≤ 4104 }
     requires same_len { length odd.now ≡ length even.old }
     requires room { length dst.old ≤ 2 * length even.old }
-    requires even_small { EachValued T.value T.none (line_reach T.start) even.old }
-    requires odd_small { EachValued T.value T.none (line_reach T.start) odd.now }
+    requires has_room { let at = valued T.value T.none in
+        LineFits wavelet (2 * length even.old) T.reach (woven (at even.old) (at odd.now)) }
     ensures { let at = valued T.value T.none in
         (i : ℕ) → i < length dst.old → slice_index_or dst.new i 0
         ≡ sample_of depth (halved wavelet
@@ -273,12 +308,13 @@ pub(crate) fn sample_sides<T: Sampled>(
     depth: u32,
 )
     requires some_bits { 1 ≤ depth }
-    requires bits { depth ≤ 16 }
+    requires bits { depth ≤ T.depths }
     requires some { 1 ≤ w }
     requires short { w ≤ 4104 }
     requires inside { 2 * w ≤ length row.old }
     requires room { length dst.old ≤ 2 * w }
-    requires small { LineWithin (2 * w) (line_reach T.start) (valued T.value T.none row.old) }
+    requires has_room { let at = valued T.value T.none in
+        LineFits wavelet (2 * w) T.reach (woven (at row.old) (λ j. at row.old (w + j))) }
     ensures { let at = valued T.value T.none in
         (i : ℕ) → i < length dst.old → slice_index_or dst.new i 0
         ≡ sample_of depth (halved wavelet

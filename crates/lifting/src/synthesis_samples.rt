@@ -6,7 +6,9 @@ ghost use Rattle.planes.specs.Valued.{grid_of};
 ghost use Rattle.planes.specs.Subbands.{HaveSizes};
 ghost use Rattle.lifting.specs.Transform.{interleaved, synthesis_level, synthesis};
 ghost use Rattle.lifting.specs.Ranges.{GridWithin, SameInside};
-ghost use Rattle.lifting.specs.Bands.{coefficients_in, lowest, AreIn};
+ghost use Rattle.lifting.specs.Bands.{coefficients_in, lowest};
+ghost use Rattle.lifting.specs.Fits.{FitIn};
+ghost use Rattle.lifting.specs.Carried.{AreShortIn};
 ghost use Rattle.lifting.specs.Clipping.{sample_of, AreSamplesOf};
 ghost use Rattle.lifting.specs.SampleRoom.{HaveRoom, IsShownArea, AreNarrowIn, AreSmallIn, synthesis_of, synthesis_in};
 
@@ -29,11 +31,12 @@ fn synth_last<T: Sampled>(
 )
     requires some { 1 ≤ bands.now.depth }
     requires room { HaveRoom bands.now w h plane.now scratch.old }
-    requires small { AreIn T.value T.none (T.start / 256) bands.now w h }
+    requires has_room { FitIn T.value T.none wavelet T.reach bands.now w h }
     requires below { let n = bands.now.depth - 1 in
         SameInside (lowest bands.now.depth h * 2 ^ n) (lowest bands.now.depth w * 2 ^ n) (grid_of T.value T.none plane.now)
         (synthesis wavelet (lowest bands.now.depth h) (lowest bands.now.depth w)
         (coefficients_in T.value T.none bands.now) n) }
+    requires bits { area.depth ≤ T.depths }
     requires shown { IsShownArea area w h samples.old }
     ensures same_width_scratch { scratch.new.w ≡ scratch.old.w }
     ensures same_height_scratch { height scratch.new ≡ height scratch.old }
@@ -64,7 +67,7 @@ fn synth_last<T: Sampled>(
 // Row y of the samples, from that row of a band.
 fn sample_row_of<T: Sampled>(samples: &mut [u16], area: SampleArea, y: u32, band: &Plane<T>)
     requires some_bits { 1 ≤ area.depth }
-    requires bits { area.depth ≤ 16 }
+    requires bits { area.depth ≤ T.depths }
     requires count { length samples.old ≡ area.h * area.w }
     requires few { area.h * area.w ≤ 2 ^ 30 }
     requires down { y < area.h }
@@ -83,7 +86,7 @@ fn sample_row_of<T: Sampled>(samples: &mut [u16], area: SampleArea, y: u32, band
 // The samples of the lowest band, where there is no level.
 pub(crate) fn sample_lowest<T: Sampled>(samples: &mut [u16], area: SampleArea, band: &Plane<T>)
     requires some_bits { 1 ≤ area.depth }
-    requires bits { area.depth ≤ 16 }
+    requires bits { area.depth ≤ T.depths }
     requires count { length samples.old ≡ area.h * area.w }
     requires few { area.h * area.w ≤ 2 ^ 30 }
     requires high { area.h ≤ height band.now }
@@ -123,6 +126,8 @@ pub fn synth_samples(
     ensures count { length samples.new ≡ length samples.old }
     ensures samples { AreSamplesOf area.w area.h area.depth samples.new (synthesis_of wavelet bands.now w h) }
 {
+    // A depth is at most 4.
+    let _ = bands.depth();
     synth_samples_of(wavelet, bands, w, h, plane, scratch, samples, area);
 }
 
@@ -149,6 +154,36 @@ pub fn synth_samples_narrow(
     ensures count { length samples.new ≡ length samples.old }
     ensures samples { AreSamplesOf area.w area.h area.depth samples.new (synthesis_of wavelet bands.now w h) }
 {
+    // A depth is at most 4.
+    let _ = bands.depth();
+    synth_samples_of(wavelet, bands, w, h, plane, scratch, samples, area);
+}
+
+/// The samples of a component as `synth_samples` has them, in 16 bits, from bands whose greatest magnitudes serve `fits_short`.
+///
+/// The sizes and the rooms are as `synth_samples` asks them. The samples have at most 15 bits. Both rooms hold any values
+/// afterwards.
+pub fn synth_samples_short(
+    wavelet: Wavelet,
+    bands: &Bands<i16>,
+    w: u32,
+    h: u32,
+    plane: &mut Plane<i16>,
+    scratch: &mut Plane<i16>,
+    samples: &mut [u16],
+    area: SampleArea,
+)
+    requires room { HaveRoom bands.now w h plane.old scratch.old }
+    requires short { AreShortIn wavelet bands.now w h }
+    requires few_bits { area.depth ≤ 15 }
+    requires shown { IsShownArea area w h samples.old }
+    ensures same_width { plane.new.w ≡ plane.old.w }
+    ensures same_height { height plane.new ≡ height plane.old }
+    ensures same_width_scratch { scratch.new.w ≡ scratch.old.w }
+    ensures same_height_scratch { height scratch.new ≡ height scratch.old }
+    ensures count { length samples.new ≡ length samples.old }
+    ensures samples { AreSamplesOf area.w area.h area.depth samples.new (synthesis_of wavelet bands.now w h) }
+{
     synth_samples_of(wavelet, bands, w, h, plane, scratch, samples, area);
 }
 
@@ -164,7 +199,8 @@ pub(crate) fn synth_samples_of<T: Sampled>(
     area: SampleArea,
 )
     requires room { HaveRoom bands.now w h plane.old scratch.old }
-    requires small { AreIn T.value T.none (T.start / 256) bands.now w h }
+    requires has_room { FitIn T.value T.none wavelet T.reach bands.now w h }
+    requires bits { area.depth ≤ T.depths }
     requires shown { IsShownArea area w h samples.old }
     ensures same_width { plane.new.w ≡ plane.old.w }
     ensures same_height { height plane.new ≡ height plane.old }

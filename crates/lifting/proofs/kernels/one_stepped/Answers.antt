@@ -1,7 +1,13 @@
 use Rattle.std.proofs.Common.{◌+ℤ◌, ◌-ℤ◌}
 use Rattle.lifting.specs.Steps.{one_step}
-use Rattle.lifting.proofs.Sums.{more_within, less_within, more_is, less_is}
+use Rattle.lifting.proofs.Sums.{more_within, less_within, more_is, less_is, twofold}
 use Rattle.lifting.proofs.kernels.one_stepped.Goals as goal
+
+pub half_of-requires : goal.half_of-requires
+half_of-requires g c = twofold g.T.Number.reach (g.T.Number.value c.args.a) c.requires.a_small
+
+pub half_of-requires-in-EvenUp : goal.half_of-requires-in-EvenUp
+half_of-requires-in-EvenUp g c = twofold g.T.Number.reach (g.T.Number.value c.args.a) c.requires.a_small
 
 pub sub-requires : goal.sub-requires
 sub-requires g c = g.met.T.Number.can_sub_law c.args.v c.half_of.result (g.met.T.Number.fits_law (g.T.Number.value c.args.v -ℤ g.T.Number.value c.half_of.result) (less_within g.T.Number.reach (g.T.Number.value c.args.v) (g.T.Number.value c.half_of.result) c.requires.v_small c.half_of.ensures.small))

@@ -1,11 +1,18 @@
-use Rattle.std.proofs.Common.{◌∙◌, ap, ℕ, ◌+◌, ◌-◌, ◌*◌, ◌≤◌, arith, List, length}
+use Rattle.std.proofs.Common.{◌∙◌, ap, sym, subst, ℕ, ◌+◌, ◌-◌, ◌*◌, ◌≤◌, arith, List, length}
 use Rattle.planes.specs.Valued.{valued}
 use Rattle.lifting.specs.Places.{woven}
+use Rattle.lifting.specs.Fits.{LineFits}
 use Rattle.lifting.specs.Steps.{halved}
 use Rattle.lifting.specs.Lines.{synthesis_line}
 use Rattle.lifting.specs.Clipping.{sample_of}
 use Rattle.lifting.proofs.SampleRows.{part_row, row_inside}
 use Rattle.lifting.proofs.roll_samples.sample_row.Goals as goal
+
+pub sample_sides-requires-clause-has_room : goal.sample_sides-requires-clause-has_room
+sample_sides-requires-clause-has_room g c =
+    let at = valued g.T.Number.value g.T.Number.none in
+    let w = c.args.w in
+    subst (λ (row : List g.row.T.Denot). LineFits c.args.wavelet (2 * w) g.T.Number.reach (woven (at row) (λ j. at row (w + j)))) (sym c.row_mut.ensures.value) c.requires.has_room
 
 pub returns-then-y-area-clause-row : goal.returns-then-y-area-clause-row
 returns-then-y-area-clause-row G c lt x lx =

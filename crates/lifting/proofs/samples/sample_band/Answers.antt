@@ -10,7 +10,7 @@ pub offset-requires-clause-some : goal.offset-requires-clause-some
 offset-requires-clause-some G c = half_some_of c.args.depth (G.T.Number.value c.half_range-half.result) c.half_range-half.ensures
 
 pub offset-requires-clause-most : goal.offset-requires-clause-most
-offset-requires-clause-most G c = half_most_of c.args.depth (G.T.Number.value c.half_range-half.result) c.requires.bits c.half_range-half.ensures
+offset-requires-clause-most G c = half_most_of c.args.depth G.T.Sampled.depths (G.T.Number.value c.half_range-half.result) c.requires.bits c.half_range-half.ensures
 
 pub loop-i-preserved : goal.loop-i-preserved
 loop-i-preserved G c =

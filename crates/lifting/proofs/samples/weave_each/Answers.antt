@@ -1,53 +1,33 @@
-use Rattle.std.proofs.Common.{◌≡◌, ◌∙◌, sym, ap, subst, ℕ, ◌+◌, ◌*◌, ◌<◌, ℤ, pos, length, arith}
-use Rattle.planes.specs.Numbers.{Within}
+use Rattle.std.proofs.Common.{◌≡◌, ◌∙◌, sym, ap, ℕ, ◌+◌, ◌*◌, ◌<◌, ℤ, pos, length, arith}
 use Rattle.planes.specs.Valued.{valued}
 use Rattle.lifting.specs.declared.PairStep.TheVariants.{OddUp}
 use Rattle.lifting.specs.Places.{woven, odd_stepped}
 use Rattle.lifting.specs.Steps.{step, halved}
 use Rattle.lifting.specs.Clipping.{clipped_up}
 use Rattle.lifting.proofs.TwoSides.{same_step}
-use Rattle.lifting.proofs.SampleRows.{put_two, woven_even, woven_odd, inner_is, read_is, read_small}
+use Rattle.lifting.proofs.Sums.{twofold}
+use Rattle.lifting.proofs.WovenLines.{woven_even, woven_odd}
+use Rattle.lifting.proofs.SampleRows.{put_two, inner_is, read_is, read_small}
 use Rattle.lifting.proofs.samples.weave_each.Goals as goal
+
+pub sample-requires-clause-small : goal.sample-requires-clause-small
+sample-requires-clause-small G c =
+    twofold G.T.Number.reach _ (read_small G.T.Number.value G.T.Number.none G.T.Number.reach c.args.even.now c.loop-k.k c.index-even-k.result (omega (arith, c.loop-k-test.true, c.requires.inner)) c.index-even-k.is c.requires.even_small)
 
 pub odd_sample-requires-clause-odd_small : goal.odd_sample-requires-clause-odd_small
 odd_sample-requires-clause-odd_small G c =
-    let n : ℕ = length c.args.odd.now in
-    let e : ℕ → ℤ = valued G.T.Number.value G.T.Number.none c.args.even.now in
-    let o : ℕ → ℤ = valued G.T.Number.value G.T.Number.none c.args.odd.now in
-    let f = step c.args.wavelet OddUp in
-    let k : ℕ = c.loop-k.k in
-    let lt : k + 1 < n = omega (arith, c.loop-k-test.true, c.requires.inner, c.requires.same_len) in
-    read_small G.T.Number.value G.T.Number.none G.T.Number.reach c.args.odd.now k c.index-odd-k.result (omega (arith, c.requires.same_len)) c.index-odd-k.is c.requires.odd_small
+    let lt : c.loop-k.k + 1 < length c.args.odd.now = omega (arith, c.loop-k-test.true, c.requires.inner, c.requires.same_len) in
+    read_small G.T.Number.value G.T.Number.none G.T.Number.reach c.args.odd.now c.loop-k.k c.index-odd-k.result (omega (arith, c.requires.same_len)) c.index-odd-k.is c.requires.odd_small
 
 pub odd_sample-requires-clause-a_small : goal.odd_sample-requires-clause-a_small
 odd_sample-requires-clause-a_small G c =
-    let n : ℕ = length c.args.odd.now in
-    let e : ℕ → ℤ = valued G.T.Number.value G.T.Number.none c.args.even.now in
-    let o : ℕ → ℤ = valued G.T.Number.value G.T.Number.none c.args.odd.now in
-    let f = step c.args.wavelet OddUp in
-    let k : ℕ = c.loop-k.k in
-    let lt : k + 1 < n = omega (arith, c.loop-k-test.true, c.requires.inner, c.requires.same_len) in
-    read_small G.T.Number.value G.T.Number.none G.T.Number.reach c.args.even.now k c.index-even-k-in-loop-k.result (omega (arith, c.requires.same_len)) c.index-even-k-in-loop-k.is c.requires.even_small
+    let lt : c.loop-k.k + 1 < length c.args.odd.now = omega (arith, c.loop-k-test.true, c.requires.inner, c.requires.same_len) in
+    read_small G.T.Number.value G.T.Number.none G.T.Number.reach c.args.even.now c.loop-k.k c.index-even-k-in-loop-k.result (omega (arith, c.requires.same_len)) c.index-even-k-in-loop-k.is c.requires.even_small
 
 pub odd_sample-requires-clause-b_small : goal.odd_sample-requires-clause-b_small
 odd_sample-requires-clause-b_small G c =
-    let n : ℕ = length c.args.odd.now in
-    let e : ℕ → ℤ = valued G.T.Number.value G.T.Number.none c.args.even.now in
-    let o : ℕ → ℤ = valued G.T.Number.value G.T.Number.none c.args.odd.now in
-    let f = step c.args.wavelet OddUp in
-    let k : ℕ = c.loop-k.k in
-    let lt : k + 1 < n = omega (arith, c.loop-k-test.true, c.requires.inner, c.requires.same_len) in
-    read_small G.T.Number.value G.T.Number.none G.T.Number.reach c.args.even.now (k + 1) c.index-even-k-in-loop-k-2.result (omega (arith, c.requires.same_len)) c.index-even-k-in-loop-k-2.is c.requires.even_small
-
-pub odd_sample-requires-clause-lifted_small : goal.odd_sample-requires-clause-lifted_small
-odd_sample-requires-clause-lifted_small G c =
-    let n : ℕ = length c.args.odd.now in
-    let e : ℕ → ℤ = valued G.T.Number.value G.T.Number.none c.args.even.now in
-    let o : ℕ → ℤ = valued G.T.Number.value G.T.Number.none c.args.odd.now in
-    let f = step c.args.wavelet OddUp in
-    let k : ℕ = c.loop-k.k in
-    let lt : k + 1 < n = omega (arith, c.loop-k-test.true, c.requires.inner, c.requires.same_len) in
-    subst (Within G.T.Number.reach) (sym (same_step f _ _ _ _ _ _ (read_is G.T.Number.value G.T.Number.none c.args.odd.now k c.index-odd-k.result (omega (arith, c.requires.same_len)) c.index-odd-k.is) (read_is G.T.Number.value G.T.Number.none c.args.even.now k c.index-even-k-in-loop-k.result (omega (arith, c.requires.same_len)) c.index-even-k-in-loop-k.is) (read_is G.T.Number.value G.T.Number.none c.args.even.now (k + 1) c.index-even-k-in-loop-k-2.result (omega (arith, c.requires.same_len)) c.index-even-k-in-loop-k-2.is) ∙ inner_is f n e o k lt)) (c.requires.lifted_small k (omega (arith, lt)))
+    let lt : c.loop-k.k + 1 < length c.args.odd.now = omega (arith, c.loop-k-test.true, c.requires.inner, c.requires.same_len) in
+    read_small G.T.Number.value G.T.Number.none G.T.Number.reach c.args.even.now (c.loop-k.k + 1) c.index-even-k-in-loop-k-2.result (omega (arith, c.requires.same_len)) c.index-even-k-in-loop-k-2.is c.requires.even_small
 
 pub loop-k-preserved : goal.loop-k-preserved
 loop-k-preserved G c =

@@ -1,27 +1,42 @@
-use Rattle.std.proofs.Common.{◌≡◌, ◌∙◌, sym, ap, subst, ℕ, ◌+◌, ◌*◌, ◌<◌, ◌≤◌, ℤ, length, get_or, arith}
-use Rattle.planes.specs.Numbers.{Within}
+use Rattle.std.proofs.Common.{◌≡◌, ◌∙◌, sym, ap, ℕ, ◌+◌, ◌*◌, ◌<◌, ◌≤◌, ℤ, length, get_or, arith}
 use Rattle.planes.specs.Valued.{valued}
 use Rattle.lifting.specs.declared.PairStep.TheVariants.{OddUp}
 use Rattle.lifting.specs.Places.{woven, odd_stepped}
 use Rattle.lifting.specs.Steps.{step, halved}
 use Rattle.lifting.specs.Clipping.{clipped_up, sample_of}
 use Rattle.lifting.proofs.TwoSides.{same_step}
-use Rattle.lifting.proofs.SampleRows.{put_one, put_two, woven_even, woven_odd, last_is, read_is, sample_is}
+use Rattle.lifting.proofs.Sums.{twofold}
+use Rattle.lifting.proofs.WovenLines.{woven_even, woven_odd}
+use Rattle.lifting.proofs.SampleRows.{put_one, put_two, last_is, read_is, read_small, sample_is, half_some_of, half_most_of}
 use Rattle.lifting.proofs.samples.weave_samples.Goals.{then-n-last, else-n-last}
 use Rattle.lifting.proofs.samples.weave_samples.Goals as goal
 
-pub odd_sample-requires-clause-lifted_small : goal.odd_sample-requires-clause-lifted_small
-odd_sample-requires-clause-lifted_small G c =
-    let n : ℕ = length c.args.odd.now in
-    let e : ℕ → ℤ = valued G.T.Number.value G.T.Number.none c.args.even.now in
-    let o : ℕ → ℤ = valued G.T.Number.value G.T.Number.none c.args.odd.now in
-    let f = step c.args.wavelet OddUp in
+pub weave_pairs-requires-clause-some : goal.weave_pairs-requires-clause-some
+weave_pairs-requires-clause-some G c = half_some_of c.args.depth (G.T.Number.value c.half_range-half.result) c.half_range-half.ensures
+
+pub weave_pairs-requires-clause-most : goal.weave_pairs-requires-clause-most
+weave_pairs-requires-clause-most G c = half_most_of c.args.depth G.T.Sampled.depths (G.T.Number.value c.half_range-half.result) c.requires.bits c.half_range-half.ensures
+
+pub sample-requires-clause-some : goal.sample-requires-clause-some
+sample-requires-clause-some G c = half_some_of c.args.depth (G.T.Number.value c.half_range-half.result) c.half_range-half.ensures
+
+pub sample-requires-clause-most : goal.sample-requires-clause-most
+sample-requires-clause-most G c = half_most_of c.args.depth G.T.Sampled.depths (G.T.Number.value c.half_range-half.result) c.requires.bits c.half_range-half.ensures
+
+pub odd_sample-requires-clause-some : goal.odd_sample-requires-clause-some
+odd_sample-requires-clause-some G c = half_some_of c.args.depth (G.T.Number.value c.half_range-half.result) c.half_range-half.ensures
+
+pub odd_sample-requires-clause-most : goal.odd_sample-requires-clause-most
+odd_sample-requires-clause-most G c = half_most_of c.args.depth G.T.Sampled.depths (G.T.Number.value c.half_range-half.result) c.requires.bits c.half_range-half.ensures
+
+pub sample-requires-clause-small : goal.sample-requires-clause-small
+sample-requires-clause-small G c =
     let k : ℕ = c.if-n-last.count in
-    let last : k + 1 ≡ n = elim c.if-n-last.branch [
-      | then-n-last w ↦ absurd (omega (arith, w.count-is, c.if-n-count-2.true))
-      | else-n-last w ↦ omega (arith, w.count-is, c.requires.some, c.requires.same_len)
+    let inside : k < length c.args.even.now = elim c.if-n-last.branch [
+      | then-n-last w ↦ omega (arith, w.count-is, w.if-n-last.true)
+      | else-n-last w ↦ omega (arith, w.count-is, c.requires.some)
     ] in
-    subst (Within G.T.Number.reach) (sym (same_step f _ _ _ _ _ _ (read_is G.T.Number.value G.T.Number.none c.args.odd.now k c.index-odd-count.result (omega (arith, last, c.requires.same_len)) c.index-odd-count.is) (read_is G.T.Number.value G.T.Number.none c.args.even.now k c.index-even-count-then-n-count-2.result (omega (arith, last, c.requires.same_len)) c.index-even-count-then-n-count-2.is) (read_is G.T.Number.value G.T.Number.none c.args.even.now k c.index-even-count-then-n-count-2-2.result (omega (arith, last, c.requires.same_len)) c.index-even-count-then-n-count-2-2.is) ∙ last_is f n e o k last)) (c.requires.lifted_small k (omega (arith, last)))
+    twofold G.T.Number.reach _ (read_small G.T.Number.value G.T.Number.none G.T.Number.reach c.args.even.now k c.index-even-count.result inside c.index-even-count.is c.requires.even_small)
 
 pub returns-then-n-count-2 : goal.returns-then-n-count-2
 returns-then-n-count-2 G c i lt =

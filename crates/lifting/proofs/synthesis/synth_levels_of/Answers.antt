@@ -1,10 +1,10 @@
-use Rattle.std.proofs.Common.{◌≡◌, ◌∙◌, ap, subst, refl, ℕ, ◌*◌, ◌/◌, ◌^◌, ◌<◌, arith}
+use Rattle.std.proofs.Common.{◌≡◌, ◌∙◌, ap, subst, refl, ℕ, ◌*◌, ◌^◌, ◌<◌, arith}
 use Rattle.planes.specs.Valued.{grid_of}
 use Rattle.planes.specs.Raster.{Raster}
 use Rattle.lifting.specs.Bands.{lowest, coefficients_in}
 use Rattle.lifting.specs.Ranges.{SameInside}
 use Rattle.lifting.specs.Transform.{synthesis}
-use Rattle.lifting.proofs.Levels.{fits_in_levels, lowest_in_levels, lowest_columns, lowest_rows, columns_of, rows_of, level_up, level_small}
+use Rattle.lifting.proofs.Levels.{fits_in_levels, lowest_in_levels, lowest_columns, lowest_rows, columns_of, rows_of, level_up, next_fits}
 use Rattle.lifting.proofs.synthesis.synth_levels_of.Goals as goal
 
 pub put_lowest-requires-clause-fits : goal.put_lowest-requires-clause-fits
@@ -78,18 +78,17 @@ synth_up-requires-clause-high_scratch G c =
     let in_all : n < b.depth = omega (arith, c.requires.few) in
     omega (arith, c.loop-n.invariant.same_height_scratch, rows_of b c.args.w h q.whole_columns q.whole_rows q.bands n 1 in_all (omega arith) (omega arith) c.band-hl.result.now c.band-hl.ensures, fits_in_levels (lowest b.depth h) n c.args.levels lt, q.scratch_rows)
 
-pub synth_up-requires-clause-small : goal.synth_up-requires-clause-small
-synth_up-requires-clause-small G c =
+pub synth_up-requires-clause-has_room : goal.synth_up-requires-clause-has_room
+synth_up-requires-clause-has_room G c =
     let q = c.requires.room in
     let b = c.args.bands.now in
     let w : ℕ = c.args.w in
     let h : ℕ = c.args.h in
     let n = c.loop-n.n in
-    let lt : n < c.args.levels = omega (arith, c.loop-n-test.true) in
-    let in_all : n < b.depth = omega (arith, c.requires.few) in
-    level_small G.T.Number.value G.T.Number.none c.args.wavelet (lowest b.depth h) (lowest b.depth w) b n c.loop-n.plane c.band-hl.result.now c.band-lh.result.now c.band-hh.result.now c.band-hl.ensures c.band-lh.ensures c.band-hh.ensures
+    let in_all : n < b.depth = omega (arith, c.requires.few, c.loop-n-test.true) in
+    next_fits G.T.Number.value G.T.Number.none c.args.wavelet (lowest b.depth h) (lowest b.depth w) b n c.loop-n.plane c.band-hl.result.now c.band-lh.result.now c.band-hh.result.now c.band-hl.ensures c.band-lh.ensures c.band-hh.ensures
     (rows_of b w h q.whole_columns q.whole_rows q.bands n 1 in_all (omega arith) (omega arith) c.band-hl.result.now c.band-hl.ensures) (columns_of b w h q.whole_columns q.whole_rows q.bands n 1 in_all (omega arith) (omega arith) c.band-hl.result.now c.band-hl.ensures)
-    c.loop-n.invariant.levels (G.T.Laned.start / 256) (G.T.Laned.start / 256) G.T.Laned.start b.depth G.met.T.Laned.levels_law (omega arith) c.requires.small in_all (omega (arith, c.depth.ensures))
+    c.loop-n.invariant.levels G.T.Number.reach b.depth c.requires.has_room in_all
 
 pub loop-n-preserved : goal.loop-n-preserved
 loop-n-preserved G c =

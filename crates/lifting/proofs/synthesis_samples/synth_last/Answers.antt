@@ -1,44 +1,17 @@
-use Rattle.std.proofs.Common.{◌∙◌, ap, ℕ, ◌/◌, arith}
+use Rattle.std.proofs.Common.{◌∙◌, ap, ℕ, arith}
 use Rattle.lifting.specs.Clipping.{sample_of}
 use Rattle.lifting.proofs.Levels.{twice_half}
 use Rattle.lifting.proofs.LastLevel as last
 use Rattle.lifting.proofs.synthesis_samples.synth_last.Goals as goal
 
-pub roll_samples-requires-clause-ll_small : goal.roll_samples-requires-clause-ll_small
-roll_samples-requires-clause-ll_small G c =
+pub roll_samples-requires-clause-has_room : goal.roll_samples-requires-clause-has_room
+roll_samples-requires-clause-has_room G c =
     let q = c.requires.room in
     let w : ℕ = c.args.w in
-    last.ll_small G.T.Number.value G.T.Number.none c.args.wavelet w c.args.h c.args.bands.now c.requires.some (omega (arith, c.depth-depth.ensures)) q.whole_columns q.whole_rows q.bands
+    last.last_fits G.T.Number.value G.T.Number.none c.args.wavelet w c.args.h c.args.bands.now c.requires.some q.whole_columns q.whole_rows q.bands
     c.args.plane.now c.band-hl.result.now c.band-lh.result.now c.band-hh.result.now c.depth-depth.result c.depth-depth.ensures.value
     c.band-hl.ensures c.band-lh.ensures c.band-hh.ensures c.requires.below
-    (G.T.Laned.start / 256) (G.T.Laned.start / 256) G.T.Laned.start G.met.T.Laned.levels_law (omega arith) c.requires.small
-
-pub roll_samples-requires-clause-hl_small : goal.roll_samples-requires-clause-hl_small
-roll_samples-requires-clause-hl_small G c =
-    let q = c.requires.room in
-    let w : ℕ = c.args.w in
-    last.hl_small G.T.Number.value G.T.Number.none c.args.wavelet w c.args.h c.args.bands.now c.requires.some (omega (arith, c.depth-depth.ensures)) q.whole_columns q.whole_rows q.bands
-    c.args.plane.now c.band-hl.result.now c.band-lh.result.now c.band-hh.result.now c.depth-depth.result c.depth-depth.ensures.value
-    c.band-hl.ensures c.band-lh.ensures c.band-hh.ensures c.requires.below
-    (G.T.Laned.start / 256) (G.T.Laned.start / 256) G.T.Laned.start G.met.T.Laned.levels_law (omega arith) c.requires.small
-
-pub roll_samples-requires-clause-lh_small : goal.roll_samples-requires-clause-lh_small
-roll_samples-requires-clause-lh_small G c =
-    let q = c.requires.room in
-    let w : ℕ = c.args.w in
-    last.lh_small G.T.Number.value G.T.Number.none c.args.wavelet w c.args.h c.args.bands.now c.requires.some (omega (arith, c.depth-depth.ensures)) q.whole_columns q.whole_rows q.bands
-    c.args.plane.now c.band-hl.result.now c.band-lh.result.now c.band-hh.result.now c.depth-depth.result c.depth-depth.ensures.value
-    c.band-hl.ensures c.band-lh.ensures c.band-hh.ensures c.requires.below
-    (G.T.Laned.start / 256) (G.T.Laned.start / 256) G.T.Laned.start G.met.T.Laned.levels_law (omega arith) c.requires.small
-
-pub roll_samples-requires-clause-hh_small : goal.roll_samples-requires-clause-hh_small
-roll_samples-requires-clause-hh_small G c =
-    let q = c.requires.room in
-    let w : ℕ = c.args.w in
-    last.hh_small G.T.Number.value G.T.Number.none c.args.wavelet w c.args.h c.args.bands.now c.requires.some (omega (arith, c.depth-depth.ensures)) q.whole_columns q.whole_rows q.bands
-    c.args.plane.now c.band-hl.result.now c.band-lh.result.now c.band-hh.result.now c.depth-depth.result c.depth-depth.ensures.value
-    c.band-hl.ensures c.band-lh.ensures c.band-hh.ensures c.requires.below
-    (G.T.Laned.start / 256) (G.T.Laned.start / 256) G.T.Laned.start G.met.T.Laned.levels_law (omega arith) c.requires.small
+    G.T.Number.reach c.requires.has_room
 
 pub roll_samples-requires-clause-across : goal.roll_samples-requires-clause-across
 roll_samples-requires-clause-across G c =
@@ -57,7 +30,7 @@ pub roll_samples-requires-clause-widths : goal.roll_samples-requires-clause-widt
 roll_samples-requires-clause-widths G c =
     let q = c.requires.room in
     let w : ℕ = c.args.w in
-    last.wide_enough G.T.Number.value G.T.Number.none c.args.wavelet w c.args.h c.args.bands.now c.requires.some (omega (arith, c.depth-depth.ensures)) q.whole_columns q.whole_rows q.bands
+    last.wide_enough G.T.Number.value G.T.Number.none c.args.wavelet w c.args.h c.args.bands.now c.requires.some q.whole_columns q.whole_rows q.bands
     c.args.plane.now c.band-hl.result.now c.band-lh.result.now c.band-hh.result.now c.depth-depth.result c.depth-depth.ensures.value
     c.band-hl.ensures c.band-lh.ensures c.band-hh.ensures c.requires.below
 
@@ -65,7 +38,7 @@ pub roll_samples-requires-clause-heights : goal.roll_samples-requires-clause-hei
 roll_samples-requires-clause-heights G c =
     let q = c.requires.room in
     let w : ℕ = c.args.w in
-    last.high_enough G.T.Number.value G.T.Number.none c.args.wavelet w c.args.h c.args.bands.now c.requires.some (omega (arith, c.depth-depth.ensures)) q.whole_columns q.whole_rows q.bands
+    last.high_enough G.T.Number.value G.T.Number.none c.args.wavelet w c.args.h c.args.bands.now c.requires.some q.whole_columns q.whole_rows q.bands
     c.args.plane.now c.band-hl.result.now c.band-lh.result.now c.band-hh.result.now c.depth-depth.result c.depth-depth.ensures.value
     c.band-hl.ensures c.band-lh.ensures c.band-hh.ensures c.requires.below
 
@@ -89,7 +62,7 @@ returns-clause-samples G c y x ly lx =
     let w : ℕ = c.args.w in
     c.roll_samples.ensures.level y x ly lx
     ∙ ap (sample_of c.args.area.depth)
-    (last.last_is G.T.Number.value G.T.Number.none c.args.wavelet w c.args.h c.args.bands.now c.requires.some (omega (arith, c.depth-depth.ensures)) q.whole_columns q.whole_rows q.bands
+    (last.last_is G.T.Number.value G.T.Number.none c.args.wavelet w c.args.h c.args.bands.now c.requires.some q.whole_columns q.whole_rows q.bands
     c.args.plane.now c.band-hl.result.now c.band-lh.result.now c.band-hh.result.now c.depth-depth.result c.depth-depth.ensures.value
     c.band-hl.ensures c.band-lh.ensures c.band-hh.ensures c.requires.below
     y x (omega (arith, ly, c.requires.shown.down)) (omega (arith, lx, c.requires.shown.across)))

@@ -1,6 +1,6 @@
-use Rattle.std.proofs.Common.{◌^◌, lit≤}
-use Rattle.lifting.proofs.Levels.{evened}
+use Rattle.std.proofs.Common.{arith}
+use Rattle.lifting.proofs.Fitting.{wide_fits}
 use Rattle.lifting.proofs.synthesis_samples.synth_samples.Goals as goal
 
-pub synth_samples_of-requires-clause-small : goal.synth_samples_of-requires-clause-small
-synth_samples_of-requires-clause-small c = evened _ _ _ (2 ^ 50) (2 ^ 36) _ (lit≤ tt) c.requires.small
+pub synth_samples_of-requires-clause-has_room : goal.synth_samples_of-requires-clause-has_room
+synth_samples_of-requires-clause-has_room c = wide_fits c.args.wavelet _ _ c.args.bands.now.depth _ (omega (arith, c.depth.ensures)) c.requires.small

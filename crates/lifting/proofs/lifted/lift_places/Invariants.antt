@@ -1,0 +1,12 @@
+use Rattle.std.proofs.Common.{◌≡◌, ℕ, ◌<◌, ◌≤◌}
+use Rattle.planes.specs.Valued.{valued}
+use Rattle.lifting.specs.Steps.{step}
+use Rattle.lifting.proofs.lifted.lift_places.Given as goal
+
+abbrev pub invariant-loop-i : goal.invariant-loop-i
+invariant-loop-i g l =
+    let at = valued g.T.Number.value g.T.Number.none in
+    record {
+      done : (k : ℕ) → k < l.i → at l.dst k ≡ step l.wavelet l.kind (at l.fn.dst k) (at l.a k) (at l.b k);
+      rest : (k : ℕ) → l.i ≤ k → at l.dst k ≡ at l.fn.dst k;
+    }

@@ -1,0 +1,6 @@
+use Rattle.std.proofs.Common.{arith}
+use Rattle.lifting.proofs.Fitting.{narrow_fits}
+use Rattle.lifting.proofs.synthesis_samples.synth_samples_narrow.Goals as goal
+
+pub synth_samples_of-requires-clause-has_room : goal.synth_samples_of-requires-clause-has_room
+synth_samples_of-requires-clause-has_room c = narrow_fits c.args.wavelet _ _ c.args.bands.now.depth _ (omega (arith, c.depth.ensures)) c.requires.small
