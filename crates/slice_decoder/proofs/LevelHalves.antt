@@ -17,7 +17,7 @@ if_not : (t : Bool) (a b : ℕ) → t ≡ false → (if t then a else b) ≡ b
 if_not t a b e = ap (λ (u : Bool). if u then a else b) e
 
 -- a multiple of a power, over a lower one
-over_power : (d e k m : ℕ) → d ≡ e + k → 2 ^ d * m / 2 ^ e ≡ 2 ^ k * m
+pub over_power : (d e k m : ℕ) → d ≡ e + k → 2 ^ d * m / 2 ^ e ≡ 2 ^ k * m
 over_power d e k m is =
     let power : 2 ^ d ≡ 2 ^ e * 2 ^ k = ap (λ (n : ℕ). 2 ^ n) is ∙ pow-add 2 e k in
     ap (λ (n : ℕ). n * m / 2 ^ e) power ∙ ap (λ (n : ℕ). n / 2 ^ e) (mul_assoc (2 ^ e) (2 ^ k) m) ∙ mul-div_cancel_left (2 ^ k * m) (pow_pos e)

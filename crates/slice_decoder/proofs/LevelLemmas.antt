@@ -3,16 +3,17 @@ use Rattle.std.proofs.Common.{◌≡◌, ℕ, zero, suc, ◌+◌, ◌-◌, ◌*�
 use Rattle.std.proofs.Math.Nat.{div-le_self, mul-le-mul_left, mul-le-mul_right}
 use Rattle.std.proofs.lemmas.List.{length-append, length-replicate}
 use Rattle.planes.specs.declared.Rect.{Rect}
+use Rattle.planes.specs.Subbands.{BandExists, band_index}
 use Rattle.slice_geometry.specs.declared.Size.{Size}
 use Rattle.slice_geometry.specs.Shape.{IsSize}
 use Rattle.slice_geometry.specs.Slicing.{Slicing}
 use Rattle.slice_geometry.specs.Geometry.{padded_length, band_length, band_size}
-use Rattle.slice_geometry.specs.SliceOrder.{level_rect, area, places_to, place_count, level_of}
+use Rattle.slice_geometry.specs.SliceOrder.{level_rect, area, places_to, places_before, place_count, level_of}
 use Rattle.slice_geometry.proofs.Lengths.{padded_most}
 use Rattle.slice_geometry.proofs.RectsInBands.{start_before_end, end_inside}
 use Rattle.slice_decoder.specs.Components.{Part, rect_of, index_of, quantisers_before, quantisers_of}
 use Rattle.slice_decoder.specs.Levels.{IsLowRect, AreRects, no_rect, places_in}
-use Rattle.slice_decoder.proofs.Whole.{length-to_level}
+use Rattle.slice_decoder.proofs.Whole.{length-to_level, length-before_band}
 
 cond_le : (b : Bool) (x y n : ℕ) → x ≤ n → y ≤ n → cond b x y ≤ n
 cond_le true x y n h k = h
@@ -73,6 +74,11 @@ unfolding any_part
 places_all s size sx sy =
     let p = any_part s size sx sy in
     omega (arith, length-places 1 (any_part s size sx sy) (3 * s.depth + 1), length-to_level 1 (any_part s size sx sy) s.depth)
+
+pub places_to_band : (s : Slicing) (size : Size) (sx sy level orient : ℕ) → BandExists s.depth level orient → places_in s size sx sy (band_index level orient) ≡ places_before s size sx sy level orient
+unfolding any_part
+places_to_band s size sx sy level orient e =
+    omega (arith, length-places 1 (any_part s size sx sy) (band_index level orient), length-before_band 1 (any_part s size sx sy) level orient e)
 
 -- the values of a band are among those of the slice
 pub places_inside : (each : ℕ) (s : Slicing) (size : Size) (sx sy k : ℕ) → k < 3 * s.depth + 1

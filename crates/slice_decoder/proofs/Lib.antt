@@ -13,3 +13,5 @@ pub mod Restores
 pub mod RestoredBands
 pub mod Placed
 pub mod PairLanes
+pub mod ShortPlaces
+pub mod ShortTakes

@@ -29,7 +29,7 @@ use Rattle.slice_decoder.proofs.Ready.{at-zeros}
 
 -- ---- values
 
-zero_narrow : (v : ℤ) → v ≡ pos 0 → IsNarrow v
+pub zero_narrow : (v : ℤ) → v ≡ pos 0 → IsNarrow v
 zero_narrow v is =
     let zero_is : IsNarrow (pos 0) = record { low = omega (arith, ints); high = omega (arith, ints) } in
     subst IsNarrow (sym is) zero_is
@@ -66,18 +66,18 @@ pub all-small : (values : List ℤ) (n : ℕ) (answer : Bool) → answer ≡ tru
 all-small values n answer good is stay = are_small-all values (λ k lt. omega (arith, stay.yes good k (omega arith) (omega (arith, lt, is))))
 
 pub needs-more : (room n : ℕ) (values : List ℤ) (answer : Bool) → answer ≡ false → StayWithin (2 ^ 18) answer (λ k. get_or values k (pos 0)) 0 n
-    → NeedMore room values
+    → NeedMore (pos (2 ^ 18)) room values
 needs-more room n values answer refused stay = inr (λ all. stay.no refused (λ k low lt. narrow-within (get_or values k (pos 0)) (all k)))
 
 -- ---- two blocks
 
 -- what an answer says of the colour block, behind a luma block whose values fit
-pub both-answer : (room : ℕ) (luma colour : Part) (luma_block colour_block : List Bool) (old new : Trio) (fit : Bool)
+pub both-answer : (most : ℤ) (room : ℕ) (luma colour : Part) (luma_block colour_block : List Bool) (old new : Trio) (fit : Bool)
     → are_small (block_values 1 luma luma_block) ≡ true → BandsHold 1 0 luma (3 * luma.slicing.depth + 1) luma_block old.luma new.luma
-    → Answers room (block_values 2 colour colour_block) (BandsHold 2 0 colour (3 * colour.slicing.depth + 1) colour_block old.c1 new.c1 × BandsHold 2 1 colour (3 * colour.slicing.depth + 1) colour_block old.c2 new.c2) fit
-    → BothAnswer room luma colour luma_block colour_block old new fit
-both-answer room luma colour luma_block colour_block old new true small held answer = (small, answer.0, held, answer.1.0, answer.1.1)
-both-answer room luma colour luma_block colour_block old new false small held answer = inr answer
+    → Answers most room (block_values 2 colour colour_block) (BandsHold 2 0 colour (3 * colour.slicing.depth + 1) colour_block old.c1 new.c1 × BandsHold 2 1 colour (3 * colour.slicing.depth + 1) colour_block old.c2 new.c2) fit
+    → BothAnswer most room luma colour luma_block colour_block old new fit
+both-answer most room luma colour luma_block colour_block old new true small held answer = (small, answer.0, held, answer.1.0, answer.1.1)
+both-answer most room luma colour luma_block colour_block old new false small held answer = inr answer
 
 pub both-true : (lumas colours : List ℤ) → are_small lumas ≡ true → are_small colours ≡ true → true ≡ (are_small lumas && are_small colours)
 both-true lumas colours one two = sym (ap (λ b. b && are_small colours) one ∙ two)
@@ -92,7 +92,7 @@ narrow-zero depth w h b new level orient e y x down right =
 -- ---- they stay narrow
 
 -- narrow values at the places of a rectangle
-rect_narrow : (each from : ℕ) (r : Rect) (values : List ℤ) (start : ℕ) (old new : Raster ℤ) → HoldsRect each from r (drop start values) old new
+pub rect_narrow : (each from : ℕ) (r : Rect) (values : List ℤ) (start : ℕ) (old new : Raster ℤ) → HoldsRect each from r (drop start values) old new
     → ((k : ℕ) → IsNarrow (get_or values k (pos 0))) → IsPlaneWithin (pos (2 ^ 18)) old → IsPlaneWithin (pos (2 ^ 18)) new
 rect_narrow each from r values start old new holds narrow all y x ly lx = elim (in_rect_or_not r y x) as (λ _. IsNarrow (at new y x)) [
   | inl here ↦

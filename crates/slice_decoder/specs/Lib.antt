@@ -7,3 +7,4 @@ pub mod RestoredBands
 pub mod Decoded
 pub mod Read
 pub mod Narrow
+pub mod Short

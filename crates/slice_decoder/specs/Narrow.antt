@@ -3,7 +3,7 @@ use Rattle.std.specs.Prelude.{◌≡◌, ℕ, ◌+◌, ◌*◌, ◌^◌, ◌<◌
 use Rattle.planes.specs.Raster.{at}
 use Rattle.planes.specs.declared.Rect.{Rect}
 use Rattle.planes.specs.Rect.{IsInRect}
-use Rattle.planes.specs.Bounded.{AreBandsWithin}
+use Rattle.planes.specs.Bounded.{IsWithin, AreBandsWithin}
 use Rattle.planes.specs.Subbands.{BandStack, band_of}
 use Rattle.planes.specs.declared.Trio.{Trio}
 use Rattle.planes.specs.declared.NarrowTrio.{NarrowTrio}
@@ -28,18 +28,18 @@ pub record AreNarrowBands (b : NarrowTrio) : Type 0 where
   pub c1 : AreBandsWithin (pos (2 ^ 18)) b.c1
   pub c2 : AreBandsWithin (pos (2 ^ 18)) b.c2
 
--- more values than there is room for, with the places behind them that reading takes, or one that is not narrow
-abbrev pub NeedMore : ℕ → List ℤ → Type 0
-NeedMore room values = (room < length values + SPARE) ⊎ (((k : ℕ) → IsNarrow (slice_index_or values k (pos 0))) → ⊥)
+-- more values than there is room for, with the places behind them that reading takes, or one whose magnitude passes `most`
+abbrev pub NeedMore : ℤ → ℕ → List ℤ → Type 0
+NeedMore most room values = (room < length values + SPARE) ⊎ (((k : ℕ) → IsWithin most (slice_index_or values k (pos 0))) → ⊥)
 
 -- the values of a block, of which each place has so many
 abbrev pub block_values : ℕ → Part → List Bool → List ℤ
 block_values each p block = dealt block (quantisers_before each p (3 * p.slicing.depth + 1))
 
 -- what an answer says of the values of a block, where what they leave is Stands
-abbrev pub Answers : ℕ → List ℤ → Type 0 → Bool → Type 0
-Answers room values Stands true = (are_small values ≡ true) × Stands
-Answers room values Stands false = NeedMore room values
+abbrev pub Answers : ℤ → ℕ → List ℤ → Type 0 → Bool → Type 0
+Answers most room values Stands true = (are_small values ≡ true) × Stands
+Answers most room values Stands false = NeedMore most room values
 
 -- Restoring stops at a place whose value would not be narrow: those before it hold what they restore.
 pub record StopsAtPlace (each from : ℕ) (s : Slicing) (size : Size) (sx sy : ℕ) (values : List ℤ) (b : BandStack)
@@ -54,28 +54,29 @@ pub record StopsAtPlace (each from : ℕ) (s : Slicing) (size : Size) (sx sy : �
 abbrev pub StopsSlice : (each from : ℕ) → Slicing → Size → ℕ → ℕ → List ℤ → BandStack → Type 0
 StopsSlice each from s size sx sy values b = (y : ℕ) × (x : ℕ) × StopsAtPlace each from s size sx sy values b y x
 
--- Bands of 32 bits don't serve for a slice, where there is room for so many values of a block.
-abbrev pub NeedsWide : ℕ → Slicing → PictureShape → ℕ → ℕ → Weights → Slice → Trio → Type 0
-NeedsWide room s shape sx sy matrix slice new =
+-- Bands whose dequantised magnitudes are at most `most` don't serve for a slice, where there is room for so many values of
+-- a block. Restored magnitudes of the lowest band are at most 2 ^ 18.
+abbrev pub NeedsWide : ℤ → ℕ → Slicing → PictureShape → ℕ → ℕ → Weights → Slice → Trio → Type 0
+NeedsWide most room s shape sx sy matrix slice new =
     let lumas = luma_values s shape.luma sx sy matrix slice in
     let colours = colour_values s shape.colour sx sy matrix slice in
-    NeedMore room lumas ⊎ NeedMore room colours ⊎ StopsSlice 1 0 s shape.luma sx sy lumas new.luma
+    NeedMore most room lumas ⊎ NeedMore most room colours ⊎ StopsSlice 1 0 s shape.luma sx sy lumas new.luma
     ⊎ StopsSlice 2 0 s shape.colour sx sy colours new.c1 ⊎ StopsSlice 2 1 s shape.colour sx sy colours new.c2
 
 -- what an answer says of both blocks of a slice
-abbrev pub BothAnswer : ℕ → Part → Part → List Bool → List Bool → Trio → Trio → Bool → Type 0
-BothAnswer room luma colour luma_block colour_block old new true =
+abbrev pub BothAnswer : ℤ → ℕ → Part → Part → List Bool → List Bool → Trio → Trio → Bool → Type 0
+BothAnswer most room luma colour luma_block colour_block old new true =
     (are_small (block_values 1 luma luma_block) ≡ true) × (are_small (block_values 2 colour colour_block) ≡ true)
     × BandsHold 1 0 luma (3 * luma.slicing.depth + 1) luma_block old.luma new.luma
     × BandsHold 2 0 colour (3 * colour.slicing.depth + 1) colour_block old.c1 new.c1
     × BandsHold 2 1 colour (3 * colour.slicing.depth + 1) colour_block old.c2 new.c2
-BothAnswer room luma colour luma_block colour_block old new false =
-    NeedMore room (block_values 1 luma luma_block) ⊎ NeedMore room (block_values 2 colour colour_block)
+BothAnswer most room luma colour luma_block colour_block old new false =
+    NeedMore most room (block_values 1 luma luma_block) ⊎ NeedMore most room (block_values 2 colour colour_block)
 
 -- what reading both blocks leaves, before the lowest subbands are restored
 pub record IsReadNarrow (room : ℕ) (luma colour : Part) (luma_block colour_block : List Bool) (old new : NarrowTrio)
     (fit : Bool) : Type 0 where
-  pub answer : BothAnswer room luma colour luma_block colour_block (trio_of old) (trio_of new) fit
+  pub answer : BothAnswer (pos (2 ^ 18)) room luma colour luma_block colour_block (trio_of old) (trio_of new) fit
   pub luma_keeps : BandsKeep luma old.luma new.luma
   pub c1_keeps : BandsKeep colour old.c1 new.c1
   pub c2_keeps : BandsKeep colour old.c2 new.c2

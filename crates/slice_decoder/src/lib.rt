@@ -24,6 +24,8 @@ mod narrow_restoring;
 mod narrow_slice;
 mod placing;
 mod restoring;
+mod short;
+mod short_slice;
 
 pub use ahead::read_ahead;
 use bit_codes::BitReader;
@@ -33,6 +35,7 @@ use dc_prediction::restore_rect;
 pub use narrow_slice::decode_narrow;
 use planes::{Bands, Rect, Trio};
 use quant_factors::Matrix;
+pub use short_slice::decode_short;
 use slice_geometry::{Layout, PictureShape, SliceHead, length_bits};
 
 /// Why a slice is refused, the first cause in this order.

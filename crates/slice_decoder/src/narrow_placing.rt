@@ -234,7 +234,7 @@ fn put_rows(values: &[i32], from: usize, plane: &mut NarrowPlane, rect: Rect, w:
 
 // The same of any width. For a width that is written out the compiler needs no loop over a row: it sees that as many
 // places are left as the width says, since sums of `usize` from a `u32` don't wrap.
-fn put_rect(values: &[i32], from: usize, plane: &mut NarrowPlane, rect: Rect)
+pub fn put_rect(values: &[i32], from: usize, plane: &mut NarrowPlane, rect: Rect)
     requires across { rect.x0 ≤ rect.x1 }
     requires down { rect.y0 ≤ rect.y1 }
     requires x_inside { rect.x1 ≤ plane.old.w }
@@ -284,7 +284,7 @@ fn put_row_pairs(
 }
 
 // The same of any width.
-fn put_rects(
+pub fn put_rects(
     values: &[i32],
     from: usize,
     first: &mut NarrowPlane,

@@ -150,7 +150,7 @@ pub fn decode_narrow(
     ensures decoded { let slice = slice_at layout.now shape.now.luma shape.now.colour sx sy bytes.now in
         MatchResult result
         (λ answer. MatchOption answer
-        (NeedsWide (length buffer.old) layout.now shape.now sx sy matrix.now slice (trio_of bands.new))
+        (NeedsWide (pos (2 ^ 18)) (length buffer.old) layout.now shape.now sx sy matrix.now slice (trio_of bands.new))
         (λ head. IsDecoded layout.now shape.now sx sy matrix.now slice head (trio_of bands.new)))
         (IsRefused layout.now shape.now sx sy matrix.now slice) }
     ensures others { AllKeepOthers layout.now shape.now sx sy (trio_of bands.old) (trio_of bands.new) }

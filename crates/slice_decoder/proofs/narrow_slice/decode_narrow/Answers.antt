@@ -1,4 +1,4 @@
-use Rattle.std.proofs.Common.{◌≡◌, ℕ, ◌+◌, ◌*◌, List, Bool, ℤ, true, false, length, refl, sym, subst, inl, inr, arith}
+use Rattle.std.proofs.Common.{◌≡◌, ℕ, ◌+◌, ◌*◌, ◌^◌, List, Bool, ℤ, pos, true, false, length, refl, sym, subst, inl, inr, arith}
 use Rattle.bit_codes.proofs.BitLemmas.{length-rest}
 use Rattle.bounded_blocks.specs.Parts.{block_of}
 use Rattle.slice_geometry.specs.Slicing.{length_bits}
@@ -35,8 +35,8 @@ returns-then-not-read_blocks-clause-decoded c =
     let room : ℕ = length c.args.buffer.now in
     let same = c.read_ahead.auto.kept in
     elim c.if-not-read_blocks.ensures.answer [
-      | inl lumas ↦ inl (subst (λ (vs : List ℤ). NeedMore room vs) (sym are.of_luma) (elim lumas [ inl few ↦ inl (omega (arith, few, same)) | inr apart ↦ inr apart ]))
-      | inr colours ↦ inr (inl (subst (λ (vs : List ℤ). NeedMore room vs) (sym are.of_colour) (elim colours [ inl few ↦ inl (omega (arith, few, same)) | inr apart ↦ inr apart ])))
+      | inl lumas ↦ inl (subst (λ (vs : List ℤ). NeedMore (pos (2 ^ 18)) room vs) (sym are.of_luma) (elim lumas [ inl few ↦ inl (omega (arith, few, same)) | inr apart ↦ inr apart ]))
+      | inr colours ↦ inr (inl (subst (λ (vs : List ℤ). NeedMore (pos (2 ^ 18)) room vs) (sym are.of_colour) (elim colours [ inl few ↦ inl (omega (arith, few, same)) | inr apart ↦ inr apart ])))
     ]
 
 pub returns-then-not-read_blocks-clause-others : goal.returns-then-not-read_blocks-clause-others

@@ -1,4 +1,4 @@
-use Rattle.std.proofs.Common.{◌≡◌, ℕ, ◌+◌, ◌*◌, List, Bool, true, length, ap, subst, ◌∙◌, inl, arith}
+use Rattle.std.proofs.Common.{◌≡◌, ℕ, ◌+◌, ◌*◌, ◌^◌, pos, List, Bool, true, length, ap, subst, ◌∙◌, inl, arith}
 use Rattle.planes.specs.declared.Trio.{Trio}
 use Rattle.bounded_blocks.specs.Parts.{block_of}
 use Rattle.slice_geometry.specs.Slicing.{length_bits}
@@ -25,10 +25,10 @@ returns c =
     let total : ℕ = 3 * c.args.layout.now.depth + 1 in
     let new : Trio = record { luma = c.read_luma.new.bands; c1 = c.read_colour.new.first; c2 = c.read_colour.new.second } in
     let first = c.if-not-read_luma.ensures.answer in
-    let second : ℕ → List Bool → Type 0 = λ room b. Answers room (block_values 2 colour b) (BandsHold 2 0 colour total b old.c1 new.c1 × BandsHold 2 1 colour total b old.c2 new.c2) c.read_colour.result in
+    let second : ℕ → List Bool → Type 0 = λ room b. Answers (pos (2 ^ 18)) room (block_values 2 colour b) (BandsHold 2 0 colour total b old.c1 new.c1 × BandsHold 2 1 colour total b old.c2 new.c2) c.read_colour.result in
     record {
       answer =
-          both-answer (length c.args.buffer.now) luma colour luma_block colour_block (record { luma = old.luma; c1 = old.c1; c2 = old.c2 }) new c.read_colour.result
+          both-answer (pos (2 ^ 18)) (length c.args.buffer.now) luma colour luma_block colour_block (record { luma = old.luma; c1 = old.c1; c2 = old.c2 }) new c.read_colour.result
           (subst (λ (b : List Bool). are_small (block_values 1 luma b) ≡ true) luma_is first.0)
           (subst (λ (b : List Bool). BandsHold 1 0 luma total b old.luma new.luma) luma_is first.1)
           (subst (λ (room : ℕ). second room colour_block) c.read_luma.auto.buffer (subst (second (length c.read_luma.new.buffer)) colour_is c.read_colour.ensures.answer));
@@ -46,7 +46,7 @@ returns-then-not-read_luma c =
     let middle : ℕ = start + c.args.luma_bits in
     let luma_is : c.new-luma.result ≡ block_of c.args.bytes.now start middle = same_block c.args.bytes.now c.new-luma.result _ _ start middle c.new-luma.ensures (omega (arith, c.length_bits.ensures, c.from-start.ensures)) (omega (arith, c.length_bits.ensures, c.from-start.ensures, c.from.ensures, c.from-2.ensures)) in
     record {
-      answer = inl (subst (λ (b : List Bool). NeedMore (length c.args.buffer.now) (block_values 1 luma b)) luma_is c.if-not-read_luma.ensures.answer);
+      answer = inl (subst (λ (b : List Bool). NeedMore (pos (2 ^ 18)) (length c.args.buffer.now) (block_values 1 luma b)) luma_is c.if-not-read_luma.ensures.answer);
       luma_keeps = c.if-not-read_luma.ensures.keeps;
       c1_keeps = nothing-read colour c.args.bands.now.c1;
       c2_keeps = nothing-read colour c.args.bands.now.c2;

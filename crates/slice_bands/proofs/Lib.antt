@@ -1,0 +1,9 @@
+pub mod Counts
+pub mod Parts
+pub mod Stacked
+pub mod Dealt
+pub mod Apart
+pub mod Every
+pub mod Past
+pub mod Widened
+pub mod Lowest

@@ -1,0 +1,31 @@
+use Rattle.std.proofs.Common.{◌∙◌, ◌^◌, ℤ, pos, sym, ap, subst}
+use Rattle.planes.specs.Bounded.{AreBandsWithin}
+use Rattle.planes.specs.Raster.{Raster, height}
+use Rattle.planes.specs.Subbands.{with_band}
+use Rattle.slice_bands.specs.Short.{ShowTheSame}
+use Rattle.slice_bands.specs.ShortBands.{short_stack}
+use Rattle.slice_bands.proofs.Lowest.{shorts_agree, lowest_width, lowest_height, shows_all, all_narrow}
+use Rattle.slice_bands.proofs.short_bands.ShortBands.widen.Goals as goal
+
+pub widen-requires-clause-sizes : goal.widen-requires-clause-sizes
+widen-requires-clause-sizes c = shorts_agree c.args.self.now c.shows.ensures.sizes c.requires.sound c.args.bands.now c.requires.sizes
+
+pub copy_plane-requires-clause-same_width : goal.copy_plane-requires-clause-same_width
+copy_plane-requires-clause-same_width c =
+    lowest_width c.args.self.now c.shows.ensures.sizes c.requires.sound c.args.bands.now c.requires.sizes c.widen.new.bands c.widen.ensures.same c.band_mut.ensures.there
+    ∙ sym (ap (λ (p : Raster ℤ). p.w) c.band_mut.ensures.value)
+
+pub copy_plane-requires-clause-same_height : goal.copy_plane-requires-clause-same_height
+copy_plane-requires-clause-same_height c =
+    lowest_height c.args.self.now c.shows.ensures.sizes c.requires.sound c.args.bands.now c.requires.sizes c.widen.new.bands c.widen.ensures.same c.band_mut.ensures.there
+    ∙ sym (ap (λ (p : Raster ℤ). height p) c.band_mut.ensures.value)
+
+pub returns-clause-same : goal.returns-clause-same
+returns-clause-same c =
+    subst (λ (p : Raster ℤ). ShowTheSame (short_stack c.args.self.now) (with_band c.widen.new.bands 0 0 p)) (sym c.copy_plane.ensures)
+    (shows_all c.args.self.now c.shows.ensures.sizes c.requires.sound c.args.bands.now c.requires.sizes c.widen.new.bands c.widen.ensures.same c.band_mut.ensures.there)
+
+pub returns-clause-within : goal.returns-clause-within
+returns-clause-within c =
+    subst (λ (p : Raster ℤ). AreBandsWithin (pos (2 ^ 18)) (with_band c.widen.new.bands 0 0 p)) (sym c.copy_plane.ensures)
+    (all_narrow c.args.self.now c.shows.ensures.sizes c.requires.sound c.args.bands.now c.requires.sizes c.widen.new.bands c.widen.ensures.same c.band_mut.ensures.there c.widen.ensures.within)

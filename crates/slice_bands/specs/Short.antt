@@ -1,0 +1,37 @@
+-- Slices of 16 bits, and bands of another width that show the same.
+use Rattle.std.specs.Prelude.{◌≡◌, ℕ, ◌+◌, ◌*◌, ◌^◌, ◌<◌, List, length, map, slice_index_or, ℤ, pos}
+use Rattle.std.specs.List.{range_with_len}
+use Rattle.planes.specs.Bounded.{IsWithin}
+use Rattle.planes.specs.Raster.{Raster, height, row_of, at}
+use Rattle.planes.specs.Subbands.{BandStack, BandExists, band_of}
+use Rattle.slice_bands.specs.Slices.{Slices}
+use Rattle.slice_bands.specs.Places.{part_h}
+use Rattle.slice_bands.specs.Stack.{stack_of}
+
+-- so many numbers of a list that has several for each place, those that are counted by `from`
+abbrev pub every : ℕ → ℕ → ℕ → List ℤ → List ℤ
+every each from count values = map (λ k. slice_index_or values (each * k + from) (pos 0)) (range_with_len 0 count)
+
+-- the bands of slices whose numbers are integers
+abbrev pub shorts_of : Slices ℤ → BandStack
+shorts_of s = stack_of (λ z. z) (pos 0) s
+
+-- two stacks have the same bands, place by place
+pub record ShowTheSame (a b : BandStack) : Type 0 where
+  pub same_depth : b.depth ≡ a.depth
+  pub widths : (level orient : ℕ) → BandExists a.depth level orient → (band_of b level orient).w ≡ (band_of a level orient).w
+  pub heights : (level orient : ℕ) → BandExists a.depth level orient → height (band_of b level orient) ≡ height (band_of a level orient)
+  pub places : (level orient y x : ℕ) → BandExists a.depth level orient → at (band_of b level orient) y x ≡ at (band_of a level orient) y x
+
+-- the first n rows of a plane are those of another of its size, and no magnitude in them passes 2 ^ 18
+pub record HaveRows (p q : Raster ℤ) (n : ℕ) : Type 0 where
+  pub same_width : q.w ≡ p.w
+  pub same_height : height q ≡ height p
+  pub long : (y : ℕ) → y < n → length (row_of q y) ≡ q.w
+  pub same : (y x : ℕ) → y < n → x < q.w → at q y x ≡ at p y x
+  pub within : (y x : ℕ) → y < n → x < q.w → IsWithin (pos (2 ^ 18)) (at q y x)
+
+-- in each band these are the rows of the first n strips of slices
+abbrev pub HaveStrips : Slices ℤ → BandStack → ℕ → Type 0
+HaveStrips s b n = (level orient : ℕ) → BandExists s.depth level orient
+    → HaveRows (band_of (shorts_of s) level orient) (band_of b level orient) (n * part_h s level)

@@ -1,0 +1,72 @@
+use Rattle.std.proofs.Common.{◌≡◌, ℕ, ◌+◌, ◌*◌, ◌<◌, length, take, get_or, pos, ◌∙◌, inl, arith}
+use Rattle.std.proofs.lemmas.List.{length-take-le, get_or-take}
+use Rattle.slice_decoder.specs.Components.{Part, part_of, quantisers_before}
+use Rattle.slice_decoder.specs.Narrow.{block_values}
+use Rattle.slice_decoder.proofs.Dealt.{length-dealt}
+use Rattle.slice_decoder.proofs.LevelLemmas.{length-places, places_all}
+use Rattle.slice_decoder.proofs.Placed.{takes-hold, takes-keep}
+use Rattle.slice_decoder.proofs.NarrowBands.{all-small, nothing-read}
+use Rattle.slice_decoder.proofs.ShortTakes.{short-needs-more, short-passed}
+use Rattle.slice_bands.specs.ShortBands.{short_stack}
+use Rattle.slice_decoder.proofs.short.read_luma.Goals as goal
+
+pub returns-then-count-buffer-clause-answer : goal.returns-then-count-buffer-clause-answer
+returns-then-count-buffer-clause-answer c =
+    let part : Part = part_of c.args.layout.now c.args.size c.args.place.sx c.args.place.sy c.args.matrix.now c.args.place.qindex in
+    let total : ℕ = 3 * c.args.layout.now.depth + 1 in
+    inl (omega (arith, c.if-count-buffer.true, c.count_places-count.ensures.count, length-dealt c.args.block.now (quantisers_before 1 part total), length-places 1 part total, places_all c.args.layout.now c.args.size c.args.place.sx c.args.place.sy))
+
+pub returns-then-count-buffer-clause-keeps : goal.returns-then-count-buffer-clause-keeps
+returns-then-count-buffer-clause-keeps c =
+    nothing-read (part_of c.args.layout.now c.args.size c.args.place.sx c.args.place.sy c.args.matrix.now c.args.place.qindex) (short_stack c.args.bands.now)
+
+pub returns-then-not-read_values-clause-keeps : goal.returns-then-not-read_values-clause-keeps
+returns-then-not-read_values-clause-keeps c =
+    nothing-read (part_of c.args.layout.now c.args.size c.args.place.sx c.args.place.sy c.args.matrix.now c.args.place.qindex) (short_stack c.args.bands.now)
+
+pub returns-then-not-read_values-clause-answer : goal.returns-then-not-read_values-clause-answer
+returns-then-not-read_values-clause-answer c =
+    let part : Part = part_of c.args.layout.now c.args.size c.args.place.sx c.args.place.sy c.args.matrix.now c.args.place.qindex in
+    short-needs-more (length c.args.buffer.now) _ (block_values 1 part c.args.block.now) c.read_values.result c.if-not-read_values.true c.read_values.ensures.within
+
+pub returns-clause-answer : goal.returns-clause-answer
+returns-clause-answer c =
+    let part : Part = part_of c.args.layout.now c.args.size c.args.place.sx c.args.place.sy c.args.matrix.now c.args.place.qindex in
+    let total : ℕ = 3 * c.args.layout.now.depth + 1 in
+    let n : ℕ = c.count_places-count.result in
+    let count : n ≡ length (quantisers_before 1 part total) =
+    omega (
+      arith,
+      length-places 1 part total,
+      places_all c.args.layout.now c.args.size c.args.place.sx c.args.place.sy,
+      c.count_places-count.ensures.count,
+    ) in
+    let agree : (j : ℕ) → j < length (quantisers_before 1 part total)
+    → get_or (take n c.read_values.new.buffer) j (pos 0) ≡ get_or (block_values 1 part c.args.block.now) j (pos 0) =
+    λ j lt. get_or-take n c.read_values.new.buffer j (pos 0) (omega (arith, lt, count))
+    ∙ c.read_values.ensures.values c.if-not-read_values.false j (omega (arith, lt, count)) in (
+      all-small (block_values 1 part c.args.block.now) n c.read_values.result c.if-not-read_values.false
+          (omega (arith, count, length-dealt c.args.block.now (quantisers_before 1 part total))) c.read_values.ensures.within,
+      takes-hold 1 0 part total c.args.block.now (take n c.read_values.new.buffer) (short_stack c.args.bands.now) (short_stack c.put_luma.new.bands)
+          (omega arith) agree c.put_luma.ensures.takes,
+    )
+
+pub returns-clause-keeps : goal.returns-clause-keeps
+returns-clause-keeps c =
+    let part : Part = part_of c.args.layout.now c.args.size c.args.place.sx c.args.place.sy c.args.matrix.now c.args.place.qindex in
+    let total : ℕ = 3 * c.args.layout.now.depth + 1 in
+    takes-keep 1 0 part total (take c.count_places-count.result c.read_values.new.buffer) (short_stack c.args.bands.now) (short_stack c.put_luma.new.bands) c.put_luma.ensures.takes
+    c.put_luma.ensures.rest
+
+pub returns-then-not-are_short-clause-keeps : goal.returns-then-not-are_short-clause-keeps
+returns-then-not-are_short-clause-keeps c =
+    nothing-read (part_of c.args.layout.now c.args.size c.args.place.sx c.args.place.sy c.args.matrix.now c.args.place.qindex) (short_stack c.args.bands.now)
+
+pub returns-then-not-are_short-clause-answer : goal.returns-then-not-are_short-clause-answer
+returns-then-not-are_short-clause-answer c =
+    let part : Part = part_of c.args.layout.now c.args.size c.args.place.sx c.args.place.sy c.args.matrix.now c.args.place.qindex in
+    let n : ℕ = c.count_places-count.result in
+    let out = c.read_values.new.buffer in
+    let long : length (take n out) ≡ n = length-take-le n out (omega (arith, c.read_values.auto.buffer, c.if-count-buffer.false)) in
+    short-passed (length c.args.buffer.now) n (block_values 1 part c.args.block.now) (take n out) c.are_short.result c.if-not-are_short.true c.are_short.ensures long
+    (λ k lt. get_or-take n out k (pos 0) lt ∙ c.read_values.ensures.values c.if-not-read_values.false k lt)

@@ -1,0 +1,43 @@
+-- A slice in bands of 16 bits, whose slices lie as the layout cuts a component.
+use Rattle.std.specs.Prelude.{◌≡◌, ℕ, ◌*◌, Bool, List, ℤ}
+use Rattle.planes.specs.declared.Trio.{Trio}
+use Rattle.planes.specs.declared.NarrowTrio.{NarrowTrio}
+use Rattle.slice_bands.specs.declared.short_bands.ShortBands.{ShortBands}
+use Rattle.slice_bands.specs.declared.short_bands.ShortTrio.{ShortTrio}
+use Rattle.slice_bands.specs.ShortBands.{short_stack, IsShortSound}
+use Rattle.slice_geometry.specs.declared.Size.{Size}
+use Rattle.slice_geometry.specs.declared.PictureShape.{PictureShape}
+use Rattle.slice_geometry.specs.Slicing.{Slicing}
+use Rattle.slice_geometry.specs.Geometry.{padded_length}
+use Rattle.slice_decoder.specs.Components.{Part, BandsKeep}
+use Rattle.slice_decoder.specs.Narrow.{BothAnswer}
+
+-- the same bands, as all contracts see them
+abbrev pub shown_trio : ShortTrio → Trio
+shown_trio b = record { luma = short_stack b.luma; c1 = short_stack b.c1; c2 = short_stack b.c2 }
+
+-- As many slices stand across and down as a layout has, and they cover a component of this size once it is padded.
+pub record IsCut (s : Slicing) (size : Size) (b : ShortBands) : Type 0 where
+  pub depth : b.slices.depth ≡ s.depth
+  pub across : b.slices.across ≡ s.slices_x
+  pub down : b.slices.down ≡ s.slices_y
+  pub width : b.slices.across * b.slices.sw ≡ padded_length s.depth size.w
+  pub height : b.slices.down * b.slices.sh ≡ padded_length s.depth size.h
+  pub sound : IsShortSound b
+
+pub record AreCut (s : Slicing) (shape : PictureShape) (b : ShortTrio) : Type 0 where
+  pub luma : IsCut s shape.luma b.luma
+  pub c1 : IsCut s shape.colour b.c1
+  pub c2 : IsCut s shape.colour b.c2
+
+-- what reading both blocks leaves, before the lowest subbands are restored, where no magnitude may pass `most`
+pub record AreRead (most : ℤ) (room : ℕ) (luma colour : Part) (luma_block colour_block : List Bool) (old new : Trio)
+    (fit : Bool) : Type 0 where
+  pub answer : BothAnswer most room luma colour luma_block colour_block old new fit
+  pub luma_keeps : BandsKeep luma old.luma new.luma
+  pub c1_keeps : BandsKeep colour old.c1 new.c1
+  pub c2_keeps : BandsKeep colour old.c2 new.c2
+
+-- and as those of 32 bits are seen
+abbrev pub narrow_of : Trio → NarrowTrio
+narrow_of b = record { luma = b.luma; c1 = b.c1; c2 = b.c2 }

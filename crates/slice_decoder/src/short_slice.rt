@@ -1,0 +1,201 @@
+//! One slice into bands of 16 bits.
+
+ghost use Rattle.std.specs.Prelude.{◌≡◌, ◌+◌, ◌*◌, ◌^◌, ◌<◌, ◌≤◌, ℕ, true, false, length, pos, MatchResult, MatchOption};
+ghost use Rattle.planes.specs.Raster.{height};
+ghost use Rattle.bounded_blocks.specs.Parts.{block_of};
+ghost use Rattle.dc_prediction.specs.Restoring.{RestoresRect, IsStopped};
+ghost use Rattle.slice_bands.specs.declared.short.TheConstants.{MAX_SHORT};
+ghost use Rattle.slice_bands.specs.ShortBands.{short_stack, IsShortSound};
+ghost use Rattle.slice_geometry.specs.declared.Size.{Size};
+ghost use Rattle.slice_geometry.specs.declared.PictureShape.{PictureShape};
+ghost use Rattle.slice_geometry.specs.Slicing as slicing;
+ghost use Rattle.slice_geometry.specs.Slicing.{Slicing};
+ghost use Rattle.slice_geometry.specs.SliceOrder.{numbered};
+ghost use Rattle.slice_decoder.specs.Slice.{slice_at};
+ghost use Rattle.slice_decoder.specs.Components.{part_of};
+ghost use Rattle.slice_decoder.specs.Decoded.{AreReady, AllKeepOthers, IsDecoded, IsRefused};
+ghost use Rattle.slice_decoder.specs.Levels.{AreRects};
+ghost use Rattle.slice_decoder.specs.Narrow.{NeedsWide, LowestKeeps, AreRestored, OneStops, AllKeepLowest};
+ghost use Rattle.slice_decoder.specs.Short.{shown_trio, narrow_of, IsCut, AreCut, AreRead};
+
+use crate::components::Place;
+use crate::levels::{level_rects, lowest_of};
+use crate::short::{read_colour, read_luma};
+use crate::{SliceFault, head_of};
+use bounded_blocks::{Block, CodeTable};
+use dc_prediction::restore_narrow;
+use planes::Rect;
+use quant_factors::Matrix;
+use slice_bands::{ShortBands, ShortTrio};
+use slice_geometry::{Layout, PictureShape, SliceHead, length_bits};
+
+// Reads the values of both blocks into the subbands. It answers false where these don't serve.
+fn read_blocks(
+    layout: &Layout,
+    shape: &PictureShape,
+    luma_rects: &[Rect; 5],
+    colour_rects: &[Rect; 5],
+    matrix: &Matrix,
+    place: Place,
+    bytes: &[u8],
+    codes: &CodeTable,
+    luma_bits: u32,
+    bands: &mut ShortTrio,
+    buffer: &mut [i32],
+) -> bool
+    requires some { 1 ≤ length bytes.now }
+    requires most { length bytes.now ≤ 2 ^ 28 }
+    requires fits { luma_bits + 7 + slicing.length_bits (length bytes.now) ≤ 8 * length bytes.now }
+    requires across { place.sx < layout.now.slices_x }
+    requires down { place.sy < layout.now.slices_y }
+    requires qindex { place.qindex ≤ 127 }
+    requires entries { matrix.now.depth ≡ layout.now.depth }
+    requires luma_rects { AreRects layout.now shape.now.luma place.sx place.sy luma_rects.now }
+    requires colour_rects { AreRects layout.now shape.now.colour place.sx place.sy colour_rects.now }
+    requires cut { AreCut layout.now shape.now bands.old }
+    ensures read { let start = 7 + slicing.length_bits (length bytes.now) in
+        let luma_part = part_of layout.now shape.now.luma place.sx place.sy matrix.now place.qindex in
+        let colour_part = part_of layout.now shape.now.colour place.sx place.sy matrix.now place.qindex in
+        AreRead MAX_SHORT (length buffer.old) luma_part colour_part
+        (block_of bytes.now start (start + luma_bits))
+        (block_of bytes.now (start + luma_bits) (8 * length bytes.now))
+        (shown_trio bands.old) (shown_trio bands.new) result }
+    ensures cut { AreCut layout.now shape.now bands.new }
+{
+    let start = 7 + u64::from(length_bits(bytes.len() as u32));
+    let middle = start + u64::from(luma_bits);
+    let luma = Block::new(bytes, start, u64::from(luma_bits));
+    let colour = Block::new(bytes, middle, 8 * bytes.len() as u64 - middle);
+    if !read_luma(
+        &luma,
+        codes,
+        &mut bands.luma,
+        luma_rects,
+        layout,
+        shape.luma,
+        matrix,
+        place,
+        buffer,
+    ) {
+        return false;
+    }
+    read_colour(
+        &colour,
+        codes,
+        &mut bands.c1,
+        &mut bands.c2,
+        colour_rects,
+        layout,
+        shape.colour,
+        matrix,
+        place,
+        buffer,
+    )
+}
+
+// Restores the residuals of a rectangle in the lowest of a component's subbands, up to a value that would pass 2^18.
+fn restore(bands: &mut ShortBands, rect: Rect) -> bool
+    requires x_inside { rect.x1 ≤ (numbered (short_stack bands.old) 0).w }
+    requires y_inside { rect.y1 ≤ height (numbered (short_stack bands.old) 0) }
+    requires cut { IsShortSound bands.old }
+    ensures restored { result ≡ true → RestoresRect rect (numbered (short_stack bands.old) 0) (numbered (short_stack bands.new) 0) }
+    ensures stopped { result ≡ false → IsStopped rect (numbered (short_stack bands.old) 0) (numbered (short_stack bands.new) 0) }
+    ensures keeps { LowestKeeps rect (short_stack bands.old) (short_stack bands.new) }
+    ensures cut { (s : Slicing) (size : Size) → IsCut s size bands.old → IsCut s size bands.new }
+{
+    restore_narrow(&mut bands.lowest, rect)
+}
+
+// The same of all three components.
+fn restore_all(bands: &mut ShortTrio, luma: Rect, colour: Rect) -> bool
+    requires luma_x { luma.x1 ≤ (numbered (short_stack bands.old.luma) 0).w }
+    requires luma_y { luma.y1 ≤ height (numbered (short_stack bands.old.luma) 0) }
+    requires c1_x { colour.x1 ≤ (numbered (short_stack bands.old.c1) 0).w }
+    requires c1_y { colour.y1 ≤ height (numbered (short_stack bands.old.c1) 0) }
+    requires c2_x { colour.x1 ≤ (numbered (short_stack bands.old.c2) 0).w }
+    requires c2_y { colour.y1 ≤ height (numbered (short_stack bands.old.c2) 0) }
+    requires luma_sound { IsShortSound bands.old.luma }
+    requires c1_sound { IsShortSound bands.old.c1 }
+    requires c2_sound { IsShortSound bands.old.c2 }
+    ensures restored { result ≡ true → AreRestored luma colour (narrow_of (shown_trio bands.old)) (narrow_of (shown_trio bands.new)) }
+    ensures stopped { result ≡ false → OneStops luma colour (narrow_of (shown_trio bands.old)) (narrow_of (shown_trio bands.new)) }
+    ensures keeps { AllKeepLowest luma colour (narrow_of (shown_trio bands.old)) (narrow_of (shown_trio bands.new)) }
+    ensures cut { (s : Slicing) (shape : PictureShape) → AreCut s shape bands.old → AreCut s shape bands.new }
+{
+    if !restore(&mut bands.luma, luma) {
+        return false;
+    }
+    if !restore(&mut bands.c1, colour) {
+        return false;
+    }
+    restore(&mut bands.c2, colour)
+}
+
+/// Decodes a slice as `decode_slice` does, into bands of 16 bits, whose slices lie as the layout cuts each component.
+///
+/// It gives no head where such bands don't serve: a dequantised magnitude passes `MAX_SHORT`, a restored one 2^18, or the
+/// buffer has no room for the values of a block and `SPARE` of `bounded_blocks` more. The slice's own places hold any
+/// values then, as after a refusal. All other places stay.
+pub fn decode_short(
+    layout: &Layout,
+    shape: &PictureShape,
+    matrix: &Matrix,
+    sx: u32,
+    sy: u32,
+    bytes: &[u8],
+    codes: &CodeTable,
+    bands: &mut ShortTrio,
+    buffer: &mut [i32],
+) -> Result<Option<SliceHead>, SliceFault>
+    requires across { sx < layout.now.slices_x }
+    requires down { sy < layout.now.slices_y }
+    requires some { 1 ≤ length bytes.now }
+    requires most { length bytes.now ≤ 2 ^ 28 }
+    requires entries { matrix.now.depth ≡ layout.now.depth }
+    requires ready { AreReady layout.now shape.now sx sy (shown_trio bands.old) }
+    requires cut { AreCut layout.now shape.now bands.old }
+    ensures decoded { let slice = slice_at layout.now shape.now.luma shape.now.colour sx sy bytes.now in
+        MatchResult result
+        (λ answer. MatchOption answer
+        (NeedsWide MAX_SHORT (length buffer.old) layout.now shape.now sx sy matrix.now slice (shown_trio bands.new))
+        (λ head. IsDecoded layout.now shape.now sx sy matrix.now slice head (shown_trio bands.new)))
+        (IsRefused layout.now shape.now sx sy matrix.now slice) }
+    ensures others { AllKeepOthers layout.now shape.now sx sy (shown_trio bands.old) (shown_trio bands.new) }
+    ensures cut { AreCut layout.now shape.now bands.new }
+{
+    let depth = layout.depth();
+    prove_eq!(matrix.depth(), depth);
+    let head = head_of(bytes);
+    let left = 8 * bytes.len() - 7 - length_bits(bytes.len() as u32) as usize;
+    if head.luma_bits as usize > left {
+        return Err(SliceFault::LumaLengthTooLong);
+    }
+    let place = Place {
+        sx,
+        sy,
+        qindex: head.qindex,
+    };
+    let luma_rects = level_rects(layout, shape.luma, place);
+    let colour_rects = level_rects(layout, shape.colour, place);
+    if !read_blocks(
+        layout,
+        shape,
+        &luma_rects,
+        &colour_rects,
+        matrix,
+        place,
+        bytes,
+        codes,
+        head.luma_bits,
+        bands,
+        buffer,
+    ) {
+        return Ok(None);
+    }
+    let luma = lowest_of(&luma_rects);
+    let colour = lowest_of(&colour_rects);
+    if !restore_all(bands, luma, colour) {
+        return Ok(None);
+    }
+    Ok(Some(head))
+}
