@@ -18,3 +18,4 @@ pub mod CodedBands
 pub mod Lossless
 pub mod Runs
 pub mod LeastIndices
+pub mod Gathered
