@@ -18,4 +18,3 @@ pub mod CodedBands
 pub mod Lossless
 pub mod Runs
 pub mod LeastIndices
-pub mod Gathered

@@ -3,7 +3,6 @@ pub mod Samples
 pub mod Taking
 pub mod Decoding
 pub mod DecodedBands
-pub mod BandStore
 pub mod Written
 pub mod Encoding
 pub mod EncoderInside

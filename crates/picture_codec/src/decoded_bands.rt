@@ -1,6 +1,6 @@
 //! The bands that slices are decoded into: those of 32 bits, until a slice needs more.
 
-ghost use Rattle.std.specs.Prelude.{◌≡◌, ◌^◌, ◌<◌, ◌≤◌, length, pos, true, ⊤, IfOk, MatchResult, MatchOption};
+ghost use Rattle.std.specs.Prelude.{◌≡◌, ◌^◌, ◌<◌, ◌≤◌, length, pos, true, IfOk, MatchResult};
 ghost use Rattle.planes.specs.Bounded.{AreBandsWithin};
 ghost use Rattle.slice_geometry.specs.Slicing.{IsAllowed, slice_count};
 ghost use Rattle.slice_geometry.specs.Frames.{frame_of};
@@ -9,9 +9,7 @@ ghost use Rattle.slice_decoder.specs.Decoded.{AreReady, AllKeepOthers, IsDecoded
 ghost use Rattle.slice_decoder.specs.Narrow.{trio_of, AreNarrowBands};
 ghost use Rattle.picture_codec.specs.Pictures as pictures;
 ghost use Rattle.picture_codec.specs.Decoding.{AreTaken, HasLateRoom, HaveHalfRoom, AreNewBands, stack_of, with_synthesised};
-ghost use Rattle.slice_decoder.specs.Short.{shown_trio, AreCut};
 ghost use Rattle.picture_codec.specs.DecodedBands.{AllAgree, narrow_of, IsShownAs};
-ghost use Rattle.picture_codec.specs.BandStore.{AreBeside, AllShowTheSame};
 
 use crate::picture::Picture;
 use crate::wide_bands::WideBands;
@@ -19,8 +17,7 @@ use crate::workspace::{LateWorkspace, NarrowWorkspace, narrow_zero_trio, size_of
 use bounded_blocks::{CodeTable, SPARE};
 use planes::{Bands, NarrowBands, NarrowTrio, NoMemory, Trio};
 use quant_factors::Matrix;
-use slice_bands::ShortTrio;
-use slice_decoder::{SliceFault, decode_narrow, decode_short};
+use slice_decoder::{SliceFault, decode_narrow};
 use slice_geometry::{Component, Layout, PictureShape, SliceHead};
 use std::alloc::Global;
 use std::marker::Model;
@@ -123,21 +120,6 @@ fn narrow(wide: &Trio, narrow: &mut NarrowTrio)
     narrow.luma.narrow(&wide.luma);
     narrow.c1.narrow(&wide.c1);
     narrow.c2.narrow(&wide.c2);
-}
-
-// Gives the bands of 32 bits the numbers of those of 16, by a row of these.
-fn widen(short: &ShortTrio, narrow: &mut NarrowTrio, row: &mut [i16])
-    requires beside { AreBeside short.now (trio_of narrow.old) }
-    requires room { length row.old ≡ 8208 }
-    ensures same { AllShowTheSame (shown_trio short.now) (trio_of narrow.new) }
-    ensures small { AreNarrowBands narrow.new }
-{
-    short.luma.slices.shows();
-    short.c1.slices.shows();
-    short.c2.slices.shows();
-    short.luma.widen(&mut narrow.luma, row);
-    short.c1.widen(&mut narrow.c1, row);
-    short.c2.widen(&mut narrow.c2, row);
 }
 
 /// The bands of a component, in the width that serves.
@@ -246,59 +228,6 @@ impl DecodedBands {
                 self.wide.decode(layout, shape, matrix, sx, sy, bytes)
             }
         }
-    }
-
-    /// Decodes a slice into bands of 16 bits, with the codes and the room of these. It gives no head where they don't serve.
-    pub(crate) fn decode_short(
-        &mut self,
-        layout: &Layout,
-        shape: &PictureShape,
-        matrix: &Matrix,
-        sx: u32,
-        sy: u32,
-        bytes: &[u8],
-        short: &mut ShortTrio,
-    ) -> Result<Option<SliceHead>, SliceFault>
-        requires across { sx < layout.now.slices_x }
-        requires down { sy < layout.now.slices_y }
-        requires some { 1 ≤ length bytes.now }
-        requires most { length bytes.now ≤ 2 ^ 28 }
-        requires entries { matrix.now.depth ≡ layout.now.depth }
-        requires ready { AreReady layout.now shape.now sx sy (shown_trio short.old) }
-        requires cut { AreCut layout.now shape.now short.old }
-        ensures decoded { let slice = slice_at layout.now shape.now.luma shape.now.colour sx sy bytes.now in
-            MatchResult result
-            (λ answer. MatchOption answer ⊤
-            (λ head. IsDecoded layout.now shape.now sx sy matrix.now slice head (shown_trio short.new)))
-            (IsRefused layout.now shape.now sx sy matrix.now slice) }
-        ensures others { AllKeepOthers layout.now shape.now sx sy (shown_trio short.old) (shown_trio short.new) }
-        ensures cut { AreCut layout.now shape.now short.new }
-        ensures same { self.new ≡ self.old }
-    {
-        match decode_short(
-            layout,
-            shape,
-            matrix,
-            sx,
-            sy,
-            bytes,
-            &self.codes,
-            short,
-            &mut self.buffer,
-        ) {
-            Ok(answer) => Ok(answer),
-            Err(fault) => Err(fault),
-        }
-    }
-
-    /// Takes what bands of 16 bits show, by a row of 16 bits.
-    pub(crate) fn take_short(&mut self, short: &ShortTrio, row: &mut [i16])
-        requires beside { AreBeside short.now self.old }
-        requires room { length row.old ≡ 8208 }
-        ensures { AllShowTheSame (shown_trio short.now) self.new }
-    {
-        widen(short, &mut self.narrow, row);
-        self.is_wide = false;
     }
 
     /// Goes back to 32 bits where the numbers allow that. All numbers stay.

@@ -6,7 +6,6 @@ ghost use Rattle.slice_geometry.specs.Frames.{frame_of};
 ghost use Rattle.picture_codec.specs.Samples.{picture_of};
 ghost use Rattle.picture_codec.specs.Decoding.{IsNewDecoder, IsTaken, IsSliceRefused, HasTaken, AllCanSynthesise, HoldUnit, synthesised_picture, wanted_of};
 
-use crate::band_store::BandStore;
 use crate::decoded_bands::DecodedBands;
 use crate::picture::Picture;
 use crate::workspace::SynthesisRooms;
@@ -20,13 +19,13 @@ use transform_params::TransformParams;
 /// Makes pictures of slices, which come to it in order. Contracts see its bands, the number of its next slice, whether
 /// it refused a slice, and the picture that it finished.
 ///
-/// All memory is taken in `new`: about 14 bytes a sample for the subbands in 16, in 32 and in 64 bits, 6 for the room of synthesis in
+/// All memory is taken in `new`: about 12 bytes a sample for the subbands in 32 and in 64 bits, 6 for the room of synthesis in
 /// 64 bits, 3 for that in 32, and 2 for the picture. C1 and C2 share their rooms. What serves 64 bits alone isn't touched
 /// before a slice needs it.
 #[derive(Drop)]
 pub struct PictureDecoder {
     params: TransformParams,
-    bands: BandStore,
+    bands: DecodedBands,
     rooms: SynthesisRooms,
     picture: Picture,
     next: u32,
@@ -38,20 +37,19 @@ impl Model for PictureDecoder {
     ghost use Rattle.std.specs.Prelude.{if◌then◌else◌, None, Some};
     ghost use Rattle.transform_params.specs.Views.{params_of};
     ghost use Rattle.picture_codec.specs.Decoding.{PictureDecoderSeen, IsSound};
-    ghost use Rattle.picture_codec.specs.BandStore.{IsStoreOf};
 
     ghost Value = { PictureDecoderSeen };
 
     ghost view = { λ d. record {
       shape = d.picture.shape;
       params = params_of d.params;
-      bands = d.bands.bands;
+      bands = d.bands;
       next = d.next;
       refused = d.refused;
       picture = if d.finished then Some d.picture.samples else None;
     } };
 
-    ghost invariant = { λ d. IsSound d.params.layout d.picture.shape d.next d.bands.bands d.rooms × IsStoreOf d.params.layout d.picture.shape d.next d.bands };
+    ghost invariant = { λ d. IsSound d.params.layout d.picture.shape d.next d.bands d.rooms };
 }
 
 impl PictureDecoder {
@@ -73,7 +71,7 @@ impl PictureDecoder {
         Ok(PictureDecoder {
             params: *params,
             picture: Picture::new(alloc, shape)?,
-            bands: BandStore::new(alloc, layout, shape)?,
+            bands: DecodedBands::new(alloc, layout, shape)?,
             rooms,
             next: 0,
             refused: false,
@@ -116,16 +114,10 @@ impl PictureDecoder {
         let (params, shape) = (self.params, *self.picture.shape());
         let across = params.layout.slices_x();
         let (sx, sy) = (self.next % across, self.next / across);
-        let is_last = self.next + 1 == params.layout.count();
-        match self.bands.take(
-            &params.layout,
-            &shape,
-            &params.matrix,
-            sx,
-            sy,
-            bytes,
-            is_last,
-        ) {
+        match self
+            .bands
+            .decode(&params.layout, &shape, &params.matrix, sx, sy, bytes)
+        {
             Ok(_) => {
                 self.next += 1;
                 Ok(())
@@ -147,7 +139,7 @@ impl PictureDecoder {
     {
         // The rules of a layout.
         let _ = self.params.layout.depth();
-        self.bands.rows()
+        &self.bands
     }
 
     // Makes the picture of the slices, all of which were taken.
@@ -158,21 +150,21 @@ impl PictureDecoder {
         ensures unit { (slices : List (List ℕ)) → HasTaken slices self.old → synthesised_picture self.old ≡ picture_of (frame_of self.old.shape) self.old.params slices }
     {
         let params = self.params;
-        self.bands.rows().show(
+        self.bands.show(
             Component::Luma,
             &params,
             &mut self.rooms.luma.late,
             &mut self.rooms.luma.narrow,
             &mut self.picture,
         );
-        self.bands.rows().show(
+        self.bands.show(
             Component::C1,
             &params,
             &mut self.rooms.colour.late,
             &mut self.rooms.colour.narrow,
             &mut self.picture,
         );
-        self.bands.rows().show(
+        self.bands.show(
             Component::C2,
             &params,
             &mut self.rooms.colour.late,
@@ -208,8 +200,6 @@ impl PictureDecoder {
     pub fn restart(&mut self)
         ensures { self.new ≡ record self.old { next = 0; refused = false; picture = None } }
     {
-        // The rules of a layout.
-        let _ = self.params.layout.depth();
         self.bands.settle();
         self.next = 0;
         self.refused = false;

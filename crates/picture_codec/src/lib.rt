@@ -1,7 +1,6 @@
 //! Whole pictures: their samples, the decoder that makes them of slices, and the encoder that writes slices of them.
 #![tactic(auto)]
 
-mod band_store;
 mod centring;
 pub mod closed_loop;
 mod decoded_bands;

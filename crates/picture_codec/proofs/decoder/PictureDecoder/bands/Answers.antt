@@ -1,7 +1,6 @@
 use Rattle.std.proofs.Common.{◌≡◌, ◌∙◌, ℕ, ap, sym, subst, arith, List}
 use Rattle.slice_geometry.specs.Slicing.{slice_count, slice_bytes}
 use Rattle.slice_geometry.specs.Frames.{frame_of}
-use Rattle.planes.specs.declared.Trio.{Trio}
 use Rattle.picture_codec.specs.Decoding.{PictureDecoderSeen, HasTaken, AllCanSynthesise, HoldUnit, wanted_of}
 use Rattle.picture_codec.proofs.Whole.{unit_held, all_can, wanted_none}
 use Rattle.picture_codec.proofs.decoder.PictureDecoder.bands.Goals as goal
@@ -10,29 +9,18 @@ pub returns-clause-ready : goal.returns-clause-ready
 returns-clause-ready c =
     let s = c.self.inside.params.layout in
     let n = c.self.inside.next in
-    let taken = c.self.invariant.0.taken in
+    let taken = c.self.invariant.taken in
     let none = ap wanted_of c.self.view_is ∙ c.requires.whole in
     let all : n ≡ slice_count s = omega (arith, taken.few, wanted_none n (slice_count s) (slice_bytes s.a s.b n) none) in
-    subst (λ (b : Trio). AllCanSynthesise c.args.self.now.params.slicing c.args.self.now.shape b) (sym c.rows.ensures)
-    (subst (λ (d : PictureDecoderSeen). AllCanSynthesise d.params.slicing d.shape c.self.inside.bands.bands) c.self.view_is
-    (all_can s c.self.inside.picture.shape n c.self.inside.bands.bands c.depth.ensures.allowed taken all))
+    subst (λ (d : PictureDecoderSeen). AllCanSynthesise d.params.slicing d.shape c.self.inside.bands) c.self.view_is
+    (all_can s c.self.inside.picture.shape n c.self.inside.bands c.depth.ensures.allowed taken all)
 
 pub returns-clause-unit : goal.returns-clause-unit
 returns-clause-unit c =
     let s = c.self.inside.params.layout in
     let n = c.self.inside.next in
-    let taken = c.self.invariant.0.taken in
+    let taken = c.self.invariant.taken in
     let none = ap wanted_of c.self.view_is ∙ c.requires.whole in
     let all : n ≡ slice_count s = omega (arith, taken.few, wanted_none n (slice_count s) (slice_bytes s.a s.b n) none) in
-    subst (λ (b : Trio). (slices : List (List ℕ)) → HasTaken slices c.args.self.now → HoldUnit (frame_of c.args.self.now.shape) c.args.self.now.params slices b) (sym c.rows.ensures)
-    (subst (λ (d : PictureDecoderSeen). (slices : List (List ℕ)) → HasTaken slices d → HoldUnit (frame_of d.shape) d.params slices c.self.inside.bands.bands) c.self.view_is
-    (λ slices has. unit_held _ slices n c.depth.ensures.allowed taken has (sym has.number ∙ all)))
-
-pub rows-requires : goal.rows-requires
-rows-requires c =
-    let s = c.self.inside.params.layout in
-    let n = c.self.inside.next in
-    let taken = c.self.invariant.0.taken in
-    let none = ap wanted_of c.self.view_is ∙ c.requires.whole in
-    let all : n ≡ slice_count s = omega (arith, taken.few, wanted_none n (slice_count s) (slice_bytes s.a s.b n) none) in
-    c.self.invariant.1.gathered all
+    subst (λ (d : PictureDecoderSeen). (slices : List (List ℕ)) → HasTaken slices d → HoldUnit (frame_of d.shape) d.params slices c.self.inside.bands) c.self.view_is
+    (λ slices has. unit_held _ slices n c.depth.ensures.allowed taken has (sym has.number ∙ all))

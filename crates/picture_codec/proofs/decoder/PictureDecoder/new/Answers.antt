@@ -1,7 +1,6 @@
 use Rattle.std.proofs.Common.{◌≡◌, ap, sym, subst, arith}
 use Rattle.slice_geometry.specs.declared.PictureShape.{PictureShape}
 use Rattle.picture_codec.specs.Decoding.{IsSound}
-use Rattle.picture_codec.specs.BandStore.{IsStoreOf}
 use Rattle.picture_codec.proofs.Steps.{taken_none}
 use Rattle.picture_codec.proofs.decoder.PictureDecoder.new.Goals as goal
 
@@ -9,19 +8,16 @@ pub invariant_of-result : goal.invariant_of-result
 invariant_of-result c =
     let s = c.args.params.now.layout in
     let shape = c.args.shape.now in
-    let store = c.in_ok-new-2.field-0 in
-    let bands = store.bands in
+    let bands = c.in_ok-new-2.field-0 in
     let same_shape : c.in_ok-new.field-0.shape ≡ shape = ap (λ p. p.shape) c.in_ok-new.ensures in
-    subst (λ (sh : PictureShape). IsSound s sh 0 bands c.in_ok-rooms.rooms × IsStoreOf s sh 0 store) (sym same_shape) (
-      record {
-        taken = record {
-          luma = taken_none s shape.luma bands.luma c.in_ok-new-2.ensures.zero.0;
-          c1 = taken_none s shape.colour bands.c1 c.in_ok-new-2.ensures.zero.1;
-          c2 = taken_none s shape.colour bands.c2 c.in_ok-new-2.ensures.zero.2;
-          few = omega arith;
-        };
-        luma = c.in_ok-rooms.ensures.0;
-        colour = c.in_ok-rooms.ensures.1;
-      },
-      record { cut = c.in_ok-new-2.ensures.cut; gathered = λ all. c.in_ok-new-2.ensures.rows },
-    )
+    subst (λ (sh : PictureShape). IsSound s sh 0 bands c.in_ok-rooms.rooms) (sym same_shape)
+    (record {
+      taken = record {
+        luma = taken_none s shape.luma bands.luma c.in_ok-new-2.ensures.0;
+        c1 = taken_none s shape.colour bands.c1 c.in_ok-new-2.ensures.1;
+        c2 = taken_none s shape.colour bands.c2 c.in_ok-new-2.ensures.2;
+        few = omega arith;
+      };
+      luma = c.in_ok-rooms.ensures.0;
+      colour = c.in_ok-rooms.ensures.1;
+    })

@@ -1,6 +1,5 @@
 use Rattle.std.proofs.Common.{◌≡◌, ℕ, sym, ap, subst, ◌∙◌, arith, List}
 use Rattle.std.proofs.lemmas.Grind.{common_steps}
-use Rattle.planes.specs.declared.Trio.{Trio}
 use Rattle.slice_geometry.specs.declared.PictureShape.{PictureShape}
 use Rattle.slice_geometry.specs.Slicing.{slice_count, slice_bytes}
 use Rattle.slice_geometry.specs.Frames.{frame_of}
@@ -13,41 +12,38 @@ pub show-requires-clause-taken : goal.show-requires-clause-taken
 show-requires-clause-taken c =
     let s = c.self.inside.params.layout in
     let n = c.self.inside.next in
-    let taken = c.self.invariant.0.taken in
+    let taken = c.self.invariant.taken in
     let none = ap wanted_of c.self.view_is ∙ c.requires.whole in
     let all : n ≡ slice_count s = omega (arith, taken.few, wanted_none n (slice_count s) (slice_bytes s.a s.b n) none) in
-    subst (λ (b : Trio). AreTaken s c.self.inside.picture.shape.luma (slice_count s) b.luma) (sym c.rows.ensures)
-    (subst (λ m. AreTaken s c.self.inside.picture.shape.luma m c.self.inside.bands.bands.luma) all taken.luma)
+    subst (λ m. AreTaken s c.self.inside.picture.shape.luma m c.self.inside.bands.luma) all taken.luma
 
 pub show-requires-2-clause-taken : goal.show-requires-2-clause-taken
 show-requires-2-clause-taken c =
     let s = c.self.inside.params.layout in
     let n = c.self.inside.next in
-    let taken = c.self.invariant.0.taken in
+    let taken = c.self.invariant.taken in
     let none = ap wanted_of c.self.view_is ∙ c.requires.whole in
     let all : n ≡ slice_count s = omega (arith, taken.few, wanted_none n (slice_count s) (slice_bytes s.a s.b n) none) in
     let same = ap (λ p. p.shape) c.show.ensures.picture in
-    subst (λ (b : Trio). AreTaken s c.show.new.picture.shape.colour (slice_count s) b.c1) (sym c.rows-2.ensures)
-    (subst (λ (sh : PictureShape). AreTaken s sh.colour (slice_count s) c.self.inside.bands.bands.c1) (sym same)
-    (subst (λ m. AreTaken s c.self.inside.picture.shape.colour m c.self.inside.bands.bands.c1) all taken.c1))
+    subst (λ (sh : PictureShape). AreTaken s sh.colour (slice_count s) c.self.inside.bands.c1) (sym same)
+    (subst (λ m. AreTaken s c.self.inside.picture.shape.colour m c.self.inside.bands.c1) all taken.c1)
 
 pub show-requires-3-clause-taken : goal.show-requires-3-clause-taken
 show-requires-3-clause-taken c =
     let s = c.self.inside.params.layout in
     let n = c.self.inside.next in
-    let taken = c.self.invariant.0.taken in
+    let taken = c.self.invariant.taken in
     let none = ap wanted_of c.self.view_is ∙ c.requires.whole in
     let all : n ≡ slice_count s = omega (arith, taken.few, wanted_none n (slice_count s) (slice_bytes s.a s.b n) none) in
     let same = ap (λ p. p.shape) c.show-2.ensures.picture ∙ ap (λ p. p.shape) c.show.ensures.picture in
-    subst (λ (b : Trio). AreTaken s c.show-2.new.picture.shape.colour (slice_count s) b.c2) (sym c.rows-3.ensures)
-    (subst (λ (sh : PictureShape). AreTaken s sh.colour (slice_count s) c.self.inside.bands.bands.c2) (sym same)
-    (subst (λ m. AreTaken s c.self.inside.picture.shape.colour m c.self.inside.bands.bands.c2) all taken.c2))
+    subst (λ (sh : PictureShape). AreTaken s sh.colour (slice_count s) c.self.inside.bands.c2) (sym same)
+    (subst (λ m. AreTaken s c.self.inside.picture.shape.colour m c.self.inside.bands.c2) all taken.c2)
 
 pub returns-clause-unit : goal.returns-clause-unit
 returns-clause-unit c =
     let s = c.self.inside.params.layout in
     let n = c.self.inside.next in
-    let taken = c.self.invariant.0.taken in
+    let taken = c.self.invariant.taken in
     let none = ap wanted_of c.self.view_is ∙ c.requires.whole in
     let all : n ≡ slice_count s = omega (arith, taken.few, wanted_none n (slice_count s) (slice_bytes s.a s.b n) none) in
     subst (λ (d : PictureDecoderSeen). (slices : List (List ℕ)) → HasTaken slices d → synthesised_picture d ≡ picture_of (frame_of d.shape) d.params slices) c.self.view_is
@@ -55,30 +51,3 @@ returns-clause-unit c =
 
 pub invariant_of-self : goal.invariant_of-self
 invariant_of-self c = grind (arith, common_steps)
-
-pub rows-requires : goal.rows-requires
-rows-requires c =
-    let s = c.self.inside.params.layout in
-    let n = c.self.inside.next in
-    let taken = c.self.invariant.0.taken in
-    let none = ap wanted_of c.self.view_is ∙ c.requires.whole in
-    let all : n ≡ slice_count s = omega (arith, taken.few, wanted_none n (slice_count s) (slice_bytes s.a s.b n) none) in
-    c.self.invariant.1.gathered all
-
-pub rows-requires-2 : goal.rows-requires-2
-rows-requires-2 c =
-    let s = c.self.inside.params.layout in
-    let n = c.self.inside.next in
-    let taken = c.self.invariant.0.taken in
-    let none = ap wanted_of c.self.view_is ∙ c.requires.whole in
-    let all : n ≡ slice_count s = omega (arith, taken.few, wanted_none n (slice_count s) (slice_bytes s.a s.b n) none) in
-    c.self.invariant.1.gathered all
-
-pub rows-requires-3 : goal.rows-requires-3
-rows-requires-3 c =
-    let s = c.self.inside.params.layout in
-    let n = c.self.inside.next in
-    let taken = c.self.invariant.0.taken in
-    let none = ap wanted_of c.self.view_is ∙ c.requires.whole in
-    let all : n ≡ slice_count s = omega (arith, taken.few, wanted_none n (slice_count s) (slice_bytes s.a s.b n) none) in
-    c.self.invariant.1.gathered all
