@@ -35,6 +35,7 @@ pub mod Reaches
 pub mod ReachSums
 pub mod ReachPairs
 pub mod RestoredNeeds
+pub mod LastReaches
 pub mod GatheredLists
 pub mod CodeSizes
 pub mod WorkedLowNeeds

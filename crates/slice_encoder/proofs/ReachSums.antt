@@ -23,11 +23,11 @@ reach_all (v ∷ vs) behind some =
     omega (arith, later, with_some v (reach vs behind) (omega (arith, later, some)), length-append (signed_code_of v) (codes_of vs))
 
 -- a 0 at the end adds nothing
-reach_none : (vs : List ℤ) (v : ℤ) → unsigned_abs v ≡ 0 → reach (vs ++ v ∷ []) 0 ≡ reach vs 0
+pub reach_none : (vs : List ℤ) (v : ℤ) → unsigned_abs v ≡ 0 → reach (vs ++ v ∷ []) 0 ≡ reach vs 0
 reach_none vs v none = reach_append vs (v ∷ []) 0 ∙ ap (reach vs) (with_none v 0 (omega (arith, none)))
 
 -- with another value at the end all codes count
-reach_some : (vs : List ℤ) (v : ℤ) → 1 ≤ unsigned_abs v → length (codes_of (vs ++ v ∷ [])) ≡ reach (vs ++ v ∷ []) 0
+pub reach_some : (vs : List ℤ) (v : ℤ) → 1 ≤ unsigned_abs v → length (codes_of (vs ++ v ∷ [])) ≡ reach (vs ++ v ∷ []) 0
 reach_some vs v some =
     let end : with_code v 0 ≡ length (signed_code_of v) + 0 = with_some v 0 (omega (arith, some)) in
     let all : length (codes_of vs) + with_code v 0 ≡ reach vs (with_code v 0) = reach_all vs (with_code v 0) (omega (arith, end, code_long v some)) in

@@ -1,6 +1,6 @@
 // The first index that may fit.
 
-ghost use Rattle.std.specs.Prelude.{◌≡◌, ℕ, ◌*◌, ◌^◌, ◌<◌, ◌≤◌, max, true, slice_index};
+ghost use Rattle.std.specs.Prelude.{◌≡◌, ℕ, ◌+◌, ◌*◌, ◌^◌, ◌<◌, ◌≤◌, max, true, slice_index};
 ghost use Rattle.slice_encoder.specs.TrialLaws.{IsSteepOk};
 ghost use Rattle.slice_encoder.specs.LowNeeds.{lower_of, may_fit, IsFirstCandidate};
 ghost use Rattle.slice_encoder.specs.GatheredSlices.{gathered_reaches, gathered_low};
@@ -94,11 +94,22 @@ fn longer(step: u32) -> u32
     if step > 16 { step } else { 2 * step }
 }
 
-/// The first index that may fit, and how far codes reach there.
+/// The first index that may fit, how far codes reach there, and how far at the next index, where that was found too.
 #[derive(Clone, Copy)]
 pub struct First {
     pub index: u32,
     pub reaches: Reaches,
+    pub has_next: bool,
+    pub next: Reaches,
+}
+
+// Whether the end is known, and just behind an index.
+fn is_next(known: bool, end: u32, index: u32) -> bool
+    requires { index < end }
+    ensures known { result ≡ true → known ≡ true }
+    ensures next { result ≡ true → end ≡ index + 1 }
+{
+    known && end - index == 1
 }
 
 // The first index that may fit by how far the codes of what was gathered reach. It is looked for from an index near it,
@@ -116,6 +127,9 @@ pub fn find_first(gathered: &GatheredSlice, matrix: &Matrix, bytes: u32, near: u
     ensures reaches { result.reaches ≡ gathered_reaches gathered.now matrix.now result.index }
     ensures few_luma { result.reaches.luma ≤ 2 ^ 38 }
     ensures few_colour { result.reaches.colour ≤ 2 ^ 39 }
+    ensures next { result.has_next ≡ true → result.next ≡ gathered_reaches gathered.now matrix.now (result.index + 1) }
+    ensures few_next_luma { result.next.luma ≤ 2 ^ 38 }
+    ensures few_next_colour { result.next.colour ≤ 2 ^ 39 }
 {
     let mut start = 0;
     let mut end = 127;
@@ -123,6 +137,8 @@ pub fn find_first(gathered: &GatheredSlice, matrix: &Matrix, bytes: u32, near: u
     let mut step = 1;
     let mut known = false;
     let mut reaches = Reaches { luma: 0, colour: 0 };
+    let mut has_next = false;
+    let mut next = reaches;
     while start < end {
         let index = probe(start, end, wanted, step);
         let here = gathered.reaches(matrix, index);
@@ -131,6 +147,8 @@ pub fn find_first(gathered: &GatheredSlice, matrix: &Matrix, bytes: u32, near: u
         let taken = (step + 1) / 2;
         step = longer(step);
         if may {
+            has_next = is_next(known, end, index);
+            next = reaches;
             end = index;
             reaches = here;
             known = true;
@@ -146,5 +164,7 @@ pub fn find_first(gathered: &GatheredSlice, matrix: &Matrix, bytes: u32, near: u
     First {
         index: start,
         reaches,
+        has_next,
+        next,
     }
 }

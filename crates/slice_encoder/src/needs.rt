@@ -1,9 +1,10 @@
 // What values need, by the length of their codes up to the last one that isn't 0.
 
 ghost use Rattle.planes.specs.declared.TheConstants.{MAX_MAGNITUDE};
-ghost use Rattle.std.specs.Prelude.{◌≡◌, ◌≢◌, ◌-◌, ◌*◌, ◌^◌, ◌<◌, ◌≤◌, length, pos, slice_index_or, take, unsigned_abs};
+ghost use Rattle.std.specs.Prelude.{◌≡◌, ◌≢◌, ◌-◌, ◌*◌, ◌^◌, ◌<◌, ◌≤◌, length, pos, slice_index_or, take, drop, unsigned_abs};
 ghost use Rattle.bit_codes.specs.Codes.{signed_code_of};
 ghost use Rattle.bounded_blocks.specs.Writing.{codes_of, need};
+ghost use Rattle.slice_encoder.specs.Gathering.{reach};
 ghost use Rattle.slice_encoder.specs.TrialLaws.{AreSmall};
 
 use crate::short_texts::short_text;
@@ -15,6 +16,7 @@ pub fn count_to_last(values: &[i64]) -> usize
     requires { AreSmall values.now }
     ensures most { result ≤ length values.now }
     ensures need { need (take result values.now) ≡ need values.now }
+    ensures reach { reach (take result values.now) 0 ≡ reach values.now 0 }
     ensures last { 0 < result → slice_index_or values.now (result - 1) (pos 0) ≢ pos 0 }
 {
     for passed in 0..values.len() {
@@ -74,4 +76,36 @@ pub fn need_of_values(values: &[i64]) -> u64
     }
     let front = total_length(&values[..count - 1]);
     front + Need::of(&values[count - 1..count]).bits()
+}
+
+// The need of values by how far their codes reach: all of that but what isn't needed of the last code.
+fn need_within(values: &[i64], bits: u64) -> u64
+    requires few { length values.now ≤ 2 ^ 32 }
+    requires small { AreSmall values.now }
+    requires reach { bits ≡ reach values.now 0 }
+    requires some { 1 ≤ bits }
+    ensures { result ≡ need values.now }
+{
+    let count = count_to_last(values);
+    if count == 0 {
+        return 0;
+    }
+    let end = &values[count - 1..count];
+    bits - total_length(end) + Need::of(end).bits()
+}
+
+/// The need of values of which it is known how far the codes reach behind the first so many.
+pub fn need_behind(values: &[i64], lowest: usize, behind: u64) -> u64
+    requires few { length values.now ≤ 2 ^ 32 }
+    requires small { AreSmall values.now }
+    requires inside { lowest ≤ length values.now }
+    requires most { behind ≤ 2 ^ 39 }
+    requires behind { behind ≡ reach (drop lowest values.now) 0 }
+    ensures { result ≡ need values.now }
+{
+    if behind == 0 {
+        return need_of_values(values);
+    }
+    let front = total_length(&values[..lowest]);
+    need_within(values, front + behind)
 }

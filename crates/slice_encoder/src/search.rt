@@ -1,6 +1,6 @@
 // The least index at which a slice fits.
 
-ghost use Rattle.std.specs.Prelude.{◌≡◌, ◌+◌, ◌*◌, ◌^◌, ◌<◌, ◌≤◌, max, true, false, length};
+ghost use Rattle.std.specs.Prelude.{◌≡◌, ℕ, ◌+◌, ◌*◌, ◌^◌, ◌<◌, ◌≤◌, max, true, false, length, slice_index};
 ghost use Rattle.slice_encoder.specs.Choice.{fits, IsLeast};
 ghost use Rattle.slice_geometry.specs.Slicing.{slice_bytes, slice_number};
 ghost use Rattle.slice_encoder.specs.TrialLaws.{IsSteepOk};
@@ -13,13 +13,14 @@ ghost use Rattle.slice_encoder.specs.Jobs.{picture_of};
 ghost use Rattle.slice_encoder.specs.Ready.{AreReady};
 ghost use Rattle.slice_encoder.specs.Trials.{luma_of};
 
-use crate::candidates::find_first;
+use crate::candidates::{First, find_first};
 use crate::fitting::do_fit;
 use crate::gathered::{GatheredSlice, Reaches, behind};
 use crate::jobs::SliceJob;
-use crate::needs::need_of_values;
+use crate::needs::need_behind;
 use crate::trying::{list_colour, list_luma, lowest_colour_bits, lowest_luma_bits, try_lowest};
 use planes::ThreePlanes;
+use quant_factors::Matrix;
 use slice_geometry::Layout;
 
 /// How many values of luma and of colour a trial listed, what they need, and whether they fit.
@@ -91,6 +92,7 @@ fn list_and_count(
     index: u32,
     bytes: u32,
     gathered: &GatheredSlice,
+    reaches: Reaches,
     kept: &ThreePlanes,
     luma: &mut [i64],
     colour: &mut [i64],
@@ -98,6 +100,10 @@ fn list_and_count(
     requires index { index ≤ 127 }
     requires some { 1 ≤ bytes }
     requires most { bytes ≤ 2 ^ 28 }
+    requires luma_reach { reaches.luma ≡ high_reach (luma_of (picture_of job)) index job.sx job.sy }
+    requires colour_reach { reaches.colour ≡ high_pairs_reach (picture_of job) index job.sx job.sy }
+    requires few_luma { reaches.luma ≤ 2 ^ 38 }
+    requires few_colour { reaches.colour ≤ 2 ^ 39 }
     requires restored { WasTried (picture_of job) job.sx job.sy index kept.now }
     requires gathered { AreAllGathered (picture_of job) job.sx job.sy gathered.now }
     requires room { HasRoom (picture_of job) job.sx job.sy (length luma.old) (length colour.old) }
@@ -106,8 +112,10 @@ fn list_and_count(
     let _depth = job.layout.depth();
     let lumas = list_luma(job, index, &gathered.luma, &kept.luma, luma);
     let colours = list_colour(job, index, gathered, kept, colour);
-    let luma_need = need_of_values(&luma[..lumas]);
-    let colour_need = need_of_values(&colour[..colours]);
+    let luma_lowest = gathered.luma.lowest() as usize;
+    let colour_lowest = 2 * gathered.c1.lowest() as usize;
+    let luma_need = need_behind(&luma[..lumas], luma_lowest, reaches.luma);
+    let colour_need = need_behind(&colour[..colours], colour_lowest, reaches.colour);
     Trying {
         luma: lumas,
         colour: colours,
@@ -208,7 +216,7 @@ fn try_if_may(
             fits: false,
         };
     }
-    list_and_count(job, index, bytes, gathered, kept, luma, colour)
+    list_and_count(job, index, bytes, gathered, reaches, kept, luma, colour)
 }
 
 // Tries one index: its restored values are kept, and its values listed and counted.
@@ -231,7 +239,28 @@ pub fn try_at(
     ensures kept { AreTried (picture_of job.entry) job.entry.sx job.entry.sy index kept.old kept.new }
 {
     restore_lowest(job, index, kept);
-    list_and_count(job, index, bytes, gathered, kept, luma, colour)
+    let reaches = gathered.reaches(job.matrix, index);
+    list_and_count(job, index, bytes, gathered, reaches, kept, luma, colour)
+}
+
+// How far codes reach at the index behind one, which may have been found with the first candidate.
+fn reaches_behind(gathered: &GatheredSlice, matrix: &Matrix, first: First, index: u32) -> Reaches
+    requires index { index < 127 }
+    requires luma { matrix.now.depth ≡ gathered.now.luma.depth }
+    requires c1 { matrix.now.depth ≡ gathered.now.c1.depth }
+    requires c2 { matrix.now.depth ≡ gathered.now.c2.depth }
+    requires ends { (k : ℕ) → k ≤ 3 * gathered.now.c1.depth → slice_index gathered.now.c2.ends k ≡ slice_index gathered.now.c1.ends k }
+    requires next { first.has_next ≡ true → first.next ≡ gathered_reaches gathered.now matrix.now (first.index + 1) }
+    requires few_luma { first.next.luma ≤ 2 ^ 38 }
+    requires few_colour { first.next.colour ≤ 2 ^ 39 }
+    ensures value { result ≡ gathered_reaches gathered.now matrix.now (index + 1) }
+    ensures few_luma { result.luma ≤ 2 ^ 38 }
+    ensures few_colour { result.colour ≤ 2 ^ 39 }
+{
+    if first.has_next && first.index == index {
+        return first.next;
+    }
+    gathered.reaches(matrix, index + 1)
 }
 
 // Tries the indices from the first candidate on, and keeps the trial of the first that fits.
@@ -267,7 +296,7 @@ pub fn find_least(
                 trying,
             };
         }
-        reaches = gathered.reaches(job.matrix, index + 1);
+        reaches = reaches_behind(gathered, job.matrix, first, index);
     }
     let trying = try_at(job, 127, bytes, gathered, kept, luma, colour);
     Found {

@@ -1,6 +1,6 @@
-use Rattle.std.proofs.Common.{◌≡◌, ◌∙◌, true, false, sym, ap, arith}
+use Rattle.std.proofs.Common.{◌≡◌, ◌∙◌, ℕ, true, false, sym, ap, arith}
 use Rattle.slice_encoder.specs.declared.gathered.Reaches.{Reaches}
-use Rattle.slice_encoder.specs.GatheredSlices.{low_by, gathered_low}
+use Rattle.slice_encoder.specs.GatheredSlices.{low_by, gathered_low, gathered_reaches}
 use Rattle.slice_encoder.proofs.GatheredLists.{low_refuted_below, gathered_may}
 use Rattle.slice_encoder.proofs.candidates.find_first.Goals as goal
 
@@ -12,6 +12,9 @@ loop-start-init c = record {
   near = omega (arith, c.requires.near);
   may = c.requires.last;
   known = λ e. absurd (let q : false ≡ true = e in cc);
+  next = λ e. absurd (let q : false ≡ true = e in cc);
+  few_next_luma = omega arith;
+  few_next_colour = omega arith;
   few_luma = omega arith;
   few_colour = omega arith;
   refuted = λ i lt. absurd (omega arith);
@@ -29,6 +32,9 @@ loop-start-preserved-then-may c =
       near = omega (arith, l.invariant.most, c.probe-index.ensures.high);
       may = gathered_may c.args.bytes c.low-low.result (gathered_low g c.args.matrix.now c.probe-index.result) true low_is (sym c.do_fit-may.ensures ∙ c.if-may.true);
       known = λ e. c.reaches-here.ensures.value;
+      next = λ e. l.invariant.known (c.is_next-has_next.ensures.known e) ∙ ap (λ (i : ℕ). gathered_reaches g c.args.matrix.now i) (c.is_next-has_next.ensures.next e);
+      few_next_luma = l.invariant.few_luma;
+      few_next_colour = l.invariant.few_colour;
       few_luma = c.reaches-here.ensures.few_luma;
       few_colour = c.reaches-here.ensures.few_colour;
       refuted = l.invariant.refuted;
@@ -46,6 +52,9 @@ loop-start-preserved c =
       near = omega (arith, l.invariant.most, c.probe-index.ensures.high, l.invariant.steps);
       may = l.invariant.may;
       known = l.invariant.known;
+      next = l.invariant.next;
+      few_next_luma = l.invariant.few_next_luma;
+      few_next_colour = l.invariant.few_next_colour;
       few_luma = l.invariant.few_luma;
       few_colour = l.invariant.few_colour;
       refuted = λ i lt.

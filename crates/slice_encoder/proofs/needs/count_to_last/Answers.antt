@@ -3,7 +3,9 @@ use Rattle.std.proofs.lemmas.List.Elements.{All-get_or}
 use Rattle.bounded_blocks.specs.Parts.{IsSmall}
 use Rattle.bounded_blocks.specs.Writing.{need}
 use Rattle.slice_encoder.proofs.BlockTexts.{told}
+use Rattle.slice_encoder.specs.Gathering.{reach}
 use Rattle.slice_encoder.proofs.LastValues.{need_without}
+use Rattle.slice_encoder.proofs.LastReaches.{reach_without}
 use Rattle.slice_encoder.proofs.needs.count_to_last.Goals as goal
 
 pub loop-passed-preserved : goal.loop-passed-preserved
@@ -17,4 +19,5 @@ loop-passed-preserved c =
     let up : n + 1 ≡ length vs - l.passed = omega (arith, c.loop-passed-test.true) in
     record {
       need = ap (λ (k : ℕ). need (take k vs)) back ∙ sym (need_without vs n lt zero) ∙ ap (λ (k : ℕ). need (take k vs)) up ∙ l.invariant.need;
+      reach = ap (λ (k : ℕ). reach (take k vs) 0) back ∙ sym (reach_without vs n lt zero) ∙ ap (λ (k : ℕ). reach (take k vs) 0) up ∙ l.invariant.reach;
     }

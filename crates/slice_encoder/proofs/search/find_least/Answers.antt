@@ -15,8 +15,8 @@ find_first-first-requires-clause-ends c = λ k le.
     let j : CodedPicture = picture_of a.job in
     ends_same j 0 a.job.sx a.job.sy a.gathered.now.c1 a.gathered.now.c2 c.requires.gathered.c1 c.requires.gathered.c2 k le
 
-pub reaches-reaches-requires-clause-ends : goal.reaches-reaches-requires-clause-ends
-reaches-reaches-requires-clause-ends c = λ k le.
+pub reaches_behind-reaches-requires-clause-ends : goal.reaches_behind-reaches-requires-clause-ends
+reaches_behind-reaches-requires-clause-ends c = λ k le.
     let a = c.args in
     let j : CodedPicture = picture_of a.job in
     ends_same j 0 a.job.sx a.job.sy a.gathered.now.c1 a.gathered.now.c2 c.requires.gathered.c1 c.requires.gathered.c2 k le
@@ -91,9 +91,9 @@ loop-index-preserved c =
     record {
       luma_length = c.try_if_may-trying.auto.luma ∙ l.invariant.luma_length;
       colour_length = c.try_if_may-trying.auto.colour ∙ l.invariant.colour_length;
-      reaches = c.reaches-reaches.ensures.value;
-      few_luma = c.reaches-reaches.ensures.few_luma;
-      few_colour = c.reaches-reaches.ensures.few_colour;
+      reaches = c.reaches_behind-reaches.ensures.value;
+      few_luma = c.reaches_behind-reaches.ensures.few_luma;
+      few_colour = c.reaches_behind-reaches.ensures.few_colour;
       keeps = all_tried_keep j a.job.sx a.job.sy l.index a.kept.now c.try_if_may-trying.new.kept (all_tried_again j a.job.sx a.job.sy l.index a.kept.now l.kept c.try_if_may-trying.new.kept l.invariant.keeps c.try_if_may-trying.ensures.kept);
       refuted =
           refuted_more (λ i. fits a.bytes (tried_lists j a.kept.now a.job.sx a.job.sy i)) l.index l.invariant.refuted

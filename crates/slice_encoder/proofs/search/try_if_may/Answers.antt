@@ -16,3 +16,15 @@ may_fit-may-requires-clause-colour_reach c =
     let a = c.args in
     let j : CodedPicture = picture_of a.job in
     ap (λ (r : Reaches). r.colour) c.requires.reaches ∙ pairs_reach_is j a.index a.job.sx a.job.sy a.gathered.now.c1 a.gathered.now.c2 c.requires.gathered.c1 c.requires.gathered.c2
+
+pub list_and_count-requires-clause-luma_reach : goal.list_and_count-requires-clause-luma_reach
+list_and_count-requires-clause-luma_reach c =
+    let a = c.args in
+    let j : CodedPicture = picture_of a.job in
+    ap (λ (r : Reaches). r.luma) c.requires.reaches ∙ reach_is (luma_of j) a.index a.job.sx a.job.sy a.gathered.now.luma c.requires.gathered.luma
+
+pub list_and_count-requires-clause-colour_reach : goal.list_and_count-requires-clause-colour_reach
+list_and_count-requires-clause-colour_reach c =
+    let a = c.args in
+    let j : CodedPicture = picture_of a.job in
+    ap (λ (r : Reaches). r.colour) c.requires.reaches ∙ pairs_reach_is j a.index a.job.sx a.job.sy a.gathered.now.c1 a.gathered.now.c2 c.requires.gathered.c1 c.requires.gathered.c2
