@@ -1,113 +1,25 @@
--- Streams by their fields, and streams by their units with their bytes.
-use Rattle.std.proofs.Common.{◌≡◌, ℕ, zero, suc, ◌+◌, ◌-◌, ◌*◌, ◌≤◌, Bool, true, false, ◌&&◌, List, [], ◌∷◌, ◌++◌, length, map, take, drop, Option, Some, None, Ok, refl, sym, ap, subst, ◌∙◌, append_assoc, arith}
-use Rattle.std.proofs.lemmas.List.{length-take, length-drop, take-append-drop, take_at}
-use Rattle.bit_codes.specs.Bits.{Cursor, bits_of, bytes_of}
-use Rattle.bit_codes.proofs.BitLemmas.{length-bits}
-use Rattle.bit_codes.proofs.ByteLemmas.{bytes_of-bits_of}
-use Rattle.field_rows.specs.Rows.{Value, bytes_under, is_nil}
-use Rattle.field_rows.specs.Standing.{Stand}
+-- Streams and refusals by their fields, and by their units with their bytes.
+use Rattle.std.proofs.Common.{◌≡◌, ℕ, ◌+◌, ◌-◌, ◌<◌, ◌≤◌, Bool, true, false, ◌&&◌, List, [], ◌∷◌, ◌++◌, length, map, take, drop, Ok, refl, sym, ap, subst, ◌∙◌, append_assoc, append-nil, arith}
+use Rattle.std.proofs.lemmas.List.{length-take, length-drop, length-append, take-append-drop, take_at, take_all}
+use Rattle.bit_codes.specs.Bits.{Cursor, cursor_at}
+use Rattle.field_rows.specs.Rows.{Value, Fault, is_nil}
+use Rattle.field_rows.specs.Standing.{Stand, IsRefused}
 use Rattle.field_rows.proofs.Answers.{Stand-read, found_fields}
-use Rattle.field_rows.proofs.Words.{split-bits}
-use Rattle.parse_info.specs.declared.Code.{Code}
-use Rattle.parse_info.specs.declared.Code.TheVariants.{SequenceHeader, EndOfSequence, Auxiliary, Padding, LowDelayPicture}
-use Rattle.parse_info.specs.declared.ParseInfo.{ParseInfo}
-use Rattle.parse_info.specs.Head.{head_rows}
-use Rattle.sequence_header.specs.declared.parts.HeaderParts.{HeaderParts}
-use Rattle.transform_params.specs.Params.{Params}
 use Rattle.unit_table.specs.Grammar.{Behind, Inner, Final, ends_by, bytes_at, unit_at}
-use Rattle.unit_table.specs.Fronts.{Stands, Finishes, size_to, front_behind, front_by, front_of}
-use Rattle.unit_table.proofs.Whole.{EndsWhole, ends_whole, EndsWhole-bind, EndsWhole-done, EndsWhole-bytes_under, behind-bytes}
+use Rattle.unit_table.specs.Fronts.{Stands, Finishes, size_to, front_behind, front_by, front_within}
+use Rattle.unit_table.proofs.FrontLaws.{front_near, front_before, front_past}
 use Rattle.stream_rows.specs.declared.reason.Reason.{Reason}
-use Rattle.stream_rows.specs.Units.{Past, nothing_yet, First, DataUnit, unit_behind, reason_of, unit_head, payload_of, payload_rows, next_checked, share, after}
-use Rattle.stream_rows.specs.Streams.{bytes_between, ends, Entry, limit}
-use Rattle.stream_rows.proofs.Whole.{params_whole, payload_whole}
-use Rattle.stream_cut.specs.RowStreams.{UnitsBy}
-use Rattle.stream_cut.specs.Skim.{skim_slices, skim_picture, skim_payload_of, skim_payload, skim_rows, skimmed, IsSkimStream}
+use Rattle.stream_rows.specs.Units.{Past, nothing_yet, DataUnit, unit_behind, reason_of, after}
+use Rattle.stream_rows.specs.Streams.{bytes_between, ends, Entry, UnitsBy, IsStreamFromBy, IsRefusalFromBy, limit, past_limit, IsFaultBy, WithinLimit, PastLimit, BehindLimit}
+use Rattle.stream_rows.proofs.StreamLaws.{stands_front, refused_front, last_cut, full_front}
+use Rattle.stream_rows.proofs.Answering.{IsBytes, fit_drop, near, between, after-place, unit-taken, last-front, all-near, behind_limit}
+use Rattle.stream_cut.specs.Skim.{skim_rows, skimmed, IsSkimStream}
 use Rattle.stream_cut.specs.Cut.{Piece}
-use Rattle.stream_cut.specs.CutLaws.{bytes_in, StandWith, IsStreamWith, HasPieces, IsMadeOf}
-use Rattle.stream_cut.proofs.Fields.{IsBytes, fit_take, fit_drop}
-use Rattle.stream_cut.proofs.NoLonger.{place_after}
+use Rattle.stream_cut.specs.CutLaws.{bytes_in, StandWith, StandWithin, IsStreamWith, HasPieces, HasPiecesBefore, IsMadeOf}
+use Rattle.stream_cut.proofs.SkimTables.{skim_table}
 use Rattle.stream_cut.proofs.Cuts.{by_reading, last_reading, fit_behind}
 
--- ---- each unit ends with a byte
-
-slices_whole : (p : Params) (left : ℕ) (so_far : List (List ℕ)) → EndsWhole reason_of (skim_slices p left so_far)
-unfolding skim_slices
-slices_whole p zero so_far = EndsWhole-done reason_of so_far
-slices_whole p (suc left) so_far =
-    EndsWhole-bind reason_of (bytes_under (share p (length so_far)) (λ bytes. [])) (λ slice. skim_slices p left (so_far ++ slice ∷ [])) (EndsWhole-bytes_under reason_of (share p (length so_far)) (λ bytes. []))
-    (λ slice. slices_whole p left (so_far ++ slice ∷ []))
-
-next_whole : (z : Past) (next : ℕ) → EndsWhole reason_of (next_checked z next)
-unfolding next_checked
-next_whole z next = search ends_whole depth 20
-
-head_whole : (z : Past) → EndsWhole reason_of (unit_head z)
-unfolding unit_head head_rows
-head_whole z = search ends_whole depth 20
-
-picture_whole : (z : Past) (next : ℕ) (parts : HeaderParts) → EndsWhole reason_of (skim_picture z next parts)
-unfolding skim_picture
-picture_whole z next parts = search (ends_whole, params_whole, slices_whole, next_whole) depth 20
-
-other_whole : (z : Past) (first : First) (next : ℕ) (code : Code) → EndsWhole reason_of (payload_of z first next code)
-unfolding payload_rows
-other_whole z first next code = payload_whole z (Some first) (record { code = code; next = next; previous = 0 })
-
-payload_of_whole : (z : Past) (first : First) (next : ℕ) (code : Code) → EndsWhole reason_of (skim_payload_of z first next code)
-unfolding skim_payload_of
-payload_of_whole z first next SequenceHeader = other_whole z first next SequenceHeader
-payload_of_whole z first next EndOfSequence = other_whole z first next EndOfSequence
-payload_of_whole z first next Auxiliary = other_whole z first next Auxiliary
-payload_of_whole z first next Padding = other_whole z first next Padding
-payload_of_whole z first next LowDelayPicture = picture_whole z next first.parts
-
-skim_payload_whole : (z : Past) (first : Option First) (head : ParseInfo) → EndsWhole reason_of (skim_payload z first head)
-unfolding skim_payload
-skim_payload_whole z None head = payload_whole z None head
-skim_payload_whole z (Some first) head = payload_of_whole z first head.next head.code
-
-pub skim_whole : (z : Past) → EndsWhole reason_of (skim_rows z)
-unfolding skim_rows
-skim_whole z = EndsWhole-bind reason_of (unit_head z) (skim_payload z z.first) (head_whole z) (skim_payload_whole z z.first)
-
 -- ---- the bytes of units that stand
-
--- a unit that stands, by its bytes
-record HasBytes (z : Past) (bs : List ℕ) (unit : DataUnit) (mid : Cursor) : Type 0 where
-  size : ℕ
-  inside : size ≤ length bs
-  at : mid ≡ bytes_at (z.place + size) (drop size bs)
-  between : bytes_between (bytes_at z.place bs) mid ≡ take size bs
-  read : unit_at skimmed z bs ≡ Ok (unit, mid)
-  is_size : size_to bs mid ≡ size
-
-has_bytes : (z : Past) (bs : List ℕ) (vs : List Value) (unit : DataUnit) (mid : Cursor) → IsBytes bs → Stand (skim_rows z) vs (bytes_at z.place bs) unit mid → HasBytes z bs unit mid
-has_bytes z bs vs unit mid fits k =
-    let e = Stand-read reason_of (skim_rows z) vs (bytes_at z.place bs) unit mid k in
-    let b = behind-bytes reason_of (skim_rows z) z.place bs unit mid e ((skim_whole z).ends (bytes_at z.place bs) mid unit (omega arith) (omega (arith, length-bits bs)) e) in
-    record {
-      size = b.0;
-      inside = b.1;
-      at = b.2;
-      between = ap (λ (c : Cursor). bytes_of (take (c.place - 8 * z.place) (bits_of bs))) b.2 ∙ ap (λ n. bytes_of (take n (bits_of bs))) (omega arith) ∙ ap bytes_of (split-bits b.0 bs b.1).0 ∙ bytes_of-bits_of (take b.0 bs) (fit_take b.0 bs fits);
-      read = e;
-      is_size = omega (arith, b.1, ap (λ (c : Cursor). length c.rest) b.2, length-bits (drop b.0 bs), length-drop b.0 bs);
-    }
-
-stays : (b : Behind) (empty : Bool) (n : ℕ) (unit : DataUnit) → ends_by b empty ≡ false → front_behind {R = Reason} b (empty && true) n unit ≡ Stands n unit
-stays Inner empty n unit e = refl
-stays Final true n unit e = absurd cc
-stays Final false n unit e = refl
-
-goes : (b : Behind) (empty : Bool) (n : ℕ) (unit : DataUnit) → ends_by b empty ≡ true → (front_behind {R = Reason} b (empty && true) n unit ≡ Finishes n unit) × (empty ≡ true)
-goes Inner empty n unit e = absurd cc
-goes Final true n unit e = (refl, refl)
-goes Final false n unit e = absurd cc
-
-no_bytes : (bytes : List ℕ) → is_nil (bits_of bytes) ≡ true → bytes ≡ []
-no_bytes [] e = refl
-no_bytes (b ∷ bytes) e = absurd cc
 
 abbrev entries : List Entry → List DataUnit
 entries es = map (λ (e : Entry). e.unit) es
@@ -116,69 +28,173 @@ abbrev made : List Piece → List DataUnit
 made pieces = map (λ (p : Piece). p.unit) pieces
 
 -- units that stand by their fields, with their bytes
-record Cutup (z : Past) (bs : List ℕ) (es : List Entry) (z' : Past) (c' : Cursor) : Type 0 where
+record Cutup (z : Past) (v : List ℕ) (es : List Entry) (z' : Past) (c' : Cursor) : Type 0 where
   pieces : List Piece
   tail : List ℕ
-  parts : bs ≡ bytes_in pieces ++ tail
-  at : c' ≡ bytes_at z'.place tail
-  stand : StandWith skim_rows z pieces tail z'
+  parts : v ≡ bytes_in pieces ++ tail
+  at : c' ≡ bytes_at z'.place (near z' tail)
+  stand : StandWithin z pieces tail z'
   same : made pieces ≡ entries es
   fits : IsBytes tail
+  total : z'.place + length tail ≡ z.place + length v
+  small : z'.place ≤ limit
 
-cut_up : (es : List Entry) (z z' : Past) (bs : List ℕ) (c' : Cursor) → IsBytes bs → UnitsBy skim_rows z (bytes_at z.place bs) es z' c' → Cutup z bs es z' c'
-cut_up [] z z' bs c' fits f = record {
+cut_up : (es : List Entry) (z z' : Past) (v : List ℕ) (c' : Cursor) → z.place ≤ limit → IsBytes v → UnitsBy skim_rows z (bytes_at z.place (near z v)) es z' c' → Cutup z v es z' c'
+cut_up [] z z' v c' le fits f = record {
   pieces = [];
-  tail = bs;
+  tail = v;
   parts = refl;
-  at = sym f.1 ∙ ap (λ (x : Past). bytes_at x.place bs) f.0;
+  at = sym f.1 ∙ ap (λ (x : Past). bytes_at x.place (near x v)) f.0;
   stand = f.0;
   same = refl;
   fits = fits;
+  total = ap (λ (x : Past). x.place + length v) (sym f.0);
+  small = subst (λ (x : Past). x.place ≤ limit) f.0 le;
 }
-cut_up (e ∷ es) z z' bs c' fits f =
-    let mid = f.0 in
-    let h = has_bytes z bs e.fields e.unit mid fits f.1 in
-    let bytes = take h.size bs in
-    let rest = drop h.size bs in
-    let next = after z e.unit bytes in
-    let long : length bytes ≡ h.size = omega (arith, length-take h.size bs, h.inside) in
-    let there : mid ≡ bytes_at next.place rest = h.at ∙ ap (λ n. bytes_at n rest) (omega (arith, place_after z e.unit bytes, long)) in
-    let others : UnitsBy skim_rows next (bytes_at next.place rest) es z' c' = subst (λ (c : Cursor). UnitsBy skim_rows next c es z' c') there (subst (λ l. UnitsBy skim_rows (after z e.unit l) mid es z' c') h.between f.3) in
-    let m = cut_up es next z' rest c' (fit_drop h.size bs fits) others in
-    let whole : bs ≡ bytes ++ (bytes_in m.pieces ++ m.tail) = sym (take-append-drop h.size bs) ∙ ap (λ l. bytes ++ l) m.parts in
-    let front : front_of skimmed z bs ≡ Stands (length bytes) e.unit =
-    ap (front_by skimmed (λ fault. fault) false bs) h.read ∙ stays (unit_behind e.unit) (is_nil mid.rest) (size_to bs mid) e.unit f.2 ∙ ap (λ n. Stands n e.unit) (h.is_size ∙ sym long) in
+cut_up (e ∷ es) z z' v c' le fits f =
+    let t = unit-taken skim_rows skim_table z v e.fields e.unit f.0 fits f.1 f.2 in
+    let bytes = take t.size v in
+    let rest = drop t.size v in
+    let inside : t.size ≤ length v = omega (arith, t.inside, length-take (limit - z.place) v) in
+    let long : length bytes ≡ t.size = omega (arith, length-take t.size v, inside) in
+    let others : UnitsBy skim_rows t.left (bytes_at t.left.place (near t.left rest)) es z' c'
+    = subst (λ (c : Cursor). UnitsBy skim_rows t.left c es z' c') t.at (subst (λ (x : Past). UnitsBy skim_rows x f.0 es z' c') (sym t.is_left) f.3) in
+    let m = cut_up es t.left z' rest c' (omega (arith, t.place, t.inside, length-take (limit - z.place) v)) (fit_drop t.size v fits) others in
+    let whole : v ≡ bytes ++ (bytes_in m.pieces ++ m.tail) = sym (take-append-drop t.size v) ∙ ap (λ l. bytes ++ l) m.parts in
+    let front : front_within limit past_limit skimmed z v ≡ Stands (length bytes) e.unit = t.front ∙ ap (λ n. Stands n e.unit) (sym long) in
     record {
       pieces = record { unit = e.unit; bytes = bytes } ∷ m.pieces;
       tail = m.tail;
       parts = whole ∙ sym (append_assoc bytes (bytes_in m.pieces) m.tail);
       at = m.at;
-      stand = (subst (λ l. front_of skimmed z l ≡ Stands (length bytes) e.unit) whole front, m.stand);
+      stand = (subst (λ l. front_within limit past_limit skimmed z l ≡ Stands (length bytes) e.unit) whole front, subst (λ (x : Past). StandWithin x m.pieces m.tail z') (sym t.taken) m.stand);
       same = ap (λ l. e.unit ∷ l) m.same;
       fits = m.fits;
+      total = omega (arith, m.total, t.place, inside, length-drop t.size v);
+      small = m.small;
     }
+
+-- units that stand within the limit stand
+stand_with : (pieces : List Piece) (z left : Past) (tail : List ℕ) → z.place + length (bytes_in pieces ++ tail) ≤ limit → StandWithin z pieces tail left → StandWith skim_rows z pieces tail left
+stand_with [] z left tail few f = f
+stand_with (p ∷ pieces) z left tail few f =
+    let all = bytes_in pieces ++ tail in
+    let joined : length ((p.bytes ++ bytes_in pieces) ++ tail) ≡ length p.bytes + length all = ap length (append_assoc p.bytes (bytes_in pieces) tail) ∙ length-append p.bytes all in
+    let here : length (p.bytes ++ all) ≤ limit - z.place = omega (arith, few, joined, length-append p.bytes all) in
+    (sym (front_before limit past_limit skimmed z (p.bytes ++ all) here) ∙ f.0, stand_with pieces (after z p.unit p.bytes) left tail (omega (arith, few, joined, after-place z p.unit p.bytes)) f.1)
+
+-- the units of an input within the limit
+cut_whole : (es : List Entry) (z' : Past) (bytes : List ℕ) (c' : Cursor) → length bytes ≤ limit → IsBytes bytes → UnitsBy skim_rows nothing_yet (cursor_at bytes 0) es z' c' → (m : Cutup nothing_yet bytes es z' c') × (length m.tail ≤ limit - z'.place) × (c' ≡ bytes_at z'.place m.tail)
+cut_whole es z' bytes c' le fits f =
+    let m = cut_up es nothing_yet z' bytes c' (omega arith) fits (subst (λ l. UnitsBy skim_rows nothing_yet (bytes_at 0 l) es z' c') (sym (all-near bytes le)) f) in
+    let few : length m.tail ≤ limit - z'.place = omega (arith, m.total, m.small, le) in
+    (m, few, m.at ∙ ap (bytes_at z'.place) (take_all (limit - z'.place) m.tail few))
 
 -- A stream by its fields is one by its units with their bytes.
 pub has_pieces : (bytes : List ℕ) (es : List Entry) (last : Entry) → IsBytes bytes → IsSkimStream bytes es last → HasPieces bytes es last
 has_pieces bytes es last fits s =
     let f = s.stream in
-    let m = cut_up es nothing_yet f.left bytes f.mid fits f.units in
-    let h = has_bytes f.left m.tail last.fields last.unit f.behind m.fits (subst (λ (c : Cursor). Stand (skim_rows f.left) last.fields c last.unit f.behind) m.at f.end) in
-    let g = goes (unit_behind last.unit) (is_nil f.behind.rest) (size_to m.tail f.behind) last.unit f.last_one in
-    let none : drop h.size m.tail ≡ [] = no_bytes (drop h.size m.tail) (ap (λ (c : Cursor). is_nil c.rest) (sym h.at) ∙ g.1) in
-    let all : size_to m.tail f.behind ≡ length m.tail = omega (arith, h.is_size, h.inside, ap (λ (l : List ℕ). length l) none, length-drop h.size m.tail) in
+    let w = cut_whole es f.left bytes f.mid s.within fits f.units in
+    let m = w.0 in
     record {
       pieces = m.pieces;
       last_piece = record { unit = last.unit; bytes = m.tail };
       stream = record {
         left = f.left;
         parts = m.parts;
-        units = m.stand;
-        end = ap (front_by skimmed (λ fault. fault) false m.tail) h.read ∙ g.0 ∙ ap (λ n. Finishes n last.unit) all;
+        units = stand_with m.pieces nothing_yet f.left m.tail (omega (arith, ap (λ (l : List ℕ). length l) m.parts, s.within)) m.stand;
+        end = last-front skim_rows skim_table f.left m.tail last f.behind (subst (λ (c : Cursor). Stand (skim_rows f.left) last.fields c last.unit f.behind) w.2 f.end) f.last_one;
       };
       same = m.same;
       last_same = refl;
     }
+
+-- ---- a refusal
+
+bytes_more : (pieces : List Piece) (p : Piece) (tail : List ℕ) → bytes_in pieces ++ (p.bytes ++ tail) ≡ bytes_in (pieces ++ p ∷ []) ++ tail
+bytes_more [] p tail = ap (λ l. l ++ tail) (sym (append-nil p.bytes))
+bytes_more (q ∷ pieces) p tail =
+    let more = pieces ++ p ∷ [] in
+    append_assoc q.bytes (bytes_in pieces) (p.bytes ++ tail) ∙ ap (λ l. q.bytes ++ l) (bytes_more pieces p tail) ∙ sym (append_assoc q.bytes (bytes_in more) tail)
+
+-- one unit more
+stand_more : (pieces : List Piece) (z left : Past) (p : Piece) (tail : List ℕ) → StandWithin z pieces (p.bytes ++ tail) left → front_within limit past_limit skimmed left (p.bytes ++ tail) ≡ Stands (length p.bytes) p.unit
+    → StandWithin z (pieces ++ p ∷ []) tail (after left p.unit p.bytes)
+stand_more [] z left p tail f e = (subst (λ (x : Past). front_within limit past_limit skimmed x (p.bytes ++ tail) ≡ Stands (length p.bytes) p.unit) (sym f) e, ap (λ (x : Past). after x p.unit p.bytes) f)
+stand_more (q ∷ pieces) z left p tail f e =
+    let joined : bytes_in pieces ++ (p.bytes ++ tail) ≡ bytes_in (pieces ++ p ∷ []) ++ tail = bytes_more pieces p tail in
+    (subst (λ l. front_within limit past_limit skimmed z (q.bytes ++ l) ≡ Stands (length q.bytes) q.unit) joined f.0, stand_more pieces (after z q.unit q.bytes) left p tail f.1 e)
+
+-- within the limit
+before_within : (bytes : List ℕ) (es : List Entry) (fields : List Value) (fault : Fault Reason) → IsBytes bytes → length bytes ≤ limit → IsRefusalFromBy skim_rows nothing_yet (cursor_at bytes 0) es fields fault → HasPiecesBefore bytes es fault
+before_within bytes es fields fault fits le f =
+    let w = cut_whole es f.left bytes f.mid le fits f.units in
+    let m = w.0 in
+    record {
+      pieces = m.pieces;
+      tail = m.tail;
+      left = f.left;
+      parts = m.parts;
+      units = m.stand;
+      refused = front_near limit past_limit skimmed f.left m.tail w.1
+          ∙ refused_front skim_rows skim_table f.left m.tail false fields fault (subst (λ (c : Cursor). IsRefused reason_of (skim_rows f.left) fields c fault) w.2 f.refused);
+      same = m.same;
+    }
+
+-- past it, in front of it
+before_far : (bytes : List ℕ) (es : List Entry) (fields : List Value) (fault : Fault Reason) → IsBytes bytes → limit < length bytes → IsRefusalFromBy skim_rows nothing_yet (cursor_at (take limit bytes) 0) es fields fault → HasPiecesBefore bytes es (past_limit fault)
+before_far bytes es fields fault fits lt f =
+    let m = cut_up es nothing_yet f.left bytes f.mid (omega arith) fits f.units in
+    let more : limit - f.left.place < length m.tail = omega (arith, m.total, m.small, lt) in
+    record {
+      pieces = m.pieces;
+      tail = m.tail;
+      left = f.left;
+      parts = m.parts;
+      units = m.stand;
+      refused = front_past limit past_limit skimmed f.left m.tail more
+          ∙ refused_front skim_rows skim_table f.left (near f.left m.tail) true fields fault (subst (λ (c : Cursor). IsRefused reason_of (skim_rows f.left) fields c fault) m.at f.refused);
+      same = m.same;
+    }
+
+-- past it, behind a stream up to it
+before_more : (bytes : List ℕ) (others : List Entry) (last : Entry) → IsBytes bytes → limit < length bytes → IsStreamFromBy skim_rows nothing_yet (cursor_at (take limit bytes) 0) others last
+    → HasPiecesBefore bytes (others ++ last ∷ []) behind_limit
+before_more bytes others last fits lt f =
+    let m = cut_up others nothing_yet f.left bytes f.mid (omega arith) fits f.units in
+    let more : limit - f.left.place < length m.tail = omega (arith, m.total, m.small, lt) in
+    let here = near f.left m.tail in
+    let rest = drop (limit - f.left.place) m.tail in
+    let size : length here ≡ limit - f.left.place = omega (arith, more, length-take (limit - f.left.place) m.tail) in
+    let p : Piece = record { unit = last.unit; bytes = here } in
+    let tail_is : m.tail ≡ here ++ rest = sym (take-append-drop (limit - f.left.place) m.tail) in
+    let front : front_within limit past_limit skimmed f.left m.tail ≡ Stands (length here) last.unit
+    = front_past limit past_limit skimmed f.left m.tail more ∙ last_cut skim_rows skim_table f.left here last.fields last.unit f.behind (subst (λ (c : Cursor). Stand (skim_rows f.left) last.fields c last.unit f.behind) m.at f.end) f.last_one in
+    let left = after f.left last.unit here in
+    let place : left.place ≡ limit = after-place f.left last.unit here ∙ omega (arith, size, m.small) in
+    record {
+      pieces = m.pieces ++ p ∷ [];
+      tail = rest;
+      left = left;
+      parts = m.parts ∙ ap (λ l. bytes_in m.pieces ++ l) tail_is ∙ bytes_more m.pieces p rest;
+      units = stand_more m.pieces nothing_yet f.left p rest (subst (λ l. StandWithin nothing_yet m.pieces l f.left) tail_is m.stand) (subst (λ l. front_within limit past_limit skimmed f.left l ≡ Stands (length here) last.unit) tail_is front);
+      refused = full_front skim_rows skim_table left rest place (omega (arith, size, more, length-drop (limit - f.left.place) m.tail));
+      same = made_more m.pieces p ∙ ap (λ l. l ++ last.unit ∷ []) m.same ∙ sym (entries_more others last);
+    }
+  where
+    made_more : (pieces : List Piece) (p : Piece) → made (pieces ++ p ∷ []) ≡ made pieces ++ p.unit ∷ []
+    made_more [] p = refl
+    made_more (q ∷ pieces) p = ap (λ l. q.unit ∷ l) (made_more pieces p)
+
+    entries_more : (es : List Entry) (e : Entry) → entries (es ++ e ∷ []) ≡ entries es ++ e.unit ∷ []
+    entries_more [] e = refl
+    entries_more (d ∷ es) e = ap (λ l. d.unit ∷ l) (entries_more es e)
+
+pub has_pieces_before : (bytes : List ℕ) (es : List Entry) (fault : Fault Reason) → IsBytes bytes → IsFaultBy skim_rows bytes es fault → HasPiecesBefore bytes es fault
+has_pieces_before bytes es fault fits (WithinLimit le fields f) = before_within bytes es fields fault fits le f
+has_pieces_before bytes es fault fits (PastLimit lt fields before f e) = subst (HasPiecesBefore bytes es) (sym e) (before_far bytes es fields before fits lt f)
+has_pieces_before bytes es fault fits (BehindLimit lt others last f is e) =
+    subst (HasPiecesBefore bytes es) (sym e) (subst (λ (l : List Entry). HasPiecesBefore bytes l behind_limit) (sym is) (before_more bytes others last fits lt f))
 
 -- ---- and back
 
@@ -192,13 +208,13 @@ stood_by : (z : Past) (bytes more : List ℕ) (unit : DataUnit) (behind : Cursor
 stood_by z bytes more unit behind fits e size =
     let all = bytes ++ more in
     let f = found_fields reason_of (skim_rows z) (bytes_at z.place all) unit behind e in
-    let h = has_bytes z all f.0 unit behind fits f.1 in
+    let h = stands_front skim_rows skim_table z all f.0 unit behind f.1 in
     let n : h.size ≡ length bytes = sym (size ∙ h.is_size) in
     let there : behind ≡ bytes_at (z.place + length bytes) more = h.at ∙ ap (λ k. bytes_at (z.place + k) (drop k all)) n ∙ ap (bytes_at (z.place + length bytes)) (drop-all bytes more) in
     record {
       fields = f.0;
       stand = subst (λ (c : Cursor). Stand (skim_rows z) f.0 (bytes_at z.place all) unit c) there f.1;
-      between = ap (bytes_between (bytes_at z.place all)) (sym there) ∙ h.between ∙ ap (λ k. take k all) n ∙ take_at bytes more (length bytes) refl;
+      between = ap (bytes_between (bytes_at z.place all)) (sym there ∙ h.at) ∙ between z.place h.size all h.inside fits ∙ ap (λ k. take k all) n ∙ take_at bytes more (length bytes) refl;
     }
   where
     drop-all : (a b : List ℕ) → drop (length a) (a ++ b) ≡ b
@@ -239,7 +255,7 @@ uncut (p ∷ pieces) z z' tail fits f =
     let next = after z p.unit p.bytes in
     let mid = bytes_at (z.place + length p.bytes) all in
     let m = uncut pieces next z' tail (fit_behind p.bytes all fits') f.1 in
-    let there : bytes_at next.place all ≡ mid = ap (λ n. bytes_at n all) (place_after z p.unit p.bytes) in
+    let there : bytes_at next.place all ≡ mid = ap (λ n. bytes_at n all) (after-place z p.unit p.bytes) in
     let still : ends p.unit mid ≡ false = stands_on p.unit mid (length p.bytes) (size_to (p.bytes ++ all) mid) (ap (front_by skimmed (λ fault. fault) false (p.bytes ++ all)) (sym (Stand-read reason_of (skim_rows z) s.fields (bytes_at z.place (p.bytes ++ all)) p.unit mid s.stand)) ∙ f.0) in
     let here : UnitsBy skim_rows z (bytes_at z.place (p.bytes ++ all)) (record { fields = s.fields; unit = p.unit } ∷ m.es) z' (bytes_at z'.place tail) =
     (mid, s.stand, still, subst (λ l. UnitsBy skim_rows (after z p.unit l) mid m.es z' (bytes_at z'.place tail)) (sym s.between) (subst (λ c. UnitsBy skim_rows next c m.es z' (bytes_at z'.place tail)) there m.units)) in

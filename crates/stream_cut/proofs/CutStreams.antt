@@ -14,7 +14,7 @@ use Rattle.stream_cut.specs.Cut.{Frames, is_in, header_unit, picture_unit, end_u
 use Rattle.stream_cut.specs.CutLaws.{bytes_in, header_found, end_found, cut_found, closing_found, found_from, units_of_cut, frames_behind, chosen_one, chosen_from, pictures_among, CutsToStreams}
 use Rattle.stream_cut.proofs.Fields.{IsBytes, fit_drop}
 use Rattle.stream_cut.proofs.Skimming.{skims}
-use Rattle.stream_cut.proofs.Cuts.{cuts_to_a_skimmed_stream, fit_behind}
+use Rattle.stream_cut.proofs.Cuts.{cuts_to_a_skimmed_stream, cut_has_shapes, fit_behind}
 use Rattle.stream_cut.proofs.NoLonger.{cuts_to_no_more}
 use Rattle.stream_cut.proofs.Bridge.{has_pieces, made_of}
 
@@ -238,4 +238,5 @@ cuts_to_streams frames bytes es last fits s =
       };
       short = short;
       pictures = pictures_from frames h.pieces nothing_yet nothing_cut;
+      shapes = cut_has_shapes frames bytes h.pieces h.last_piece fits h.stream;
     }

@@ -1,6 +1,7 @@
 -- The cut of a skimmed stream is a skimmed stream.
-use Rattle.std.proofs.Common.{◌≡◌, ◌⊎◌, inl, inr, ℕ, zero, suc, ◌+◌, ◌/◌, ◌%◌, ◌^◌, ◌<◌, ◌≤◌, Bool, true, false, not, cond, List, [], ◌∷◌, ◌++◌, length, drop, Option, Some, None, Result, Ok, Err, refl, sym, ap, subst, ◌∙◌, append_assoc, append-nil, arith}
+use Rattle.std.proofs.Common.{◌≡◌, ◌⊎◌, inl, inr, ℕ, zero, suc, ◌+◌, ◌/◌, ◌%◌, ◌^◌, ◌<◌, ◌≤◌, Bool, true, false, not, cond, List, [], ◌∷◌, ◌++◌, length, map, drop, Option, Some, None, Result, Ok, Err, refl, sym, ap, subst, ◌∙◌, append_assoc, append-nil, arith}
 use Rattle.std.specs.Prelude.{◌==◌, ◌&&◌, ◌||◌, nat_le, nat_lt}
+use Rattle.std.specs.List.{AllByRecursion}
 use Rattle.std.proofs.lemmas.Bool.{eq-eqb, ne_eqb, eqb-true, leb-true, ltb-true, le-leb, lt-ltb}
 use Rattle.std.proofs.lemmas.List.{length-append}
 use Rattle.bit_codes.specs.Bits.{Cursor}
@@ -15,11 +16,12 @@ use Rattle.stream_rows.specs.declared.reason.Reason.{Reason}
 use Rattle.stream_rows.specs.declared.reason.Reason.TheVariants as reasons
 use Rattle.stream_rows.specs.Units.{Past, nothing_yet, First, DataUnit, Sequence, Repeated, Picture, Skipped, End, unit_behind, has_fields, code_rules, previous_rules, number_rules, after}
 use Rattle.stream_cut.specs.Skim.{skim_rows, skimmed}
-use Rattle.stream_cut.specs.Cut.{Frames, is_in, header_unit, picture_unit, end_unit, Cutting, nothing_cut, frame_now, payload_of, header_due, length_before, end_due, cut_text, cut_next, or_else_some, closing_by, closing, Piece, front_from, left_from}
-use Rattle.stream_cut.specs.CutLaws.{bytes_in, StandWith, header_found, end_found, cut_found, closing_found, found_from, CutsToASkimmedStream}
+use Rattle.stream_cut.specs.Cut.{Frames, is_in, header_unit, picture_unit, end_unit, Cutting, nothing_cut, frame_now, payload_of, header_due, length_before, end_due, cut_text, cut_next, or_else_some, closing_by, closing, Piece, front_from, left_from, cut_of}
+use Rattle.stream_cut.specs.CutLaws.{bytes_in, StandWith, IsStreamWith, shapes_of_cut, shapes_read, HasShapes, CutsToASkimmedStream}
+use Rattle.stream_cut.proofs.CutPieces.{header_piece, end_piece, picture_piece, header_pieces, end_pieces, cut_pieces, closing_pieces, pieces_from, length-header, length-picture, made_append, from_made, shapes_counted}
 use Rattle.stream_cut.proofs.Fields.{IsBytes}
 use Rattle.stream_units.proofs.EncodedParts.{no_previous}
-use Rattle.stream_cut.proofs.UnitsRead.{IsHeader, IsPicture, Facts, unit_read}
+use Rattle.stream_cut.proofs.UnitsRead.{IsHeader, IsPicture, Facts, unit_read, unit_long}
 use Rattle.stream_cut.proofs.Written.{moves_header_unit, moves_picture_unit, moves_end_unit, Found, found_more, found_end, end_code}
 
 -- ---- what stands in front says of its payload
@@ -119,7 +121,7 @@ record Between (frames : Frames) (z : Past) (w : Cutting) (z' : Past) : Type 0 w
   state : Stays frames z w z' w.previous
 
 -- what the rest of the cut is: nothing, behind the end of a sequence, or units up to an end
-abbrev Rest : Cutting → Past → List ℕ → List DataUnit → Type 0
+abbrev Rest : Cutting → Past → List ℕ → List Piece → Type 0
 Rest w z' text found = ((w.previous ≡ None) × (text ≡ []) × (found ≡ []) × (0 < z'.place)) ⊎ Found z' text found
 
 some_none : {A : Type 0} (o : Option A) (a : A) → o ≡ Some a → o ≡ None → ⊥
@@ -161,27 +163,21 @@ picture_some previous payload = omega arith
 end_some : (previous : ℕ) → 0 < length (end_unit previous)
 end_some previous = omega arith
 
-length-header : (payload : List ℕ) → length (header_unit payload) ≡ 13 + length payload
-length-header payload = omega arith
-
-length-picture : (previous : ℕ) (payload : List ℕ) → length (picture_unit previous payload) ≡ 13 + length payload
-length-picture previous payload = omega arith
-
 -- where no picture was chosen
-empty_found : (frames : Frames) (z : Past) (w : Cutting) (z' : Past) (first : First) → Apart frames z w z' → IsHeader first.parts first.payload → Found z' (header_unit first.payload ++ end_unit (HEAD_SIZE + length first.payload)) (Sequence first.parts ∷ End ∷ [])
+empty_found : (frames : Frames) (z : Past) (w : Cutting) (z' : Past) (first : First) → Apart frames z w z' → IsHeader first.parts first.payload → Found z' (header_unit first.payload ++ end_unit (HEAD_SIZE + length first.payload)) (header_piece first.parts first.payload ∷ end_piece (HEAD_SIZE + length first.payload) ∷ [])
 empty_found frames z w z' first a h =
     let unit = header_unit first.payload in
     let behind = after z' (Sequence first.parts) unit in
     let its : First = record { parts = first.parts; payload = drop 13 unit } in
-    found_more z' (Sequence first.parts) unit (end_unit (HEAD_SIZE + length first.payload)) (End ∷ []) (moves_header_unit z' first.parts first.payload a.none a.previous h) (header_some first.payload)
+    found_more z' (Sequence first.parts) unit (end_unit (HEAD_SIZE + length first.payload)) (end_piece (HEAD_SIZE + length first.payload) ∷ []) (moves_header_unit z' first.parts first.payload a.none a.previous h) (header_some first.payload)
     (found_end behind (end_unit (HEAD_SIZE + length first.payload))
     (moves_end_unit behind its (HEAD_SIZE + length first.payload) refl (sym (length-header first.payload)) (omega (arith, h.most)) (end_code behind its refl (λ e. ap (λ (n : ℕ). n % 2) a.pictures)))
     (end_some (HEAD_SIZE + length first.payload)))
 
-at_end : (frames : Frames) (z : Past) (w : Cutting) (z' : Past) (bytes : List ℕ) → Between frames z w z' → Facts z (drop 13 bytes) End → Rest w z' (closing w) (closing_found w.previous w.written w.first)
+at_end : (frames : Frames) (z : Past) (w : Cutting) (z' : Past) (bytes : List ℕ) → Between frames z w z' → Facts z (drop 13 bytes) End → Rest w z' (closing w) (closing_pieces w.previous w.written w.first)
 at_end frames z w z' bytes b f = by w.previous w.written w.first refl refl refl b.state
   where
-    by : (previous : Option ℕ) (written : ℕ) (first : Option First) → w.previous ≡ previous → w.written ≡ written → w.first ≡ first → Stays frames z w z' previous → Rest w z' (closing_by previous written first) (closing_found previous written first)
+    by : (previous : Option ℕ) (written : ℕ) (first : Option First) → w.previous ≡ previous → w.written ≡ written → w.first ≡ first → Stays frames z w z' previous → Rest w z' (closing_by previous written first) (closing_pieces previous written first)
     by (Some previous) written first e g h s =
         inr (found_end z' (end_unit previous) (moves_end_unit z' s.first' previous s.there' s.true_one s.short (ends_whole frames z w z' previous s (even_end z f.0 f.1 f.2))) (end_some previous))
     by None zero (Some first) e g h s = inr (empty_found frames z w z' first s (b.first_header first h))
@@ -406,8 +402,8 @@ module _ (frames : Frames) (z : Past) (w : Cutting) (parts : HeaderParts) (numbe
       even true k fields = omega (arith, r.even fields)
       even false k fields = omega (arith, r.even fields, odd_one z.pictures (λ e. clash (is_in frames (frame_now next w)) (ap (is_in frames) (frame_stays fields e) ∙ chosen) k))
 
-  picture_found : (y : Past) (first : First) (previous n : ℕ) (text : List ℕ) (found : List DataUnit) → first.parts ≡ parts → IsPicture parts number p slices (drop 13 bytes) → Ready first y previous
-      → Rest (chosen_next n) (after y unit (picture_unit previous (drop 13 bytes))) text found → Found y (picture_unit previous (drop 13 bytes) ++ text) (unit ∷ found)
+  picture_found : (y : Past) (first : First) (previous n : ℕ) (text : List ℕ) (found : List Piece) → first.parts ≡ parts → IsPicture parts number p slices (drop 13 bytes) → Ready first y previous
+      → Rest (chosen_next n) (after y unit (picture_unit previous (drop 13 bytes))) text found → Found y (picture_unit previous (drop 13 bytes) ++ text) (picture_piece unit previous bytes ∷ found)
   unfolding chosen_next
   picture_found y first previous n text found of h r (inl e) = absurd (some_none (Some (HEAD_SIZE + length (drop HEAD_SIZE bytes))) (HEAD_SIZE + length (drop HEAD_SIZE bytes)) refl e.0)
   picture_found y first previous n text found of h r (inr f) =
@@ -452,7 +448,7 @@ module _ (frames : Frames) (z : Past) (w : Cutting) (parts : HeaderParts) (numbe
       first_order false none same odd e h = rw e refl
 
   -- what follows it
-  abbrev Follows : List ℕ → List DataUnit → Type 0
+  abbrev Follows : List ℕ → List Piece → Type 0
   Follows text found = (v : Past) → Goes frames z w unit bytes v → Rest (cut_next frames z w unit bytes) v text found
 
   -- the header's unit and the picture's, where the cut begins the sequence
@@ -465,10 +461,10 @@ module _ (frames : Frames) (z : Past) (w : Cutting) (parts : HeaderParts) (numbe
   abbrev begun_at : Past → First → Past
   begun_at z' first = after z' (Sequence parts) (its_header first)
 
-  chosen_by : (z' : Past) (first : First) (text : List ℕ) (found : List DataUnit) → Between frames z w z' → z.first ≡ Some first → first.parts ≡ parts → first_broken (number_rules z number) ≡ None → IsPicture parts number p slices (drop 13 bytes) → is_in frames (frame_now z w) ≡ true
+  chosen_by : (z' : Past) (first : First) (text : List ℕ) (found : List Piece) → Between frames z w z' → z.first ≡ Some first → first.parts ≡ parts → first_broken (number_rules z number) ≡ None → IsPicture parts number p slices (drop 13 bytes) → is_in frames (frame_now z w) ≡ true
       → (o : Option ℕ) → Stays frames z w z' o
       → ((n : ℕ) (v : Past) → n ≡ w.written + length (header_due z o ++ picture_unit (length_before z o) (drop 13 bytes)) → Between frames next (chosen_next n) v → Rest (chosen_next n) v text found)
-      → Found z' ((header_due z o ++ picture_unit (length_before z o) (drop 13 bytes)) ++ text) ((header_found parts o ++ unit ∷ []) ++ found)
+      → Found z' ((header_due z o ++ picture_unit (length_before z o) (drop 13 bytes)) ++ text) ((header_pieces parts z o ++ picture_piece unit (length_before z o) bytes ∷ []) ++ found)
   chosen_by z' first text found b there of rule h chosen (Some previous) s more =
       let r = ready_inside z' first previous s there rule chosen in
       let n = w.written + length (picture_unit previous (drop 13 bytes)) in
@@ -482,9 +478,9 @@ module _ (frames : Frames) (z : Past) (w : Cutting) (parts : HeaderParts) (numbe
       let n = w.written + length (hu ++ pu) in
       let r = ready_apart z' first b s there of rule chosen in
       let payload : payload_of z.first ≡ first.payload = ap payload_of there in
-      subst (λ l. Found z' ((header_unit l ++ picture_unit (HEAD_SIZE + length l) (drop 13 bytes)) ++ text) (Sequence parts ∷ unit ∷ found)) (sym payload)
-      (subst (λ l. Found z' l (Sequence parts ∷ unit ∷ found)) (sym (append_assoc hu pu text))
-      (found_more z' (Sequence parts) hu (pu ++ text) (unit ∷ found)
+      subst (λ l. Found z' ((header_unit l ++ picture_unit (HEAD_SIZE + length l) (drop 13 bytes)) ++ text) (header_piece parts l ∷ picture_piece unit (HEAD_SIZE + length l) bytes ∷ found)) (sym payload)
+      (subst (λ l. Found z' l (header_piece parts first.payload ∷ picture_piece unit previous bytes ∷ found)) (sym (append_assoc hu pu text))
+      (found_more z' (Sequence parts) hu (pu ++ text) (picture_piece unit previous bytes ∷ found)
       (moves_header_unit z' parts first.payload s.none s.previous (subst (λ q. IsHeader q first.payload) of (b.header first there))) (header_some first.payload)
       (picture_found y first previous n text found of h r
       (more n (after y unit pu) (ap (λ l. w.written + length (header_unit l ++ picture_unit (HEAD_SIZE + length l) (drop 13 bytes))) (sym payload)) (behind_chosen z' y first previous n b there rule chosen h r (omega (arith, b.written, length-append hu pu)))))))
@@ -493,31 +489,31 @@ module _ (frames : Frames) (z : Past) (w : Cutting) (parts : HeaderParts) (numbe
   abbrev due : List ℕ
   due = header_due z w.previous ++ picture_unit (length_before z w.previous) (drop HEAD_SIZE bytes)
 
-  behind_picture : (z' : Past) (text : List ℕ) (found : List DataUnit) → Between frames z w z' → Facts z (drop 13 bytes) unit → Follows text found → Rest w z' (cut_text frames z w unit bytes ++ text) (cut_found frames z w unit ++ found)
+  behind_picture : (z' : Past) (text : List ℕ) (found : List Piece) → Between frames z w z' → Facts z (drop 13 bytes) unit → Follows text found → Rest w z' (cut_text frames z w unit bytes ++ text) (cut_pieces frames z w unit bytes ++ found)
   unfolding chosen_next
   behind_picture z' text found b f follows = by (is_in frames (frame_now z w)) refl
     where
-      by : (c : Bool) → is_in frames (frame_now z w) ≡ c → Rest w z' (cut_text frames z w unit bytes ++ text) (cut_found frames z w unit ++ found)
+      by : (c : Bool) → is_in frames (frame_now z w) ≡ c → Rest w z' (cut_text frames z w unit bytes ++ text) (cut_pieces frames z w unit bytes ++ found)
       by true e =
           let same_text : cut_text frames z w unit bytes ≡ due = ap (λ c. cond c due []) e in
-          let same_found : cut_found frames z w unit ≡ header_found parts w.previous ++ unit ∷ [] = ap (λ c. cond c (header_found parts w.previous ++ unit ∷ []) []) e in
+          let same_found : cut_pieces frames z w unit bytes ≡ header_pieces parts z w.previous ++ picture_piece unit (length_before z w.previous) bytes ∷ [] = ap (λ c. cond c (header_pieces parts z w.previous ++ picture_piece unit (length_before z w.previous) bytes ∷ []) []) e in
           let next_is : (n : ℕ) → n ≡ w.written + length due → cut_next frames z w unit bytes ≡ chosen_next n = λ n same. ap (λ c. cond c (chosen_next (w.written + length (cut_text frames z w unit bytes))) w) e ∙ ap (λ l. chosen_next (w.written + length l)) same_text ∙ ap chosen_next (sym same) in
           let more : (n : ℕ) (v : Past) → n ≡ w.written + length due → Between frames next (chosen_next n) v → Rest (chosen_next n) v text found = λ n v same h. subst (λ q. Rest q v text found) (next_is n same) (follows v (subst (λ q. Between frames next q v) (sym (next_is n same)) h)) in
-          inr (subst (λ l. Found z' (l ++ text) (cut_found frames z w unit ++ found)) (sym same_text)
+          inr (subst (λ l. Found z' (l ++ text) (cut_pieces frames z w unit bytes ++ found)) (sym same_text)
           (subst (λ l. Found z' (due ++ text) (l ++ found)) (sym same_found)
           (chosen_by z' f.0 text found b f.1 f.2 f.3 f.4 e w.previous b.state more)))
       by false e =
           let no_text : cut_text frames z w unit bytes ≡ [] = ap (λ c. cond c due []) e in
-          let no_found : cut_found frames z w unit ≡ [] = ap (λ c. cond c (header_found parts w.previous ++ unit ∷ []) []) e in
+          let no_found : cut_pieces frames z w unit bytes ≡ [] = ap (λ c. cond c (header_pieces parts z w.previous ++ picture_piece unit (length_before z w.previous) bytes ∷ []) []) e in
           let same : cut_next frames z w unit bytes ≡ w = ap (λ c. cond c (chosen_next (w.written + length (cut_text frames z w unit bytes))) w) e in
-          subst (λ l. Rest w z' (l ++ text) (cut_found frames z w unit ++ found)) (sym no_text)
+          subst (λ l. Rest w z' (l ++ text) (cut_pieces frames z w unit bytes ++ found)) (sym no_text)
           (subst (λ l. Rest w z' text (l ++ found)) (sym no_found)
           (subst (λ q. Rest q z' text found) same (follows z' (subst (λ q. Between frames next q z') (sym same) (behind_unchosen z' f.0 b f.1 f.3 e)))))
 
 -- ---- the end of a sequence, behind which another one follows
 
-behind_end : (frames : Frames) (z : Past) (w : Cutting) (z' : Past) (bytes : List ℕ) (text : List ℕ) (found : List DataUnit) → Between frames z w z' → Facts z (drop 13 bytes) End
-    → ((v : Past) → Goes frames z w End bytes v → Rest (cut_next frames z w End bytes) v text found) → Rest w z' (end_due w.previous ++ text) (end_found w.previous ++ found)
+behind_end : (frames : Frames) (z : Past) (w : Cutting) (z' : Past) (bytes : List ℕ) (text : List ℕ) (found : List Piece) → Between frames z w z' → Facts z (drop 13 bytes) End
+    → ((v : Past) → Goes frames z w End bytes v → Rest (cut_next frames z w End bytes) v text found) → Rest w z' (end_due w.previous ++ text) (end_pieces w.previous ++ found)
 behind_end frames z w z' bytes text found b f follows = by w.previous refl b.state
   where
     goes : (v : Past) → v.first ≡ None → v.pictures ≡ 0 → first_broken (previous_rules v 0) ≡ None → v.place ≡ w.written + length (end_due w.previous) → Goes frames z w End bytes v
@@ -531,15 +527,15 @@ behind_end frames z w z' bytes text found b f follows = by w.previous refl b.sta
       state = record { none = none; pictures = pictures; previous = previous; whole = λ e k. refl };
     }
 
-    joined : (previous : ℕ) (s : Inside frames z w z' previous) → Rest (cut_next frames z w End bytes) (after z' End (end_unit previous)) text found → Found z' (end_unit previous ++ text) (End ∷ found)
+    joined : (previous : ℕ) (s : Inside frames z w z' previous) → Rest (cut_next frames z w End bytes) (after z' End (end_unit previous)) text found → Found z' (end_unit previous ++ text) (end_piece previous ∷ found)
     joined previous s r =
         let m = moves_end_unit z' s.first' previous s.there' s.true_one s.short (ends_whole frames z w z' previous s (even_end z f.0 f.1 f.2)) in
         elim r [
-          | inl e ↦ subst (λ l. Found z' (end_unit previous ++ text) (End ∷ l)) (sym e.2) (subst (λ l. Found z' l (End ∷ [])) (sym (ap (λ l. end_unit previous ++ l) e.1 ∙ append-nil (end_unit previous))) (found_end z' (end_unit previous) m (end_some previous)))
+          | inl e ↦ subst (λ l. Found z' (end_unit previous ++ text) (end_piece previous ∷ l)) (sym e.2) (subst (λ l. Found z' l (end_piece previous ∷ [])) (sym (ap (λ l. end_unit previous ++ l) e.1 ∙ append-nil (end_unit previous))) (found_end z' (end_unit previous) m (end_some previous)))
           | inr g ↦ found_more z' End (end_unit previous) text found m (end_some previous) g
         ]
 
-    by : (o : Option ℕ) → w.previous ≡ o → Stays frames z w z' o → Rest w z' (end_due o ++ text) (end_found o ++ found)
+    by : (o : Option ℕ) → w.previous ≡ o → Stays frames z w z' o → Rest w z' (end_due o ++ text) (end_pieces o ++ found)
     by None e s =
         let r = follows z' (goes z' s.none s.pictures s.previous (omega (arith, b.written, ap (λ o. length (end_due o)) e))) in
         elim r [
@@ -552,8 +548,8 @@ behind_end frames z w z' bytes text found b f follows = by w.previous refl b.sta
 
 -- ---- all units
 
-behind_unit : (frames : Frames) (z : Past) (w : Cutting) (z' : Past) (unit : DataUnit) (bytes text : List ℕ) (found : List DataUnit) → Between frames z w z' → Facts z (drop 13 bytes) unit
-    → ((v : Past) → Goes frames z w unit bytes v → Rest (cut_next frames z w unit bytes) v text found) → Rest w z' (cut_text frames z w unit bytes ++ text) (cut_found frames z w unit ++ found)
+behind_unit : (frames : Frames) (z : Past) (w : Cutting) (z' : Past) (unit : DataUnit) (bytes text : List ℕ) (found : List Piece) → Between frames z w z' → Facts z (drop 13 bytes) unit
+    → ((v : Past) → Goes frames z w unit bytes v → Rest (cut_next frames z w unit bytes) v text found) → Rest w z' (cut_text frames z w unit bytes ++ text) (cut_pieces frames z w unit bytes ++ found)
 behind_unit frames z w z' (Sequence parts) bytes text found b f follows = follows z' (behind_header frames z w z' parts bytes b f.0 f.1)
 behind_unit frames z w z' Repeated bytes text found b f follows = follows z' (behind_other frames z w z' (z.place + length bytes) (length bytes) b)
 behind_unit frames z w z' Skipped bytes text found b f follows = follows z' (behind_other frames z w z' (z.place + length bytes) (length bytes) b)
@@ -565,7 +561,7 @@ fit_behind [] b f = f
 fit_behind (x ∷ a) b f = fit_behind a b f.1
 
 rest_from : (frames : Frames) (pieces : List Piece) (z : Past) (w : Cutting) (z' left : Past) (last : Piece) → IsBytes (bytes_in pieces ++ last.bytes) → StandWith skim_rows z pieces last.bytes left → front_of skimmed left last.bytes ≡ Finishes (length last.bytes) last.unit → Between frames z w z'
-    → (let w' = left_from frames z w pieces in Rest w z' (front_from frames z w pieces ++ closing w') (found_from frames z w pieces ++ closing_found w'.previous w'.written w'.first))
+    → (let w' = left_from frames z w pieces in Rest w z' (front_from frames z w pieces ++ closing w') (pieces_from frames z w pieces ++ closing_pieces w'.previous w'.written w'.first))
 rest_from frames [] z w z' left last fits units end b = at_end frames z w z' last.bytes b (end_facts z last.bytes last.unit fits (subst (λ (x : Past). front_of skimmed x last.bytes ≡ Finishes (length last.bytes) last.unit) (sym units) end))
 rest_from frames (p ∷ pieces) z w z' left last fits units end b =
     let z1 = after z p.unit p.bytes in
@@ -575,11 +571,11 @@ rest_from frames (p ∷ pieces) z w z' left last fits units end b =
     let fits' : IsBytes (p.bytes ++ all) = subst IsBytes (append_assoc p.bytes (bytes_in pieces) last.bytes) fits in
     let f = facts_of z p.bytes all p.unit fits' units.0 in
     let text = front_from frames z1 w1 pieces in
-    let found = found_from frames z1 w1 pieces in
-    let here = behind_unit frames z w z' p.unit p.bytes (text ++ closing w') (found ++ closing_found w'.previous w'.written w'.first) b f
+    let found = pieces_from frames z1 w1 pieces in
+    let here = behind_unit frames z w z' p.unit p.bytes (text ++ closing w') (found ++ closing_pieces w'.previous w'.written w'.first) b f
     (λ v h. rest_from frames pieces z1 w1 v left last (fit_behind p.bytes all fits') units.1 end h) in
-    subst (λ l. Rest w z' l (found_from frames z w (p ∷ pieces) ++ closing_found w'.previous w'.written w'.first)) (sym (append_assoc (cut_text frames z w p.unit p.bytes) text (closing w')))
-    (subst (λ l. Rest w z' (cut_text frames z w p.unit p.bytes ++ (text ++ closing w')) l) (sym (append_assoc (cut_found frames z w p.unit) found (closing_found w'.previous w'.written w'.first))) here)
+    subst (λ l. Rest w z' l (pieces_from frames z w (p ∷ pieces) ++ closing_pieces w'.previous w'.written w'.first)) (sym (append_assoc (cut_text frames z w p.unit p.bytes) text (closing w')))
+    (subst (λ l. Rest w z' (cut_text frames z w p.unit p.bytes ++ (text ++ closing w')) l) (sym (append_assoc (cut_pieces frames z w p.unit p.bytes) found (closing_pieces w'.previous w'.written w'.first))) here)
 
 at_start : (frames : Frames) → Between frames nothing_yet nothing_cut nothing_yet
 at_start frames = record {
@@ -592,10 +588,42 @@ at_start frames = record {
   state = record { none = refl; pictures = refl; previous = refl; whole = λ e k. refl };
 }
 
-pub cuts_to_a_skimmed_stream : CutsToASkimmedStream
-cuts_to_a_skimmed_stream frames bytes pieces last fits s =
+-- the units of a cut with their bytes
+pub cut_found_by : (frames : Frames) (bytes : List ℕ) (pieces : List Piece) (last : Piece) → IsBytes bytes → IsStreamWith skim_rows nothing_yet bytes pieces last
+    → (let w' = left_from frames nothing_yet nothing_cut pieces in Found nothing_yet (cut_of frames pieces) (pieces_from frames nothing_yet nothing_cut pieces ++ closing_pieces w'.previous w'.written w'.first))
+cut_found_by frames bytes pieces last fits s =
     let r = rest_from frames pieces nothing_yet nothing_cut nothing_yet s.left last (subst IsBytes s.parts fits) s.units s.end (at_start frames) in
     elim r [
       | inl e ↦ absurd (omega (arith, e.3))
-      | inr f ↦ record { pieces = f.pieces; last = f.last; stream = f.stream; found = f.units }
+      | inr f ↦ f
     ]
+
+pub cuts_to_a_skimmed_stream : CutsToASkimmedStream
+cuts_to_a_skimmed_stream frames bytes pieces last fits s =
+    let f = cut_found_by frames bytes pieces last fits s in
+    record {
+      pieces = f.pieces;
+      last = f.last;
+      stream = f.stream;
+      found = sym (made_append f.pieces (f.last ∷ [])) ∙ ap (λ l. map (λ (p : Piece). p.unit) l) f.units ∙ from_made frames pieces nothing_yet nothing_cut;
+    }
+
+-- each unit has a head
+pub all_long : (pieces : List Piece) (z left : Past) (tail : List ℕ) → IsBytes (bytes_in pieces ++ tail) → StandWith skim_rows z pieces tail left → AllByRecursion (λ (p : Piece). 13 ≤ length p.bytes) pieces
+all_long [] z left tail fits f = tt
+all_long (p ∷ pieces) z left tail fits f =
+    let all = bytes_in pieces ++ tail in
+    let fits' : IsBytes (p.bytes ++ all) = subst IsBytes (append_assoc p.bytes (bytes_in pieces) tail) fits in
+    let r = by_reading z (p.bytes ++ all) (length p.bytes) p.unit (unit_at skimmed z (p.bytes ++ all)) refl f.0 in
+    (omega (arith, unit_long z (p.bytes ++ all) p.unit r.0 fits' r.1, r.2), all_long pieces (after z p.unit p.bytes) left tail (fit_behind p.bytes all fits') f.1)
+
+-- the shapes that a reader of it finds
+pub cut_has_shapes : (frames : Frames) (bytes : List ℕ) (pieces : List Piece) (last : Piece) → IsBytes bytes → IsStreamWith skim_rows nothing_yet bytes pieces last → HasShapes (cut_of frames pieces) (shapes_of_cut frames pieces)
+cut_has_shapes frames bytes pieces last fits s =
+    let f = cut_found_by frames bytes pieces last fits s in
+    record {
+      pieces = f.pieces;
+      last = f.last;
+      stream = f.stream;
+      read = ap (shapes_read nothing_yet) f.units ∙ shapes_counted frames pieces nothing_yet nothing_cut nothing_yet refl (all_long pieces nothing_yet s.left last.bytes (subst IsBytes s.parts fits) s.units);
+    }

@@ -1,6 +1,5 @@
 -- What fields that stand in bytes say of the bytes.
-use Rattle.std.proofs.Common.{◌≡◌, ℕ, zero, suc, ◌+◌, ◌*◌, ◌<◌, ◌≤◌, Bool, true, false, cond, ltb, List, [], ◌∷◌, length, take, drop, Option, Some, None, Result, Ok, Err, refl, sym, ap, ◌∙◌, arith}
-use Rattle.std.specs.List.{AllByRecursion}
+use Rattle.std.proofs.Common.{◌≡◌, ℕ, ◌+◌, ◌*◌, ◌≤◌, Bool, true, false, cond, ltb, List, [], ◌∷◌, length, take, drop, Option, Some, None, Result, Ok, Err, refl, sym, ap, ◌∙◌, arith}
 use Rattle.std.proofs.lemmas.Bool.{ltb-false}
 use Rattle.bit_codes.specs.declared.CodeFault.{CodeFault}
 use Rattle.bit_codes.specs.declared.CodeFault.TheVariants as codes
@@ -12,19 +11,7 @@ use Rattle.field_rows.specs.Standing.{StandsAt, Stand}
 use Rattle.field_rows.proofs.Spellings.{field_is}
 use Rattle.field_rows.proofs.Words.{split-bits}
 use Rattle.unit_table.specs.Grammar.{bytes_at}
-
-abbrev pub IsBytes : List ℕ → Type 0
-IsBytes bytes = AllByRecursion (λ b. b < 256) bytes
-
-pub fit_take : (n : ℕ) (bytes : List ℕ) → IsBytes bytes → IsBytes (take n bytes)
-fit_take zero bytes f = tt
-fit_take (suc n) [] f = tt
-fit_take (suc n) (b ∷ bytes) f = (f.0, fit_take n bytes f.1)
-
-pub fit_drop : (n : ℕ) (bytes : List ℕ) → IsBytes bytes → IsBytes (drop n bytes)
-fit_drop zero bytes f = f
-fit_drop (suc n) [] f = f
-fit_drop (suc n) (b ∷ bytes) f = fit_drop n bytes f.1
+pub use Rattle.stream_rows.proofs.Answering.{IsBytes, fit_take, fit_drop}
 
 -- so many bytes at a place
 pub record Field (n at : ℕ) (bs : List ℕ) (v : Value) (mid : Cursor) : Type 0 where

@@ -4,13 +4,14 @@ mod WorkedCut
 mod SkimmedParts
 mod ParamsRead
 mod UnitsRead
+mod CutPieces
 mod Written
 mod Cuts
 mod NoLonger
-mod Bridge
+pub mod SkimTables
+pub mod Bridge
 mod CutStreams
 pub mod Running
-mod HeaderReads
 mod OpeningReads
 mod SameRows
 mod OpenTurns

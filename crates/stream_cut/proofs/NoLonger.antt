@@ -10,16 +10,14 @@ use Rattle.stream_rows.specs.Units.{Past, nothing_yet, First, DataUnit, Sequence
 use Rattle.stream_cut.specs.Skim.{skim_rows, skimmed}
 use Rattle.stream_cut.specs.Cut.{Frames, is_in, header_unit, picture_unit, end_unit, Cutting, nothing_cut, frame_now, payload_of, header_due, length_before, end_due, cut_text, cut_next, or_else_some, closing_by, closing, Piece, front_from, left_from}
 use Rattle.stream_cut.specs.CutLaws.{bytes_in, StandWith, CutsToNoMore}
+use Rattle.stream_cut.specs.Cutter.{pending}
+use Rattle.stream_rows.proofs.Answering.{after-place}
 use Rattle.stream_cut.proofs.Fields.{IsBytes}
 use Rattle.stream_cut.proofs.UnitsRead.{Facts, unit_long}
+use Rattle.stream_cut.proofs.CutPieces.{length-header, length-picture}
 use Rattle.stream_cut.proofs.Cuts.{by_reading, last_reading, facts_of, fit_behind}
 
 -- ---- what is still due of the units so far: the header of a sequence of which no picture was chosen
-
-abbrev pending : Option First → Option ℕ → ℕ
-pending (Some first) None = 13 + length first.payload
-pending (Some first) (Some previous) = 0
-pending None previous = 0
 
 record Few (z : Past) (w : Cutting) : Type 0 where
   due : w.written + pending z.first w.previous ≤ z.place
@@ -39,12 +37,6 @@ few_header z w parts frames bytes long f = record { due = by w.previous; first =
         let same : its ≡ g = cc in
         omega (arith, ap (λ (q : First). length q.payload) same, length-drop 13 bytes, long)
     first (Some a) g h e = omega (arith, h g e)
-
-length-header : (payload : List ℕ) → length (header_unit payload) ≡ 13 + length payload
-length-header payload = omega arith
-
-length-picture : (previous : ℕ) (payload : List ℕ) → length (picture_unit previous payload) ≡ 13 + length payload
-length-picture previous payload = omega arith
 
 enough : (z : Past) (w : Cutting) (bytes : List ℕ) (f : First) → z.first ≡ Some f → 13 ≤ length bytes → (o : Option ℕ) → w.written + pending z.first o ≤ z.place → w.written + length (header_due z o ++ picture_unit (length_before z o) (drop 13 bytes)) ≤ z.place + length bytes
 enough z w bytes f there long None h =
@@ -91,13 +83,6 @@ written_by frames z w (Picture parts number p slices) bytes = by (is_in frames (
     by true = refl
     by false = omega arith
 
-pub place_after : (z : Past) (unit : DataUnit) (bytes : List ℕ) → (after z unit bytes).place ≡ z.place + length bytes
-place_after z (Sequence parts) bytes = refl
-place_after z Repeated bytes = refl
-place_after z (Picture parts number p slices) bytes = refl
-place_after z Skipped bytes = refl
-place_after z End bytes = refl
-
 closing_few : (w : Cutting) (place : ℕ) → w.written ≤ place → ((f : First) → w.first ≡ Some f → 13 + length f.payload ≤ place) → w.written + length (closing w) ≤ place + 13
 closing_few w place le first = by w.previous w.written w.first refl refl
   where
@@ -129,7 +114,7 @@ few_from frames (p ∷ pieces) z w left last fits units end few =
     let close = closing (left_from frames z1 w1 pieces) in
     let all_out : length ((text ++ rest) ++ close) ≡ length text + length (rest ++ close) = ap (λ (l : List ℕ). length l) (append_assoc text rest close) ∙ length-append text (rest ++ close) in
     let all_in : length ((p.bytes ++ bytes_in pieces) ++ last.bytes) ≡ length p.bytes + length all = ap (λ (l : List ℕ). length l) (append_assoc p.bytes (bytes_in pieces) last.bytes) ∙ length-append p.bytes all in
-    omega (arith, others, written_by frames z w p.unit p.bytes, place_after z p.unit p.bytes, all_out, all_in)
+    omega (arith, others, written_by frames z w p.unit p.bytes, after-place z p.unit p.bytes, all_out, all_in)
 
 pub cuts_to_no_more : CutsToNoMore
 cuts_to_no_more frames bytes pieces last fits s =

@@ -32,7 +32,7 @@ use Rattle.stream_cut.specs.declared.opening.Opening.{Opening}
 use Rattle.stream_cut.proofs.Fields.{IsBytes, fit_take}
 use Rattle.stream_rows.proofs.UnitGroups.{params_group}
 use Rattle.stream_cut.proofs.ParamsRead.{group_read}
-use Rattle.stream_cut.proofs.HeaderReads.{header_behind, read-checked_unit}
+use Rattle.stream_units.proofs.HeadRows.{header_behind, read-checked_unit}
 
 abbrev Answer : Type 0
 Answer = Result (Opening × ℕ) Refusal

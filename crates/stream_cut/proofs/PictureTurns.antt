@@ -36,7 +36,7 @@ use Rattle.stream_cut.specs.SkimTable.{SkimTableSeen, IsFoundBy, Keeps}
 use Rattle.stream_cut.specs.Opening.{Opened, OpensSequence, OpensRepeated, OpensEnd, Opens, open_rows, rest_rows}
 use Rattle.stream_cut.specs.Skim.{skim_slices, skimmed, skim_rows}
 use Rattle.stream_cut.specs.SkimGrammar.{skimmed_laws}
-use Rattle.stream_cut.proofs.HeaderReads.{read-checked_unit}
+use Rattle.stream_units.proofs.HeadRows.{read-checked_unit}
 use Rattle.stream_cut.proofs.OpenMoves.{opening_moves}
 use Rattle.stream_cut.proofs.SliceBytes.{slices_move, slices_need, slices_short}
 

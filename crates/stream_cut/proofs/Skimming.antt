@@ -14,8 +14,7 @@ use Rattle.stream_rows.specs.declared.reason.Reason.{Reason}
 use Rattle.parse_info.specs.declared.TheConstants.{HEAD_SIZE}
 use Rattle.sequence_header.specs.Header.{header_rows}
 use Rattle.stream_rows.specs.Units.{Past, nothing_yet, First, DataUnit, Sequence, Repeated, Picture, Skipped, End, header_reason, transform_reason, number_rules, next_checked, slice_rules, slice_rows, unit_head, first_payload, repeated_payload, skipped_payload, picture_payload, payload_of, payload_rows, unit_rows, after}
-use Rattle.stream_rows.specs.Streams.{bytes_between, ends, Entry, Units, IsStream}
-use Rattle.stream_cut.specs.RowStreams.{UnitsBy}
+use Rattle.stream_rows.specs.Streams.{bytes_between, ends, Entry, UnitsBy, Units, IsStream}
 use Rattle.stream_cut.specs.Skim.{skim_slices, skim_picture, skim_payload_of, skim_payload, skim_rows, IsSkimStream}
 use Rattle.stream_cut.specs.SkimLaws.{SlicesHold, UnitHolds, SkimsToTheSame}
 

@@ -19,7 +19,7 @@ use Rattle.stream_rows.specs.declared.reason.Reason.{Reason}
 use Rattle.stream_rows.specs.Units.{Past, First, DataUnit, Sequence, Picture, End, unit_behind, reason_of, has_fields, code_rules, previous_rules, number_rules, payload_rows, payload_of, after}
 use Rattle.stream_cut.specs.Skim.{skim_payload_of, skim_payload, skim_rows, skimmed}
 use Rattle.stream_cut.specs.Cut.{header_unit, picture_unit, end_unit, Piece}
-use Rattle.stream_cut.specs.CutLaws.{bytes_in, IsStreamWith, units_in}
+use Rattle.stream_cut.specs.CutLaws.{bytes_in, IsStreamWith}
 use Rattle.stream_units.proofs.EncodedPieces.{moves_then, moves_none}
 use Rattle.stream_units.proofs.EncodedParts.{moves_head, true_previous}
 use Rattle.stream_cut.proofs.SkimmedParts.{skims}
@@ -64,12 +64,12 @@ moves_end_unit z first previous there true_one short code =
 -- ---- units before others
 
 -- from a state on the bytes are these units, the last of which ends the stream
-pub record Found (z : Past) (bytes : List ℕ) (found : List DataUnit) : Type 0 where
+pub record Found (z : Past) (bytes : List ℕ) (found : List Piece) : Type 0 where
   pub some : 0 < length bytes
   pub pieces : List Piece
   pub last : Piece
   pub stream : IsStreamWith skim_rows z bytes pieces last
-  pub units : units_in pieces last ≡ found
+  pub units : pieces ++ last ∷ [] ≡ found
 
 moved_to : (z : Past) (unit : DataUnit) (bytes more : List ℕ) → Moves skimmed (skim_rows z) z.place bytes (done unit) → unit_at skimmed z (bytes ++ more) ≡ Ok (unit, bytes_at (z.place + length bytes) more)
 moved_to z unit bytes more m = m.moves more ∙ read-done reason_of unit (bytes_at (z.place + length bytes) more)
@@ -99,7 +99,7 @@ front_end z bytes m =
     subst (λ l. front_of skimmed z l ≡ Finishes (length bytes) End) whole
     (ap (front_by skimmed (λ fault. fault) false (bytes ++ [])) (moved_to z End bytes [] m) ∙ ap (λ n. Finishes n End) (size (z.place + length bytes) bytes []))
 
-pub found_more : (z : Past) (unit : DataUnit) (bytes more : List ℕ) (found : List DataUnit) → Moves skimmed (skim_rows z) z.place bytes (done unit) → 0 < length bytes → Found (after z unit bytes) more found → Found z (bytes ++ more) (unit ∷ found)
+pub found_more : (z : Past) (unit : DataUnit) (bytes more : List ℕ) (found : List Piece) → Moves skimmed (skim_rows z) z.place bytes (done unit) → 0 < length bytes → Found (after z unit bytes) more found → Found z (bytes ++ more) (record { unit = unit; bytes = bytes } ∷ found)
 found_more z unit bytes more found m some f = record {
   some = omega (arith, length-append bytes more, some);
   pieces = record { unit = unit; bytes = bytes } ∷ f.pieces;
@@ -110,10 +110,10 @@ found_more z unit bytes more found m some f = record {
     units = (subst (λ l. front_of skimmed z (bytes ++ l) ≡ Stands (length bytes) unit) f.stream.parts (front_more z unit bytes more m f.some), f.stream.units);
     end = f.stream.end;
   };
-  units = ap (λ l. unit ∷ l) f.units;
+  units = ap (λ l. record { unit = unit; bytes = bytes } ∷ l) f.units;
 }
 
-pub found_end : (z : Past) (bytes : List ℕ) → Moves skimmed (skim_rows z) z.place bytes (done End) → 0 < length bytes → Found z bytes (End ∷ [])
+pub found_end : (z : Past) (bytes : List ℕ) → Moves skimmed (skim_rows z) z.place bytes (done End) → 0 < length bytes → Found z bytes (record { unit = End; bytes = bytes } ∷ [])
 found_end z bytes m some = record {
   some = some;
   pieces = [];

@@ -1,4 +1,3 @@
-pub mod RowStreams
 pub mod Skim
 pub mod SkimLaws
 pub mod Cut

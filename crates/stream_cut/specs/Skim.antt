@@ -10,9 +10,8 @@ use Rattle.slice_geometry.specs.Slicing.{slice_count}
 use Rattle.unit_table.specs.Grammar.{Grammar}
 use Rattle.stream_rows.specs.declared.reason.Reason.{Reason}
 use Rattle.stream_rows.specs.Refusals.{Refusal}
-use Rattle.stream_rows.specs.Streams.{Entry}
+use Rattle.stream_rows.specs.Streams.{Entry, units_by, IsStreamBy, IsRefusalBy, HasOneAnswerBy}
 use Rattle.stream_rows.specs.Units.{Past, First, DataUnit, Picture, transform_reason, number_rules, next_checked, share, unit_head, payload_of, payload_rows}
-use Rattle.stream_cut.specs.RowStreams.{units_by, IsStreamBy, IsRefusalBy}
 
 -- the slices that are left of a picture, behind those so far
 unfoldable pub skim_slices : Params → ℕ → List (List ℕ) → Rows Reason (List (List ℕ))
@@ -55,3 +54,7 @@ IsSkimStream bytes es last = IsStreamBy skim_rows bytes es last
 
 abbrev pub IsSkimRefusal : List ℕ → Refusal → Type 0
 IsSkimRefusal bytes refusal = IsRefusalBy skim_rows bytes refusal
+
+-- The bytes are exactly one skimmed stream, or have exactly one refusal, and never both.
+abbrev pub HasOneSkimAnswer : List ℕ → Type 0
+HasOneSkimAnswer bytes = HasOneAnswerBy skim_rows bytes

@@ -482,11 +482,12 @@ impl Cutter {
     }
 
     /// Reads the stream to its end, and writes its cut: each chosen picture once its unit stands whole. The units that were
-    /// written are kept where all is done.
+    /// written are kept where all is done; where it stops, they are those of before the call.
     pub fn cut<S: Source, K: Sink>(&mut self, src: &mut S, out: &mut K) -> Result<(), CutStop>
         requires { self.old.has_cut ≡ false }
         ensures runs { Runs (cut_machine self.old.frames) IsWhole (change S.rest S.faults src.old src.new) (change K.written K.faults out.old out.new) (run_of self.new.shapes self.new.total result) }
         ensures soon { Soon MayGoOn (cut_machine self.old.frames) READ_SIZE (S.rest src.old) (S.rest src.new) (run_of self.new.shapes self.new.total result) }
+        ensures kept { OnErr result ((self.new.shapes ≡ self.old.shapes) × (self.new.total ≡ self.old.total)) }
         ensures once { self.new.has_cut ≡ true }
         ensures frames { self.new.frames ≡ self.old.frames }
     {
@@ -506,7 +507,7 @@ impl Cutter {
         }
     }
 
-    /// The units that were written.
+    /// The units that were written by a cut that is done; none before it and where it stopped.
     pub fn shapes(&self) -> &UnitShapes
         ensures units { result.now.units ≡ self.now.shapes }
         ensures total { result.now.total ≡ self.now.total }

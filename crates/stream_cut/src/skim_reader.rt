@@ -1,6 +1,7 @@
 //! The reader of a stream that is skimmed.
 
-ghost use Rattle.std.specs.Prelude.{◌≡◌, Ok, Err, Some, None, true, false, IfOk, IfSome, IsNone, ◌↔◌};
+ghost use Rattle.vc2_io.specs.declared.TheConstants.{READ_SIZE};
+ghost use Rattle.std.specs.Prelude.{◌≡◌, ◌≤◌, Ok, Err, Some, None, true, false, length, IfOk, IfSome, IsNone, ◌↔◌};
 ghost use Rattle.unit_reader.specs.Stops.{StopCause};
 ghost use Rattle.stream_cut.specs.SkimReader.{NextSkimmed, IsNew, answer_of};
 ghost use Rattle.stream_cut.specs.declared.table.SkimItem.TheVariants as items;
@@ -60,6 +61,8 @@ impl SkimReader {
     pub fn next<S: Source>(&mut self, src: &mut S) -> Result<SkimItem, ReadStop>
         // The unit is taken, or refused as the skimmed table refuses it, or something outside failed.
         ensures next { self.old.stop ≡ None → self.old.ended ≡ false → NextSkimmed self.old self.new (S.rest src.old) (S.rest src.new) result }
+        // Where no stop is kept, at most 4096 bytes are held.
+        ensures few { self.new.stop ≡ None → length self.new.held ≤ READ_SIZE }
         // A failed read is answered where the count rose, and nothing else is.
         ensures cause { self.old.stop ≡ None → StopCause (S.faults src.old) (S.faults src.new) result }
         // After a stop each call answers it again, and nothing is read.

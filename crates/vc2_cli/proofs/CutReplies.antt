@@ -3,6 +3,7 @@ use Rattle.std.proofs.Common.{◌≡◌, ℕ, ◌+◌, ◌-◌, ◌≤◌, List,
 use Rattle.std.proofs.lemmas.List.{length-append}
 use Rattle.vc2_run.specs.Walk.{Answer}
 use Rattle.unit_table.proofs.FrontLaws.{front_before}
+use Rattle.stream_rows.specs.Refusals.{Refusal}
 use Rattle.stream_rows.specs.Units.{Past, nothing_yet, after}
 use Rattle.stream_rows.specs.Streams.{limit, past_limit, refusal_of}
 use Rattle.stream_rows.proofs.Answering.{after-place}
@@ -11,13 +12,14 @@ use Rattle.stream_cut.specs.Cut.{CutEnd, Piece, cut_front}
 use Rattle.stream_cut.specs.Cut as cutter
 use Rattle.stream_cut.specs.CutLaws.{StandWith, StandWithin, bytes_in}
 use Rattle.stream_cut.proofs.Running.{cuts_by_running}
+use Rattle.stream_cut.proofs.Bridge.{has_pieces_before}
 use Rattle.vc2_words.specs.declared.settings.CutSettings.{CutSettings}
 use Rattle.vc2_cli.specs.Cut.{ending_of, frames_of}
 use Rattle.vc2_cli.specs.Mapped.{answer_told}
 use Rattle.vc2_words.specs.Commands.{cut}
 use Rattle.vc2_cli.specs.Reply.{reply_of, command_reply}
-use Rattle.vc2_cli.specs.StreamReplies.{refused_reply}
-use Rattle.vc2_cli.specs.CutReplies.{AreCut, IsCutWhole, cut_reply}
+use Rattle.vc2_cli.specs.StreamReplies.{AreBytes, refused_reply}
+use Rattle.vc2_cli.specs.CutReplies.{AreCut, IsCutWhole, IsCutRefused, cut_reply}
 use Rattle.vc2_cli.proofs.Mapped.{told_answer}
 
 pub are_cut : (c : CutSettings) (pieces : List Piece) (tail : List ℕ) (left : Past) → StandWithin nothing_yet pieces tail left → AreCut c pieces tail left
@@ -52,3 +54,11 @@ is_cut_whole c bytes es last s units =
     let front = front_before limit past_limit skimmed w.left tail (omega (arith, within.1)) ∙ w.end in
     subst (λ (l : List ℕ). command_reply (Ok (cut c)) l ≡ cut_reply c units.pieces) (sym w.parts)
     ((are_cut c units.pieces tail w.left within.0).stream units.last_piece.unit front)
+
+pub is_cut_refused : (c : CutSettings) (bytes : List ℕ) → AreBytes bytes → IsCutRefused c bytes
+is_cut_refused c bytes fits refusal r =
+    let h = has_pieces_before bytes r.units r.fault fits r.is in
+    let front = λ (x : Refusal). refused_reply (cut_front (frames_of c) h.pieces) x in (
+      h,
+      subst (λ (l : List ℕ). command_reply (Ok (cut c)) l ≡ front (refusal_of r.fault)) (sym h.parts) ((are_cut c h.pieces h.tail h.left h.units).refusal r.fault h.refused) ∙ ap front (sym r.there),
+    )

@@ -6,8 +6,9 @@ use Rattle.picture_codec.specs.Samples.{PictureSamples, picture_of}
 use Rattle.raw_video.specs.RawText.{raw_text}
 use Rattle.vc2_run.specs.Walk.{answer_to}
 use Rattle.stream_rows.specs.Refusals.{Refusal}
-use Rattle.stream_rows.specs.Units.{Past, First, nothing_yet, DataUnit, Sequence, Repeated, Picture, Skipped, End, after}
+use Rattle.stream_rows.specs.Units.{Past, First, nothing_yet, DataUnit, Sequence, Repeated, Picture, Skipped, End, unit_rows, after}
 use Rattle.stream_rows.specs.Streams.{Entry, IsStream, IsRefusal, frame_under}
+use Rattle.stream_rows.proofs.Tables.{stream_table}
 use Rattle.stream_rows.proofs.Answering.{IsPlain, texts, own_behind, answer_stream, answer_refusal}
 use Rattle.stream_rows.proofs.Made.{AreSuch}
 use Rattle.field_weave.specs.declared.Order.{Order}
@@ -110,7 +111,7 @@ module _ (order : Order) where
   framed : (bytes : List ℕ) (es : List Entry) (last : Entry) → AreBytes bytes → IsStream bytes es last → reply_of [] (answer_to (frames_machine order) bytes) ≡ framed_reply order bytes es
   framed bytes es last fits s =
       let left = s.stream.left in
-      let a = answer_stream (framing order) plain bytes es last fits s in
+      let a = answer_stream unit_rows stream_table (framing order) plain bytes es last fits s in
       let own = own_behind frames_after (no_frames order) es in
       let w = write es nothing_yet (stream_under bytes es last s) 0 None in
       let n = length (frames_between order es) in
@@ -124,7 +125,7 @@ module _ (order : Order) where
   frames_refused : (bytes : List ℕ) (refusal : Refusal) → AreBytes bytes → (r : IsRefusal bytes refusal) → reply_of [] (answer_to (frames_machine order) bytes) ≡ refused_reply (raw_texts (frames_between order r.units)) refusal
   frames_refused bytes refusal fits r =
       let text = raw_texts (frames_between order r.units) in
-      ap (reply_of []) (answer_refusal (framing order) plain bytes refusal fits r).1
+      ap (reply_of []) (answer_refusal unit_rows stream_table (framing order) plain bytes refusal fits r).1
       ∙ ap (λ x. reply_of [] (record { ending = Refused x; text = written r.units; last = [] })) (sym r.there)
       ∙ ap (λ l. reply_of [] (record { ending = Refused refusal; text = l; last = [] })) (write r.units nothing_yet (refusal_under bytes refusal r) 0 None).0
       ∙ ap (λ l. record (refused_reply text refusal) { out = l }) (append-nil text)

@@ -15,12 +15,15 @@ pub mod Behind
 pub mod EncodedWalk
 pub mod Chaining
 pub mod StreamReplies
+pub mod ScheduleReplies
+pub mod HeaderReplies
 pub mod LowDepths
 pub mod ProxyReplies
 pub mod Replaying
 pub mod StreamSinks
 pub mod TrialWritten
 pub mod EncodedWords
+pub mod RawReplies
 pub mod TrialCompared
 pub mod SoonTold
 pub mod Mapped

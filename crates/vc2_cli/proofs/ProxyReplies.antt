@@ -2,8 +2,9 @@
 use Rattle.std.proofs.Common.{◌≡◌, ℕ, ◌+◌, ◌≤◌, List, [], ◌∷◌, ◌++◌, length, map, refl, sym, ap, ◌∙◌, arith, append-nil, inl, inr}
 use Rattle.vc2_run.specs.Walk.{answer_to}
 use Rattle.stream_rows.specs.Refusals.{Refusal}
-use Rattle.stream_rows.specs.Units.{DataUnit, Sequence, Repeated, Picture, Skipped, End}
+use Rattle.stream_rows.specs.Units.{DataUnit, Sequence, Repeated, Picture, Skipped, End, unit_rows}
 use Rattle.stream_rows.specs.Streams.{Entry, total, IsStream, IsRefusal, frame_under}
+use Rattle.stream_rows.proofs.Tables.{stream_table}
 use Rattle.stream_rows.proofs.OneAnswer.{one_answer}
 use Rattle.stream_rows.proofs.Answering.{IsPlain, texts, own_behind, answer_stream, answer_refusal}
 use Rattle.vc2_cli.specs.declared.status.Note.TheVariants.{Decoded}
@@ -56,7 +57,7 @@ module _ (level : ℕ) where
   proxied : (bytes : List ℕ) (es : List Entry) (last : Entry) → AreBytes bytes → IsStream bytes es last → reply_of [] (answer_to (proxy_machine level) bytes) ≡ proxied_reply level bytes es
   proxied bytes es last fits s =
       let left = s.stream.left in
-      let a = answer_stream (proxying level) plain bytes es last fits s in
+      let a = answer_stream unit_rows stream_table (proxying level) plain bytes es last fits s in
       let own = own_behind plain.step (behind 0) es in
       let counted : own.pictures ≡ total pictures_in es = ap (λ (w : Proxied). w.pictures) (pictures_behind es 0) ∙ omega arith in
       let ending : Done (Decoded own.pictures (left.place + length a.0)) ≡ Done (Decoded (total pictures_in es) (length bytes)) = ap (λ n. Done (Decoded n (left.place + length a.0))) counted ∙ ap (λ k. Done (Decoded (total pictures_in es) k)) a.1 in
@@ -67,7 +68,7 @@ module _ (level : ℕ) where
 
   proxy_refused : (bytes : List ℕ) (refusal : Refusal) → AreBytes bytes → (r : IsRefusal bytes refusal) → reply_of [] (answer_to (proxy_machine level) bytes) ≡ refused_reply (proxies_text level r.units) refusal
   proxy_refused bytes refusal fits r =
-      ap (reply_of []) (answer_refusal (proxying level) plain bytes refusal fits r).1
+      ap (reply_of []) (answer_refusal unit_rows stream_table (proxying level) plain bytes refusal fits r).1
       ∙ ap (λ x. reply_of [] (record { ending = Refused x; text = written 0 r.units; last = [] })) (sym r.there)
       ∙ ap (λ l. reply_of [] (record { ending = Refused refusal; text = l; last = [] })) (written_proxies r.units 0)
       ∙ ap (λ l. record (refused_reply (proxies_text level r.units) refusal) { out = l }) (append-nil (proxies_text level r.units))
@@ -112,7 +113,7 @@ module _ (level : ℕ) where
     refusal = λ refusal r. proxy_refused bytes refusal fits r;
     full = full_stream bytes fits;
     full_refusal = full_refused bytes fits;
-    deepest = λ deep. elim (one_answer bytes) [
+    deepest = λ deep. elim (one_answer unit_rows stream_table bytes) [
       | inl s ↦ full_stream bytes fits s.0 s.1 s.2 (few_enough s.0 deep (stream_low bytes s.0 s.1 s.2))
       | inr r ↦ full_refused bytes fits r.0 r.1 (few_enough (r.1).units deep (refusal_low bytes r.0 r.1))
     ];

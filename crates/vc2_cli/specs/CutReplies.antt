@@ -4,11 +4,12 @@ use Rattle.field_rows.specs.Rows.{Fault}
 use Rattle.unit_table.specs.Fronts.{Finishes, Refuses, front_within}
 use Rattle.channel_schedule.specs.Plans.{plan_of}
 use Rattle.stream_rows.specs.declared.reason.Reason.{Reason}
+use Rattle.stream_rows.specs.Refusals.{Refusal}
 use Rattle.stream_rows.specs.Units.{Past, DataUnit}
 use Rattle.stream_rows.specs.Streams.{Entry, limit, past_limit, refusal_of}
-use Rattle.stream_cut.specs.Skim.{skimmed, IsSkimStream}
+use Rattle.stream_cut.specs.Skim.{skimmed, IsSkimStream, IsSkimRefusal}
 use Rattle.stream_cut.specs.Cut.{Piece, cut_front, cut_of}
-use Rattle.stream_cut.specs.CutLaws.{HasPieces, bytes_in, shapes_of_cut}
+use Rattle.stream_cut.specs.CutLaws.{HasPieces, HasPiecesBefore, bytes_in, shapes_of_cut}
 use Rattle.vc2_words.specs.declared.settings.CutSettings.{CutSettings}
 use Rattle.vc2_words.specs.Commands.{cut}
 use Rattle.vc2_cli.specs.declared.status.Status.TheVariants as status
@@ -39,3 +40,8 @@ pub record AreCut (c : CutSettings) (pieces : List Piece) (tail : List ℕ) (lef
 abbrev pub IsCutWhole : CutSettings → List ℕ → Type 0
 IsCutWhole c bytes = (es : List Entry) (last : Entry) → IsSkimStream bytes es last → (units : HasPieces bytes es last)
     → command_reply (Ok (cut c)) bytes ≡ cut_reply c units.pieces
+
+-- A refusal has units with their bytes before it, and what these settle is written.
+abbrev pub IsCutRefused : CutSettings → List ℕ → Type 0
+IsCutRefused c bytes = (refusal : Refusal) → (r : IsSkimRefusal bytes refusal) → (units : HasPiecesBefore bytes r.units r.fault)
+    × (command_reply (Ok (cut c)) bytes ≡ refused_reply (cut_front (frames_of c) units.pieces) refusal)

@@ -17,11 +17,14 @@ pub mod Cut
 pub mod Running
 pub mod Reply
 pub mod StreamReplies
+pub mod ScheduleReplies
+pub mod HeaderReplies
 pub mod ProxyReplies
 pub mod FrameReplies
 pub mod CutReplies
 pub mod ScheduleWords
 pub mod EncodeReply
+pub mod RawReplies
 pub mod Settled
 pub mod RunsAs
 pub mod Exit

@@ -16,7 +16,7 @@ use Rattle.vc2_cli.specs.Reply.{reply_to, due_to, ReadsAll, IsStatusOf, Breaks, 
 use Rattle.vc2_cli.specs.Soon.{StopsSoon, IfUnits}
 
 -- What a run with these words comes to, of the source and the sinks before and after it. The first clauses are of an input
--- that the source tells, the last ones of every source.
+-- that the source tells, the last ones of every source: of bytes they too speak only where source and sinks tell theirs.
 pub record Ran (words : List (List ℕ)) (src out note : Change) (told : Status) : Type 0 where
   -- The status is that of the reply to these words and this input, or something outside failed.
   pub status : IfSome src.was (λ input. IsStatusOf (reply_to words input) told)
@@ -38,7 +38,7 @@ pub record Ran (words : List (List ℕ)) (src out note : Change) (told : Status)
   -- Where a write of the note failed, all of the output was written, and a proper prefix of the note.
   pub note_fault : IfSome src.was (λ input. let reply = reply_to words input in told ≡ st.NoteFault
       → Appends out.was out.is reply.out × GrewShort note.was note.is reply.note)
-  -- `chain`, `decode` and `check` take at most 4096 bytes behind a refusal, those that came with it in one read, and
+  -- A command over the units of a stream takes at most 4096 bytes behind a refusal, those that came with it in one read, and
   -- `header` none: without its last 4096 bytes, or its last byte, what was taken is not refused as an input of its own,
   -- unless for a field that is short. Where a read failed, all that was taken is not.
   pub soon : IfSome src.was (λ input. IfUnits (words_ask words) (λ most. StopsSoon (reply_to words) most input src.is told))

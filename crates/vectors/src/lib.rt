@@ -4,6 +4,8 @@
 #[cfg(test)]
 mod chain_rows;
 #[cfg(test)]
+mod cut_again;
+#[cfg(test)]
 mod cut_rows;
 #[cfg(test)]
 mod cut_streams;
