@@ -65,7 +65,7 @@ def films(tools):
         words = ["size=48x64", "sampling=422", "signal=3", f"order={order}"]
         frame = tools.program(["weave", *words], raw)
         status, stream, _ = tools.run(["y4m", "encode", *CODING], film(tall, frame, 1))
-        wanted = tools.program(["encode", *words[:3], "fps=25/1", "fields=yes", *CODING], raw)
+        wanted = tools.program(["encode", *words[:3], "fps=25/1", "fields=yes", "scan=1", *CODING], raw)
         tools.runs.judge(f"a film of fields, {order} first", (status, stream), (0, wanted))
         frames = film(tall, tools.program(["frames", f"order={order}"], stream), 1)
         tools.case(f"a stream of fields, {order} first", ["y4m", "decode", f"order={order}"], stream, (0, frames, b"frames 1 bytes %d\n" % len(stream)))
@@ -156,9 +156,8 @@ def pictures(tools):
         with open(drawn, "rb") as one, open(os.path.join(TOP, "docs", "pair.png"), "rb") as other:
             tools.runs.judge("the picture of README.md", one.read() == other.read(), True)
         tools.refuses("half a frame", ["frames_picture.py", "48x32", "422", "10", drawn], b"B", 1, b"aren't whole pictures")
-        frames = os.path.join(TOP, "examples", "frames_422.vc2")
-        for name, words in (("schedule.svg", ["1947/48"]), ("schedule_idle.svg", ["1947/64", drawn, "16"])):
-            status, out, note = tools.run(["schedule_picture.py", frames, "40/1", *words])
+        for name, words in (("schedule.svg", ["1561/24"]), ("schedule_idle.svg", ["1561/30", drawn, "6"])):
+            status, out, note = tools.run(["schedule_picture.py", stream, "64/1", *words])
             with open(os.path.join(TOP, "docs", name), "rb") as wanted, open(drawn, "rb") as written:
                 tools.runs.judge(f"docs/{name}", (status, (out or written.read()) == wanted.read(), note), (0, True, b""))
         tools.refuses("a schedule of no stream", ["schedule_picture.py", stream.replace("vc2", "yuv"), "64/1", "1561/24"], b"", 1, b"refused at 0: BadPrefix")

@@ -1,5 +1,5 @@
 #!/usr/bin/env python3
-"""Draws the bytes of a small stream, a line a unit, with what they are, as SVG.
+"""Draws the bytes of a small stream, a line a unit, with what they are and where each part begins, as SVG.
 
 usage: tools/unit_picture.py STREAM PARAMETERS SLICE [OUT]
 
@@ -14,7 +14,7 @@ import sys
 
 VC2 = os.environ.get("VC2") or os.path.join(os.path.dirname(os.path.dirname(os.path.realpath(__file__))), "vc2")
 HEAD = [("prefix", 4), ("code", 1), ("next offset", 4), ("previous offset", 4)]
-CELL, HIGH, LINE, LEFT = 34, 26, 86, 16
+CELL, HIGH, LINE, LEFT = 34, 26, 100, 16
 SHADES = ("#eef3f8", "#dfe8f0")
 
 
@@ -27,11 +27,13 @@ def parts_of(name, payload, parameters, each):
 
 
 def drawn(place, name, data, parts, top):
-    """A unit's line."""
-    lines, at = [f'<text x="{LEFT}" y="{top}" font-weight="bold">{name}, at byte {place}</text>'], 0
+    """A unit's line: each part's name, an offset's with its number, its bytes, and the place of its first one."""
+    lines, at = [f'<text x="{LEFT}" y="{top}" font-weight="bold">{name}: {len(data)} bytes from byte {place} on</text>'], 0
     for number, (part, count) in enumerate(parts):
         x, y = LEFT + CELL * at, top + 22
-        lines.append(f'<text x="{x}" y="{y}" fill="#246" font-size="11">{part}</text>')
+        told = f"{part} {int.from_bytes(data[at : at + count], 'big')}" if part.endswith("offset") else part
+        lines.append(f'<text x="{x}" y="{y}" fill="#246" font-size="11">{told}</text>')
+        lines.append(f'<text x="{x}" y="{y + 44}" fill="#666" font-size="11">{place + at}</text>')
         for byte in data[at : at + count]:
             x = LEFT + CELL * at
             lines.append(f'<rect x="{x}" y="{y + 5}" width="{CELL}" height="{HIGH}" fill="{SHADES[number % 2]}" stroke="#246"/>')
