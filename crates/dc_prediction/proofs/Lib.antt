@@ -1,8 +1,7 @@
 pub mod PredictionLemmas
 pub mod Bands
 pub mod Rectangles
-pub mod RowSteps
-pub mod RowWritten
 pub mod Joined
-pub mod Stopped
+pub mod Places
+pub mod Widths
 pub mod WorkedBands

@@ -1,11 +1,11 @@
 -- A prediction by the place's row and column, what it depends on, and how large it can be.
-use Rattle.std.proofs.Common.{to_z, of_z, w64, ◌^◌, ◌≡◌, refl, ℕ, zero, suc, ◌+◌, ◌-◌, ◌*◌, ◌<◌, ◌≤◌, arith, ℤ, pos, ◌+ℤ◌}
+use Rattle.std.proofs.Common.{to_z, of_z, w64, ◌^◌, ◌≡◌, refl, ℕ, zero, suc, ◌-◌, ◌<◌, ◌≤◌, arith, ℤ, pos, ◌+ℤ◌}
 use Rattle.std.proofs.lemmas.Int.{ints}
 use native.Mathlib.Numerals.{unary_clauses}
 use Rattle.planes.specs.Numbers.{Within}
 use Rattle.planes.proofs.Floors.{IsFloor, floor_third}
 use Rattle.planes.specs.Raster.{Grid}
-use Rattle.dc_prediction.specs.Prediction.{mean, prediction, reach, AllLookedAt}
+use Rattle.dc_prediction.specs.Prediction.{mean, prediction, AllLookedAt}
 
 pub prediction_corner : (g : Grid) → prediction g 0 0 ≡ pos 0
 unfolding prediction
@@ -45,19 +45,18 @@ mean_small m a b c pa pb pc =
     let f : IsFloor (a +ℤ b +ℤ c +ℤ pos 1) 3 (mean a b c) = floor_third (a +ℤ b +ℤ c +ℤ pos 1) in
     record { low = omega (arith, ints); high = omega (arith, ints) }
 
--- a residual on a mean of earlier values
-pub restored_small : (y x : ℕ) (r a b c : ℤ) → Within 68719476736 r → Within ((y + x) * 68719476736) a → Within ((y + x) * 68719476736) b → Within ((y + x) * 68719476736) c → Within (reach y x) (r +ℤ mean a b c)
-restored_small y x r a b c pr pa pb pc =
-    let p : Within ((y + x) * 68719476736) (mean a b c) = mean_small ((y + x) * 68719476736) a b c pa pb pc in
-    record { low = omega (arith, ints); high = omega (arith, ints) }
+-- and so is a prediction, of what it looks at
+pub prediction_within : (m : ℕ) (g : Grid) (y x : ℕ) → AllLookedAt (λ j i. Within m (g j i)) y x → Within m (prediction g y x)
+unfolding prediction
+prediction_within m g zero zero s = record { low = omega (arith, ints); high = omega (arith, ints) }
+prediction_within m g zero (suc x) s = simp unary_clauses at (s.left (omega arith))
+prediction_within m g (suc y) zero s = simp unary_clauses at (s.above (omega arith))
+prediction_within m g (suc y) (suc x) s =
+    let left : Within m (g (suc y) x) = simp unary_clauses at (s.left (omega arith)) in
+    let above : Within m (g y (suc x)) = simp unary_clauses at (s.above (omega arith)) in
+    let corner : Within m (g y x) = simp unary_clauses at (s.corner (omega arith) (omega arith)) in
+    mean_small m (g (suc y) x) (g y x) (g y (suc x)) left corner above
 
 -- what is kept in 64 bits is what it was
 pub fits : (m : ℕ) (v : ℤ) → m ≤ 2 ^ 50 → Within m v → to_z w64 (of_z w64 v) ≡ v
 fits m v le p = omega (arith, ints)
-
--- a residual on an earlier value
-pub sum_small : (y x : ℕ) (r a : ℤ) → Within 68719476736 r → Within ((y + x) * 68719476736) a → Within (reach y x) (r +ℤ a)
-sum_small y x r a pr pa = record { low = omega (arith, ints); high = omega (arith, ints) }
-
-pub add_nothing : (v : ℤ) → v ≡ v +ℤ pos 0
-add_nothing v = omega (arith, ints)

@@ -1,2 +1,4 @@
 pub mod Prediction
 pub mod Restoring
+pub mod AnyWidth
+pub mod Grows

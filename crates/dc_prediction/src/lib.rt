@@ -3,135 +3,33 @@
 #![tactic(auto)]
 
 pub mod laws;
-mod narrow;
+mod predicted;
 
-ghost use Rattle.planes.specs.declared.TheConstants.{MAX_MAGNITUDE};
-ghost use Rattle.std.specs.Prelude.{◌≡◌, ◌+◌, ◌-◌, ◌^◌, ◌<◌, ◌+ℤ◌};
+ghost use Rattle.std.specs.Prelude.{◌≡◌, ◌+◌, ◌^◌, ◌<◌, ◌≤◌, pos, true, false};
 ghost use Rattle.planes.specs.Numbers.{Within};
 ghost use Rattle.planes.specs.Raster.{height, at};
-ghost use Rattle.dc_prediction.specs.Prediction.{mean, prediction, AllLookedAt};
-ghost use Rattle.dc_prediction.specs.Restoring.{row_rect, CanRestore, RestoresRect};
+ghost use Rattle.planes.specs.Rect.{IsInRect};
+ghost use Rattle.planes.specs.Bounded.{IsPlaneWithin};
+ghost use Rattle.planes.specs.Valued.{grid_of};
+ghost use Rattle.dc_prediction.specs.Prediction.{prediction, AllLookedAt};
+ghost use Rattle.dc_prediction.specs.Restoring.{row_rect, CanRestore, IsStopped, RestoresRect};
+ghost use Rattle.dc_prediction.specs.AnyWidth.{MayRestore, Restores, Stops};
 
-pub use narrow::restore_narrow;
-use planes::{Plane, Rect, Three};
-
-// The mean of three numbers, rounded.
-#[inline(always)]
-fn mean_of(a: i64, b: i64, c: i64) -> i64
-    requires a_small { Within (2 ^ 50) a }
-    requires b_small { Within (2 ^ 50) b }
-    requires c_small { Within (2 ^ 50) c }
-    ensures { result ≡ mean a b c }
-{
-    (a + b + c + 1).div_euclid(3)
-}
-
-// A residual on its prediction.
-#[inline(always)]
-fn on_prediction(residual: i64, prediction: i64) -> i64
-    requires residual_small { Within MAX_MAGNITUDE residual }
-    requires prediction_small { Within (2 ^ 50) prediction }
-    ensures { result ≡ residual +ℤ prediction }
-{
-    residual + prediction
-}
-
-// A residual on its prediction from three values.
-#[inline(always)]
-fn restored_from(residual: i64, left: i64, corner: i64, above: i64) -> i64
-    requires residual_small { Within MAX_MAGNITUDE residual }
-    requires left_small { Within (2 ^ 50) left }
-    requires corner_small { Within (2 ^ 50) corner }
-    requires above_small { Within (2 ^ 50) above }
-    ensures { result ≡ residual +ℤ mean left corner above }
-{
-    on_prediction(residual, mean_of(left, corner, above))
-}
+use planes::{NarrowPlane, Plane, Rect};
+use predicted::Predicted;
 
 /// The prediction of the place in row y and column x, from the values that the plane holds: the mean of the values
 /// left, above-left and above, rounded toward minus infinity; in the first row the value left, in the first column
 /// the value above, in the corner 0.
 ///
 /// Each value that is looked at has a magnitude of at most 2^50.
-#[tactic(auto, unfolding(crate::specs::Prediction::prediction))]
 pub fn predict(plane: &Plane, y: u32, x: u32) -> i64
     requires y_inside { y < height plane.now }
     requires x_inside { x < plane.now.w }
     requires small { AllLookedAt (λ j i. Within (2 ^ 50) (at plane.now j i)) y x }
     ensures { result ≡ prediction (at plane.now) y x }
 {
-    if y == 0 {
-        if x == 0 { 0 } else { plane.get(0, x - 1) }
-    } else if x == 0 {
-        plane.get(y - 1, 0)
-    } else {
-        mean_of(
-            plane.get(y, x - 1),
-            plane.get(y - 1, x - 1),
-            plane.get(y - 1, x),
-        )
-    }
-}
-
-// Restores the places x0..x1 of the first row.
-fn restore_first_row(plane: &mut Plane, x0: u32, x1: u32)
-    requires some { x0 < x1 }
-    requires can { CanRestore (row_rect 0 x0 x1) plane.old }
-    ensures { RestoresRect (row_rect 0 x0 x1) plane.old plane.new }
-{
-    let row = plane.row_mut(0);
-    for x in x0.max(1) as usize..x1 as usize {
-        row[x] = on_prediction(row[x], row[x - 1]);
-    }
-}
-
-// Restores the first place of a row that has a row above.
-fn restore_first_place(plane: &mut Plane, y: u32)
-    requires below { 0 < y }
-    requires can { CanRestore (row_rect y 0 1) plane.old }
-    ensures { RestoresRect (row_rect y 0 1) plane.old plane.new }
-{
-    let Three { dst, a, .. } = plane.rows_three(y, y - 1, y - 1);
-    dst[0] = on_prediction(dst[0], a[0]);
-}
-
-// Restores the places x0..x1 of a row that has a row above, where a place stands left of them.
-fn restore_inside(plane: &mut Plane, y: u32, x0: u32, x1: u32)
-    requires below { 0 < y }
-    requires right { 0 < x0 }
-    requires some { x0 < x1 }
-    requires can { CanRestore (row_rect y x0 x1) plane.old }
-    ensures { RestoresRect (row_rect y x0 x1) plane.old plane.new }
-{
-    let Three { dst, a, .. } = plane.rows_three(y, y - 1, y - 1);
-    let mut left = dst[x0 as usize - 1];
-    let mut corner = a[x0 as usize - 1];
-    for x in x0 as usize..x1 as usize {
-        let above = a[x];
-        left = restored_from(dst[x], left, corner, above);
-        dst[x] = left;
-        corner = above;
-    }
-}
-
-// Restores the places x0..x1 of row y.
-fn restore_row(plane: &mut Plane, y: u32, x0: u32, x1: u32)
-    requires some { x0 < x1 }
-    requires can { CanRestore (row_rect y x0 x1) plane.old }
-    ensures { RestoresRect (row_rect y x0 x1) plane.old plane.new }
-{
-    if y == 0 {
-        restore_first_row(plane, x0, x1);
-        return;
-    }
-    if x0 > 0 {
-        restore_inside(plane, y, x0, x1);
-        return;
-    }
-    restore_first_place(plane, y);
-    if x1 > 1 {
-        restore_inside(plane, y, 1, x1);
-    }
+    predict_of(plane, y, x)
 }
 
 /// Restores a rectangle of the lowest subband in place, row by row: each place takes its residual plus its prediction
@@ -143,10 +41,110 @@ pub fn restore_rect(plane: &mut Plane, rect: Rect)
     requires { CanRestore rect plane.old }
     ensures { RestoresRect rect plane.old plane.new }
 {
+    restore_of(plane, rect);
+}
+
+/// Restores a rectangle of the lowest subband in place as `restore_rect` does, in 32 bits: row by row, where each
+/// value has a magnitude of at most 2^18. It stops at the first place whose value would pass that, and answers false.
+///
+/// The rectangle lies in the plane, which has no magnitude above 2^18, and has none afterwards.
+pub fn restore_narrow(plane: &mut NarrowPlane, rect: Rect) -> bool
+    requires x_inside { rect.x1 ≤ plane.old.w }
+    requires y_inside { rect.y1 ≤ height plane.old }
+    requires narrow { IsPlaneWithin (pos (2 ^ 18)) plane.old }
+    ensures narrow { IsPlaneWithin (pos (2 ^ 18)) plane.new }
+    ensures restored { result ≡ true → RestoresRect rect plane.old plane.new }
+    ensures stopped { result ≡ false → IsStopped rect plane.old plane.new }
+{
+    restore_of(plane, rect)
+}
+
+// The prediction of the place in row y and column x.
+#[inline(always)]
+fn predict_of<T: Predicted>(plane: &Plane<T>, y: u32, x: u32) -> T
+    requires y_inside { y < height plane.now }
+    requires x_inside { x < plane.now.w }
+    requires small { AllLookedAt (λ j i. Within T.reach (grid_of T.value T.none plane.now j i)) y x }
+    ensures { T.value result ≡ prediction (grid_of T.value T.none plane.now) y x }
+{
+    if y == 0 {
+        if x == 0 {
+            T::zero()
+        } else {
+            plane.get(0, x - 1)
+        }
+    } else if x == 0 {
+        plane.get(y - 1, 0)
+    } else {
+        T::mean_of(
+            plane.get(y, x - 1),
+            plane.get(y - 1, x - 1),
+            plane.get(y - 1, x),
+        )
+    }
+}
+
+// Restores one place. It answers false where the value is not kept, and leaves all then.
+#[inline(always)]
+fn restore_place<T: Predicted>(plane: &mut Plane<T>, y: u32, x: u32) -> bool
+    requires y_inside { y < height plane.old }
+    requires x_inside { x < plane.old.w }
+    requires may { MayRestore T.most T.reach T.limit (row_rect y x (x + 1)) (grid_of T.value T.none plane.old) }
+    ensures same_width { plane.new.w ≡ plane.old.w }
+    ensures same_height { height plane.new ≡ height plane.old }
+    ensures restored { let grid = grid_of T.value T.none in
+        result ≡ true → Restores T.limit (IsInRect (row_rect y x (x + 1))) (grid plane.old) (grid plane.new) }
+    ensures stopped { let grid = grid_of T.value T.none in
+        result ≡ false → Stops T.limit T.keeps (row_rect y x (x + 1)) (grid plane.old) (grid plane.new) }
+{
+    let value = plane.get(y, x) + predict_of(plane, y, x);
+    if !T::is_kept(value) {
+        return false;
+    }
+    plane.set(y, x, value);
+    true
+}
+
+// Restores the places x0..x1 of row y. It answers false, and stops, where a value is not kept.
+fn restore_row<T: Predicted>(plane: &mut Plane<T>, y: u32, x0: u32, x1: u32) -> bool
+    requires y_inside { y < height plane.old }
+    requires x_inside { x1 ≤ plane.old.w }
+    requires some { x0 < x1 }
+    requires may { MayRestore T.most T.reach T.limit (row_rect y x0 x1) (grid_of T.value T.none plane.old) }
+    ensures same_width { plane.new.w ≡ plane.old.w }
+    ensures same_height { height plane.new ≡ height plane.old }
+    ensures restored { let grid = grid_of T.value T.none in
+        result ≡ true → Restores T.limit (IsInRect (row_rect y x0 x1)) (grid plane.old) (grid plane.new) }
+    ensures stopped { let grid = grid_of T.value T.none in
+        result ≡ false → Stops T.limit T.keeps (row_rect y x0 x1) (grid plane.old) (grid plane.new) }
+{
+    for x in x0..x1 {
+        if !restore_place(plane, y, x) {
+            return false;
+        }
+    }
+    true
+}
+
+// Restores a rectangle at any width. It answers false, and stops, where a value is not kept.
+fn restore_of<T: Predicted>(plane: &mut Plane<T>, rect: Rect) -> bool
+    requires x_inside { rect.x1 ≤ plane.old.w }
+    requires y_inside { rect.y1 ≤ height plane.old }
+    requires may { MayRestore T.most T.reach T.limit rect (grid_of T.value T.none plane.old) }
+    ensures same_width { plane.new.w ≡ plane.old.w }
+    ensures same_height { height plane.new ≡ height plane.old }
+    ensures restored { let grid = grid_of T.value T.none in
+        result ≡ true → Restores T.limit (IsInRect rect) (grid plane.old) (grid plane.new) }
+    ensures stopped { let grid = grid_of T.value T.none in
+        result ≡ false → Stops T.limit T.keeps rect (grid plane.old) (grid plane.new) }
+{
     if rect.x0 >= rect.x1 || rect.y0 >= rect.y1 {
-        return;
+        return true;
     }
     for y in rect.y0..rect.y1 {
-        restore_row(plane, y, rect.x0, rect.x1);
+        if !restore_row(plane, y, rect.x0, rect.x1) {
+            return false;
+        }
     }
+    true
 }

@@ -10,14 +10,14 @@ use Rattle.lifting.specs.declared.PairStep.TheVariants.{EvenDown, OddUp}
 use Rattle.lifting.specs.Steps.{step}
 use Rattle.lifting.specs.Lines.{Line, before, after, lift, synthesis_line}
 use Rattle.lifting.specs.Transform.{Grid, on_columns, Coefficients, interleaved, synthesis_level, synthesis}
-use Rattle.lifting.specs.Ranges.{LineWithin, GridWithin, BandsWithin, level_reach, reach}
+use Rattle.lifting.specs.Ranges.{LineWithin, GridWithin, BandsWithin, level_reach, reach, SynthesisStays}
 use Rattle.lifting.specs.Fits.{LineFits, LevelFits, SynthesisFits}
 use Rattle.planes.specs.Subbands.{BandStack}
 use Rattle.lifting.specs.Bands.{lowest, coefficients_of}
 use Rattle.lifting.specs.Carried.{even_carried, line_carried, level_entered, level_carried, greatest_at, carried, AreShortIn}
 use Rattle.lifting.proofs.Undone.{before_parity, after_parity, lift_at, lift_other}
 use Rattle.lifting.proofs.Inside.{before_inside, after_inside, twice_size}
-use Rattle.lifting.proofs.Growth.{even_carries, odd_grows, halved_within, reach_least, synthesis_stays}
+use Rattle.lifting.proofs.Growth.{even_carries, odd_grows, halved_within, reach_least}
 
 -- ---- a line whose even places are within e, and whose odd ones within o
 
@@ -157,6 +157,11 @@ carried_least : (k : Wavelet) (m others : ℕ) → others ≤ m → level_carrie
 carried_least LeGall m others le = omega (arith, le)
 carried_least HaarFlat m others le = omega (arith, le)
 carried_least HaarShift m others le = omega (arith, le)
+
+pub synthesis_stays : (k : Wavelet) (h w depth m others : ℕ) (c : Coefficients) → others ≤ m → BandsWithin h w depth m others c → SynthesisStays k h w depth m c
+synthesis_stays k h w depth m others c few small =
+    synthesis_within k h w depth c (reach m) (λ _. others) small.ll small.hl small.lh small.hh
+    (λ n lt. carried_least k (reach m n) others (let least = reach_least m n in omega (arith, few, least)))
 
 entered_least : (m others start : ℕ) → m ≤ start → others ≤ start → level_entered m others ≤ level_entered start start
 entered_least m others start le few = omega (arith, le, few)

@@ -12,51 +12,36 @@ use Rattle.lifting.specs.Lines.{Line}
 use Rattle.lifting.specs.Places.{beside}
 use Rattle.lifting.specs.Ranges.{LineWithin}
 
--- the first w places of a row, and the w behind them
-module _ {X : Type 0} (w : ℕ) (xs : List X) where
-  pub front_len : w ≤ length xs → length (take w xs) ≡ w
-  front_len le = grind (arith, common_steps)
-
-  pub back_len : 2 * w ≤ length xs → length (take (2 * w - w) (drop w xs)) ≡ w
-  back_len le = grind (arith, common_steps)
+-- the first w places of a row, and those behind them
+pub front_len : {X : Type 0} (w : ℕ) (xs : List X) → w ≤ length xs → length (take w xs) ≡ w
+front_len w xs le = grind (arith, common_steps)
 
 module _ {X : Type 0} (value : X → ℤ) (none : X) (w : ℕ) (xs : List X) where
   pub front_place : (i : ℕ) → i < w → valued value none (take w xs) i ≡ valued value none xs i
   front_place i lt = ap value (get_or-take w xs i none lt)
 
-  pub front_small : (m n : ℕ) → w ≤ n → w ≤ length xs → LineWithin n m (valued value none xs) → EachValued value none m (take w xs)
-  front_small m n le fits small i lt =
+  pub front_small : (m : ℕ) → w ≤ length xs → LineWithin w m (valued value none xs) → EachValued value none m (take w xs)
+  front_small m fits small i lt =
       let short : i < w = subst (λ (l : ℕ). i < l) (front_len w xs fits) lt in
-      subst (Within m) (sym (front_place i short)) (small i (omega arith))
+      subst (Within m) (sym (front_place i short)) (small i short)
 
-  pub back_place : (i : ℕ) → i < w → valued value none (take (2 * w - w) (drop w xs)) i ≡ valued value none xs (w + i)
-  back_place i lt =
-      let short : i < 2 * w - w = omega arith in
-      ap value (get_or-take (2 * w - w) (drop w xs) i none short ∙ get_or-drop w xs i none) ∙ ap (λ (n : ℕ). valued value none xs n) (omega arith)
+  pub back_place : (n : ℕ) → w ≤ n → (i : ℕ) → i < w → valued value none (take n (drop w xs)) i ≡ valued value none xs (w + i)
+  back_place n le i lt = ap value (get_or-take n (drop w xs) i none (omega arith) ∙ get_or-drop w xs i none)
 
-  pub back_small : (m : ℕ) → 2 * w ≤ length xs → LineWithin (2 * w) m (valued value none xs) → EachValued value none m (take (2 * w - w) (drop w xs))
-  back_small m fits small i lt =
-      let short : i < w = subst (λ (l : ℕ). i < l) (back_len w xs fits) lt in
-      subst (Within m) (sym (back_place i short)) (small (w + i) (omega arith))
-
-pub half_inside : (w n : ℕ) → 2 * w ≤ n → w ≤ n
-half_inside w n le = omega arith
-
-pub rest_inside : (w r n : ℕ) → r + w ≡ n → 2 * w ≤ n → w ≤ r
-rest_inside w r n e le = omega arith
+  pub back_small : (m n : ℕ) → w ≤ n → LineWithin (2 * w) m (valued value none xs) → LineWithin w m (valued value none (take n (drop w xs)))
+  back_small m n le small i lt = subst (Within m) (sym (back_place n le i lt)) (small (w + i) (omega arith))
 
 pub same_step : (f : ℤ → ℤ → ℤ → ℤ) (v v' a a' b b' : ℤ) → v ≡ v' → a ≡ a' → b ≡ b' → f v a b ≡ f v' a' b'
 same_step f v v' a a' b b' ev ea eb = ap (λ (z : ℤ). f z a b) ev ∙ ap (λ (z : ℤ). f v' z b) ea ∙ ap (λ (z : ℤ). f v' a' z) eb
 
-pub two_sides : {X : Type 0} (value : X → ℤ) (none : X) (w : ℕ) (left right rest : List X) (a b : Line) → length left ≡ w → length right ≡ w
+pub two_sides : {X : Type 0} (value : X → ℤ) (none : X) (w : ℕ) (left right : List X) (a b : Line) → length left ≡ w
     → ((i : ℕ) → i < w → valued value none left i ≡ a i) → ((i : ℕ) → i < w → valued value none right i ≡ b i)
-    → (x : ℕ) → x < 2 * w → valued value none (left ++ (right ++ rest)) x ≡ beside w a b x
-two_sides value none w left right rest a b el er pa pb x lx = elim (cases_lt x w) [
+    → (x : ℕ) → x < 2 * w → valued value none (left ++ right) x ≡ beside w a b x
+two_sides value none w left right a b el pa pb x lx = elim (cases_lt x w) [
   | inl early ↦
       let is : nat_lt x w ≡ true = grind (arith, nat_tests) in
-      ap value (get_or-append left (right ++ rest) none x (omega arith)) ∙ pa x early ∙ ap (λ r. if r then a x else b (x - w)) (sym is)
+      ap value (get_or-append left right none x (omega arith)) ∙ pa x early ∙ ap (λ r. if r then a x else b (x - w)) (sym is)
   | inr late ↦
       let is : nat_lt x w ≡ false = grind (arith, nat_tests) in
-      ap value (get_or-append_right left (right ++ rest) w x none el late ∙ get_or-append right rest none (x - w) (omega arith))
-      ∙ pb (x - w) (omega arith) ∙ ap (λ r. if r then a x else b (x - w)) (sym is)
+      ap value (get_or-append_right left right w x none el late) ∙ pb (x - w) (omega arith) ∙ ap (λ r. if r then a x else b (x - w)) (sym is)
 ]

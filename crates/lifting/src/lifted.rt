@@ -2,12 +2,14 @@
 
 ghost use Rattle.std.specs.Prelude.{◌≡◌, ℕ, ◌^◌, ◌<◌, ◌≤◌, length};
 ghost use Rattle.std.proofs.Common.{lit≤};
-ghost use Rattle.planes.specs.Valued.{valued, EachValued};
+ghost use Rattle.planes.specs.Raster.{height};
+ghost use Rattle.planes.specs.Valued.{valued, EachValued, grid_of};
+ghost use Rattle.lifting.specs.Ranges.{SameInside};
 ghost use Rattle.lifting.specs.Steps.{step};
 
 use crate::kernels::{lift_between, stepped};
 use crate::{PairStep, Wavelet};
-use planes::Number;
+use planes::{Number, Plane};
 
 /// Numbers whose rows are lifted.
 pub trait Lifted: Number {
@@ -69,5 +71,27 @@ fn lift_places<T: Number>(dst: &mut [T], a: &[T], b: &[T], wavelet: Wavelet, kin
 {
     for i in 0..dst.len() {
         dst[i] = stepped(wavelet, kind, dst[i], a[i], b[i]);
+    }
+}
+
+// The first n places of a row over those of another.
+fn copy_front<T: Number>(dst: &mut [T], row: &[T], n: usize)
+    requires room { n ≤ length dst.old }
+    requires inside { n ≤ length row.now }
+    ensures { (i : ℕ) → i < n → valued T.value T.none dst.new i ≡ valued T.value T.none row.now i }
+{
+    dst[..n].copy_from_slice(&row[..n]);
+}
+
+/// The first w columns and h rows of a plane over those of another.
+pub(crate) fn copy_corner<T: Number>(dst: &mut Plane<T>, src: &Plane<T>, w: u32, h: u32)
+    requires fits { (w ≤ dst.old.w) × (w ≤ src.now.w) }
+    requires high { (h ≤ height dst.old) × (h ≤ height src.now) }
+    ensures same_width { dst.new.w ≡ dst.old.w }
+    ensures same_height { height dst.new ≡ height dst.old }
+    ensures copied { SameInside h w (grid_of T.value T.none dst.new) (grid_of T.value T.none src.now) }
+{
+    for y in 0..h {
+        copy_front(dst.row_mut(y), src.row(y), w as usize);
     }
 }

@@ -1,20 +1,43 @@
-use Rattle.std.proofs.Common.{◌≡◌, ℕ, arith, sym, subst}
-use Rattle.dc_prediction.specs.Restoring.{row_rect, CanRestore, RestoresRect}
-use Rattle.dc_prediction.proofs.Joined.{place_row, can_next, joined}
+use Rattle.std.proofs.Common.{◌+◌, ◌∙◌, refl, arith, inl}
+use Rattle.planes.specs.Rect.{IsInRect}
+use Rattle.planes.specs.Valued.{grid_of}
+use Rattle.dc_prediction.specs.Restoring.{row_rect}
+use Rattle.dc_prediction.proofs.Joined.{places_split, may_place, row_stops, joined, nothing}
 use Rattle.dc_prediction.proofs.restore_row.Goals as goal
 
-pub restore_inside-requires-then-x1-gt1-clause-can : goal.restore_inside-requires-then-x1-gt1-clause-can
-restore_inside-requires-then-x1-gt1-clause-can c =
-    let y = c.args.y in
-    let x1 = c.args.x1 in
-    let zero : c.args.x0 ≡ 0 = omega arith in
-    can_next (row_rect y 0 x1) (row_rect y 0 1) (row_rect y 1 x1) (place_row y x1 (omega arith)) c.args.plane.now
-    (subst (λ (x : ℕ). CanRestore (row_rect y x x1) c.args.plane.now) zero c.requires.can) c.restore_first_place.new.plane c.restore_first_place.ensures (omega arith) (omega arith)
+pub loop-x-init : goal.loop-x-init
+loop-x-init g c = record {
+  from = omega arith;
+  same_width = refl;
+  same_height = refl;
+  restored = nothing g.T.Predicted.limit (row_rect c.args.y c.args.x0 c.args.x0) (grid_of g.T.Number.value g.T.Number.none c.args.plane.now) (inl (omega arith));
+}
 
-pub returns-then-x1-gt1 : goal.returns-then-x1-gt1
-returns-then-x1-gt1 c =
+pub restore_place-requires-clause-may : goal.restore_place-requires-clause-may
+restore_place-requires-clause-may g c =
+    let grid = grid_of g.T.Number.value g.T.Number.none in
+    let l = c.loop-x in
+    may_place g.T.Predicted.most g.T.Number.reach g.T.Predicted.limit c.args.y c.args.x0 l.x c.args.x1 l.invariant.from c.loop-x-test.true (grid c.args.plane.now) (grid l.plane) c.requires.may l.invariant.restored
+
+pub returns-then-not-restore_place-clause-stopped : goal.returns-then-not-restore_place-clause-stopped
+returns-then-not-restore_place-clause-stopped g c stopped =
+    let grid = grid_of g.T.Number.value g.T.Number.none in
+    let l = c.loop-x in
+    row_stops g.T.Predicted.limit g.T.Predicted.keeps c.args.y c.args.x0 l.x c.args.x1 l.invariant.from c.loop-x-test.true (grid c.args.plane.now) (grid l.plane) (grid c.restore_place.new.plane) l.invariant.restored
+    (c.restore_place.ensures.stopped c.if-not-restore_place.true)
+
+pub loop-x-preserved : goal.loop-x-preserved
+loop-x-preserved g c =
+    let grid = grid_of g.T.Number.value g.T.Number.none in
+    let l = c.loop-x in
     let y = c.args.y in
-    let x1 = c.args.x1 in
-    let zero : c.args.x0 ≡ 0 = omega arith in
-    subst (λ (x : ℕ). RestoresRect (row_rect y x x1) c.args.plane.now c.restore_inside-then-x1-gt1.new.plane) (sym zero)
-    (joined (row_rect y 0 x1) (row_rect y 0 1) (row_rect y 1 x1) (place_row y x1 (omega arith)) c.args.plane.now c.restore_first_place.new.plane c.restore_inside-then-x1-gt1.new.plane c.restore_first_place.ensures c.restore_inside-then-x1-gt1.ensures)
+    let x0 = c.args.x0 in
+    let q = c.restore_place.ensures in
+    record {
+      from = omega (arith, l.invariant.from);
+      same_width = q.same_width ∙ l.invariant.same_width;
+      same_height = q.same_height ∙ l.invariant.same_height;
+      restored =
+          joined g.T.Predicted.limit (IsInRect (row_rect y x0 (l.x + 1))) (IsInRect (row_rect y x0 l.x)) (IsInRect (row_rect y l.x (l.x + 1))) (places_split y x0 l.x l.invariant.from)
+          (grid c.args.plane.now) (grid l.plane) (grid c.restore_place.new.plane) l.invariant.restored (q.restored c.if-not-restore_place.false);
+    }

@@ -71,19 +71,21 @@ loop-j-preserved G c =
           G.T.Number.value G.T.Number.none c.loop-j.bands c.analyse_down.new.bands _ (omega (arith, level)) i.same_sizes.depth done.others done.dealt i.dealt;
     }
 
-pub deal_lowest-requires-clause-fits : goal.deal_lowest-requires-clause-fits
-deal_lowest-requires-clause-fits G c =
+pub copy_corner-requires-clause-fits : goal.copy_corner-requires-clause-fits
+copy_corner-requires-clause-fits G c =
     let q = c.requires.sizes in
     let b = c.args.bands.now in
     let p = c.args.plane.now in
-    omega (arith, lowest_width b c.loop-j.bands p c.args.scratch.now q c.loop-j.invariant.same_sizes c.band_mut.result.now c.band_mut.ensures.value, lowest_fits p.w b.depth q.whole_columns, c.loop-j.invariant.same_width)
+    let is = lowest_width b c.loop-j.bands p c.args.scratch.now q c.loop-j.invariant.same_sizes c.band_mut-lowest.result.now c.band_mut-lowest.ensures.value in
+    (omega (arith, c.w-across.ensures), omega (arith, c.w-across.ensures, is, lowest_fits p.w b.depth q.whole_columns, c.loop-j.invariant.same_width))
 
-pub deal_lowest-requires-clause-high : goal.deal_lowest-requires-clause-high
-deal_lowest-requires-clause-high G c =
+pub copy_corner-requires-clause-high : goal.copy_corner-requires-clause-high
+copy_corner-requires-clause-high G c =
     let q = c.requires.sizes in
     let b = c.args.bands.now in
     let p = c.args.plane.now in
-    omega (arith, lowest_height b c.loop-j.bands p c.args.scratch.now q c.loop-j.invariant.same_sizes c.band_mut.result.now c.band_mut.ensures.value, lowest_fits (height p) b.depth q.whole_rows, c.loop-j.invariant.same_height)
+    let is = lowest_height b c.loop-j.bands p c.args.scratch.now q c.loop-j.invariant.same_sizes c.band_mut-lowest.result.now c.band_mut-lowest.ensures.value in
+    (omega (arith, c.h-down.ensures), omega (arith, c.h-down.ensures, is, lowest_fits (height p) b.depth q.whole_rows, c.loop-j.invariant.same_height))
 
 pub returns-clause-coefficients : goal.returns-clause-coefficients
 returns-clause-coefficients G c =
@@ -95,10 +97,10 @@ returns-clause-coefficients G c =
     let h = lowest b.depth (height p) in
     let w = lowest b.depth p.w in
     let all : c.loop-j.j ≡ b.depth = omega (arith, c.depth-depth.ensures.value) in
-    let eh : height c.band_mut.result.now ≡ h = lowest_height b c.loop-j.bands p s q i.same_sizes c.band_mut.result.now c.band_mut.ensures.value in
-    let ew : c.band_mut.result.now.w ≡ w = lowest_width b c.loop-j.bands p s q i.same_sizes c.band_mut.result.now c.band_mut.ensures.value in
-    let dealt : SameBands h w b.depth (coefficients_in G.T.Number.value G.T.Number.none (with_band c.loop-j.bands 0 0 c.deal_lowest.new.band)) (analysis c.args.wavelet h w b.depth (grid_of G.T.Number.value G.T.Number.none p)) =
-    all_dealt G.T.Number.value G.T.Number.none c.args.wavelet h w b.depth (grid_of G.T.Number.value G.T.Number.none p) c.loop-j.j all (grid_of G.T.Number.value G.T.Number.none c.loop-j.plane) i.left c.loop-j.bands i.dealt c.deal_lowest.new.band c.band_mut.ensures.there
-    (λ y x ly lx. c.deal_lowest.ensures.dealt y x (omega (arith, eh)) (omega (arith, ew))) in
-    subst (λ (d : ℕ). SameBands (lowest d (height p)) (lowest d p.w) d (coefficients_in G.T.Number.value G.T.Number.none (with_band c.loop-j.bands 0 0 c.deal_lowest.new.band)) (analysis c.args.wavelet (lowest d (height p)) (lowest d p.w) d (grid_of G.T.Number.value G.T.Number.none p)))
+    let eh : height c.band_mut-lowest.result.now ≡ h = lowest_height b c.loop-j.bands p s q i.same_sizes c.band_mut-lowest.result.now c.band_mut-lowest.ensures.value in
+    let ew : c.band_mut-lowest.result.now.w ≡ w = lowest_width b c.loop-j.bands p s q i.same_sizes c.band_mut-lowest.result.now c.band_mut-lowest.ensures.value in
+    let dealt : SameBands h w b.depth (coefficients_in G.T.Number.value G.T.Number.none (with_band c.loop-j.bands 0 0 c.copy_corner.new.dst)) (analysis c.args.wavelet h w b.depth (grid_of G.T.Number.value G.T.Number.none p)) =
+    all_dealt G.T.Number.value G.T.Number.none c.args.wavelet h w b.depth (grid_of G.T.Number.value G.T.Number.none p) c.loop-j.j all (grid_of G.T.Number.value G.T.Number.none c.loop-j.plane) i.left c.loop-j.bands i.dealt c.copy_corner.new.dst c.band_mut-lowest.ensures.there
+    (λ y x ly lx. c.copy_corner.ensures.copied y x (omega (arith, eh, c.h-down.ensures)) (omega (arith, ew, c.w-across.ensures))) in
+    subst (λ (d : ℕ). SameBands (lowest d (height p)) (lowest d p.w) d (coefficients_in G.T.Number.value G.T.Number.none (with_band c.loop-j.bands 0 0 c.copy_corner.new.dst)) (analysis c.args.wavelet (lowest d (height p)) (lowest d p.w) d (grid_of G.T.Number.value G.T.Number.none p)))
     (sym i.same_sizes.depth) dealt

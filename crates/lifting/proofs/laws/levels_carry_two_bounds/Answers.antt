@@ -1,4 +1,4 @@
-use Rattle.std.proofs.Common.{refl, ◌*◌, ◌≤◌, arith}
+use Rattle.std.proofs.Common.{refl, ◌*◌, arith}
 use Rattle.lifting.specs.Carried.{level_entered}
 use Rattle.lifting.proofs.Fitting.{level_within, level_fits}
 use Rattle.lifting.proofs.laws.levels_carry_two_bounds.Goals as goal

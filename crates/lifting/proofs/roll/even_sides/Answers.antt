@@ -1,54 +1,14 @@
-use Rattle.std.proofs.Common.{◌∙◌, sym, subst, ℕ, ◌<◌, ◌≤◌, length, take, drop, arith}
+use Rattle.std.proofs.Common.{◌∙◌}
 use Rattle.planes.specs.Valued.{valued}
 use Rattle.lifting.specs.declared.PairStep.TheVariants.{EvenDown}
 use Rattle.lifting.specs.Steps.{step}
-use Rattle.lifting.proofs.TwoSides.{front_len, front_place, front_small, rest_inside, same_step, two_sides}
+use Rattle.lifting.proofs.TwoSides.{two_sides}
 use Rattle.lifting.proofs.roll.even_sides.Goals as goal
-
-le_self : (w : ℕ) → w ≤ w
-le_self w = omega arith
-
-pub step_from-requires-clause-v_len : goal.step_from-requires-clause-v_len
-step_from-requires-clause-v_len G c = front_len c.args.w c.args.ll.now c.requires.low_fits.0 ∙ sym c.split_at_mut-left.ensures.front_len
-
-pub step_from-requires-clause-v_small : goal.step_from-requires-clause-v_small
-step_from-requires-clause-v_small G c = front_small G.T.Number.value G.T.Number.none c.args.w c.args.ll.now G.T.Number.reach c.args.w (le_self c.args.w) c.requires.low_fits.0 c.requires.ll_small
-
-pub step_from-requires-clause-a_len : goal.step_from-requires-clause-a_len
-step_from-requires-clause-a_len G c = front_len c.args.w c.args.lh_above.now c.requires.low_fits.1 ∙ sym c.split_at_mut-left.ensures.front_len
-
-pub step_from-requires-clause-a_small : goal.step_from-requires-clause-a_small
-step_from-requires-clause-a_small G c = front_small G.T.Number.value G.T.Number.none c.args.w c.args.lh_above.now G.T.Number.reach c.args.w (le_self c.args.w) c.requires.low_fits.1 c.requires.lh_above_small
-
-pub step_from-requires-clause-b_len : goal.step_from-requires-clause-b_len
-step_from-requires-clause-b_len G c = front_len c.args.w c.args.lh.now c.requires.low_fits.2 ∙ sym c.split_at_mut-left.ensures.front_len
-
-pub step_from-requires-clause-b_small : goal.step_from-requires-clause-b_small
-step_from-requires-clause-b_small G c = front_small G.T.Number.value G.T.Number.none c.args.w c.args.lh.now G.T.Number.reach c.args.w (le_self c.args.w) c.requires.low_fits.2 c.requires.lh_small
-
-pub step_from-requires-2-clause-v_len : goal.step_from-requires-2-clause-v_len
-step_from-requires-2-clause-v_len G c = front_len c.args.w c.args.hl.now c.requires.high_fits.0 ∙ sym (front_len c.args.w c.split_at_mut-left.result.1.now (rest_inside c.args.w (length c.split_at_mut-left.result.1.now) (length c.args.dst.now) c.split_at_mut-left.ensures.back_len c.requires.room))
-
-pub step_from-requires-2-clause-v_small : goal.step_from-requires-2-clause-v_small
-step_from-requires-2-clause-v_small G c = front_small G.T.Number.value G.T.Number.none c.args.w c.args.hl.now G.T.Number.reach c.args.w (le_self c.args.w) c.requires.high_fits.0 c.requires.hl_small
-
-pub step_from-requires-2-clause-a_len : goal.step_from-requires-2-clause-a_len
-step_from-requires-2-clause-a_len G c = front_len c.args.w c.args.hh_above.now c.requires.high_fits.1 ∙ sym (front_len c.args.w c.split_at_mut-left.result.1.now (rest_inside c.args.w (length c.split_at_mut-left.result.1.now) (length c.args.dst.now) c.split_at_mut-left.ensures.back_len c.requires.room))
-
-pub step_from-requires-2-clause-a_small : goal.step_from-requires-2-clause-a_small
-step_from-requires-2-clause-a_small G c = front_small G.T.Number.value G.T.Number.none c.args.w c.args.hh_above.now G.T.Number.reach c.args.w (le_self c.args.w) c.requires.high_fits.1 c.requires.hh_above_small
-
-pub step_from-requires-2-clause-b_len : goal.step_from-requires-2-clause-b_len
-step_from-requires-2-clause-b_len G c = front_len c.args.w c.args.hh.now c.requires.high_fits.2 ∙ sym (front_len c.args.w c.split_at_mut-left.result.1.now (rest_inside c.args.w (length c.split_at_mut-left.result.1.now) (length c.args.dst.now) c.split_at_mut-left.ensures.back_len c.requires.room))
-
-pub step_from-requires-2-clause-b_small : goal.step_from-requires-2-clause-b_small
-step_from-requires-2-clause-b_small G c = front_small G.T.Number.value G.T.Number.none c.args.w c.args.hh.now G.T.Number.reach c.args.w (le_self c.args.w) c.requires.high_fits.2 c.requires.hh_small
 
 pub returns : goal.returns
 returns G c =
-    two_sides G.T.Number.value G.T.Number.none c.args.w c.step_from.new.dst c.step_from-2.new.dst (drop c.args.w c.split_at_mut-left.result.1.now)
-    (λ i. step c.args.wavelet EvenDown (valued G.T.Number.value G.T.Number.none c.args.ll.now i) (valued G.T.Number.value G.T.Number.none c.args.lh_above.now i) (valued G.T.Number.value G.T.Number.none c.args.lh.now i))
-    (λ i. step c.args.wavelet EvenDown (valued G.T.Number.value G.T.Number.none c.args.hl.now i) (valued G.T.Number.value G.T.Number.none c.args.hh_above.now i) (valued G.T.Number.value G.T.Number.none c.args.hh.now i))
-    (c.step_from.auto.dst ∙ c.split_at_mut-left.ensures.front_len) (c.step_from-2.auto.dst ∙ (front_len c.args.w c.split_at_mut-left.result.1.now (rest_inside c.args.w (length c.split_at_mut-left.result.1.now) (length c.args.dst.now) c.split_at_mut-left.ensures.back_len c.requires.room)))
-    (λ i lt. c.step_from.ensures i (subst (λ (n : ℕ). i < n) (sym c.split_at_mut-left.ensures.front_len) lt) ∙ same_step (step c.args.wavelet EvenDown) (valued G.T.Number.value G.T.Number.none (take c.args.w c.args.ll.now) i) (valued G.T.Number.value G.T.Number.none c.args.ll.now i) (valued G.T.Number.value G.T.Number.none (take c.args.w c.args.lh_above.now) i) (valued G.T.Number.value G.T.Number.none c.args.lh_above.now i) (valued G.T.Number.value G.T.Number.none (take c.args.w c.args.lh.now) i) (valued G.T.Number.value G.T.Number.none c.args.lh.now i) (front_place G.T.Number.value G.T.Number.none c.args.w c.args.ll.now i lt) (front_place G.T.Number.value G.T.Number.none c.args.w c.args.lh_above.now i lt) (front_place G.T.Number.value G.T.Number.none c.args.w c.args.lh.now i lt))
-    (λ i lt. c.step_from-2.ensures i (subst (λ (n : ℕ). i < n) (sym (front_len c.args.w c.split_at_mut-left.result.1.now (rest_inside c.args.w (length c.split_at_mut-left.result.1.now) (length c.args.dst.now) c.split_at_mut-left.ensures.back_len c.requires.room))) lt) ∙ same_step (step c.args.wavelet EvenDown) (valued G.T.Number.value G.T.Number.none (take c.args.w c.args.hl.now) i) (valued G.T.Number.value G.T.Number.none c.args.hl.now i) (valued G.T.Number.value G.T.Number.none (take c.args.w c.args.hh_above.now) i) (valued G.T.Number.value G.T.Number.none c.args.hh_above.now i) (valued G.T.Number.value G.T.Number.none (take c.args.w c.args.hh.now) i) (valued G.T.Number.value G.T.Number.none c.args.hh.now i) (front_place G.T.Number.value G.T.Number.none c.args.w c.args.hl.now i lt) (front_place G.T.Number.value G.T.Number.none c.args.w c.args.hh_above.now i lt) (front_place G.T.Number.value G.T.Number.none c.args.w c.args.hh.now i lt))
+    let at = valued G.T.Number.value G.T.Number.none in
+    two_sides G.T.Number.value G.T.Number.none c.args.w c.step_front.new.dst c.step_front-2.new.dst
+    (λ i. step c.args.wavelet EvenDown (at c.args.ll.now i) (at c.args.lh_above.now i) (at c.args.lh.now i))
+    (λ i. step c.args.wavelet EvenDown (at c.args.hl.now i) (at c.args.hh_above.now i) (at c.args.hh.now i))
+    (c.step_front.auto.dst ∙ c.split_at_mut-left.ensures.front_len) c.step_front.ensures c.step_front-2.ensures

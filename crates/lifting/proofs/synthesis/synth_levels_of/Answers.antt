@@ -4,22 +4,22 @@ use Rattle.planes.specs.Raster.{Raster}
 use Rattle.lifting.specs.Bands.{lowest, coefficients_in}
 use Rattle.lifting.specs.Ranges.{SameInside}
 use Rattle.lifting.specs.Transform.{synthesis}
-use Rattle.lifting.proofs.Levels.{fits_in_levels, lowest_in_levels, lowest_columns, lowest_rows, columns_of, rows_of, level_up, next_fits}
+use Rattle.lifting.proofs.Levels.{next_in_room, lowest_in_levels, lowest_columns, lowest_rows, columns_of, rows_of, level_up, next_fits}
 use Rattle.lifting.proofs.synthesis.synth_levels_of.Goals as goal
 
-pub put_lowest-requires-clause-fits : goal.put_lowest-requires-clause-fits
-put_lowest-requires-clause-fits G c =
+pub copy_corner-requires-clause-fits : goal.copy_corner-requires-clause-fits
+copy_corner-requires-clause-fits G c =
     let q = c.requires.room in
     let b = c.args.bands.now in
-    let w : ℕ = c.args.w in
-    omega (arith, lowest_columns b w c.args.h q.whole_columns q.whole_rows q.bands c.band.result.now c.band.ensures, lowest_in_levels (lowest b.depth w) c.args.levels, q.columns)
+    let is = lowest_columns b c.args.w c.args.h q.whole_columns q.whole_rows q.bands c.band-lowest.result.now c.band-lowest.ensures in
+    (omega (arith, c.w-across.ensures, is, lowest_in_levels (lowest b.depth c.args.w) c.args.levels, q.columns), omega (arith, c.w-across.ensures))
 
-pub put_lowest-requires-clause-high : goal.put_lowest-requires-clause-high
-put_lowest-requires-clause-high G c =
+pub copy_corner-requires-clause-high : goal.copy_corner-requires-clause-high
+copy_corner-requires-clause-high G c =
     let q = c.requires.room in
     let b = c.args.bands.now in
-    let h : ℕ = c.args.h in
-    omega (arith, lowest_rows b c.args.w h q.whole_columns q.whole_rows q.bands c.band.result.now c.band.ensures, lowest_in_levels (lowest b.depth h) c.args.levels, q.rows)
+    let is = lowest_rows b c.args.w c.args.h q.whole_columns q.whole_rows q.bands c.band-lowest.result.now c.band-lowest.ensures in
+    (omega (arith, c.h-down.ensures, is, lowest_in_levels (lowest b.depth c.args.h) c.args.levels, q.rows), omega (arith, c.h-down.ensures))
 
 pub loop-n-init : goal.loop-n-init
 unfolding synthesis
@@ -29,54 +29,20 @@ loop-n-init G c =
     let w : ℕ = c.args.w in
     let h : ℕ = c.args.h in
     record {
-      same_width = c.put_lowest.ensures.same_width;
-      same_height = c.put_lowest.ensures.same_height;
+      same_width = c.copy_corner.ensures.same_width;
+      same_height = c.copy_corner.ensures.same_height;
       same_width_scratch = refl;
       same_height_scratch = refl;
       levels = λ y x ly lx.
-          c.put_lowest.ensures.put y x (omega (arith, lowest_rows b w h q.whole_columns q.whole_rows q.bands c.band.result.now c.band.ensures)) (omega (arith, lowest_columns b w h q.whole_columns q.whole_rows q.bands c.band.result.now c.band.ensures))
-          ∙ ap (λ (r : Raster G.row.T.Denot). grid_of G.T.Number.value G.T.Number.none r y x) c.band.ensures;
+          c.copy_corner.ensures.copied y x (omega (arith, c.h-down.ensures, lowest_rows b w h q.whole_columns q.whole_rows q.bands c.band-lowest.result.now c.band-lowest.ensures)) (omega (arith, c.w-across.ensures, lowest_columns b w h q.whole_columns q.whole_rows q.bands c.band-lowest.result.now c.band-lowest.ensures))
+          ∙ ap (λ (r : Raster G.row.T.Denot). grid_of G.T.Number.value G.T.Number.none r y x) c.band-lowest.ensures;
     }
 
 pub synth_up-requires-clause-fits : goal.synth_up-requires-clause-fits
 synth_up-requires-clause-fits G c =
-    let q = c.requires.room in
-    let b = c.args.bands.now in
-    let w : ℕ = c.args.w in
-    let n = c.loop-n.n in
-    let lt : n < c.args.levels = omega (arith, c.loop-n-test.true) in
-    let in_all : n < b.depth = omega (arith, c.requires.few) in
-    omega (arith, c.loop-n.invariant.same_width, columns_of b w c.args.h q.whole_columns q.whole_rows q.bands n 1 in_all (omega arith) (omega arith) c.band-hl.result.now c.band-hl.ensures, fits_in_levels (lowest b.depth w) n c.args.levels lt, q.columns)
-
-pub synth_up-requires-clause-high : goal.synth_up-requires-clause-high
-synth_up-requires-clause-high G c =
-    let q = c.requires.room in
-    let b = c.args.bands.now in
-    let h : ℕ = c.args.h in
-    let n = c.loop-n.n in
-    let lt : n < c.args.levels = omega (arith, c.loop-n-test.true) in
-    let in_all : n < b.depth = omega (arith, c.requires.few) in
-    omega (arith, c.loop-n.invariant.same_height, rows_of b c.args.w h q.whole_columns q.whole_rows q.bands n 1 in_all (omega arith) (omega arith) c.band-hl.result.now c.band-hl.ensures, fits_in_levels (lowest b.depth h) n c.args.levels lt, q.rows)
-
-pub synth_up-requires-clause-fits_scratch : goal.synth_up-requires-clause-fits_scratch
-synth_up-requires-clause-fits_scratch G c =
-    let q = c.requires.room in
-    let b = c.args.bands.now in
-    let w : ℕ = c.args.w in
-    let n = c.loop-n.n in
-    let lt : n < c.args.levels = omega (arith, c.loop-n-test.true) in
-    let in_all : n < b.depth = omega (arith, c.requires.few) in
-    omega (arith, c.loop-n.invariant.same_width_scratch, columns_of b w c.args.h q.whole_columns q.whole_rows q.bands n 1 in_all (omega arith) (omega arith) c.band-hl.result.now c.band-hl.ensures, fits_in_levels (lowest b.depth w) n c.args.levels lt, q.scratch_columns)
-
-pub synth_up-requires-clause-high_scratch : goal.synth_up-requires-clause-high_scratch
-synth_up-requires-clause-high_scratch G c =
-    let q = c.requires.room in
-    let b = c.args.bands.now in
-    let h : ℕ = c.args.h in
-    let n = c.loop-n.n in
-    let lt : n < c.args.levels = omega (arith, c.loop-n-test.true) in
-    let in_all : n < b.depth = omega (arith, c.requires.few) in
-    omega (arith, c.loop-n.invariant.same_height_scratch, rows_of b c.args.w h q.whole_columns q.whole_rows q.bands n 1 in_all (omega arith) (omega arith) c.band-hl.result.now c.band-hl.ensures, fits_in_levels (lowest b.depth h) n c.args.levels lt, q.scratch_rows)
+    let i = c.loop-n.invariant in
+    next_in_room c.args.bands.now c.args.levels c.args.w c.args.h c.args.plane.now c.args.scratch.now c.requires.room c.requires.few c.loop-n.n (omega (arith, c.loop-n-test.true))
+    c.band-hl.result.now c.band-hl.ensures c.loop-n.plane c.loop-n.scratch i.same_width i.same_height i.same_width_scratch i.same_height_scratch
 
 pub synth_up-requires-clause-has_room : goal.synth_up-requires-clause-has_room
 synth_up-requires-clause-has_room G c =
