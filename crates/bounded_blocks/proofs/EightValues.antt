@@ -1,16 +1,18 @@
 -- Eight values, one by one.
-use Rattle.std.proofs.Common.{◌≡◌, ℕ, ◌≤◌, List, [], ◌∷◌, length, get_or, ℤ, pos, to_z, of_z, w8, w32, unsigned_abs, refl, ap, ◌∙◌, arith}
+use Rattle.std.proofs.Common.{◌≡◌, ℕ, ◌≤◌, List, [], ◌∷◌, length, get_or, ℤ, pos, to_z, of_z, w8, unsigned_abs, refl, sym, ap, subst, ◌∙◌, arith}
 use Rattle.std.proofs.lemmas.Int.{to_z-of_z, fits_signed_from_abs}
 use Rattle.bounded_blocks.specs.Parts.{AreWithin}
 use Rattle.bounded_blocks.proofs.ReadLemmas.{within-at}
 
--- a low value of eight bits, in 32
-pub in-32-bits : (vs : List ℤ) (k : ℕ) (v : ℤ) → AreWithin 127 vs → v ≡ to_z w8 (of_z w8 (get_or vs k (pos 0))) → to_z w32 (of_z w32 v) ≡ get_or vs k (pos 0)
-in-32-bits vs k v low is =
-    let here : ℤ = get_or vs k (pos 0) in
-    let small : unsigned_abs here ≤ 127 = within-at 127 vs k low in
-    ap (λ (z : ℤ). to_z w32 (of_z w32 z)) (is ∙ to_z-of_z w8 here (fits_signed_from_abs w8 here (omega (arith, small))))
-    ∙ to_z-of_z w32 here (fits_signed_from_abs w32 here (omega (arith, small)))
+-- a low value of eight bits is what it was
+pub byte-is : (vs : List ℤ) (k : ℕ) (v : ℤ) → AreWithin 127 vs → v ≡ to_z w8 (of_z w8 (get_or vs k (pos 0))) → v ≡ get_or vs k (pos 0)
+byte-is vs k v low is =
+    let small : unsigned_abs (get_or vs k (pos 0)) ≤ 127 = within-at 127 vs k low in
+    is ∙ to_z-of_z w8 (get_or vs k (pos 0)) (fits_signed_from_abs w8 (get_or vs k (pos 0)) (omega (arith, small)))
+
+-- and it is low
+pub low-byte : (vs : List ℤ) (k : ℕ) → AreWithin 127 vs → unsigned_abs (to_z w8 (of_z w8 (get_or vs k (pos 0)))) ≤ 127
+low-byte vs k low = subst (λ (z : ℤ). unsigned_abs z ≤ 127) (sym (byte-is vs k _ low refl)) (within-at 127 vs k low)
 
 pub cons-same : (a b : ℤ) (xs ys : List ℤ) → a ≡ b → xs ≡ ys → a ∷ xs ≡ b ∷ ys
 cons-same a b xs ys e f = ap (λ (z : ℤ). z ∷ xs) e ∙ ap (λ (t : List ℤ). b ∷ t) f

@@ -1,10 +1,12 @@
 -- What is read of a block by one step more.
-use Rattle.std.proofs.Common.{◌≡◌, ℕ, ◌+◌, ◌≤◌, min, Bool, List, [], ◌∷◌, ◌++◌, length, take, ℤ, sym, ap, subst, ◌∙◌}
+use Rattle.std.proofs.Common.{◌≡◌, ℕ, ◌+◌, ◌^◌, ◌<◌, ◌≤◌, min, Bool, List, [], ◌∷◌, ◌++◌, length, map, take, slice_set, ℤ, sym, ap, subst, ◌∙◌, arith}
+use Rattle.std.proofs.lemmas.List.{take_more_set, length-map, map-set}
+use Rattle.std.specs.Int.RustNames.{unsigned_abs}
 use Rattle.bounded_blocks.specs.Reading.{value_at}
-use Rattle.bounded_blocks.specs.Parts.{block_of, IsSmall, Reads}
+use Rattle.bounded_blocks.specs.Parts.{block_of, IsSmall, Reads, AreWithin}
 use Rattle.bounded_blocks.specs.Windows.{IsAt, HoldsRead}
 use Rattle.bounded_blocks.specs.declared.window.Window.{Window}
-use Rattle.bounded_blocks.proofs.ReadLemmas.{Reads-join, Reads-one, take-part}
+use Rattle.bounded_blocks.proofs.ReadLemmas.{Reads-join, Reads-one, all-append, take-part}
 use Rattle.bounded_blocks.proofs.Windows.{block_of-cut}
 
 -- the first of some values that were put
@@ -26,10 +28,23 @@ before-single bytes start end n here there now vs is same read =
     subst (λ (x : List Bool). Reads n (block_of bytes start end) vs x) (sym (ap (λ (p : ℕ). block_of bytes p end) is ∙ block_of-cut bytes here end ∙ same)) read
 
 -- the same behind another window at the same bits
-pub holds-from : (bytes : List ℕ) (start end n : ℕ) (out : List ℤ) (w v : Window) → IsAt bytes end v → block_of bytes v.place end ≡ block_of bytes w.place end
-    → HoldsRead bytes start end n out w → HoldsRead bytes start end n out v
-holds-from bytes start end n out w v at same held = record {
+pub holds-from : (most : ℕ) (bytes : List ℕ) (start end n : ℕ) (out : List ℤ) (w v : Window) → IsAt bytes end v → block_of bytes v.place end ≡ block_of bytes w.place end
+    → HoldsRead most bytes start end n out w → HoldsRead most bytes start end n out v
+holds-from most bytes start end n out w v at same held = record {
   at = at;
   read = subst (λ (x : List Bool). Reads n (block_of bytes start end) (take n out) x) (sym same) held.read;
   within = held.within;
 }
+
+-- one value that was put into numbers of any width
+pub single-held : {X : Type 0} (value : X → ℤ) (most k : ℕ) (whole mid left : List Bool) (out : List X) (v : X) → k < length out → most ≤ 2 ^ 36
+    → Reads k whole (take k (map value out)) mid → AreWithin most (take k (map value out))
+    → value v ≡ (value_at mid).0 → unsigned_abs (value_at mid).0 ≤ most → (value_at mid).1 ≡ left
+    → Reads (k + 1) whole (take (k + 1) (map value (slice_set out k v))) left × AreWithin most (take (k + 1) (map value (slice_set out k v)))
+single-held value most k whole mid left out v lt few before low is small behind =
+    let put : take (k + 1) (map value (slice_set out k v)) ≡ take k (map value out) ++ value v ∷ [] =
+    ap (take (k + 1)) (map-set value out k v) ∙ take_more_set (map value out) k (value v) (omega (arith, lt, length-map out value)) in (
+      reads-single k whole mid left (map value out) (map value (slice_set out k v)) (value v) put before is (omega (arith, small, few)) behind,
+      subst (AreWithin most) (sym put)
+          (all-append (λ z. unsigned_abs z ≤ most) (take k (map value out)) (value v ∷ []) low (subst (λ (z : ℤ). unsigned_abs z ≤ most) (sym is) small, tt)),
+    )

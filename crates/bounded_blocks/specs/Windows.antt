@@ -1,5 +1,5 @@
 -- Bits at hand, as a word of 64 bits.
-use Rattle.std.specs.Prelude.{◌≡◌, ℕ, ◌+◌, ◌-◌, ◌<◌, ◌≤◌, ◌^◌, List, length, take, true, slice_index_or, ℤ}
+use Rattle.std.specs.Prelude.{◌≡◌, ℕ, ◌+◌, ◌-◌, ◌<◌, ◌≤◌, List, length, take, true, slice_index_or, ℤ}
 use Rattle.std.specs.Int.{from_be_bytes, w64}
 use Rattle.bit_codes.specs.Bits.{bit}
 use Rattle.bounded_blocks.specs.Parts.{block_of, Reads, AreWithin}
@@ -23,9 +23,10 @@ pub record IsAt (bytes : List ℕ) (end : ℕ) (w : Window) : Type 0 where
   pub near : w.place + w.shown ≤ end + 57
   pub shows : (i : ℕ) → i < w.shown → bit w.word (63 - i) ≡ slice_index_or (block_of bytes w.place end) i true
 
--- The front of a list holds the first `done` values of a block, whose magnitudes are at most 2 ^ 18, and a window stands
+-- The front of a list holds the first `done` values of a block, whose magnitudes are at most `most`, and a window stands
 -- behind them.
-pub record HoldsRead (bytes : List ℕ) (start end done : ℕ) (out : List ℤ) (w : Window) : Type 0 where
+pub record HoldsRead (most : ℕ) (bytes : List ℕ) (start end done : ℕ) (out : List ℤ) (w : Window)
+    : Type 0 where
   pub at : IsAt bytes end w
   pub read : Reads done (block_of bytes start end) (take done out) (block_of bytes w.place end)
-  pub within : AreWithin (2 ^ 18) (take done out)
+  pub within : AreWithin most (take done out)

@@ -1,29 +1,32 @@
-//! The values of a block in 32 bits, all read at once.
+//! The values of a block in 16 or 32 bits, all read at once.
 
-ghost use Rattle.std.specs.Prelude.{◌≡◌, ◌↔◌, ℕ, List, ◌+◌, ◌*◌, ◌^◌, ◌<◌, ◌≤◌, ◌++◌, length, take, true, IfSome, IfNone, unsigned_abs};
+ghost use Rattle.std.specs.Prelude.{◌≡◌, ◌↔◌, ℕ, List, ◌+◌, ◌*◌, ◌^◌, ◌<◌, ◌≤◌, ◌++◌, length, map, take, true, IfSome, IfNone, unsigned_abs};
 ghost use Rattle.bounded_blocks.specs.Reading.{value_at, values};
 ghost use Rattle.bounded_blocks.specs.Parts.{block_of, AreWithin};
 ghost use Rattle.bounded_blocks.specs.Windows.{HoldsRead};
 
 use crate::bit_by_bit::any_sint_at;
 use crate::code_table::CodeTable;
+use crate::held::Held;
 use crate::window::{SHOWN, Window, behind, showing, window_at};
-use crate::{MAX_NARROW, SPARE, Sint};
+use crate::{SPARE, Sint};
 
-/// The value at a place, and the place behind it, or none where its magnitude is above 2^18.
+/// The value at a place, and the place behind it, or none where its magnitude is too great.
 #[inline(always)]
-fn narrow_at(bytes: &[u8], place: u64, end: u64) -> Option<(i32, u64)>
+fn held_at<T: Held>(bytes: &[u8], place: u64, end: u64) -> Option<(T, u64)>
     requires room { length bytes.now ≤ 2 ^ 40 }
     requires order { place ≤ end }
     requires inside { end ≤ 8 * length bytes.now }
     ensures some { let found = value_at (block_of bytes.now place end) in
-        IfSome result (λ read. (read.0 ≡ found.0) × (unsigned_abs read.0 ≤ MAX_NARROW) × (found.1 ≡ block_of bytes.now read.1 end) × (read.1 ≤ end)) }
-    ensures none { IfNone result (MAX_NARROW < unsigned_abs (value_at (block_of bytes.now place end)).0) }
+        IfSome result (λ read. (T.value read.0 ≡ found.0) × (unsigned_abs found.0 ≤ T.most)
+            × (found.1 ≡ block_of bytes.now read.1 end) × (read.1 ≤ end)) }
+    ensures none {
+        IfNone result (T.most < unsigned_abs (value_at (block_of bytes.now place end)).0) }
 {
     let (value, next) = any_sint_at(bytes, place, end);
     match value {
-        Sint::Is(value) if value.unsigned_abs() <= u64::from(MAX_NARROW) => {
-            Some((value as i32, next))
+        Sint::Is(value) if value.unsigned_abs() <= u64::from(T::greatest()) => {
+            Some((T::of_value(value), next))
         }
         _ => None,
     }
@@ -31,7 +34,7 @@ fn narrow_at(bytes: &[u8], place: u64, end: u64) -> Option<(i32, u64)>
 
 /// Puts eight numbers from a place on.
 #[inline(always)]
-fn put_all(out: &mut [i32], at: usize, eight: [i32; 8])
+fn put_all<T: Held>(out: &mut [T], at: usize, eight: [T; 8])
     requires { at + 8 ≤ length out.old }
     ensures length { length out.new ≡ length out.old }
     ensures values { take (at + 8) out.new ≡ take at out.old ++ eight }
@@ -43,21 +46,22 @@ fn put_all(out: &mut [i32], at: usize, eight: [i32; 8])
 
 /// Puts eight values from a place on. All are read before one is put, so that they are put at once.
 #[inline(always)]
-fn put_eight(out: &mut [i32], at: usize, values: &[i8; 8])
+fn put_eight<T: Held>(out: &mut [T], at: usize, values: &[i8; 8])
     requires room { at + 8 ≤ length out.old }
     requires low { AreWithin 127 values.now }
     ensures length { length out.new ≡ length out.old }
-    ensures values { take (at + 8) out.new ≡ take at out.old ++ values.now }
+    ensures values {
+        take (at + 8) (map T.value out.new) ≡ take at (map T.value out.old) ++ values.now }
 {
     let eight = [
-        i32::from(values[0]),
-        i32::from(values[1]),
-        i32::from(values[2]),
-        i32::from(values[3]),
-        i32::from(values[4]),
-        i32::from(values[5]),
-        i32::from(values[6]),
-        i32::from(values[7]),
+        T::of_byte(values[0]),
+        T::of_byte(values[1]),
+        T::of_byte(values[2]),
+        T::of_byte(values[3]),
+        T::of_byte(values[4]),
+        T::of_byte(values[5]),
+        T::of_byte(values[6]),
+        T::of_byte(values[7]),
     ];
     put_all(out, at, eight);
 }
@@ -65,7 +69,7 @@ fn put_eight(out: &mut [i32], at: usize, values: &[i8; 8])
 /// Takes the codes that one look-up gives: puts their values from a place on, and answers the window and the place behind
 /// them.
 #[inline(always)]
-fn look(table: &CodeTable, window: Window, done: usize, out: &mut [i32]) -> (Window, usize)
+fn look<T: Held>(table: &CodeTable, window: Window, done: usize, out: &mut [T]) -> (Window, usize)
     requires shown { 12 ≤ window.shown }
     requires room { done + 8 ≤ length out.old }
     requires near { window.place < 2 ^ 50 }
@@ -74,7 +78,9 @@ fn look(table: &CodeTable, window: Window, done: usize, out: &mut [i32]) -> (Win
     ensures few { result.1 ≤ done + 8 }
     ensures shown { window.shown ≤ result.0.shown + 12 }
     ensures near { result.0.place ≤ window.place + 12 }
-    ensures holds { (bytes : List ℕ) (start end : ℕ) → HoldsRead bytes start end done out.old window → HoldsRead bytes start end result.1 out.new result.0 }
+    ensures holds { (bytes : List ℕ) (start end : ℕ) →
+        HoldsRead T.most bytes start end done (map T.value out.old) window →
+        HoldsRead T.most bytes start end result.1 (map T.value out.new) result.0 }
 {
     let (values, head) = table.codes_at(window);
     // All eight values are put, which is cheaper than a choice; the next ones go over what is beyond the count.
@@ -84,12 +90,12 @@ fn look(table: &CodeTable, window: Window, done: usize, out: &mut [i32]) -> (Win
 
 /// The same as long as fewer values than so many are there.
 #[inline(always)]
-fn look_on(
+fn look_on<T: Held>(
     table: &CodeTable,
     window: Window,
     done: usize,
     count: usize,
-    out: &mut [i32],
+    out: &mut [T],
 ) -> (Window, usize)
     requires shown { 12 ≤ window.shown }
     requires spare { count + SPARE ≤ length out.old }
@@ -100,7 +106,9 @@ fn look_on(
     ensures inside { result.1 ≤ count + 7 }
     ensures shown { window.shown ≤ result.0.shown + 12 }
     ensures near { result.0.place ≤ window.place + 12 }
-    ensures holds { (bytes : List ℕ) (start end : ℕ) → HoldsRead bytes start end done out.old window → HoldsRead bytes start end result.1 out.new result.0 }
+    ensures holds { (bytes : List ℕ) (start end : ℕ) →
+        HoldsRead T.most bytes start end done (map T.value out.old) window →
+        HoldsRead T.most bytes start end result.1 (map T.value out.new) result.0 }
 {
     if done < count {
         look(table, window, done, out)
@@ -111,12 +119,12 @@ fn look_on(
 
 /// Four look-ups, which the 57 bits of a window serve whatever they take.
 #[inline(always)]
-fn look_four(
+fn look_four<T: Held>(
     table: &CodeTable,
     window: Window,
     done: usize,
     count: usize,
-    out: &mut [i32],
+    out: &mut [T],
 ) -> (Window, usize)
     requires shown { 57 ≤ window.shown }
     requires spare { count + SPARE ≤ length out.old }
@@ -125,7 +133,9 @@ fn look_four(
     ensures length { length out.new ≡ length out.old }
     ensures more { done ≤ result.1 }
     ensures inside { result.1 ≤ count + 7 }
-    ensures holds { (bytes : List ℕ) (start end : ℕ) → HoldsRead bytes start end done out.old window → HoldsRead bytes start end result.1 out.new result.0 }
+    ensures holds { (bytes : List ℕ) (start end : ℕ) →
+        HoldsRead T.most bytes start end done (map T.value out.old) window →
+        HoldsRead T.most bytes start end result.1 (map T.value out.new) result.0 }
 {
     let (window, done) = look_on(table, window, done, count, out);
     let (window, done) = look_on(table, window, done, count, out);
@@ -134,21 +144,23 @@ fn look_four(
 }
 
 /// Fills the front of a slice with so many values from a place on, and its other places with any. It answers false where
-/// the magnitude of one of them is above 2^18.
-pub(crate) fn fill_from(
+/// the magnitude of one of them is above the greatest.
+pub(crate) fn fill_from<T: Held>(
     table: &CodeTable,
     bytes: &[u8],
     start: u64,
     end: u64,
     count: usize,
-    out: &mut [i32],
+    out: &mut [T],
 ) -> bool
     requires room { length bytes.now ≤ 2 ^ 40 }
     requires order { start ≤ end }
     requires inside { end ≤ 8 * length bytes.now }
     requires spare { count + SPARE ≤ length out.old }
-    ensures within { (result ≡ true) ↔ AreWithin MAX_NARROW (values count (block_of bytes.now start end)) }
-    ensures read { result ≡ true → take count out.new ≡ values count (block_of bytes.now start end) }
+    ensures within {
+        (result ≡ true) ↔ AreWithin T.most (values count (block_of bytes.now start end)) }
+    ensures read { result ≡ true →
+        take count (map T.value out.new) ≡ values count (block_of bytes.now start end) }
 {
     let mut window = window_at(start);
     let mut done = 0;
@@ -159,7 +171,7 @@ pub(crate) fn fill_from(
             window = behind;
             done = now;
         } else {
-            let Some((value, next)) = narrow_at(bytes, behind.place.min(end), end) else {
+            let Some((value, next)) = held_at(bytes, behind.place.min(end), end) else {
                 return false;
             };
             out[done] = value;

@@ -60,7 +60,7 @@ impl Analysed for i64 {
 
 // The step place by place.
 #[inline(always)]
-fn lift_places<T: Number>(dst: &mut [T], a: &[T], b: &[T], wavelet: Wavelet, kind: PairStep)
+fn lift_each<T: Number>(dst: &mut [T], a: &[T], b: &[T], wavelet: Wavelet, kind: PairStep)
     requires a_len { length a.now ≡ length dst.old }
     requires b_len { length b.now ≡ length dst.old }
     requires dst_small { EachValued T.value T.none T.reach dst.old }
@@ -71,6 +71,24 @@ fn lift_places<T: Number>(dst: &mut [T], a: &[T], b: &[T], wavelet: Wavelet, kin
 {
     for i in 0..dst.len() {
         dst[i] = stepped(wavelet, kind, dst[i], a[i], b[i]);
+    }
+}
+
+// The same, with a loop for each wavelet by itself, so that no turn of it asks which wavelet it is.
+#[inline(always)]
+fn lift_places<T: Number>(dst: &mut [T], a: &[T], b: &[T], wavelet: Wavelet, kind: PairStep)
+    requires a_len { length a.now ≡ length dst.old }
+    requires b_len { length b.now ≡ length dst.old }
+    requires dst_small { EachValued T.value T.none T.reach dst.old }
+    requires a_small { EachValued T.value T.none T.reach a.now }
+    requires b_small { EachValued T.value T.none T.reach b.now }
+    ensures { let at = valued T.value T.none in
+        (i : ℕ) → i < length dst.old → at dst.new i ≡ step wavelet kind (at dst.old i) (at a.now i) (at b.now i) }
+{
+    match wavelet {
+        Wavelet::LeGall => lift_each(dst, a, b, Wavelet::LeGall, kind),
+        Wavelet::HaarFlat => lift_each(dst, a, b, Wavelet::HaarFlat, kind),
+        Wavelet::HaarShift => lift_each(dst, a, b, Wavelet::HaarShift, kind),
     }
 }
 

@@ -13,6 +13,7 @@ mod late;
 mod narrow_bands;
 mod number;
 mod row_store;
+mod short_copies;
 
 pub use band_set::Bands;
 pub use late::{LateBands, LatePlane};

@@ -10,11 +10,12 @@ ghost use Rattle.slice_bands.specs.Places.{place_in, slice_at, part_w, part_h};
 ghost use Rattle.slice_bands.specs.Stack.{number_at, stack_of, IsSound};
 ghost use Rattle.slice_bands.specs.Lending.{LendsNumbers, with_run};
 
+mod gathered;
 mod short;
 mod short_bands;
 
 use planes::{NoMemory, Number};
-pub use short::{MAX_SHORT, are_short};
+pub use short::MAX_SHORT;
 pub use short_bands::{ShortBands, ShortTrio};
 use std::alloc::Global;
 use std::marker::Model;

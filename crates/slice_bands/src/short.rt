@@ -1,10 +1,9 @@
-//! Slices of 16 bits: numbers come to them from lists of 32 bits, and go from them into bands of 32 bits.
+//! Slices of 16 bits: numbers come to them from lists, and go from them into bands of 32 bits.
 
-ghost use Rattle.std.specs.Prelude.{◌≡◌, ◌↔◌, ℕ, ◌+◌, ◌*◌, ◌^◌, ◌<◌, ◌≤◌, length, slice_index_or, pos, true};
+ghost use Rattle.std.specs.Prelude.{◌≡◌, ℕ, ◌+◌, ◌*◌, ◌^◌, ◌<◌, ◌≤◌, length, slice_index_or, pos};
 ghost use Rattle.planes.specs.Bounded.{IsWithin, IsPlaneWithin, AreBandsWithin};
 ghost use Rattle.planes.specs.Raster.{at, height};
 ghost use Rattle.planes.specs.Subbands.{BandExists, band_of, AgreeInSizes};
-ghost use Rattle.slice_bands.specs.declared.short.TheConstants.{MAX_SHORT};
 ghost use Rattle.slice_bands.specs.Slices.{slice_size};
 ghost use Rattle.slice_bands.specs.Places.{part_w, part_h};
 ghost use Rattle.slice_bands.specs.Stack.{IsSound, level_at, orient_at};
@@ -17,35 +16,15 @@ use planes::{NarrowBands, NarrowPlane};
 /// The greatest magnitude that slices of 16 bits take: the sum of two such numbers fits in 16 bits.
 pub const MAX_SHORT: i32 = 16383;
 
-// Whether a magnitude doesn't pass `MAX_SHORT`.
-#[inline(always)]
-fn is_short(v: i32) -> bool
-    ensures { (result ≡ true) ↔ IsWithin MAX_SHORT v }
-{
-    -MAX_SHORT <= v && v <= MAX_SHORT
-}
-
-/// Whether no magnitude passes `MAX_SHORT`. All are looked at, with no branch for each.
-pub fn are_short(values: &[i32]) -> bool
-    ensures { (result ≡ true) ↔ ((k : ℕ) → k < length values.now → IsWithin MAX_SHORT (slice_index_or values.now k (pos 0))) }
-{
-    let mut all = true;
-    for k in 0..values.len() {
-        all = all & is_short(values[k]);
-    }
-    all
-}
-
 // Gives a run those numbers of a list that are counted by `from`, where the list has EACH numbers a place.
 #[inline(always)]
-fn take_every<const EACH: usize>(run: &mut [i16], values: &[i32], from: usize)
+fn take_every<const EACH: usize>(run: &mut [i16], values: &[i16], from: usize)
     requires few { from < EACH }
     requires whole { length values.now ≡ EACH * length run.old }
-    requires short { (k : ℕ) → k < length values.now → IsWithin MAX_SHORT (slice_index_or values.now k (pos 0)) }
     ensures { run.new ≡ every EACH from (length run.old) values.now }
 {
     for k in 0..run.len() {
-        run[k] = values[EACH * k + from] as i16;
+        run[k] = values[EACH * k + from];
     }
 }
 
@@ -62,7 +41,7 @@ fn widen_row(wide: &mut [i32], short: &[i16])
 }
 
 // The level and the orientation of the band at place k among all.
-fn band_at(k: u32) -> (u32, u32)
+pub(crate) fn band_at(k: u32) -> (u32, u32)
     requires { k ≤ 12 }
     ensures level { result.0 ≡ level_at k }
     ensures orient { result.1 ≡ orient_at k }
@@ -73,11 +52,10 @@ fn band_at(k: u32) -> (u32, u32)
 
 impl SliceBands<i16> {
     /// Puts the numbers of slice n: those of a list that are counted by `from`, where the list has EACH numbers a place.
-    pub fn put_every<const EACH: usize>(&mut self, n: usize, values: &[i32], from: usize)
+    pub fn put_every<const EACH: usize>(&mut self, n: usize, values: &[i16], from: usize)
         requires inside { n < self.old.across * self.old.down }
         requires few { from < EACH }
         requires whole { length values.now ≡ EACH * slice_size self.old }
-        requires short { (k : ℕ) → k < length values.now → IsWithin MAX_SHORT (slice_index_or values.now k (pos 0)) }
         ensures value { self.new ≡ with_run self.old n (every EACH from (slice_size self.old) values.now) }
         ensures there { n * slice_size self.old + slice_size self.old ≤ length self.old.numbers }
         ensures sound { IsSound self.old }
@@ -140,7 +118,7 @@ impl SliceBands<i16> {
     }
 
     // How many numbers a row of a level's bands has.
-    fn row_length(&self, level: u32) -> usize
+    pub(crate) fn row_length(&self, level: u32) -> usize
         requires { level ≤ self.now.depth }
         ensures value { result ≡ self.now.across * part_w self.now level }
         ensures most { result ≤ self.now.across * self.now.sw }

@@ -11,6 +11,7 @@ pub mod LevelLemmas
 pub mod LevelHalves
 pub mod Restores
 pub mod RestoredBands
+pub mod Steps
 pub mod Placed
 pub mod PairLanes
 pub mod ShortPlaces

@@ -61,9 +61,9 @@ all-narrow values dealt_values n answer good long same stay k = elim (cases_lt k
   | inr past ↦ zero_narrow (get_or values k (pos 0)) (get_or_past values k (pos 0) (omega (arith, past, long)))
 ]
 
-pub all-small : (values : List ℤ) (n : ℕ) (answer : Bool) → answer ≡ true → n ≡ length values → StayWithin (2 ^ 18) answer (λ k. get_or values k (pos 0)) 0 n
-    → are_small values ≡ true
-all-small values n answer good is stay = are_small-all values (λ k lt. omega (arith, stay.yes good k (omega arith) (omega (arith, lt, is))))
+pub all-small : (most : ℕ) (values : List ℤ) (n : ℕ) (answer : Bool) → most ≤ 2 ^ 36 → answer ≡ true → n ≡ length values
+    → StayWithin most answer (λ k. get_or values k (pos 0)) 0 n → are_small values ≡ true
+all-small most values n answer few good is stay = are_small-all values (λ k lt. omega (arith, few, stay.yes good k (omega arith) (omega (arith, lt, is))))
 
 pub needs-more : (room n : ℕ) (values : List ℤ) (answer : Bool) → answer ≡ false → StayWithin (2 ^ 18) answer (λ k. get_or values k (pos 0)) 0 n
     → NeedMore (pos (2 ^ 18)) room values

@@ -1,5 +1,5 @@
 -- Values of a slice, restored band by band.
-use Rattle.std.proofs.Common.{◌≡◌, ℕ, ◌+◌, ◌*◌, ◌^◌, ◌<◌, ◌≤◌, Bool, true, false, List, length, get_or, ℤ, pos, refl, sym, ap, subst, ◌∙◌, inl, inr, arith}
+use Rattle.std.proofs.Common.{◌≡◌, ℕ, ◌+◌, ◌*◌, ◌<◌, ◌≤◌, Bool, true, false, List, length, get_or, ℤ, pos, refl, sym, ap, subst, ◌∙◌, inl, inr, arith}
 use Rattle.std.proofs.lemmas.Bool.{cases_lt}
 use Rattle.planes.specs.declared.Rect.{Rect}
 use Rattle.quant_factors.specs.Factors.{inverse_of}
@@ -14,28 +14,28 @@ use Rattle.slice_decoder.proofs.LevelLemmas.{next_from, rect_of_level, room_here
 use Rattle.slice_decoder.proofs.Restores.{restored_here, part-not, part-more}
 
 -- what a value of band k is restored to
-same_here : (matrix : Weights) (qindex each : ℕ) (p : Part) (k from count index : ℕ) (old now : List ℤ) → IsBand matrix qindex each p k count → k < 3 * matrix.depth + 1
-    → index ≡ band_quantiser matrix qindex (level_of k) (orient_of k) → IsRestoredTo each p k from old now
+same_here : (most : ℕ) (matrix : Weights) (qindex each : ℕ) (p : Part) (k from count index : ℕ) (old now : List ℤ) → IsBand matrix qindex each p k count → k < 3 * matrix.depth + 1
+    → index ≡ band_quantiser matrix qindex (level_of k) (orient_of k) → IsRestoredTo most each p k from old now
     → (j : ℕ) → from ≤ j → j < from + count → inverse_of (get_or now j (pos 0)) index ≡ restored_at old (quantisers each p) j
-same_here matrix qindex each p k from count index old now is lt index_is held j low below =
+same_here most matrix qindex each p k from count index old now is lt index_is held j low below =
     let its : index ≡ index_of p k =
     index_is ∙ ap (λ (m : Weights). band_quantiser m qindex (level_of k) (orient_of k)) (sym is.matrix_is)
     ∙ ap (λ (q : ℕ). band_quantiser p.matrix q (level_of k) (orient_of k)) (sym is.qindex_is) in
     restored_here each p k (3 * p.slicing.depth + 1) from (area (rect_of p k)) index j old now (omega (arith, lt, is.depth_is)) held.from_is refl its low
     (omega (arith, below, is.count_is)) (held.rest j low)
 
-pub restored-more : (matrix : Weights) (qindex each : ℕ) (p : Part) (k from count index : ℕ) (old now new : List ℤ) (answer : Bool) → IsBand matrix qindex each p k count
+pub restored-more : (most : ℕ) (matrix : Weights) (qindex each : ℕ) (p : Part) (k from count index : ℕ) (old now new : List ℤ) (answer : Bool) → IsBand matrix qindex each p k count
     → k < 3 * matrix.depth + 1 → index ≡ band_quantiser matrix qindex (level_of k) (orient_of k) → answer ≡ true → length new ≡ length now
-    → StayWithin (2 ^ 18) answer (λ j. inverse_of (get_or now j (pos 0)) index) from (from + count)
+    → StayWithin most answer (λ j. inverse_of (get_or now j (pos 0)) index) from (from + count)
     → ((j : ℕ) → from ≤ j → j < from + count → get_or new j (pos 0) ≡ inverse_of (get_or now j (pos 0)) index)
     → StaysBeside from (from + count) now new
-    → IsRestoredTo each p k from old now → IsRestoredTo each p (k + 1) (from + count) old new
-restored-more matrix qindex each p k from count index old now new answer is lt index_is good long stay inside outside held =
-    let same = same_here matrix qindex each p k from count index old now is lt index_is held in
+    → IsRestoredTo most each p k from old now → IsRestoredTo most each p (k + 1) (from + count) old new
+restored-more most matrix qindex each p k from count index old now new answer is lt index_is good long stay inside outside held =
+    let same = same_here most matrix qindex each p k from count index old now is lt index_is held in
     record {
       from_is = ap (λ (n : ℕ). from + n) is.count_is ∙ next_from each p.slicing p.size p.sx p.sy k from (area (rect_of p k)) held.from_is refl;
       same_length = long ∙ held.same_length;
-      within = part-more (2 ^ 18) (restored_at old (quantisers each p)) (λ j. inverse_of (get_or now j (pos 0)) index) from (from + count) answer good same held.within stay;
+      within = part-more most (restored_at old (quantisers each p)) (λ j. inverse_of (get_or now j (pos 0)) index) from (from + count) answer good same held.within stay;
       done = λ j below. elim (cases_lt j from) [
         | inl before ↦ outside j (inl before) ∙ held.done j before
         | inr here ↦ inside j here below ∙ same j here below
@@ -43,22 +43,22 @@ restored-more matrix qindex each p k from count index old now new answer is lt i
       rest = λ j le. outside j (inr le) ∙ held.rest j (omega arith);
     }
 
-pub restored-not : (matrix : Weights) (qindex each : ℕ) (p : Part) (k from count index : ℕ) (old now : List ℤ) (answer : Bool) → IsBand matrix qindex each p k count
+pub restored-not : (most : ℕ) (matrix : Weights) (qindex each : ℕ) (p : Part) (k from count index : ℕ) (old now : List ℤ) (answer : Bool) → IsBand matrix qindex each p k count
     → k < 3 * matrix.depth + 1 → index ≡ band_quantiser matrix qindex (level_of k) (orient_of k) → answer ≡ false → from + count ≤ length now
-    → StayWithin (2 ^ 18) answer (λ j. inverse_of (get_or now j (pos 0)) index) from (from + count)
-    → IsRestoredTo each p k from old now → OnePasses each p old
-restored-not matrix qindex each p k from count index old now answer is lt index_is bad room stay held =
-    part-not (2 ^ 18) (restored_at old (quantisers each p)) (λ j. inverse_of (get_or now j (pos 0)) index) from (from + count) (length old) answer bad
-    (omega (arith, room, held.same_length)) (same_here matrix qindex each p k from count index old now is lt index_is held) stay
+    → StayWithin most answer (λ j. inverse_of (get_or now j (pos 0)) index) from (from + count)
+    → IsRestoredTo most each p k from old now → OnePasses most each p old
+restored-not most matrix qindex each p k from count index old now answer is lt index_is bad room stay held =
+    part-not most (restored_at old (quantisers each p)) (λ j. inverse_of (get_or now j (pos 0)) index) from (from + count) (length old) answer bad
+    (omega (arith, room, held.same_length)) (same_here most matrix qindex each p k from count index old now is lt index_is held) stay
 
-pub restored-at : (each : ℕ) (p : Part) (k k' from from' : ℕ) (old new : List ℤ) → k ≡ k' → from ≡ from' → IsRestoredTo each p k from old new → IsRestoredTo each p k' from' old new
-restored-at each p k k' from from' old new k_is from_is held =
-    subst (λ (n : ℕ). IsRestoredTo each p k' n old new) from_is (subst (λ (n : ℕ). IsRestoredTo each p n from old new) k_is held)
+pub restored-at : (most each : ℕ) (p : Part) (k k' from from' : ℕ) (old new : List ℤ) → k ≡ k' → from ≡ from' → IsRestoredTo most each p k from old new → IsRestoredTo most each p k' from' old new
+restored-at most each p k k' from from' old new k_is from_is held =
+    subst (λ (n : ℕ). IsRestoredTo most each p k' n old new) from_is (subst (λ (n : ℕ). IsRestoredTo most each p n from old new) k_is held)
 
 -- no band yet
-pub none-restored : (each : ℕ) (p : Part) (vs : List ℤ) → IsRestoredTo each p 0 0 vs vs
+pub none-restored : (most each : ℕ) (p : Part) (vs : List ℤ) → IsRestoredTo most each p 0 0 vs vs
 unfolding places_in
-none-restored each p vs =
+none-restored most each p vs =
     let none : 0 ≡ each * 0 = omega arith in
     record {
       from_is = none;

@@ -256,13 +256,13 @@ low-part vs from to index low k le = elim (cases_lt k (to - from)) [
 ]
 
 -- what was read is too great where what is dealt is
-pub wide-dealt : (each : ℕ) (p : Part) (n total : ℕ) (block : List Bool) → p.qindex ≤ 127 → n ≡ length (quantisers_before each p total)
-    → (AreWithin (2 ^ 18) (values n block) → ⊥)
-    → StayWithin (2 ^ 18) false (λ k. get_or (dealt block (quantisers_before each p total)) k (pos 0)) 0 n
-wide-dealt each p n total block le is wide =
+pub wide-dealt : (most each : ℕ) (p : Part) (n total : ℕ) (block : List Bool) → p.qindex ≤ 127 → n ≡ length (quantisers_before each p total)
+    → (AreWithin most (values n block) → ⊥)
+    → StayWithin most false (λ k. get_or (dealt block (quantisers_before each p total)) k (pos 0)) 0 n
+wide-dealt most each p n total block le is wide =
     let qs = quantisers_before each p total in
     record {
       yes = λ e. absurd cc;
-      no = λ e all. wide (subst (λ (m : ℕ). AreWithin (2 ^ 18) (values m block)) (sym is)
-          (within-read (2 ^ 18) block qs (quantisers-low each p total le) (λ k lt. all k (omega arith) (omega (arith, lt, is)))));
+      no = λ e all. wide (subst (λ (m : ℕ). AreWithin most (values m block)) (sym is)
+          (within-read most block qs (quantisers-low each p total le) (λ k lt. all k (omega arith) (omega (arith, lt, is)))));
     }

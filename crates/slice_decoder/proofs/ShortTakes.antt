@@ -1,6 +1,5 @@
 -- A slice of 16 bits that is put among its neighbours, as bands show it.
-use Rattle.std.proofs.Common.{◌≡◌, ◌≢◌, refl, sym, ap, subst, ◌∙◌, ℕ, ◌+◌, ◌*◌, ◌%◌, ◌^◌, unsigned_abs, ◌<◌, ◌≤◌, arith, inl, inr, List, length, drop, get_or, ℤ, pos, Bool, true, false}
-use Rattle.std.specs.Prelude.{◌↔◌}
+use Rattle.std.proofs.Common.{◌≡◌, ◌≢◌, refl, sym, ap, subst, ◌∙◌, ℕ, ◌+◌, ◌-◌, ◌*◌, ◌%◌, ◌^◌, unsigned_abs, ◌<◌, ◌≤◌, arith, inl, inr, List, length, drop, get_or, ℤ, pos, Bool, true, false}
 use Rattle.std.proofs.lemmas.Bool.{cases_lt, cases_eq}
 use Rattle.std.proofs.lemmas.Int.{ints}
 use Rattle.std.proofs.lemmas.Nat.{mul-le}
@@ -231,21 +230,22 @@ cut-after each from s size old sx sy rect values lowest slices cut takes low nar
 
 -- ---- what answers say
 
-short-within : (v : ℤ) → IsWithin MAX_SHORT v → unsigned_abs v ≤ 2 ^ 18
+short-within : (v : ℤ) → IsWithin MAX_SHORT v → unsigned_abs v ≤ 2 ^ 14 - 1
 short-within v within = omega (arith, ints, within.low, within.high)
 
-pub short-needs-more : (room n : ℕ) (values : List ℤ) (answer : Bool) → answer ≡ false → StayWithin (2 ^ 18) answer (λ k. get_or values k (pos 0)) 0 n
+pub short-needs-more : (room n : ℕ) (values : List ℤ) (answer : Bool) → answer ≡ false → StayWithin (2 ^ 14 - 1) answer (λ k. get_or values k (pos 0)) 0 n
     → NeedMore MAX_SHORT room values
 short-needs-more room n values answer refused stay = inr (λ all. stay.no refused (λ k low lt. short-within (get_or values k (pos 0)) (all k)))
 
-pub short-passed : (room n : ℕ) (values read : List ℤ) (answer : Bool) → answer ≡ false → ((answer ≡ true) ↔ ((k : ℕ) → k < length read → IsWithin MAX_SHORT (get_or read k (pos 0)))) → length read ≡ n
-    → ((k : ℕ) → k < n → get_or read k (pos 0) ≡ get_or values k (pos 0))
-    → NeedMore MAX_SHORT room values
-short-passed room n values read true refused test long same = absurd cc
-short-passed room n values read false refused test long same = inr (λ all. absurd (not-both (test.1 (λ k lt. subst (IsWithin MAX_SHORT) (sym (same k (omega (arith, lt, long)))) (all k)))))
-  where
-    not-both : false ≡ true → ⊥
-    not-both e = cc
+within-short : (v : ℤ) → unsigned_abs v ≤ 2 ^ 14 - 1 → IsWithin MAX_SHORT v
+within-short v few = record { low = omega (arith, ints, few); high = omega (arith, ints, few) }
+
+pub short-values : (n : ℕ) (values read : List ℤ) (answer : Bool) → answer ≡ true → StayWithin (2 ^ 14 - 1) answer (λ k. get_or values k (pos 0)) 0 n
+    → length read ≡ n → ((k : ℕ) → k < n → get_or read k (pos 0) ≡ get_or values k (pos 0))
+    → (k : ℕ) → k < length read → IsWithin MAX_SHORT (get_or read k (pos 0))
+short-values n values read answer good stay long same k lt =
+    let below : k < n = omega (arith, lt, long) in
+    subst (IsWithin MAX_SHORT) (sym (same k below)) (within-short (get_or values k (pos 0)) (stay.yes good k (omega arith) below))
 
 -- ---- the lowest band restored
 

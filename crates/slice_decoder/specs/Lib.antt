@@ -8,3 +8,4 @@ pub mod Decoded
 pub mod Read
 pub mod Narrow
 pub mod Short
+pub mod Steps

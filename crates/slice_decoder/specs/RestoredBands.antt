@@ -1,5 +1,5 @@
 -- A slice's values as they are restored, band by band.
-use Rattle.std.specs.Prelude.{◌≡◌, ℕ, ◌+◌, ◌*◌, ◌^◌, ◌<◌, ◌≤◌, false, List, length, slice_index_or, ℤ, pos}
+use Rattle.std.specs.Prelude.{◌≡◌, ℕ, ◌+◌, ◌*◌, ◌<◌, ◌≤◌, false, List, length, slice_index_or, ℤ, pos}
 use Rattle.quant_factors.specs.Weights.{Weights}
 use Rattle.slice_geometry.specs.SliceOrder.{area}
 use Rattle.slice_decoder.specs.Components.{Part, rect_of, quantisers_before}
@@ -23,14 +23,15 @@ pub record AreBands (matrix : Weights) (qindex each : ℕ) (p : Part) (k count :
   pub second : IsBand matrix qindex each p (k + 1) count
   pub third : IsBand matrix qindex each p (k + 2) count
 
--- The values before band k, which begins at a place, are restored within 2 ^ 18, and the others are as they were.
-pub record IsRestoredTo (each : ℕ) (p : Part) (k from : ℕ) (old new : List ℤ) : Type 0 where
+-- The values before band k, which begins at a place, are restored within a bound, and the others are as they were.
+pub record IsRestoredTo (most each : ℕ) (p : Part) (k from : ℕ) (old new : List ℤ) : Type 0 where
   pub from_is : from ≡ each * places_in p.slicing p.size p.sx p.sy k
   pub same_length : length new ≡ length old
-  pub within : AllWithin (2 ^ 18) (restored_at old (quantisers each p)) 0 from
+  pub within : AllWithin most (restored_at old (quantisers each p)) 0 from
   pub done : (j : ℕ) → j < from → slice_index_or new j (pos 0) ≡ restored_at old (quantisers each p) j
   pub rest : (j : ℕ) → from ≤ j → slice_index_or new j (pos 0) ≡ slice_index_or old j (pos 0)
 
 -- one of them all is restored to a greater magnitude
-abbrev pub OnePasses : ℕ → Part → List ℤ → Type 0
-OnePasses each p values = StayWithin (2 ^ 18) false (restored_at values (quantisers each p)) 0 (length values)
+abbrev pub OnePasses : ℕ → ℕ → Part → List ℤ → Type 0
+OnePasses most each p values =
+    StayWithin most false (restored_at values (quantisers each p)) 0 (length values)

@@ -25,6 +25,7 @@ mod narrow_slice;
 mod placing;
 mod restoring;
 mod short;
+mod short_restoring;
 mod short_slice;
 
 pub use ahead::read_ahead;

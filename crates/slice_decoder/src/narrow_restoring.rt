@@ -161,7 +161,7 @@ fn restore_part(values: &mut [i32], from: usize, to: usize, index: u32, is_low: 
 
 // The quantisation index of band k.
 #[inline(always)]
-fn index_of_band(matrix: &Matrix, qindex: u32, k: u32) -> u32
+pub fn index_of_band(matrix: &Matrix, qindex: u32, k: u32) -> u32
     requires band { k < 3 * matrix.now.depth + 1 }
     ensures value { result ≡ band_quantiser matrix.now qindex (level_of k) (orient_of k) }
     ensures most { result ≤ qindex }
@@ -187,9 +187,10 @@ fn restore_band(
     requires low { is_low ≡ true → (i : ℕ) → i ≤ qindex → AreLow from values.old i }
     ensures rest { (j : ℕ) → from + count ≤ j → slice_index_or values.new j (pos 0) ≡ slice_index_or values.old j (pos 0) }
     ensures more { result ≡ true → (each : ℕ) (p : Part) (vs : List ℤ) → IsBand matrix.now qindex each p k count →
-        IsRestoredTo each p k from vs values.old → IsRestoredTo each p (k + 1) (from + count) vs values.new }
+        IsRestoredTo MAX_NARROW each p k from vs values.old →
+        IsRestoredTo MAX_NARROW each p (k + 1) (from + count) vs values.new }
     ensures stopped { result ≡ false → (each : ℕ) (p : Part) (vs : List ℤ) → IsBand matrix.now qindex each p k count →
-        IsRestoredTo each p k from vs values.old → OnePasses each p vs }
+        IsRestoredTo MAX_NARROW each p k from vs values.old → OnePasses MAX_NARROW each p vs }
 {
     let index = index_of_band(matrix, qindex, k);
     restore_part(values, from, from + count, index, is_low)
@@ -213,9 +214,10 @@ fn restore_level(
     requires narrow { (j : ℕ) → from ≤ j → unsigned_abs (slice_index_or values.old j (pos 0)) ≤ MAX_NARROW }
     requires low { is_low ≡ true → (i : ℕ) → i ≤ qindex → AreLow from values.old i }
     ensures more { result ≡ true → (each : ℕ) (p : Part) (vs : List ℤ) → AreBands matrix.now qindex each p k count →
-        IsRestoredTo each p k from vs values.old → IsRestoredTo each p (k + 3) (from + 3 * count) vs values.new }
+        IsRestoredTo MAX_NARROW each p k from vs values.old →
+        IsRestoredTo MAX_NARROW each p (k + 3) (from + 3 * count) vs values.new }
     ensures stopped { result ≡ false → (each : ℕ) (p : Part) (vs : List ℤ) → AreBands matrix.now qindex each p k count →
-        IsRestoredTo each p k from vs values.old → OnePasses each p vs }
+        IsRestoredTo MAX_NARROW each p k from vs values.old → OnePasses MAX_NARROW each p vs }
 {
     if !restore_band(values, from, count, k, matrix, qindex, is_low) {
         return false;

@@ -1,23 +1,24 @@
 //! A slice into bands of 16 bits, whose slices lie as the layout cuts a component.
 
-ghost use Rattle.std.specs.Prelude.{◌≡◌, ℕ, ◌+◌, ◌*◌, ◌^◌, ◌<◌, ◌≤◌, length, slice_index_or, pos};
+ghost use Rattle.std.specs.Prelude.{◌≡◌, ℕ, ◌+◌, ◌-◌, ◌*◌, ◌^◌, ◌<◌, ◌≤◌, length, drop, slice_index_or, pos};
 ghost use Rattle.planes.specs.Bounded.{IsWithin};
+ghost use Rattle.planes.specs.Raster.{height};
 ghost use Rattle.slice_bands.specs.declared.short.TheConstants.{MAX_SHORT};
 ghost use Rattle.slice_bands.specs.ShortBands.{short_stack};
-ghost use Rattle.slice_geometry.specs.SliceOrder.{place_count, numbered};
+ghost use Rattle.slice_geometry.specs.SliceOrder.{area, place_count, numbered};
 ghost use Rattle.slice_decoder.specs.Components.{part_of, BandsHold, BandsKeep};
+ghost use Rattle.slice_decoder.specs.Dealing.{StaysBeside, HoldsRect};
 ghost use Rattle.slice_decoder.specs.Levels.{AreRects, BandsTake};
 ghost use Rattle.slice_decoder.specs.Narrow.{block_values, Answers};
 ghost use Rattle.slice_decoder.specs.Short.{IsCut};
 
 use crate::components::Place;
 use crate::levels::{count_places, lowest_of};
-use crate::narrow_placing::{put_rect, put_rects};
-use crate::narrow_restoring::read_values;
+use crate::short_restoring::read_values;
 use bounded_blocks::{Block, CodeTable, SPARE};
-use planes::Rect;
+use planes::{NarrowPlane, Rect};
 use quant_factors::Matrix;
-use slice_bands::{ShortBands, are_short};
+use slice_bands::ShortBands;
 use slice_geometry::{Layout, Size};
 
 // The number of a slice.
@@ -30,9 +31,52 @@ fn number_of(layout: &Layout, place: Place) -> usize
     place.sy as usize * layout.slices_x() as usize + place.sx as usize
 }
 
+// Puts values from one on at the places of a row from `start` to `end`: of EACH that a place has, the one that is counted by
+// `from`.
+#[inline(always)]
+fn put_row<const EACH: usize>(
+    values: &[i16],
+    at: usize,
+    from: usize,
+    row: &mut [i32],
+    start: usize,
+    end: usize,
+)
+    requires few { from < EACH }
+    requires order { start ≤ end }
+    requires inside { end ≤ length row.old }
+    requires room { at + EACH * (end - start) ≤ length values.now }
+    ensures inside { (x : ℕ) → start ≤ x → x < end →
+        slice_index_or row.new x (pos 0)
+        ≡ slice_index_or values.now (at + (EACH * (x - start) + from)) (pos 0) }
+    ensures outside { StaysBeside start end row.old row.new }
+{
+    for x in start..end {
+        row[x] = i32::from(values[at + (EACH * (x - start) + from)]);
+    }
+}
+
+// The same in a rectangle of a lowest band, from the first value on.
+fn put_lowest<const EACH: usize>(values: &[i16], from: usize, plane: &mut NarrowPlane, rect: Rect)
+    requires few { from < EACH }
+    requires across { rect.x0 ≤ rect.x1 }
+    requires down { rect.y0 ≤ rect.y1 }
+    requires x_inside { rect.x1 ≤ plane.old.w }
+    requires y_inside { rect.y1 ≤ height plane.old }
+    requires room { 0 + EACH * area rect ≤ length values.now }
+    ensures { HoldsRect EACH from rect (drop 0 values.now) plane.old plane.new }
+{
+    let (start, end) = (rect.x0 as usize, rect.x1 as usize);
+    let mut place = 0;
+    for y in rect.y0..rect.y1 {
+        put_row::<EACH>(values, place, from, plane.row_mut(y), start, end);
+        place += EACH * (end - start);
+    }
+}
+
 // Puts the values of a slice at its places in a component's subbands.
 fn put_luma(
-    values: &[i32],
+    values: &[i16],
     bands: &mut ShortBands,
     rects: &[Rect; 5],
     layout: &Layout,
@@ -51,13 +95,13 @@ fn put_luma(
 {
     bands.slices.shows();
     let n = number_of(layout, place);
-    put_rect(values, 0, &mut bands.lowest, lowest_of(rects));
+    put_lowest::<1>(values, 0, &mut bands.lowest, lowest_of(rects));
     bands.slices.put_every::<1>(n, values, 0);
 }
 
 // Puts the values of a slice at its places in the subbands of the two colour components, which take them in turn.
 fn put_colour(
-    values: &[i32],
+    values: &[i16],
     first: &mut ShortBands,
     second: &mut ShortBands,
     rects: &[Rect; 5],
@@ -83,7 +127,8 @@ fn put_colour(
     second.slices.shows();
     let n = number_of(layout, place);
     let rect = lowest_of(rects);
-    put_rects(values, 0, &mut first.lowest, &mut second.lowest, rect);
+    put_lowest::<2>(values, 0, &mut first.lowest, rect);
+    put_lowest::<2>(values, 1, &mut second.lowest, rect);
     first.slices.put_every::<2>(n, values, 0);
     second.slices.put_every::<2>(n, values, 1);
 }
@@ -99,7 +144,7 @@ pub fn read_luma(
     size: Size,
     matrix: &Matrix,
     place: Place,
-    buffer: &mut [i32],
+    buffer: &mut [i16],
 ) -> bool
     requires rects { AreRects layout.now size place.sx place.sy rects.now }
     requires across { place.sx < layout.now.slices_x }
@@ -124,9 +169,6 @@ pub fn read_luma(
         return false;
     }
     let values = &buffer[..count];
-    if !are_short(values) {
-        return false;
-    }
     put_luma(values, bands, rects, layout, size, place);
     true
 }
@@ -143,7 +185,7 @@ pub fn read_colour(
     size: Size,
     matrix: &Matrix,
     place: Place,
-    buffer: &mut [i32],
+    buffer: &mut [i16],
 ) -> bool
     requires rects { AreRects layout.now size place.sx place.sy rects.now }
     requires across { place.sx < layout.now.slices_x }
@@ -173,9 +215,6 @@ pub fn read_colour(
         return false;
     }
     let values = &buffer[..count];
-    if !are_short(values) {
-        return false;
-    }
     put_colour(values, first, second, rects, layout, size, place);
     true
 }

@@ -41,7 +41,7 @@ fn read_blocks(
     codes: &CodeTable,
     luma_bits: u32,
     bands: &mut ShortTrio,
-    buffer: &mut [i32],
+    buffer: &mut [i16],
 ) -> bool
     requires some { 1 ≤ length bytes.now }
     requires most { length bytes.now ≤ 2 ^ 28 }
@@ -145,7 +145,7 @@ pub fn decode_short(
     bytes: &[u8],
     codes: &CodeTable,
     bands: &mut ShortTrio,
-    buffer: &mut [i32],
+    buffer: &mut [i16],
 ) -> Result<Option<SliceHead>, SliceFault>
     requires across { sx < layout.now.slices_x }
     requires down { sy < layout.now.slices_y }

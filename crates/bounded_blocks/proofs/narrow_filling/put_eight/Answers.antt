@@ -1,19 +1,50 @@
-use Rattle.std.proofs.Common.{◌++◌, List, take, ℤ, refl, ap, ◌∙◌, arith}
-use Rattle.bounded_blocks.proofs.EightValues.{in-32-bits, cons-same, eight-are}
+use Rattle.std.proofs.Common.{◌+◌, ◌++◌, List, [], ◌∷◌, map, take, ℤ, refl, sym, ap, ◌∙◌, arith}
+use Rattle.std.proofs.lemmas.List.{take-map, map-append}
+use Rattle.bounded_blocks.proofs.EightValues.{low-byte, byte-is, cons-same, eight-are}
 use Rattle.bounded_blocks.proofs.narrow_filling.put_eight.Goals as goal
 
+pub of_byte-requires : goal.of_byte-requires
+of_byte-requires g c = low-byte c.args.values.now 0 c.requires.low
+
+pub of_byte-requires-2 : goal.of_byte-requires-2
+of_byte-requires-2 g c = low-byte c.args.values.now 1 c.requires.low
+
+pub of_byte-requires-3 : goal.of_byte-requires-3
+of_byte-requires-3 g c = low-byte c.args.values.now 2 c.requires.low
+
+pub of_byte-requires-4 : goal.of_byte-requires-4
+of_byte-requires-4 g c = low-byte c.args.values.now 3 c.requires.low
+
+pub of_byte-requires-5 : goal.of_byte-requires-5
+of_byte-requires-5 g c = low-byte c.args.values.now 4 c.requires.low
+
+pub of_byte-requires-6 : goal.of_byte-requires-6
+of_byte-requires-6 g c = low-byte c.args.values.now 5 c.requires.low
+
+pub of_byte-requires-7 : goal.of_byte-requires-7
+of_byte-requires-7 g c = low-byte c.args.values.now 6 c.requires.low
+
+pub of_byte-requires-8 : goal.of_byte-requires-8
+of_byte-requires-8 g c = low-byte c.args.values.now 7 c.requires.low
+
 pub returns-clause-values : goal.returns-clause-values
-returns-clause-values c =
+returns-clause-values g c =
+    let value = g.T.Held.value in
     let vs = c.args.values.now in
     let low = c.requires.low in
-    c.put_all.ensures.values
-    ∙ ap (λ (vs : List ℤ). take c.args.at c.args.out.now ++ vs)
-    (cons-same _ _ _ _ (in-32-bits vs 0 c.from.result low c.from.ensures)
-    (cons-same _ _ _ _ (in-32-bits vs 1 c.from-2.result low c.from-2.ensures)
-    (cons-same _ _ _ _ (in-32-bits vs 2 c.from-3.result low c.from-3.ensures)
-    (cons-same _ _ _ _ (in-32-bits vs 3 c.from-4.result low c.from-4.ensures)
-    (cons-same _ _ _ _ (in-32-bits vs 4 c.from-5.result low c.from-5.ensures)
-    (cons-same _ _ _ _ (in-32-bits vs 5 c.from-6.result low c.from-6.ensures)
-    (cons-same _ _ _ _ (in-32-bits vs 6 c.from-7.result low c.from-7.ensures)
-    (cons-same _ _ _ _ (in-32-bits vs 7 c.from-8.result low c.from-8.ensures) refl)))))))
+    let eight : List ℤ = value c.of_byte.result ∷ value c.of_byte-2.result ∷ value c.of_byte-3.result ∷ value c.of_byte-4.result
+    ∷ value c.of_byte-5.result ∷ value c.of_byte-6.result ∷ value c.of_byte-7.result ∷ value c.of_byte-8.result ∷ [] in
+    take-map value (c.args.at + 8) c.put_all.new.out
+    ∙ ap (map value) c.put_all.ensures.values
+    ∙ map-append value (take c.args.at c.args.out.now) _
+    ∙ ap (λ (xs : List ℤ). xs ++ eight) (sym (take-map value c.args.at c.args.out.now))
+    ∙ ap (λ (xs : List ℤ). take c.args.at (map value c.args.out.now) ++ xs)
+    (cons-same _ _ _ _ (byte-is vs 0 _ low c.of_byte.ensures)
+    (cons-same _ _ _ _ (byte-is vs 1 _ low c.of_byte-2.ensures)
+    (cons-same _ _ _ _ (byte-is vs 2 _ low c.of_byte-3.ensures)
+    (cons-same _ _ _ _ (byte-is vs 3 _ low c.of_byte-4.ensures)
+    (cons-same _ _ _ _ (byte-is vs 4 _ low c.of_byte-5.ensures)
+    (cons-same _ _ _ _ (byte-is vs 5 _ low c.of_byte-6.ensures)
+    (cons-same _ _ _ _ (byte-is vs 6 _ low c.of_byte-7.ensures)
+    (cons-same _ _ _ _ (byte-is vs 7 _ low c.of_byte-8.ensures) refl)))))))
     ∙ eight-are vs (omega (arith, c.told-values)))

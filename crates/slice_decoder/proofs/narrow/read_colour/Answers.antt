@@ -1,4 +1,4 @@
-use Rattle.std.proofs.Common.{◌≡◌, ℕ, ◌+◌, ◌*◌, ◌<◌, length, take, get_or, pos, ◌∙◌, inl, arith}
+use Rattle.std.proofs.Common.{◌≡◌, ℕ, ◌+◌, ◌*◌, ◌^◌, ◌<◌, length, take, get_or, pos, ◌∙◌, inl, arith}
 use Rattle.std.proofs.lemmas.List.{length-take-le, get_or-take}
 use Rattle.slice_decoder.specs.Components.{Part, part_of, quantisers_before}
 use Rattle.slice_decoder.specs.Narrow.{block_values}
@@ -51,7 +51,7 @@ returns-clause-answer c =
     → get_or (take n c.read_values.new.buffer) j (pos 0) ≡ get_or (block_values 2 part c.args.block.now) j (pos 0) =
     λ j lt. get_or-take n c.read_values.new.buffer j (pos 0) (omega (arith, lt, count))
     ∙ c.read_values.ensures.values c.if-not-read_values.false j (omega (arith, lt, count)) in (
-      all-small (block_values 2 part c.args.block.now) n c.read_values.result c.if-not-read_values.false
+      all-small (2 ^ 18) (block_values 2 part c.args.block.now) n c.read_values.result (omega arith) c.if-not-read_values.false
           (omega (arith, count, length-dealt c.args.block.now (quantisers_before 2 part total))) c.read_values.ensures.within,
       (
         takes-hold 2 0 part total c.args.block.now (take n c.read_values.new.buffer) c.args.first.now c.put_colour.new.first

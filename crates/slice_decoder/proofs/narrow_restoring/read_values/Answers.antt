@@ -10,7 +10,7 @@ use Rattle.slice_decoder.proofs.narrow_restoring.read_values.Goals as goal
 pub returns-then-not-narrow_values-clause-within : goal.returns-then-not-narrow_values-clause-within
 returns-then-not-narrow_values-clause-within c =
     let part : Part = part_of c.args.layout.now c.args.size c.args.place.sx c.args.place.sy c.args.matrix.now c.args.place.qindex in
-    wide-dealt c.args.each part c.args.count (3 * c.args.layout.now.depth + 1) c.args.block.now c.requires.qindex
+    wide-dealt (2 ^ 18) c.args.each part c.args.count (3 * c.args.layout.now.depth + 1) c.args.block.now c.requires.qindex
     (count_is c.args.each part c.args.count c.requires.count)
     (λ all. absurd (let yes = c.narrow_values.ensures.within.1 all in cc))
 

@@ -19,7 +19,7 @@ restore_band-requires-clause-inside c =
     let first : IsBand part.matrix part.qindex c.args.each part 0 (c.args.each * c.area_of.result) =
     is-band c.args.each part c.args.rects.now 0 0 c.area_of.result c.requires.rects c.requires.entries (omega arith) (omega arith) c.area_of.ensures.area in
     let room = band_room part.matrix part.qindex c.args.each part 0 0 (c.args.each * c.area_of.result) (length c.args.values.now) first (omega arith)
-    (none-restored c.args.each part c.args.values.now).from_is c.requires.count in
+    (none-restored (2 ^ 18) c.args.each part c.args.values.now).from_is c.requires.count in
     room.0
 
 pub returns-then-not-restore_band-clause-within : goal.returns-then-not-restore_band-clause-within
@@ -27,7 +27,7 @@ returns-then-not-restore_band-clause-within c =
     let part : Part = part_of c.args.layout.now c.args.size c.args.place.sx c.args.place.sy c.args.matrix.now c.args.place.qindex in
     let first : IsBand part.matrix part.qindex c.args.each part 0 (c.args.each * c.area_of.result) =
     is-band c.args.each part c.args.rects.now 0 0 c.area_of.result c.requires.rects c.requires.entries (omega arith) (omega arith) c.area_of.ensures.area in
-    c.restore_band.ensures.stopped c.if-not-restore_band.true c.args.each part c.args.values.now first (none-restored c.args.each part c.args.values.now)
+    c.restore_band.ensures.stopped c.if-not-restore_band.true c.args.each part c.args.values.now first (none-restored (2 ^ 18) c.args.each part c.args.values.now)
 
 pub loop-level-init : goal.loop-level-init
 loop-level-init c =
@@ -38,8 +38,8 @@ loop-level-init c =
     let one : 0 + 1 ≡ 1 = omega arith in
     let from : 0 + count ≡ count = omega arith in
     record {
-      held = restored-at c.args.each part (0 + 1) 1 (0 + count) count c.args.values.now c.restore_band.new.values one from
-          (c.restore_band.ensures.more c.if-not-restore_band.false c.args.each part c.args.values.now first (none-restored c.args.each part c.args.values.now));
+      held = restored-at (2 ^ 18) c.args.each part (0 + 1) 1 (0 + count) count c.args.values.now c.restore_band.new.values one from
+          (c.restore_band.ensures.more c.if-not-restore_band.false c.args.each part c.args.values.now first (none-restored (2 ^ 18) c.args.each part c.args.values.now));
     }
 
 pub restore_level-requires-clause-inside : goal.restore_level-requires-clause-inside
@@ -107,7 +107,7 @@ loop-level-preserved c =
     let next : 3 * l.level + 1 + 3 ≡ 3 * (l.level + 1) + 1 = omega arith in
     let from : ℕ = l.from + 3 * (c.args.each * n) in
     record {
-      held = restored-at c.args.each part (3 * l.level + 1 + 3) (3 * (l.level + 1) + 1) from from c.args.values.now c.restore_level.new.values next refl
+      held = restored-at (2 ^ 18) c.args.each part (3 * l.level + 1 + 3) (3 * (l.level + 1) + 1) from from c.args.values.now c.restore_level.new.values next refl
           (c.restore_level.ensures.more c.if-not-restore_level.false c.args.each part c.args.values.now are l.invariant.held);
     }
 

@@ -1,4 +1,4 @@
-use Rattle.std.proofs.Common.{◌+◌, ◌*◌}
+use Rattle.std.proofs.Common.{◌+◌, ◌*◌, ◌^◌}
 use Rattle.slice_decoder.specs.Components.{Part}
 use Rattle.slice_decoder.specs.RestoredBands.{IsRestoredTo}
 use Rattle.slice_decoder.proofs.narrow_restoring.restore_block.Given as goal
@@ -6,4 +6,4 @@ use Rattle.slice_decoder.proofs.narrow_restoring.restore_block.Given as goal
 abbrev pub invariant-loop-level : goal.invariant-loop-level
 invariant-loop-level l =
     let part : Part = record { slicing = l.layout; size = l.fn.size; sx = l.fn.place.sx; sy = l.fn.place.sy; matrix = l.matrix; qindex = l.fn.place.qindex } in
-    record { held : IsRestoredTo l.each part (3 * l.level + 1) l.from l.fn.values l.values }
+    record { held : IsRestoredTo (2 ^ 18) l.each part (3 * l.level + 1) l.from l.fn.values l.values }

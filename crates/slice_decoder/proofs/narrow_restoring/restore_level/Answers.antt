@@ -40,9 +40,9 @@ returns-clause-more c good each p vs are held =
     let three : k + 2 + 1 ≡ k + 3 = omega arith in
     let all : from + n + n + n ≡ from + 3 * n = omega arith in
     let first = c.restore_band.ensures.more c.if-not-restore_band.false each p vs are.first held in
-    let second = restored-at each p (k + 1 + 1) (k + 2) (from + n + n) (from + n + n) vs c.restore_band-2.new.values two refl
+    let second = restored-at (2 ^ 18) each p (k + 1 + 1) (k + 2) (from + n + n) (from + n + n) vs c.restore_band-2.new.values two refl
     (c.restore_band-2.ensures.more c.if-not-restore_band-2.false each p vs are.second first) in
-    restored-at each p (k + 2 + 1) (k + 3) (from + n + n + n) (from + 3 * n) vs c.restore_band-3.new.values three all
+    restored-at (2 ^ 18) each p (k + 2 + 1) (k + 3) (from + n + n + n) (from + 3 * n) vs c.restore_band-3.new.values three all
     (c.restore_band-3.ensures.more good each p vs are.third second)
 
 pub returns-clause-stopped : goal.returns-clause-stopped
@@ -50,7 +50,7 @@ returns-clause-stopped c bad each p vs are held =
     let k = c.args.k in
     let n = c.args.count in
     let two : k + 1 + 1 ≡ k + 2 = omega arith in
-    let second = restored-at each p (k + 1 + 1) (k + 2) (c.args.from + n + n) (c.args.from + n + n) vs c.restore_band-2.new.values two refl
+    let second = restored-at (2 ^ 18) each p (k + 1 + 1) (k + 2) (c.args.from + n + n) (c.args.from + n + n) vs c.restore_band-2.new.values two refl
     (c.restore_band-2.ensures.more c.if-not-restore_band-2.false each p vs are.second
     (c.restore_band.ensures.more c.if-not-restore_band.false each p vs are.first held)) in
     c.restore_band-3.ensures.stopped bad each p vs are.third second

@@ -7,46 +7,61 @@ use Rattle.slice_decoder.specs.Dealing.{HoldsRect}
 use Rattle.slice_decoder.proofs.ShortTakes.{laid-of, whole-values, number-inside, short-narrow, lowest-room, lowest-fits, lowest-low, rest-same, bands_take, cut-after}
 use Rattle.slice_decoder.proofs.short.put_colour.Goals as goal
 
-pub put_rects-requires-clause-across : goal.put_rects-requires-clause-across
-put_rects-requires-clause-across c =
+pub put_lowest-requires-clause-across : goal.put_lowest-requires-clause-across
+put_lowest-requires-clause-across c =
     (lowest-low c.args.layout.now c.args.size c.args.place.sx c.args.place.sy c.args.rects.now c.lowest_of-rect.result c.requires.rects
     (c.lowest_of-rect.ensures c.args.layout.now c.args.size c.args.place.sx c.args.place.sy c.requires.rects)).across
 
-pub put_rects-requires-clause-down : goal.put_rects-requires-clause-down
-put_rects-requires-clause-down c =
+pub put_lowest-requires-clause-down : goal.put_lowest-requires-clause-down
+put_lowest-requires-clause-down c =
     (lowest-low c.args.layout.now c.args.size c.args.place.sx c.args.place.sy c.args.rects.now c.lowest_of-rect.result c.requires.rects
     (c.lowest_of-rect.ensures c.args.layout.now c.args.size c.args.place.sx c.args.place.sy c.requires.rects)).down
 
-pub put_rects-requires-clause-first_x_inside : goal.put_rects-requires-clause-first_x_inside
-put_rects-requires-clause-first_x_inside c =
+pub put_lowest-requires-clause-x_inside : goal.put_lowest-requires-clause-x_inside
+put_lowest-requires-clause-x_inside c =
     (lowest-fits c.args.layout.now c.args.size c.args.first.now c.args.place.sx c.args.place.sy c.lowest_of-rect.result c.requires.first_cut
     (c.lowest_of-rect.ensures c.args.layout.now c.args.size c.args.place.sx c.args.place.sy c.requires.rects) c.requires.across c.requires.down).x_inside
 
-pub put_rects-requires-clause-first_y_inside : goal.put_rects-requires-clause-first_y_inside
-put_rects-requires-clause-first_y_inside c =
+pub put_lowest-requires-clause-y_inside : goal.put_lowest-requires-clause-y_inside
+put_lowest-requires-clause-y_inside c =
     (lowest-fits c.args.layout.now c.args.size c.args.first.now c.args.place.sx c.args.place.sy c.lowest_of-rect.result c.requires.first_cut
     (c.lowest_of-rect.ensures c.args.layout.now c.args.size c.args.place.sx c.args.place.sy c.requires.rects) c.requires.across c.requires.down).y_inside
 
-pub put_rects-requires-clause-second_x_inside : goal.put_rects-requires-clause-second_x_inside
-put_rects-requires-clause-second_x_inside c =
-    (lowest-fits c.args.layout.now c.args.size c.args.second.now c.args.place.sx c.args.place.sy c.lowest_of-rect.result c.requires.second_cut
-    (c.lowest_of-rect.ensures c.args.layout.now c.args.size c.args.place.sx c.args.place.sy c.requires.rects) c.requires.across c.requires.down).x_inside
-
-pub put_rects-requires-clause-second_y_inside : goal.put_rects-requires-clause-second_y_inside
-put_rects-requires-clause-second_y_inside c =
-    (lowest-fits c.args.layout.now c.args.size c.args.second.now c.args.place.sx c.args.place.sy c.lowest_of-rect.result c.requires.second_cut
-    (c.lowest_of-rect.ensures c.args.layout.now c.args.size c.args.place.sx c.args.place.sy c.requires.rects) c.requires.across c.requires.down).y_inside
-
-pub put_rects-requires-clause-room : goal.put_rects-requires-clause-room
-put_rects-requires-clause-room c =
+pub put_lowest-requires-clause-room : goal.put_lowest-requires-clause-room
+put_lowest-requires-clause-room c =
     omega (
       arith,
       lowest-room 2 c.args.layout.now c.args.size c.args.place.sx c.args.place.sy (length c.args.values.now) c.lowest_of-rect.result
           (c.lowest_of-rect.ensures c.args.layout.now c.args.size c.args.place.sx c.args.place.sy c.requires.rects) c.requires.count,
     )
 
-pub put_rects-requires-clause-narrow : goal.put_rects-requires-clause-narrow
-put_rects-requires-clause-narrow c = short-narrow c.args.values.now c.requires.short
+pub put_lowest-requires-2-clause-across : goal.put_lowest-requires-2-clause-across
+put_lowest-requires-2-clause-across c =
+    (lowest-low c.args.layout.now c.args.size c.args.place.sx c.args.place.sy c.args.rects.now c.lowest_of-rect.result c.requires.rects
+    (c.lowest_of-rect.ensures c.args.layout.now c.args.size c.args.place.sx c.args.place.sy c.requires.rects)).across
+
+pub put_lowest-requires-2-clause-down : goal.put_lowest-requires-2-clause-down
+put_lowest-requires-2-clause-down c =
+    (lowest-low c.args.layout.now c.args.size c.args.place.sx c.args.place.sy c.args.rects.now c.lowest_of-rect.result c.requires.rects
+    (c.lowest_of-rect.ensures c.args.layout.now c.args.size c.args.place.sx c.args.place.sy c.requires.rects)).down
+
+pub put_lowest-requires-2-clause-x_inside : goal.put_lowest-requires-2-clause-x_inside
+put_lowest-requires-2-clause-x_inside c =
+    (lowest-fits c.args.layout.now c.args.size c.args.second.now c.args.place.sx c.args.place.sy c.lowest_of-rect.result c.requires.second_cut
+    (c.lowest_of-rect.ensures c.args.layout.now c.args.size c.args.place.sx c.args.place.sy c.requires.rects) c.requires.across c.requires.down).x_inside
+
+pub put_lowest-requires-2-clause-y_inside : goal.put_lowest-requires-2-clause-y_inside
+put_lowest-requires-2-clause-y_inside c =
+    (lowest-fits c.args.layout.now c.args.size c.args.second.now c.args.place.sx c.args.place.sy c.lowest_of-rect.result c.requires.second_cut
+    (c.lowest_of-rect.ensures c.args.layout.now c.args.size c.args.place.sx c.args.place.sy c.requires.rects) c.requires.across c.requires.down).y_inside
+
+pub put_lowest-requires-2-clause-room : goal.put_lowest-requires-2-clause-room
+put_lowest-requires-2-clause-room c =
+    omega (
+      arith,
+      lowest-room 2 c.args.layout.now c.args.size c.args.place.sx c.args.place.sy (length c.args.values.now) c.lowest_of-rect.result
+          (c.lowest_of-rect.ensures c.args.layout.now c.args.size c.args.place.sx c.args.place.sy c.requires.rects) c.requires.count,
+    )
 
 pub put_every-requires-clause-inside : goal.put_every-requires-clause-inside
 put_every-requires-clause-inside c = number-inside c.args.layout.now c.args.size c.args.first.now c.number_of-n.result c.requires.first_cut c.number_of-n.ensures.inside
@@ -75,16 +90,16 @@ returns-clause-first c =
     let there = subst (λ (n : ℕ). n * k + k ≤ length old.slices.numbers) number c.put_every.ensures.there in
     let with : c.put_every.new.self ≡ with_run old.slices (sy * s.slices_x + sx) (every 2 0 k values) = c.put_every.ensures.value ∙ ap (λ (n : ℕ). with_run old.slices n (every 2 0 k values)) number in
     let rect_is = c.lowest_of-rect.ensures s size sx sy c.requires.rects in
-    let takes = bands_take 2 0 s size old sx sy values c.put_rects.new.first c.put_every.new.self c.requires.across c.requires.down
+    let takes = bands_take 2 0 s size old sx sy values c.put_lowest.new.plane c.put_every.new.self c.requires.across c.requires.down
     (laid-of s size old c.requires.first_cut c.shows.ensures.sound) there
-    (subst (λ (r : Rect). HoldsRect 2 0 r (drop 0 values) old.lowest c.put_rects.new.first) rect_is c.put_rects.ensures.first)
+    (subst (λ (r : Rect). HoldsRect 2 0 r (drop 0 values) old.lowest c.put_lowest.new.plane) rect_is c.put_lowest.ensures)
     with in
     takes
 
 pub returns-clause-first_rest : goal.returns-clause-first_rest
 returns-clause-first_rest c =
     let old = c.args.first.now in
-    rest-same c.args.layout.now old (record { lowest = c.put_rects.new.first; slices = c.put_every.new.self }) c.requires.first_cut.depth (ap (λ (t : Slices ℤ). t.depth) c.put_every.ensures.value ∙ c.requires.first_cut.depth)
+    rest-same c.args.layout.now old (record { lowest = c.put_lowest.new.plane; slices = c.put_every.new.self }) c.requires.first_cut.depth (ap (λ (t : Slices ℤ). t.depth) c.put_every.ensures.value ∙ c.requires.first_cut.depth)
 
 pub returns-clause-first_cut : goal.returns-clause-first_cut
 returns-clause-first_cut c =
@@ -99,11 +114,11 @@ returns-clause-first_cut c =
     let there = subst (λ (n : ℕ). n * k + k ≤ length old.slices.numbers) number c.put_every.ensures.there in
     let with : c.put_every.new.self ≡ with_run old.slices (sy * s.slices_x + sx) (every 2 0 k values) = c.put_every.ensures.value ∙ ap (λ (n : ℕ). with_run old.slices n (every 2 0 k values)) number in
     let rect_is = c.lowest_of-rect.ensures s size sx sy c.requires.rects in
-    let takes = bands_take 2 0 s size old sx sy values c.put_rects.new.first c.put_every.new.self c.requires.across c.requires.down
+    let takes = bands_take 2 0 s size old sx sy values c.put_lowest.new.plane c.put_every.new.self c.requires.across c.requires.down
     (laid-of s size old c.requires.first_cut c.shows.ensures.sound) there
-    (subst (λ (r : Rect). HoldsRect 2 0 r (drop 0 values) old.lowest c.put_rects.new.first) rect_is c.put_rects.ensures.first)
+    (subst (λ (r : Rect). HoldsRect 2 0 r (drop 0 values) old.lowest c.put_lowest.new.plane) rect_is c.put_lowest.ensures)
     with in
-    cut-after 2 0 s size old sx sy c.lowest_of-rect.result values c.put_rects.new.first c.put_every.new.self c.requires.first_cut takes c.put_rects.ensures.first
+    cut-after 2 0 s size old sx sy c.lowest_of-rect.result values c.put_lowest.new.plane c.put_every.new.self c.requires.first_cut takes c.put_lowest.ensures
     (short-narrow values c.requires.short) (c.put_every.ensures.value ∙ ap (λ (ns : List ℤ). record old.slices { numbers = ns }) (sym (ap (λ (t : Slices ℤ). t.numbers) c.put_every.ensures.value)))
 
 pub returns-clause-second : goal.returns-clause-second
@@ -119,16 +134,16 @@ returns-clause-second c =
     let there = subst (λ (n : ℕ). n * k + k ≤ length old.slices.numbers) number c.put_every-2.ensures.there in
     let with : c.put_every-2.new.self ≡ with_run old.slices (sy * s.slices_x + sx) (every 2 1 k values) = c.put_every-2.ensures.value ∙ ap (λ (n : ℕ). with_run old.slices n (every 2 1 k values)) number in
     let rect_is = c.lowest_of-rect.ensures s size sx sy c.requires.rects in
-    let takes = bands_take 2 1 s size old sx sy values c.put_rects.new.second c.put_every-2.new.self c.requires.across c.requires.down
+    let takes = bands_take 2 1 s size old sx sy values c.put_lowest-2.new.plane c.put_every-2.new.self c.requires.across c.requires.down
     (laid-of s size old c.requires.second_cut c.shows-2.ensures.sound) there
-    (subst (λ (r : Rect). HoldsRect 2 1 r (drop 0 values) old.lowest c.put_rects.new.second) rect_is c.put_rects.ensures.second)
+    (subst (λ (r : Rect). HoldsRect 2 1 r (drop 0 values) old.lowest c.put_lowest-2.new.plane) rect_is c.put_lowest-2.ensures)
     with in
     takes
 
 pub returns-clause-second_rest : goal.returns-clause-second_rest
 returns-clause-second_rest c =
     let old = c.args.second.now in
-    rest-same c.args.layout.now old (record { lowest = c.put_rects.new.second; slices = c.put_every-2.new.self }) c.requires.second_cut.depth (ap (λ (t : Slices ℤ). t.depth) c.put_every-2.ensures.value ∙ c.requires.second_cut.depth)
+    rest-same c.args.layout.now old (record { lowest = c.put_lowest-2.new.plane; slices = c.put_every-2.new.self }) c.requires.second_cut.depth (ap (λ (t : Slices ℤ). t.depth) c.put_every-2.ensures.value ∙ c.requires.second_cut.depth)
 
 pub returns-clause-second_cut : goal.returns-clause-second_cut
 returns-clause-second_cut c =
@@ -143,9 +158,9 @@ returns-clause-second_cut c =
     let there = subst (λ (n : ℕ). n * k + k ≤ length old.slices.numbers) number c.put_every-2.ensures.there in
     let with : c.put_every-2.new.self ≡ with_run old.slices (sy * s.slices_x + sx) (every 2 1 k values) = c.put_every-2.ensures.value ∙ ap (λ (n : ℕ). with_run old.slices n (every 2 1 k values)) number in
     let rect_is = c.lowest_of-rect.ensures s size sx sy c.requires.rects in
-    let takes = bands_take 2 1 s size old sx sy values c.put_rects.new.second c.put_every-2.new.self c.requires.across c.requires.down
+    let takes = bands_take 2 1 s size old sx sy values c.put_lowest-2.new.plane c.put_every-2.new.self c.requires.across c.requires.down
     (laid-of s size old c.requires.second_cut c.shows-2.ensures.sound) there
-    (subst (λ (r : Rect). HoldsRect 2 1 r (drop 0 values) old.lowest c.put_rects.new.second) rect_is c.put_rects.ensures.second)
+    (subst (λ (r : Rect). HoldsRect 2 1 r (drop 0 values) old.lowest c.put_lowest-2.new.plane) rect_is c.put_lowest-2.ensures)
     with in
-    cut-after 2 1 s size old sx sy c.lowest_of-rect.result values c.put_rects.new.second c.put_every-2.new.self c.requires.second_cut takes c.put_rects.ensures.second
+    cut-after 2 1 s size old sx sy c.lowest_of-rect.result values c.put_lowest-2.new.plane c.put_every-2.new.self c.requires.second_cut takes c.put_lowest-2.ensures
     (short-narrow values c.requires.short) (c.put_every-2.ensures.value ∙ ap (λ (ns : List ℤ). record old.slices { numbers = ns }) (sym (ap (λ (t : Slices ℤ). t.numbers) c.put_every-2.ensures.value)))

@@ -1,4 +1,4 @@
-use Rattle.std.proofs.Common.{◌≡◌, ℕ, ◌+◌, ◌*◌, ◌<◌, length, take, get_or, pos, ◌∙◌, inl, arith}
+use Rattle.std.proofs.Common.{◌≡◌, ℕ, ◌+◌, ◌-◌, ◌*◌, ◌^◌, ◌<◌, length, take, get_or, pos, ◌∙◌, inl, arith}
 use Rattle.std.proofs.lemmas.List.{length-take-le, get_or-take}
 use Rattle.slice_decoder.specs.Components.{Part, part_of, quantisers_before}
 use Rattle.slice_decoder.specs.Narrow.{block_values}
@@ -6,7 +6,7 @@ use Rattle.slice_decoder.proofs.Dealt.{length-dealt}
 use Rattle.slice_decoder.proofs.LevelLemmas.{length-places, places_all}
 use Rattle.slice_decoder.proofs.Placed.{takes-hold, takes-keep}
 use Rattle.slice_decoder.proofs.NarrowBands.{all-small, nothing-read}
-use Rattle.slice_decoder.proofs.ShortTakes.{short-needs-more, short-passed}
+use Rattle.slice_decoder.proofs.ShortTakes.{short-needs-more, short-values}
 use Rattle.slice_bands.specs.ShortBands.{short_stack}
 use Rattle.slice_decoder.proofs.short.read_luma.Goals as goal
 
@@ -45,7 +45,7 @@ returns-clause-answer c =
     → get_or (take n c.read_values.new.buffer) j (pos 0) ≡ get_or (block_values 1 part c.args.block.now) j (pos 0) =
     λ j lt. get_or-take n c.read_values.new.buffer j (pos 0) (omega (arith, lt, count))
     ∙ c.read_values.ensures.values c.if-not-read_values.false j (omega (arith, lt, count)) in (
-      all-small (block_values 1 part c.args.block.now) n c.read_values.result c.if-not-read_values.false
+      all-small (2 ^ 14 - 1) (block_values 1 part c.args.block.now) n c.read_values.result (omega arith) c.if-not-read_values.false
           (omega (arith, count, length-dealt c.args.block.now (quantisers_before 1 part total))) c.read_values.ensures.within,
       takes-hold 1 0 part total c.args.block.now (take n c.read_values.new.buffer) (short_stack c.args.bands.now) (short_stack c.put_luma.new.bands)
           (omega arith) agree c.put_luma.ensures.takes,
@@ -58,15 +58,12 @@ returns-clause-keeps c =
     takes-keep 1 0 part total (take c.count_places-count.result c.read_values.new.buffer) (short_stack c.args.bands.now) (short_stack c.put_luma.new.bands) c.put_luma.ensures.takes
     c.put_luma.ensures.rest
 
-pub returns-then-not-are_short-clause-keeps : goal.returns-then-not-are_short-clause-keeps
-returns-then-not-are_short-clause-keeps c =
-    nothing-read (part_of c.args.layout.now c.args.size c.args.place.sx c.args.place.sy c.args.matrix.now c.args.place.qindex) (short_stack c.args.bands.now)
-
-pub returns-then-not-are_short-clause-answer : goal.returns-then-not-are_short-clause-answer
-returns-then-not-are_short-clause-answer c =
+pub put_luma-requires-clause-short : goal.put_luma-requires-clause-short
+put_luma-requires-clause-short c =
     let part : Part = part_of c.args.layout.now c.args.size c.args.place.sx c.args.place.sy c.args.matrix.now c.args.place.qindex in
     let n : ℕ = c.count_places-count.result in
     let out = c.read_values.new.buffer in
+    let good = c.if-not-read_values.false in
     let long : length (take n out) ≡ n = length-take-le n out (omega (arith, c.read_values.auto.buffer, c.if-count-buffer.false)) in
-    short-passed (length c.args.buffer.now) n (block_values 1 part c.args.block.now) (take n out) c.are_short.result c.if-not-are_short.true c.are_short.ensures long
-    (λ k lt. get_or-take n out k (pos 0) lt ∙ c.read_values.ensures.values c.if-not-read_values.false k lt)
+    short-values n (block_values 1 part c.args.block.now) (take n out) c.read_values.result good c.read_values.ensures.within long
+    (λ k lt. get_or-take n out k (pos 0) lt ∙ c.read_values.ensures.values good k lt)

@@ -1,7 +1,7 @@
 use Rattle.std.proofs.Common.{◌≡◌, ℕ, ◌<◌, ◌≤◌}
 use Rattle.planes.specs.Valued.{valued}
 use Rattle.lifting.specs.Steps.{step}
-use Rattle.lifting.proofs.lifted.lift_places.Given as goal
+use Rattle.lifting.proofs.lifted.lift_each.Given as goal
 
 abbrev pub invariant-loop-i : goal.invariant-loop-i
 invariant-loop-i g l =

@@ -1,0 +1,153 @@
+//! Slices of 16 bits gathered into rows of 16 bits.
+
+ghost use Rattle.std.specs.Prelude.{◌≡◌, ◌↔◌, ℕ, ◌+◌, ◌*◌, ◌^◌, ◌<◌, ◌≤◌, length, slice_index_or, pos, true, false};
+ghost use Rattle.planes.specs.Bounded.{IsWithin, IsPlaneWithin};
+ghost use Rattle.planes.specs.Raster.{height};
+ghost use Rattle.planes.specs.Subbands.{BandExists, band_of, AgreeInSizes};
+ghost use Rattle.slice_bands.specs.declared.short.TheConstants.{MAX_SHORT};
+ghost use Rattle.slice_bands.specs.Places.{part_h};
+ghost use Rattle.slice_bands.specs.Short.{shorts_of, ShowTheSame, HaveRows, HaveStrips};
+ghost use Rattle.slice_bands.specs.ShortBands.{short_stack, IsShortSound};
+
+use crate::short::band_at;
+use crate::{MAX_SHORT, ShortBands, SliceBands};
+use planes::{Bands, NarrowPlane, Plane};
+
+// Gives a row the numbers of another.
+#[inline(always)]
+fn take_row(to: &mut [i16], row: &[i16])
+    requires { length row.now ≡ length to.old }
+    ensures value { (x : ℕ) → x < length to.old → slice_index_or to.new x (pos 0) ≡ slice_index_or row.now x (pos 0) }
+    ensures within { (x : ℕ) → x < length to.old → IsWithin (pos (2 ^ 18)) (slice_index_or to.new x (pos 0)) }
+{
+    for x in 0..to.len() {
+        to[x] = row[x];
+    }
+}
+
+// Gives a row of 16 bits the numbers of a row of 32, which fit.
+fn narrow_row(to: &mut [i16], row: &[i32])
+    requires len { length row.now ≡ length to.old }
+    requires short { (k : ℕ) → k < length row.now → IsWithin MAX_SHORT (slice_index_or row.now k (pos 0)) }
+    ensures { to.new ≡ row.now }
+{
+    for x in 0..to.len() {
+        to[x] = row[x] as i16;
+    }
+}
+
+// Whether a magnitude doesn't pass `MAX_SHORT`.
+#[inline(always)]
+fn is_short(v: i32) -> bool
+    ensures { (result ≡ true) ↔ IsWithin MAX_SHORT v }
+{
+    -MAX_SHORT <= v && v <= MAX_SHORT
+}
+
+// Whether no magnitude passes `MAX_SHORT`. All are looked at, with no branch for each.
+fn are_short(values: &[i32]) -> bool
+    ensures { (result ≡ true)
+        ↔ ((k : ℕ) → k < length values.now → IsWithin MAX_SHORT (slice_index_or values.now k (pos 0))) }
+{
+    let mut all = true;
+    for k in 0..values.len() {
+        all = all & is_short(values[k]);
+    }
+    all
+}
+
+// Whether no magnitude in a plane passes `MAX_SHORT`.
+fn is_short_plane(plane: &NarrowPlane) -> bool
+    ensures { result ≡ true → IsPlaneWithin MAX_SHORT plane.now }
+{
+    for y in 0..plane.h() {
+        if !are_short(plane.row(y)) {
+            return false;
+        }
+    }
+    true
+}
+
+// Gives a plane of 16 bits the numbers of a plane of 32, which fit.
+fn narrow_plane(to: &mut Plane<i16>, from: &NarrowPlane)
+    requires same_width { from.now.w ≡ to.old.w }
+    requires same_height { height from.now ≡ height to.old }
+    requires short { IsPlaneWithin MAX_SHORT from.now }
+    ensures { to.new ≡ from.now }
+{
+    for y in 0..to.h() {
+        narrow_row(to.row_mut(y), from.row(y));
+    }
+}
+
+impl SliceBands<i16> {
+    // Gives a plane the rows that a strip of slices has in a band, by a row.
+    fn gather_rows(&self, level: u32, orient: u32, sy: u32, plane: &mut Plane<i16>, row: &mut [i16])
+        requires exists { BandExists self.now.depth level orient }
+        requires strip { sy < self.now.down }
+        requires room { length row.old ≡ plane.old.w }
+        requires before { HaveRows (band_of (shorts_of self.now) level orient) plane.old (sy * part_h self.now level) }
+        ensures { HaveRows (band_of (shorts_of self.now) level orient) plane.new ((sy + 1) * part_h self.now level) }
+    {
+        self.shows();
+        let h = self.part_h(level) as u32;
+        for y in sy * h..(sy + 1) * h {
+            self.copy_row(level, orient, y, row);
+            take_row(plane.row_mut(y), row);
+        }
+    }
+
+    // The same in all bands.
+    fn gather_strip(&self, sy: u32, bands: &mut Bands<i16>, row: &mut [i16])
+        requires strip { sy < self.now.down }
+        requires depth { bands.old.depth ≡ self.now.depth }
+        requires room { self.now.across * self.now.sw ≤ length row.old }
+        requires before { HaveStrips self.now bands.old sy }
+        ensures depth { bands.new.depth ≡ self.now.depth }
+        ensures strips { HaveStrips self.now bands.new (sy + 1) }
+    {
+        for k in 0..3 * self.depth + 1 {
+            let (level, orient) = band_at(k);
+            let w = self.row_length(level);
+            self.gather_rows(
+                level,
+                orient,
+                sy,
+                bands.band_mut(level, orient),
+                &mut row[..w],
+            );
+        }
+    }
+
+    // Gives bands of rows the numbers of these, by a row.
+    fn gather(&self, bands: &mut Bands<i16>, row: &mut [i16])
+        requires sizes { AgreeInSizes (shorts_of self.now) bands.old }
+        requires room { self.now.across * self.now.sw ≤ length row.old }
+        ensures same { ShowTheSame (shorts_of self.now) bands.new }
+    {
+        // Strip by strip, so that each line of memory is read once.
+        for sy in 0..self.down {
+            self.gather_strip(sy, bands, row);
+        }
+    }
+}
+
+impl ShortBands {
+    /// Gives bands of rows the numbers of these, by a row. It answers false, and leaves the bands, where a magnitude of the
+    /// lowest band passes `MAX_SHORT`.
+    pub fn gather(&self, bands: &mut Bands<i16>, row: &mut [i16]) -> bool
+        requires sound { IsShortSound self.now }
+        requires sizes { AgreeInSizes (short_stack self.now) bands.old }
+        requires room { self.now.slices.across * self.now.slices.sw ≤ length row.old }
+        ensures same { result ≡ true → ShowTheSame (short_stack self.now) bands.new }
+        ensures left { result ≡ false → bands.new ≡ bands.old }
+    {
+        if !is_short_plane(&self.lowest) {
+            return false;
+        }
+        self.slices.shows();
+        self.slices.gather(bands, row);
+        narrow_plane(bands.band_mut(0, 0), &self.lowest);
+        true
+    }
+}

@@ -1,0 +1,10 @@
+use Rattle.std.proofs.Common.{◌≡◌, ◌-◌, ◌*◌, ◌≤◌, drop}
+use Rattle.slice_decoder.proofs.Rects.{RowsHold}
+use Rattle.slice_decoder.proofs.short.put_lowest.Given as goal
+
+abbrev pub invariant-loop-y : goal.invariant-loop-y
+invariant-loop-y g l = record {
+  begun : l.fn.rect.y0 ≤ l.y;
+  place : l.place ≡ g.row.EACH * ((l.y - l.fn.rect.y0) * (l.fn.rect.x1 - l.fn.rect.x0));
+  rows : RowsHold g.row.EACH l.from l.fn.rect l.y (drop 0 l.values) l.fn.plane l.plane;
+}
