@@ -11,10 +11,10 @@ use Rattle.quant_factors.specs.Factors.{forward_of, factor_of}
 use Rattle.quant_factors.proofs.QuantLemmas.{abs-signed}
 use Rattle.bounded_blocks.proofs.Needs.{code-zero}
 use Rattle.planes.specs.Numbers.{Within}
-use Rattle.slice_encoder.specs.Gathering.{with_code}
+use Rattle.slice_encoder.specs.Gathering.{with_code, AreSizes}
 use Rattle.slice_encoder.proofs.CountedBits.{one_code-most}
 use Rattle.slice_encoder.proofs.Gathers.{value_small}
-use Rattle.slice_encoder.specs.CodeLengths.{code_length}
+use Rattle.slice_encoder.specs.CodeLengths.{code_length, IsRow}
 use Rattle.slice_encoder.proofs.Reaches.{code_rises, code_long}
 
 same_length : (v w : ℤ) → unsigned_abs v ≡ unsigned_abs w → length (signed_code_of v) ≡ length (signed_code_of w)
@@ -26,6 +26,14 @@ forward_abs v q = abs-signed v (4 * unsigned_abs v / factor_of q)
 
 pub by_magnitude : (q : ℕ) (v : ℤ) → code_length q v ≡ code_length q (pos (unsigned_abs v))
 by_magnitude q v = same_length (forward_of v q) (forward_of (pos (unsigned_abs v)) q) (forward_abs v q ∙ sym (forward_abs (pos (unsigned_abs v)) q))
+
+-- a coefficient by its magnitude's entry in a row
+pub size_counts : (q : ℕ) (row sizes : List ℕ) (vs : List ℤ) → IsRow q row → length row ≡ 512 → AreSizes sizes vs
+    → (p : ℕ) → p < length vs → slice_index_or row (slice_index_or sizes p 0) 0 ≡ code_length q (get_or vs p (pos 0))
+size_counts q row sizes vs is entries sized p inside =
+    is (slice_index_or sizes p 0) (omega (arith, entries, sized.few p inside))
+    ∙ ap (λ (n : ℕ). code_length q (pos n)) (sized.magnitudes p inside)
+    ∙ sym (by_magnitude q (get_or vs p (pos 0)))
 
 -- a value of one bit is 0
 one_bit : (v : ℤ) → length (signed_code_of v) ≡ 1 → unsigned_abs v ≡ 0

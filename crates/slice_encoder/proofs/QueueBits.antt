@@ -1,12 +1,12 @@
 -- Bits that are put into bytes one after another.
-use Rattle.std.proofs.Common.{◌≡◌, ◌∙◌, refl, sym, ap, subst, ℕ, zero, suc, ◌+◌, ◌-◌, ◌*◌, ◌/◌, ◌%◌, ◌^◌, ◌<◌, ◌≤◌, min, Bool, true, false, List, [], ◌∷◌, ◌++◌, length, take, replicate, bit_and, slice_set, append_assoc, arith, inl, inr}
-use Rattle.std.specs.Int.{bit_at}
+use Rattle.std.proofs.Common.{◌≡◌, ◌∙◌, refl, sym, ap, subst, ℕ, zero, suc, ◌+◌, ◌-◌, ◌*◌, ◌/◌, ◌%◌, ◌^◌, ◌<◌, ◌≤◌, min, Bool, true, false, List, [], ◌∷◌, ◌++◌, length, take, drop, replicate, bit_and, slice_set, append_assoc, arith, inl, inr}
+use Rattle.std.specs.Int.{bit_at, byte_at, bytes_high_first}
 use Rattle.std.specs.Prelude.{◌==◌}
 use Rattle.std.proofs.lemmas.Bool.{cases_lt}
 use Rattle.std.proofs.lemmas.Nat.{pow-add, pow_pos, shr_split, div_below, mul-add-lt}
 use Rattle.std.proofs.lemmas.Nat.Bits.{bit_at_cat_low, bit_at_cat_high, bit_at_ones, bit_at-lt, shr_and_one}
-use Rattle.std.proofs.lemmas.List.{take_all, take_more_set}
-use Rattle.std.proofs.Math.Seq.{take-append_seam}
+use Rattle.std.proofs.lemmas.List.{take_all, take_more_set, take_at, drop_at, length-take-le}
+use Rattle.std.proofs.Math.Seq.{take-append_seam, take-add}
 use Rattle.std.proofs.Math.Nat.{pow-le-pow_right}
 use Rattle.bit_codes.specs.Bits.{bit, bits_of, digits_below}
 use Rattle.bit_codes.proofs.Numbers.{bits_of-append}
@@ -102,3 +102,56 @@ byte_stored bytes whole count number lt eight =
     ∙ ap (λ (t : List Bool). t ++ low) (bits_of-append (take whole bytes) (q ∷ []))
     ∙ append_assoc (bits_of (take whole bytes)) (digits_below 8 q) low
     ∙ ap (λ (t : List Bool). bits_of (take whole bytes) ++ t) (sym (ap (λ (n : ℕ). digits_below n number) all ∙ digits_split 8 k number))
+
+-- ---- four bytes
+
+byte_low : (m : ℕ) → digits_below 8 (m % 256) ≡ digits_below 8 m
+byte_low m = sym (digits_low 8 (m / 256) (m % 256) 8 (omega arith)) ∙ ap (digits_below 8) (shr_split m 8)
+
+bytes_power : (k : ℕ) → 256 ^ k ≡ 2 ^ (8 * k)
+bytes_power zero = refl
+bytes_power (suc k) =
+    let up : 8 * suc k ≡ 8 + 8 * k = omega arith in
+    omega (arith, bytes_power k, pow-add 2 8 (8 * k), ap (λ (n : ℕ). 2 ^ n) up)
+
+byte_digits : (k n : ℕ) → digits_below 8 (byte_at k n) ≡ digits_below 8 (n / 2 ^ (8 * k))
+byte_digits zero n =
+    let whole : n / 1 ≡ n = omega arith in
+    byte_low n ∙ sym (ap (digits_below 8) whole)
+byte_digits (suc k) n = byte_low (n / 256 ^ suc k) ∙ ap (λ (m : ℕ). digits_below 8 (n / m)) (bytes_power (suc k))
+
+-- the bits of the last bytes of a number
+word_bits : (k n : ℕ) → bits_of (bytes_high_first k n) ≡ digits_below (8 * k) n
+word_bits zero n = refl
+word_bits (suc k) n =
+    let more : 8 * suc k ≡ 8 + 8 * k = omega arith in
+    let top : digits_below 8 (byte_at k n) ≡ digits_below 8 (n / 2 ^ (8 * k)) = byte_digits k n in
+    let low : digits_below (8 * k) (n % 2 ^ (8 * k)) ≡ digits_below (8 * k) n =
+    sym (digits_low (8 * k) (n / 2 ^ (8 * k)) (n % 2 ^ (8 * k)) (8 * k) (omega arith)) ∙ ap (digits_below (8 * k)) (shr_split n (8 * k))
+    in
+    ap (λ (t : List Bool). digits_below 8 (byte_at k n) ++ t) (word_bits k n)
+    ∙ ap (λ (t : List Bool). t ++ digits_below (8 * k) n) top
+    ∙ ap (λ (t : List Bool). digits_below 8 (n / 2 ^ (8 * k)) ++ t) (sym low)
+    ∙ sym (ap (λ (j : ℕ). digits_below j n) more ∙ digits_split 8 (8 * k) n)
+
+pub four_stored : (bytes unit rest : List ℕ) (whole count number : ℕ) → whole ≤ length bytes → 32 ≤ count
+    → unit ≡ bytes_high_first 4 (number / 2 ^ (count - 32))
+    → bits_so_far (take whole bytes ++ (unit ++ rest)) (record { whole = whole + 4; count = count - 32; number = number % 2 ^ (count - 32) })
+    ≡ bits_so_far bytes (record { whole = whole; count = count; number = number })
+four_stored bytes unit rest whole count number inside many is =
+    let k : ℕ = count - 32 in
+    let q : ℕ = number / 2 ^ k in
+    let low = digits_below k (number % 2 ^ k) in
+    let all : count ≡ 32 + k = omega arith in
+    let four : length unit ≡ 4 = ap (λ (t : List ℕ). length t) is in
+    let front : take (whole + 4) (take whole bytes ++ (unit ++ rest)) ≡ take whole bytes ++ unit =
+    take-add whole 4 (take whole bytes ++ (unit ++ rest))
+    ∙ ap (λ (t : List ℕ). t ++ take 4 (drop whole (take whole bytes ++ (unit ++ rest)))) (take_at (take whole bytes) (unit ++ rest) whole (length-take-le whole bytes inside))
+    ∙ ap (λ (t : List ℕ). take whole bytes ++ take 4 t) (drop_at (take whole bytes) (unit ++ rest) whole (length-take-le whole bytes inside))
+    ∙ ap (λ (t : List ℕ). take whole bytes ++ t) (take_at unit rest 4 four)
+    in
+    ap (λ (t : List ℕ). bits_of t ++ low) (front ∙ ap (λ (t : List ℕ). take whole bytes ++ t) is)
+    ∙ ap (λ (t : List Bool). t ++ low) (bits_of-append (take whole bytes) (bytes_high_first 4 q))
+    ∙ append_assoc (bits_of (take whole bytes)) (bits_of (bytes_high_first 4 q)) low
+    ∙ ap (λ (t : List Bool). bits_of (take whole bytes) ++ (t ++ low)) (word_bits 4 q)
+    ∙ ap (λ (t : List Bool). bits_of (take whole bytes) ++ t) (sym (ap (λ (n : ℕ). digits_below n number) all ∙ digits_split 32 k number))

@@ -32,6 +32,28 @@ fn store_byte(bytes: &mut [u8], queue: BitQueue) -> BitQueue
     }
 }
 
+// Stores the first 32 of them.
+#[inline(always)]
+fn store_four(bytes: &mut [u8], queue: BitQueue) -> BitQueue
+    requires many { 32 ≤ queue.count }
+    requires queue { IsQueue (length bytes.old) queue }
+    ensures queue { IsQueue (length bytes.old) result }
+    ensures count { result.count + 32 ≡ queue.count }
+    ensures place { 8 * result.whole + result.count ≡ 8 * queue.whole + queue.count }
+    ensures text { bits_so_far bytes.new result ≡ bits_so_far bytes.old queue }
+{
+    let count = queue.count - 32;
+    let unit = 1 << count;
+    let word = (queue.number / unit) as u32;
+    let whole = queue.whole + 4;
+    bytes[queue.whole..whole].copy_from_slice(&word.to_be_bytes());
+    BitQueue {
+        whole,
+        count,
+        number: queue.number % unit,
+    }
+}
+
 // Puts the last `n` binary digits of a number behind those that wait.
 #[inline(always)]
 fn waiting(queue: BitQueue, number: u64, n: u32) -> BitQueue
@@ -67,10 +89,7 @@ pub fn put_bits(bytes: &mut [u8], queue: BitQueue, number: u64, n: u32) -> BitQu
     if more.count < 32 {
         return more;
     }
-    let one = store_byte(bytes, more);
-    let two = store_byte(bytes, one);
-    let three = store_byte(bytes, two);
-    store_byte(bytes, three)
+    store_four(bytes, more)
 }
 
 /// Stores all the bits that wait, where these are the last ones of the bytes.

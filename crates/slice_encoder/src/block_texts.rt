@@ -19,9 +19,9 @@ pub struct Block {
     pub left: u64,
 }
 
-// Puts the last `n` binary digits of a number.
-#[inline(always)]
-fn put_digits(bytes: &mut [u8], block: Block, number: u64, n: u32) -> Block
+// Puts those of the last `n` binary digits of a number that fit. It is rare, and so stays out of the loops.
+#[inline(never)]
+fn put_cut(bytes: &mut [u8], block: Block, number: u64, n: u32) -> Block
     requires few { n ≤ 32 }
     requires small { number < 2 ^ n }
     requires block { IsBlock (length bytes.old) block }
@@ -32,6 +32,24 @@ fn put_digits(bytes: &mut [u8], block: Block, number: u64, n: u32) -> Block
     Block {
         queue,
         left: block.left - u64::from(fit),
+    }
+}
+
+// Puts the last `n` binary digits of a number.
+#[inline(always)]
+fn put_digits(bytes: &mut [u8], block: Block, number: u64, n: u32) -> Block
+    requires few { n ≤ 32 }
+    requires small { number < 2 ^ n }
+    requires block { IsBlock (length bytes.old) block }
+    ensures { IsPut bytes.old block bytes.new result (digits_below n number) }
+{
+    if u64::from(n) > block.left {
+        return put_cut(bytes, block, number, n);
+    }
+    let queue = put_bits(bytes, block.queue, number, n);
+    Block {
+        queue,
+        left: block.left - u64::from(n),
     }
 }
 
@@ -75,7 +93,7 @@ fn put_value(bytes: &mut [u8], block: Block, v: i64) -> Block
 {
     if v.unsigned_abs() < 32 {
         let text = short_text(v);
-        return put_digits(bytes, block, u64::from(text.number), u32::from(text.length));
+        return put_digits(bytes, block, text.number, text.length);
     }
     put_long(bytes, block, v)
 }
@@ -100,7 +118,7 @@ fn put_pair(bytes: &mut [u8], block: Block, first: i64, second: i64) -> Block
     requires block { IsBlock (length bytes.old) block }
     ensures { IsPut bytes.old block bytes.new result (signed_code_of first ++ signed_code_of second) }
 {
-    if first.unsigned_abs() < 32 && second.unsigned_abs() < 32 {
+    if -32 < first && first < 32 && -32 < second && second < 32 {
         let text = pair_text(first, second);
         return put_digits(bytes, block, text.number, text.length);
     }

@@ -21,7 +21,7 @@ use crate::measuring::measure_places;
 use crate::reaching::{reach_over, reach_over_pairs};
 use crate::room::most_places;
 use crate::sources::{BandSource, StackSource};
-use crate::trying::{band_numbered, orient_numbered};
+use crate::trying::{band_numbered, quantiser_at};
 use planes::{NarrowPlane, NoMemory, Plane, Rect};
 use quant_factors::{Matrix, forward};
 use slice_geometry::{Layout, PictureShape, Size};
@@ -360,8 +360,7 @@ impl Gathered {
         let mut bits = 0;
         for passed in 0..3 * self.depth {
             let k = 3 * self.depth - passed;
-            let (level, orient) = band_numbered(k);
-            let quantiser = matrix.quantiser(index, level, orient_numbered(orient));
+            let quantiser = quantiser_at(matrix, index, k);
             bits = reach_over(
                 self.band(k),
                 self.sizes(k),
@@ -392,8 +391,7 @@ impl Gathered {
         let mut bits = 0;
         for passed in 0..3 * self.depth {
             let k = 3 * self.depth - passed;
-            let (level, orient) = band_numbered(k);
-            let quantiser = matrix.quantiser(index, level, orient_numbered(orient));
+            let quantiser = quantiser_at(matrix, index, k);
             bits = reach_over_pairs(
                 self.band(k),
                 second.band(k),
@@ -417,8 +415,7 @@ impl Gathered {
     {
         let mut place = self.ends[0];
         for k in 1..3 * self.depth + 1 {
-            let (level, orient) = band_numbered(k);
-            let quantiser = matrix.quantiser(index, level, orient_numbered(orient));
+            let quantiser = quantiser_at(matrix, index, k);
             let band = self.band(k);
             quantise_at(band, quantiser, out, place);
             place += band.len();
@@ -447,8 +444,7 @@ impl Gathered {
         let _ = &second.depth;
         let mut place = 2 * self.ends[0];
         for k in 1..3 * self.depth + 1 {
-            let (level, orient) = band_numbered(k);
-            let quantiser = matrix.quantiser(index, level, orient_numbered(orient));
+            let quantiser = quantiser_at(matrix, index, k);
             let band = self.band(k);
             quantise_pair_at(band, second.band(k), quantiser, out, place);
             place += 2 * band.len();

@@ -44,7 +44,7 @@ fn length_of(v: i64) -> u32
     ensures { result ≡ length (signed_code_of v) }
 {
     if -32 < v && v < 32 {
-        u32::from(short_text(v).length)
+        short_text(v).length
     } else {
         counted_length(v)
     }

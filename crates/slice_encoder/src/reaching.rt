@@ -204,6 +204,39 @@ fn counted_pairs(first: &[i64], second: &[i64], index: u32, behind: u64) -> Pair
     }
 }
 
+// How long the codes of two lists of one length are, by the magnitudes, in one loop.
+fn total_by_pairs(
+    first: &[i64],
+    second: &[i64],
+    first_sizes: &[u16],
+    second_sizes: &[u16],
+    index: u32,
+    row: &[u8],
+) -> u64
+    requires index { index ≤ 127 }
+    requires row { IsRow index row.now }
+    requires entries { length row.now ≡ 512 }
+    requires same { length second.now ≡ length first.now }
+    requires few { length first.now ≤ 2 ^ 31 }
+    requires first_small { All (Within (2 ^ 27)) first.now }
+    requires second_small { All (Within (2 ^ 27)) second.now }
+    requires first_sizes { AreSizes first_sizes.now first.now }
+    requires second_sizes { AreSizes second_sizes.now second.now }
+    ensures value { result ≡ length (codes_of (quantised index first.now))
+        + length (codes_of (quantised index second.now)) }
+    ensures most { result ≤ 148 * length first.now }
+{
+    let _ = index;
+    let _ = first;
+    let _ = second;
+    let mut bits = 0;
+    for place in 0..first_sizes.len() {
+        bits += u64::from(row[first_sizes[place] as usize])
+            + u64::from(row[second_sizes[place] as usize]);
+    }
+    bits
+}
+
 /// How far the codes of two lists of coefficients in turn reach in front of what is behind.
 pub fn reach_over_pairs(
     first: &[i64],
@@ -227,6 +260,14 @@ pub fn reach_over_pairs(
     ensures value { result ≡ reach (in_turn (quantised index first.now) (quantised index second.now)) behind }
     ensures most { result ≤ behind + 148 * length first.now }
 {
+    if behind > 0 {
+        if let Some(first_sizes) = first_sizes {
+            if let Some(second_sizes) = second_sizes {
+                let bits = total_by_pairs(first, second, first_sizes, second_sizes, index, row);
+                return bits + behind;
+            }
+        }
+    }
     let count = counted_pairs(first, second, index, behind);
     let first_bits = total_of(first, first_sizes, count.first, index, row);
     let second_bits = total_of(second, second_sizes, count.second, index, row);

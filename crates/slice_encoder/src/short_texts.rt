@@ -8,8 +8,8 @@ ghost use Rattle.slice_encoder.specs.BitQueues.{IsTextOf};
 /// The last `length` binary digits of a number are a text.
 #[derive(Clone, Copy)]
 pub struct ShortText {
-    pub number: u16,
-    pub length: u8,
+    pub number: u64,
+    pub length: u32,
 }
 
 // The codes of the values from -32 to 31.
@@ -69,9 +69,8 @@ pub fn pair_text(first: i64, second: i64) -> PairText
 {
     let front = short_text(first);
     let back = short_text(second);
-    let length = u32::from(back.length);
     PairText {
-        number: u64::from(front.number) * (1 << length) + u64::from(back.number),
-        length: u32::from(front.length) + length,
+        number: front.number * (1 << back.length) + back.number,
+        length: front.length + back.length,
     }
 }

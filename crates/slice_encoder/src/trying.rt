@@ -1,7 +1,7 @@
 // One index tried.
 
 ghost use Rattle.std.specs.Prelude.{◌≡◌, ◌+◌, ◌*◌, ◌^◌, ◌<◌, ◌≤◌, length, take};
-ghost use Rattle.planes.specs.Subbands.{orient_number};
+ghost use Rattle.quant_factors.specs.Weights.{band_quantiser};
 ghost use Rattle.planes.specs.Raster.{at};
 ghost use Rattle.bounded_blocks.specs.Writing.{codes_of};
 ghost use Rattle.slice_geometry.specs.SliceOrder.{level_of, orient_of, level_rect, area};
@@ -25,6 +25,7 @@ use crate::needs::total_length;
 use crate::rect_trials::try_rect;
 use crate::sources::StackSource;
 use planes::{Orient, Plane, ThreePlanes};
+use quant_factors::Matrix;
 use slice_geometry::Size;
 
 // Restores the slice's places of one component at an index. The depth of its samples bounds the coefficients, in the
@@ -63,17 +64,14 @@ pub fn band_numbered(k: u32) -> (u32, u32)
     (level, if k == 0 { 0 } else { k + 3 - 3 * level })
 }
 
-// The orientation of a number.
-pub fn orient_numbered(number: u32) -> Orient
-    requires { number ≤ 3 }
-    ensures { orient_number result ≡ number }
+// The quantisation index of band number k.
+#[inline(always)]
+pub fn quantiser_at(matrix: &Matrix, index: u32, k: u32) -> u32
+    requires { k ≤ 3 * matrix.now.depth }
+    ensures value { result ≡ band_quantiser matrix.now index (level_of k) (orient_of k) }
+    ensures most { result ≤ index }
 {
-    match number {
-        0 => Orient::Ll,
-        1 => Orient::Hl,
-        2 => Orient::Lh,
-        _ => Orient::Hh,
-    }
+    index.saturating_sub(matrix.entries()[k as usize])
 }
 
 // How long the codes of the slice's luma values in the lowest subband are. These are listed at the front of a buffer.

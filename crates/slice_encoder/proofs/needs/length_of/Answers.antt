@@ -8,7 +8,6 @@ pub returns-then-v-lt32 : goal.returns-then-v-lt32
 returns-then-v-lt32 c =
     let t = c.short_text.result in
     let told : to_z w64 (of_z w64 c.args.v) ≡ c.args.v = to_z-of_z w64 c.args.v c.ranges.v in
-    c.from.ensures
-    ∙ sym (length-digits_below t.length t.number)
+    sym (length-digits_below t.length t.number)
     ∙ ap (λ (bits : List Bool). length bits) c.short_text.ensures.text
     ∙ ap (λ (v : ℤ). length (signed_code_of v)) told

@@ -1,4 +1,4 @@
-use Rattle.std.proofs.Common.{◌≡◌, ◌∙◌, ℕ, Bool, List, ◌+◌, ◌*◌, ◌^◌, ◌%◌, ◌<◌, ◌++◌, ap, arith, ℤ, of_z, to_z, w64}
+use Rattle.std.proofs.Common.{◌∙◌, ℕ, Bool, List, ◌+◌, ◌*◌, ◌++◌, ap, arith, ℤ, of_z, to_z, w64}
 use Rattle.bit_codes.specs.Bits.{digits_below}
 use Rattle.bit_codes.specs.Codes.{signed_code_of}
 use Rattle.slice_encoder.proofs.QueueBits.{unit_is, joined_fits, digits_join}
@@ -13,20 +13,12 @@ returns-clause-text c =
     let n = two.result.length in
     let x = one.result.number in
     let y = two.result.number in
-    let joined : (a b p q : ℕ) → a ≡ m → b ≡ n → p ≡ x → q ≡ y → digits_below (a + b) (p * (1 * 2 ^ b % 18446744073709551616) + q) ≡ signed_code_of c.args.first ++ signed_code_of c.args.second =
-    λ a b p q a_is b_is p_is q_is.
-    ap (λ (k : ℕ). digits_below (k + b) (p * (1 * 2 ^ b % 18446744073709551616) + q)) a_is
-    ∙ ap (λ (k : ℕ). digits_below (m + k) (p * (1 * 2 ^ k % 18446744073709551616) + q)) b_is
-    ∙ ap (λ (k : ℕ). digits_below (m + n) (k * (1 * 2 ^ n % 18446744073709551616) + q)) p_is
-    ∙ ap (λ (k : ℕ). digits_below (m + n) (x * (1 * 2 ^ n % 18446744073709551616) + k)) q_is
-    ∙ ap (λ (u : ℕ). digits_below (m + n) (x * u + y)) (unit_is n (omega (arith, two.ensures.few)))
+    ap (λ (u : ℕ). digits_below (m + n) (x * u + y)) (unit_is n (omega (arith, two.ensures.few)))
     ∙ digits_join m n x y two.ensures.number
     ∙ ap (λ (t : List Bool). t ++ digits_below n y) one.ensures.text
     ∙ ap (λ (t : List Bool). signed_code_of (to_z w64 (of_z w64 c.args.first)) ++ t) two.ensures.text
     ∙ ap (λ (z : ℤ). signed_code_of z ++ signed_code_of (to_z w64 (of_z w64 c.args.second))) (told c.args.first (omega (arith, c.requires.first_small)))
     ∙ ap (λ (z : ℤ). signed_code_of c.args.first ++ signed_code_of z) (told c.args.second (omega (arith, c.requires.second_small)))
-    in
-    joined c.from-3.result c.from-length.result c.from.result c.from-2.result c.from-3.ensures c.from-length.ensures c.from.ensures c.from-2.ensures
 
 pub returns-clause-number : goal.returns-clause-number
 returns-clause-number c =
@@ -36,17 +28,4 @@ returns-clause-number c =
     let n = two.result.length in
     let x = one.result.number in
     let y = two.result.number in
-    let fits : (a b p q : ℕ) → a ≡ m → b ≡ n → p ≡ x → q ≡ y → p * (1 * 2 ^ b % 18446744073709551616) + q < 2 ^ (a + b) =
-    λ a b p q a_is b_is p_is q_is.
-    omega (
-      arith,
-      ap (λ (k : ℕ). 2 ^ (k + b)) a_is,
-      ap (λ (k : ℕ). 2 ^ (m + k)) b_is,
-      ap (λ (k : ℕ). p * (1 * 2 ^ k % 18446744073709551616)) b_is,
-      ap (λ (k : ℕ). k * (1 * 2 ^ n % 18446744073709551616)) p_is,
-      ap (λ (u : ℕ). x * u) (unit_is n (omega (arith, two.ensures.few))),
-      q_is,
-      joined_fits m n x y one.ensures.number two.ensures.number,
-    )
-    in
-    fits c.from-3.result c.from-length.result c.from.result c.from-2.result c.from-3.ensures c.from-length.ensures c.from.ensures c.from-2.ensures
+    omega (arith, ap (λ (u : ℕ). x * u) (unit_is n (omega (arith, two.ensures.few))), joined_fits m n x y one.ensures.number two.ensures.number)

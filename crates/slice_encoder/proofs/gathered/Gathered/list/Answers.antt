@@ -2,7 +2,6 @@ use Rattle.std.proofs.Common.{◌≡◌, ◌∙◌, ℕ, ◌+◌, ◌-◌, lengt
 use Rattle.std.specs.Prelude.{slice_index}
 use Rattle.slice_geometry.specs.SliceOrder.{level_of, orient_of}
 use Rattle.quant_factors.specs.Weights.{band_quantiser}
-use Rattle.quant_factors.proofs.Quantisers.{index_here}
 use Rattle.slice_encoder.specs.Gathering.{GatheredSeen, IsSound, quantised, quantised_piece}
 use Rattle.slice_encoder.proofs.Gathers.{band_listed}
 use Rattle.slice_encoder.proofs.gathered.Gathered.list.Goals as goal
@@ -18,15 +17,13 @@ loop-k-preserved c =
     let rise = sound.rise k l.invariant.some (omega (arith, same_depth, c.loop-k-test.true)) in
     let back : k + 1 - 1 ≡ k = omega arith in
     let place : l.place + length c.band-band.result.now ≡ slice_index g.ends k = omega (arith, l.invariant.place, c.band-band.ensures.count, rise) in
-    let index_is : c.quantiser-quantiser.result ≡ band_quantiser a.matrix.now a.index (level_of k) (orient_of k) =
-    index_here a.matrix.now a.index c.band_numbered-level.result.0 _ c.band_numbered-level.result.1 _ _ c.quantiser-quantiser.result c.band_numbered-level.ensures.level c.band_numbered-level.ensures.orient c.orient_numbered.ensures c.quantiser-quantiser.ensures
-    in
-    let new_is : quantised c.quantiser-quantiser.result c.band-band.result.now ≡ quantised_piece g a.matrix.now a.index k =
+    let index_is : c.quantiser_at-quantiser.result ≡ band_quantiser a.matrix.now a.index (level_of k) (orient_of k) = c.quantiser_at-quantiser.ensures.value in
+    let new_is : quantised c.quantiser_at-quantiser.result c.band-band.result.now ≡ quantised_piece g a.matrix.now a.index k =
     ap (λ (q : ℕ). quantised q c.band-band.result.now) index_is ∙ ap (quantised (band_quantiser a.matrix.now a.index (level_of k) (orient_of k))) c.band-band.ensures.value
     in
     record {
       same_length = c.quantise_at.auto.out ∙ l.invariant.same_length;
       some = omega arith;
       place = place ∙ sym (ap (λ (j : ℕ). slice_index g.ends j) back);
-      so_far = band_listed (quantised_piece g a.matrix.now a.index) k (take (slice_index g.ends 0) a.out.now) (take l.place l.out) _ (quantised c.quantiser-quantiser.result c.band-band.result.now) l.invariant.some l.invariant.so_far new_is c.quantise_at.ensures;
+      so_far = band_listed (quantised_piece g a.matrix.now a.index) k (take (slice_index g.ends 0) a.out.now) (take l.place l.out) _ (quantised c.quantiser_at-quantiser.result c.band-band.result.now) l.invariant.some l.invariant.so_far new_is c.quantise_at.ensures;
     }

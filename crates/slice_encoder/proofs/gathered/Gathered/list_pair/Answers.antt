@@ -2,7 +2,6 @@ use Rattle.std.proofs.Common.{◌≡◌, ◌∙◌, ℕ, ◌+◌, ◌-◌, ◌*�
 use Rattle.std.specs.Prelude.{slice_index}
 use Rattle.slice_geometry.specs.SliceOrder.{level_of, orient_of}
 use Rattle.quant_factors.specs.Weights.{band_quantiser}
-use Rattle.quant_factors.proofs.Quantisers.{index_here}
 use Rattle.slice_encoder.specs.Gathering.{GatheredSeen, IsSound, quantised, quantised_piece, in_turn}
 use Rattle.slice_encoder.proofs.Gathers.{band_listed}
 use Rattle.slice_encoder.proofs.gathered.Gathered.list_pair.Goals as goal
@@ -20,10 +19,8 @@ loop-k-preserved c =
     let back : k + 1 - 1 ≡ k = omega arith in
     let place : l.place + 2 * length c.band-band.result.now ≡ 2 * slice_index g.ends k = omega (arith, l.invariant.place, c.band-band.ensures.count, rise) in
     let q : ℕ = band_quantiser a.matrix.now a.index (level_of k) (orient_of k) in
-    let index_is : c.quantiser-quantiser.result ≡ q =
-    index_here a.matrix.now a.index c.band_numbered-level.result.0 _ c.band_numbered-level.result.1 _ _ c.quantiser-quantiser.result c.band_numbered-level.ensures.level c.band_numbered-level.ensures.orient c.orient_numbered.ensures c.quantiser-quantiser.ensures
-    in
-    let new : List ℤ = in_turn (quantised c.quantiser-quantiser.result c.band-band.result.now) (quantised c.quantiser-quantiser.result c.band.result.now) in
+    let index_is : c.quantiser_at-quantiser.result ≡ q = c.quantiser_at-quantiser.ensures.value in
+    let new : List ℤ = in_turn (quantised c.quantiser_at-quantiser.result c.band-band.result.now) (quantised c.quantiser_at-quantiser.result c.band.result.now) in
     let new_is : new ≡ in_turn (quantised_piece g a.matrix.now a.index k) (quantised_piece h a.matrix.now a.index k) =
     ap (λ (i : ℕ). in_turn (quantised i c.band-band.result.now) (quantised i c.band.result.now)) index_is
     ∙ ap (λ (vs : List ℤ). in_turn (quantised q vs) (quantised q c.band.result.now)) c.band-band.ensures.value

@@ -2,7 +2,6 @@ use Rattle.std.proofs.Common.{◌≡◌, ◌∙◌, ℕ, ◌+◌, ◌-◌, ◌*�
 use Rattle.std.specs.Prelude.{slice_index}
 use Rattle.slice_geometry.specs.SliceOrder.{level_of, orient_of}
 use Rattle.quant_factors.specs.Weights.{band_quantiser}
-use Rattle.quant_factors.proofs.Quantisers.{index_here}
 use Rattle.slice_encoder.specs.Gathering.{GatheredSeen, IsSound, quantised, quantised_piece, reach}
 use Rattle.slice_encoder.proofs.Gathers.{reach_band}
 use Rattle.slice_encoder.proofs.gathered.Gathered.reach.Goals as goal
@@ -20,9 +19,7 @@ loop-passed-preserved c =
     let lower : n - (l.passed + 1) ≡ n - l.passed - 1 = omega arith in
     let rise = sound.rise (n - l.passed) (omega (arith, same_depth, c.loop-passed-test.true)) (omega arith) in
     let count = c.band.ensures.count ∙ ap (λ (j : ℕ). slice_index g.ends j - slice_index g.ends (j - 1)) here in
-    let index_is : c.quantiser-quantiser.result ≡ band_quantiser a.matrix.now a.index (level_of k) (orient_of k) =
-    index_here a.matrix.now a.index c.band_numbered-level.result.0 _ c.band_numbered-level.result.1 _ _ c.quantiser-quantiser.result c.band_numbered-level.ensures.level c.band_numbered-level.ensures.orient c.orient_numbered.ensures c.quantiser-quantiser.ensures
-    in
+    let index_is : c.quantiser_at-quantiser.result ≡ band_quantiser a.matrix.now a.index (level_of k) (orient_of k) = c.quantiser_at-quantiser.ensures.value in
     let step : c.reach_over-bits.result ≡ reach (quantised_piece g a.matrix.now a.index (n - l.passed)) l.bits =
     c.reach_over-bits.ensures.value
     ∙ ap (λ (q : ℕ). reach (quantised q c.band.result.now) l.bits) index_is
