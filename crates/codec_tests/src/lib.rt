@@ -1,35 +1,22 @@
-//! Tests of codes, headers, layouts, quantisers, schedules, and words and the settings that they ask for. What is expected was worked out apart from the program.
+//! Tests of codes, headers, layouts, quantisers, schedules, and words and the settings that they ask for, in modules named
+//! by the crates that they test. What is expected was worked out apart from the program.
 #![tactic(auto)]
 
 #[cfg(test)]
-mod check_rows;
+mod bit_codes_tests;
 #[cfg(test)]
-mod codes;
+mod channel_schedule_tests;
 #[cfg(test)]
-mod cut_words;
+mod parse_info_tests;
 #[cfg(test)]
-mod field_words;
+mod quant_factors_tests;
 #[cfg(test)]
-mod group_rows;
+mod sequence_header_tests;
 #[cfg(test)]
-mod heads;
-#[cfg(test)]
-mod idle_rows;
-#[cfg(test)]
-mod layouts;
-#[cfg(test)]
-mod parameters;
-#[cfg(test)]
-mod quantisers;
-#[cfg(test)]
-mod schedules;
-#[cfg(test)]
-mod sequence_headers;
-#[cfg(test)]
-mod settings;
-#[cfg(test)]
-mod settings_rows;
+mod slice_geometry_tests;
 #[cfg(test)]
 mod told;
 #[cfg(test)]
-mod words;
+mod transform_params_tests;
+#[cfg(test)]
+mod vc2_words_tests;

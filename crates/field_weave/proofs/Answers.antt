@@ -5,8 +5,8 @@ use Rattle.slice_geometry.specs.Frames.{Frame}
 use Rattle.picture_codec.specs.Samples.{PictureSamples}
 use Rattle.raw_video.specs.RawText.{raw_text}
 use Rattle.raw_video.specs.RawParse.{raw_length, RawFront, Shown, Over, LargeAt, CutAt, TooLong, raw_front, RawParse, ahead, parse_from, raw_texts, raw_parse}
-use Rattle.vc2_run.specs.Walk.{Answer, answer_from, answer_to, before, after_step}
-use Rattle.vc2_run.proofs.Walks.{answer_step}
+use Rattle.run_theory.specs.Walk.{Answer, answer_from, answer_to, before, after_step}
+use Rattle.run_theory.proofs.Walks.{answer_step}
 use Rattle.field_weave.specs.declared.Order.{Order}
 use Rattle.field_weave.specs.declared.weaver.WeaveStop.TheVariants.{HalfFrame}
 use Rattle.field_weave.specs.Weaving.{doubled, woven, split, frames_of, fields_of}

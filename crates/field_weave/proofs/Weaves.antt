@@ -6,7 +6,7 @@ use Rattle.vc2_io.proofs.Known.{Appends-none}
 use Rattle.slice_geometry.specs.Frames.{Frame}
 use Rattle.picture_codec.specs.Samples.{PictureSamples}
 use Rattle.raw_video.specs.RawParse.{raw_length, LargeAt, CutAt, TooLong}
-use Rattle.vc2_run.specs.Ran.{Ran}
+use Rattle.run_theory.specs.Ran.{Ran}
 use Rattle.raw_video.specs.Reading.{ReadsFront, RawCause}
 use Rattle.raw_video.specs.declared.reader.RawStep.{RawStep}
 use Rattle.raw_video.specs.declared.reader.RawStep.TheVariants as steps

@@ -9,10 +9,10 @@ use Rattle.raw_video.specs.RawText.{raw_text}
 use Rattle.raw_video.specs.RawParse.{RawFront, LargeAt, CutAt}
 use Rattle.raw_video.specs.declared.reader.RawFault.{RawFault}
 use Rattle.raw_video.specs.declared.reader.RawFault.TheVariants as faults
-use Rattle.vc2_run.specs.Walk.{Machine}
-use Rattle.vc2_run.specs.Ran.{Ran, TakesAtMost, HaltHasCause}
-use Rattle.vc2_run.specs.declared.Halt.{Halt}
-use Rattle.vc2_run.specs.declared.Halt.TheVariants as halts
+use Rattle.run_theory.specs.Walk.{Machine}
+use Rattle.run_theory.specs.Ran.{Ran, TakesAtMost, HaltHasCause}
+use Rattle.run_theory.specs.declared.Halt.{Halt}
+use Rattle.run_theory.specs.declared.Halt.TheVariants as halts
 use Rattle.field_weave.specs.declared.Order.{Order}
 use Rattle.field_weave.specs.declared.weaver.WeaveStop.{WeaveStop}
 use Rattle.field_weave.specs.declared.weaver.WeaveStop.TheVariants as stops

@@ -12,6 +12,7 @@ code_of byte =
     else (if byte == 0x30 then Some Padding
     else (if byte == 0xC8 then Some LowDelayPicture else None))))
 
+-- a parse code of the profile
 abbrev pub is_supported : ℕ → Bool
 is_supported byte = is_some (code_of byte)
 

@@ -44,11 +44,13 @@ short_fault bytes place =
     else (if place == 40 then NextShort code
     else PreviousShort code next))
 
+-- the fault of a head's rows
 abbrev pub fault_of : List ℕ → ℕ → HeadReason → InfoFault
 fault_of bytes place FieldShort = short_fault bytes place
 fault_of bytes place WrongPrefix = BadPrefix
 fault_of bytes place (OtherCode code) = UnsupportedCode code
 
+-- a head, or its fault
 abbrev pub answer_of : List ℕ → Result (ParseInfo × Cursor) (Fault HeadReason) → Result ParseInfo InfoFault
 answer_of bytes (Ok read) = Ok read.0
 answer_of bytes (Err fault) = Err (fault_of bytes fault.place fault.reason)
@@ -65,6 +67,7 @@ is_short other = true
 
 -- ---- a head as it is written: "BBCD", the code, and the two offsets
 
+-- a head's bytes (parse_info)
 abbrev pub head_bytes : ParseInfo → List ℕ
 head_bytes info = (0x42 ∷ 0x42 ∷ 0x43 ∷ 0x44 ∷ [])
     ++ ((code_byte info.code ∷ []) ++ (to_be_bytes w32 info.next ++ to_be_bytes w32 info.previous))

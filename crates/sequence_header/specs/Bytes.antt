@@ -19,6 +19,7 @@ header_len p = (length (header_bits p) + 7) / 8
 abbrev pub header_text : HeaderParts → List Bool
 header_text p = header_bits p ++ zeros_to_byte_end (length (header_bits p))
 
+-- the bytes of a header
 abbrev pub header_bytes : HeaderParts → List ℕ
 header_bytes p = bytes_of (header_text p)
 

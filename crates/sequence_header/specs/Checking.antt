@@ -38,6 +38,7 @@ abbrev pub HasAspectIndex : AspectField → Type 0
 HasAspectIndex (aspects.Index n) = 1 ≤ n
 HasAspectIndex _ = Unit {0}
 
+-- an index that isn't that of custom colours
 abbrev pub HasColourIndex : ColourField → Type 0
 HasColourIndex (colours.Index n) = 1 ≤ n
 HasColourIndex _ = Unit {0}
@@ -47,6 +48,7 @@ abbrev pub HasRateIndex : RateField → Type 0
 HasRateIndex (rates.Index n) = 1 ≤ n
 HasRateIndex _ = Unit {0}
 
+-- an index that isn't that of a custom range
 abbrev pub HasSignalIndex : SignalField → Type 0
 HasSignalIndex (signals.Index n) = 1 ≤ n
 HasSignalIndex _ = Unit {0}

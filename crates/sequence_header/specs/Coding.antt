@@ -9,6 +9,7 @@ use Rattle.sequence_header.specs.declared.parts.SignalRange.{SignalRange}
 use Rattle.sequence_header.specs.declared.parts.SignalField.{SignalField}
 use Rattle.sequence_header.specs.declared.parts.SignalField.TheVariants as signals
 
+-- a range of its four numbers
 abbrev pub range : ℕ → ℕ → ℕ → ℕ → SignalRange
 range a b c d = record { luma_offset = a; luma_excursion = b; colour_offset = c; colour_excursion = d }
 
@@ -17,6 +18,7 @@ abbrev pub preset_range : ℕ → SignalRange
 preset_range n = if n == 1 then range 0 255 128 255 else if n == 2 then range 16 219 128 224 else if n == 3
     then range 64 876 512 896 else range 256 3504 2048 3584
 
+-- the range of a signal (11.4.9)
 abbrev pub signal_range : SignalField → SignalRange
 signal_range (signals.Index n) = preset_range n
 signal_range (signals.Custom s) = s
@@ -25,6 +27,7 @@ signal_range (signals.Custom s) = s
 abbrev pub picture_height : HeaderParts → ℕ
 picture_height p = if p.coding == 1 then p.height / 2 else p.height
 
+-- the size of luma in one picture
 abbrev pub luma_size : HeaderParts → Size
 luma_size p = record { w = p.width; h = picture_height p }
 
@@ -35,9 +38,11 @@ colour_size p = record {
   h = if p.sampling == 2 then picture_height p / 2 else picture_height p;
 }
 
+-- the bits of a luma sample
 abbrev pub luma_depth : HeaderParts → ℕ
 luma_depth p = intlog2 ((signal_range p.signal).luma_excursion + 1)
 
+-- the bits of a colour sample
 abbrev pub colour_depth : HeaderParts → ℕ
 colour_depth p = intlog2 ((signal_range p.signal).colour_excursion + 1)
 

@@ -27,6 +27,7 @@ abbrev pub reason_of : CodeFault → HeaderReason
 reason_of codes.Short = Truncated
 reason_of codes.TooLarge = NumberTooLarge
 
+-- a fault as rows have it
 abbrev pub fault_of : HeaderFault → Fault HeaderReason
 fault_of f = record { place = f.bit; reason = f.reason }
 

@@ -18,12 +18,15 @@ use Rattle.sequence_header.specs.declared.parts.ColourField.TheVariants as colou
 abbrev pub version_fields : Version → List Value
 version_fields v = Number v.major ∷ Number v.minor ∷ Number 0 ∷ Number v.level ∷ Number 0 ∷ []
 
+-- frame_size (11.4.3)
 abbrev pub size_fields : Size → List Value
 size_fields size = Flag true ∷ Number size.w ∷ Number size.h ∷ []
 
+-- color_diff_sampling_format (11.4.4)
 abbrev pub sampling_fields : ℕ → List Value
 sampling_fields index = Flag true ∷ Number index ∷ []
 
+-- scan_format (11.4.5)
 abbrev pub scan_fields : Option ℕ → List Value
 scan_fields None = Flag false ∷ []
 scan_fields (Some n) = Flag true ∷ Number n ∷ []
@@ -34,11 +37,13 @@ rate_fields (rates.Index zero) = Flag true ∷ Number 0 ∷ Number 0 ∷ Number 
 rate_fields (rates.Index (suc n)) = Flag true ∷ Number (suc n) ∷ []
 rate_fields (rates.Pair n d) = Flag true ∷ Number 0 ∷ Number n ∷ Number d ∷ []
 
+-- pixel_aspect_ratio (11.4.7)
 abbrev pub aspect_fields : AspectField → List Value
 aspect_fields aspects.Default = Flag false ∷ []
 aspect_fields (aspects.Index n) = Flag true ∷ Number n ∷ []
 aspect_fields (aspects.Pair n d) = Flag true ∷ Number 0 ∷ Number n ∷ Number d ∷ []
 
+-- clean_area (11.4.8)
 abbrev pub clean_fields : Option CleanArea → List Value
 clean_fields None = Flag false ∷ []
 clean_fields (Some a) = Flag true ∷ Number a.width ∷ Number a.height ∷ Number a.left ∷ Number a.top ∷ []
@@ -50,19 +55,23 @@ signal_fields (signals.Index (suc n)) = Flag true ∷ Number (suc n) ∷ []
 signal_fields (signals.Custom s) = Flag true ∷ Number 0 ∷ Number s.luma_offset ∷ Number s.luma_excursion
     ∷ Number s.colour_offset ∷ Number s.colour_excursion ∷ []
 
+-- an index behind its flag
 abbrev pub index_fields : Option ℕ → List Value
 index_fields None = Flag false ∷ []
 index_fields (Some n) = Flag true ∷ Number n ∷ []
 
+-- color_spec (11.4.10)
 abbrev pub colour_fields : ColourField → List Value
 colour_fields colours.Default = Flag false ∷ []
 colour_fields (colours.Index n) = Flag true ∷ Number n ∷ []
 colour_fields (colours.Custom primaries matrix transfer) =
     Flag true ∷ Number 0 ∷ (index_fields primaries ++ (index_fields matrix ++ index_fields transfer))
 
+-- the picture coding mode (11.5)
 abbrev pub coding_fields : ℕ → List Value
 coding_fields coding = Number coding ∷ []
 
+-- the first fields of parse_parameters (11.2)
 abbrev pub version_of : HeaderParts → Version
 version_of p = record { major = p.major; minor = p.minor; level = p.level }
 

@@ -5,9 +5,9 @@ use Rattle.bit_codes.specs.Bits.{Cursor, cursor_at}
 use Rattle.field_rows.specs.Rows.{Value, Fault, is_nil}
 use Rattle.field_rows.specs.Standing.{Stand, IsRefused}
 use Rattle.field_rows.proofs.Answers.{Stand-read, found_fields}
-use Rattle.unit_table.specs.Grammar.{Behind, Inner, Final, ends_by, bytes_at, unit_at}
-use Rattle.unit_table.specs.Fronts.{Stands, Finishes, size_to, front_behind, front_by, front_within}
-use Rattle.unit_table.proofs.FrontLaws.{front_near, front_before, front_past}
+use Rattle.run_theory.specs.Grammar.{Behind, Inner, Final, ends_by, bytes_at, unit_at}
+use Rattle.run_theory.specs.Fronts.{Stands, Finishes, size_to, front_behind, front_by, front_within}
+use Rattle.run_theory.proofs.FrontLaws.{front_near, front_before, front_past}
 use Rattle.stream_rows.specs.declared.reason.Reason.{Reason}
 use Rattle.stream_rows.specs.Units.{Past, nothing_yet, DataUnit, unit_behind, reason_of, after}
 use Rattle.stream_rows.specs.Streams.{bytes_between, ends, Entry, UnitsBy, IsStreamFromBy, IsRefusalFromBy, limit, past_limit, IsFaultBy, WithinLimit, PastLimit, BehindLimit}

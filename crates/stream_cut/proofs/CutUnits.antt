@@ -6,9 +6,9 @@ use Rattle.std.specs.Io.KnownBytes.{Appends}
 use Rattle.vc2_io.specs.Outside.{GrewShort}
 use Rattle.vc2_io.proofs.Known.{Appends-none, Appends-along}
 use Rattle.vc2_io.proofs.Short.{GrewShort-along}
-use Rattle.vc2_run.specs.declared.Halt.{Halt}
-use Rattle.vc2_run.specs.declared.Halt.TheVariants as halts
-use Rattle.vc2_run.specs.Runs.{WritesText}
+use Rattle.run_theory.specs.declared.Halt.{Halt}
+use Rattle.run_theory.specs.declared.Halt.TheVariants as halts
+use Rattle.run_theory.specs.Runs.{WritesText}
 use Rattle.slice_geometry.specs.declared.unit_list.UnitShape.{UnitShape}
 use Rattle.slice_geometry.specs.Slicing.{slice_count, total_bytes}
 use Rattle.sequence_header.specs.declared.parts.HeaderParts.{HeaderParts}

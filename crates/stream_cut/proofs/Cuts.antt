@@ -10,8 +10,8 @@ use Rattle.parse_info.specs.declared.TheConstants.{HEAD_SIZE}
 use Rattle.parse_info.specs.declared.Code.TheVariants.{EndOfSequence}
 use Rattle.sequence_header.specs.declared.parts.HeaderParts.{HeaderParts}
 use Rattle.transform_params.specs.Params.{Params}
-use Rattle.unit_table.specs.Grammar.{Behind, Inner, Final, unit_at}
-use Rattle.unit_table.specs.Fronts.{Stands, Finishes, size_to, front_behind, front_by, front_of}
+use Rattle.run_theory.specs.Grammar.{Behind, Inner, Final, unit_at}
+use Rattle.run_theory.specs.Fronts.{Stands, Finishes, size_to, front_behind, front_by, front_of}
 use Rattle.stream_rows.specs.declared.reason.Reason.{Reason}
 use Rattle.stream_rows.specs.declared.reason.Reason.TheVariants as reasons
 use Rattle.stream_rows.specs.Units.{Past, nothing_yet, First, DataUnit, Sequence, Repeated, Picture, Skipped, End, unit_behind, has_fields, code_rules, previous_rules, number_rules, after}
@@ -20,7 +20,7 @@ use Rattle.stream_cut.specs.Cut.{Frames, is_in, header_unit, picture_unit, end_u
 use Rattle.stream_cut.specs.CutLaws.{bytes_in, StandWith, IsStreamWith, shapes_of_cut, shapes_read, HasShapes, CutsToASkimmedStream}
 use Rattle.stream_cut.proofs.CutPieces.{header_piece, end_piece, picture_piece, header_pieces, end_pieces, cut_pieces, closing_pieces, pieces_from, length-header, length-picture, made_append, from_made, shapes_counted}
 use Rattle.stream_cut.proofs.Fields.{IsBytes}
-use Rattle.stream_units.proofs.EncodedParts.{no_previous}
+use Rattle.stream_writer.proofs.EncodedParts.{no_previous}
 use Rattle.stream_cut.proofs.UnitsRead.{IsHeader, IsPicture, Facts, unit_read, unit_long}
 use Rattle.stream_cut.proofs.Written.{moves_header_unit, moves_picture_unit, moves_end_unit, Found, found_more, found_end, end_code}
 

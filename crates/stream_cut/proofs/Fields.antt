@@ -10,7 +10,7 @@ use Rattle.field_rows.specs.Rows.{Value, Bytes, Rule, Rows, done, row, ◌>>=◌
 use Rattle.field_rows.specs.Standing.{StandsAt, Stand}
 use Rattle.field_rows.proofs.Spellings.{field_is}
 use Rattle.field_rows.proofs.Words.{split-bits}
-use Rattle.unit_table.specs.Grammar.{bytes_at}
+use Rattle.run_theory.specs.Grammar.{bytes_at}
 pub use Rattle.stream_rows.proofs.Answering.{IsBytes, fit_take, fit_drop}
 
 -- so many bytes at a place

@@ -1,6 +1,6 @@
 -- Bytes that are kept in pieces.
 use Rattle.std.proofs.Common.{◌≡◌, ℕ, ◌+◌, ◌<◌, ◌≤◌, List, [], ◌∷◌, ◌++◌, length, Option, refl, sym, ap, arith}
-use Rattle.unit_table.specs.Begun.{Got}
+use Rattle.run_theory.specs.Begun.{Got}
 use Rattle.unit_reader.specs.Asking.{Refilled}
 use Rattle.unit_reader.proofs.Gets.{skip_step}
 

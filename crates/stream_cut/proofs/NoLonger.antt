@@ -4,8 +4,8 @@ use Rattle.std.proofs.lemmas.List.{length-append, length-drop}
 use Rattle.parse_info.specs.declared.TheConstants.{HEAD_SIZE}
 use Rattle.sequence_header.specs.declared.parts.HeaderParts.{HeaderParts}
 use Rattle.transform_params.specs.Params.{Params}
-use Rattle.unit_table.specs.Grammar.{unit_at}
-use Rattle.unit_table.specs.Fronts.{Finishes, front_of}
+use Rattle.run_theory.specs.Grammar.{unit_at}
+use Rattle.run_theory.specs.Fronts.{Finishes, front_of}
 use Rattle.stream_rows.specs.Units.{Past, nothing_yet, First, DataUnit, Sequence, Repeated, Picture, Skipped, End, after}
 use Rattle.stream_cut.specs.Skim.{skim_rows, skimmed}
 use Rattle.stream_cut.specs.Cut.{Frames, is_in, header_unit, picture_unit, end_unit, Cutting, nothing_cut, frame_now, payload_of, header_due, length_before, end_due, cut_text, cut_next, or_else_some, closing_by, closing, Piece, front_from, left_from}

@@ -14,8 +14,8 @@ use Rattle.parse_info.specs.declared.ParseInfo.{ParseInfo}
 use Rattle.sequence_header.specs.declared.parts.HeaderParts.{HeaderParts}
 use Rattle.sequence_header.proofs.Steady.{header_steady}
 use Rattle.transform_params.proofs.Movable.{params_steady}
-use Rattle.unit_table.specs.Grammar.{bytes_at}
-use Rattle.unit_table.specs.Begun.{Moves}
+use Rattle.run_theory.specs.Grammar.{bytes_at}
+use Rattle.run_theory.specs.Begun.{Moves}
 use Rattle.stream_rows.specs.declared.reason.Reason.{Reason}
 use Rattle.stream_rows.specs.Units.{Past, First, DataUnit, reason_of, next_checked}
 use Rattle.stream_rows.proofs.Exact.{read-others}

@@ -1,7 +1,7 @@
 -- A unit that is refused in its beginning.
 use Rattle.std.proofs.Common.{◌≡◌, ◌+◌, ◌<◌, ℕ, List, length, true, Err, refl, sym, ap, ◌∙◌, arith}
 use Rattle.field_rows.specs.Rows.{read, Fault}
-use Rattle.unit_table.specs.Grammar.{bytes_at}
+use Rattle.run_theory.specs.Grammar.{bytes_at}
 use Rattle.stream_rows.specs.declared.reason.Reason.{Reason}
 use Rattle.stream_rows.specs.declared.reason.Reason.TheVariants as reasons
 use Rattle.stream_rows.specs.Units.{Past, reason_of, is_truncated}

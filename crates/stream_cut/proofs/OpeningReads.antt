@@ -16,15 +16,15 @@ use Rattle.sequence_header.specs.Header.{header_rows}
 use Rattle.transform_params.specs.declared.faults.TransformReason.{TransformReason}
 use Rattle.transform_params.specs.Params as params
 use Rattle.transform_params.specs.Params.{Params, params_rows}
-use Rattle.unit_table.specs.Grammar.{Grammar, Inner, bytes_at}
-use Rattle.unit_table.proofs.Fields.{moves_row, short_row, broken_row}
+use Rattle.run_theory.specs.Grammar.{Grammar, Inner, bytes_at}
+use Rattle.run_theory.proofs.Fields.{moves_row, short_row, broken_row}
 use Rattle.stream_rows.specs.declared.reason.Reason.{Reason}
 use Rattle.stream_rows.specs.declared.reason.Reason.TheVariants as reasons
 use Rattle.stream_rows.specs.Refusals.{Refusal}
-use Rattle.stream_rows.specs.Units.{Past, First, is_truncated, reason_of, header_reason, transform_reason, has_fields, number_rules, next_checked, unit_head}
+use Rattle.stream_rows.specs.Units.{Past, First, is_truncated, reason_of, header_reason, transform_reason, has_fields, number_rules, next_checked, unit_head, leads_behind}
 use Rattle.stream_rows.proofs.LongestHeader.{header_cut, header_most}
 use Rattle.stream_rows.proofs.LongestParams.{params_cut, params_most}
-use Rattle.stream_units.specs.Heads.{leads_behind, HeadAt}
+use Rattle.stream_reader.specs.Heads.{HeadAt}
 use Rattle.parse_info.specs.declared.Code.{Code}
 use Rattle.parse_info.specs.declared.ParseInfo.{ParseInfo}
 use Rattle.stream_cut.specs.Opening.{Opened, OpensSequence, OpensRepeated, OpensPicture, open_first, open_repeated, open_picture, open_payload_of, open_payload, open_rows, IsOpened, OpensBy}
@@ -32,7 +32,7 @@ use Rattle.stream_cut.specs.declared.opening.Opening.{Opening}
 use Rattle.stream_cut.proofs.Fields.{IsBytes, fit_take}
 use Rattle.stream_rows.proofs.UnitGroups.{params_group}
 use Rattle.stream_cut.proofs.ParamsRead.{group_read}
-use Rattle.stream_units.proofs.HeadRows.{header_behind, read-checked_unit}
+use Rattle.stream_rows.proofs.CheckedRows.{header_behind, read-checked_unit}
 
 abbrev Answer : Type 0
 Answer = Result (Opening × ℕ) Refusal

@@ -19,8 +19,8 @@ use Rattle.transform_params.specs.Params as params
 use Rattle.transform_params.specs.Params.{Params, wavelet_rows, slices_y_rows, denominator_rows, slicing_rows, matrix_rows, params_fields, params_rows}
 use Rattle.bit_codes.specs.declared.CodeFault.{CodeFault}
 use Rattle.field_rows.proofs.Moves.{read-renamed, read-moved}
-use Rattle.unit_table.specs.Grammar.{Grammar, bytes_at}
-use Rattle.unit_table.proofs.Whole.{EndsWhole-whole_bytes, behind-bytes}
+use Rattle.run_theory.specs.Grammar.{Grammar, bytes_at}
+use Rattle.run_theory.proofs.Whole.{EndsWhole-whole_bytes, behind-bytes}
 use Rattle.stream_rows.specs.declared.reason.Reason.{Reason}
 use Rattle.stream_rows.specs.Units.{reason_of, header_reason, transform_reason, units}
 use Rattle.stream_rows.proofs.Groups.{IsGroup}

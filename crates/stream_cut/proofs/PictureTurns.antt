@@ -3,16 +3,16 @@ use Rattle.std.proofs.Common.{◌≡◌, ℕ, ◌+◌, ◌-◌, ◌*◌, ◌<◌
 use Rattle.std.proofs.lemmas.List.{length-append, length-take, take-append-drop, nil_from_length}
 use Rattle.std.proofs.lemmas.Bool.{cases_lt}
 use Rattle.std.specs.Io.KnownBytes.{IsAtEnd}
-use Rattle.vc2_run.specs.Ran.{within}
+use Rattle.run_theory.specs.Ran.{within}
 use Rattle.field_rows.specs.Rows.{◌or_else◌, Rows, done, ◌>>=◌, read, first_broken, judged}
 use Rattle.field_rows.proofs.Reading.{read-done}
 use Rattle.sequence_header.specs.declared.parts.HeaderParts.{HeaderParts}
 use Rattle.slice_geometry.specs.Slicing.{IsAllowed, slice_count, bytes_before, total_bytes}
 use Rattle.slice_geometry.proofs.Shares.{bytes_before-rises, bytes_before-zero}
 use Rattle.transform_params.specs.Views.{params_of}
-use Rattle.unit_table.specs.Grammar.{bytes_at}
-use Rattle.unit_table.specs.Begun.{Begun, Got, Moves, Needs}
-use Rattle.unit_table.proofs.Begins.{begun_use, begun_use-gone, begun_held, begun_held-gone, got_back}
+use Rattle.run_theory.specs.Grammar.{bytes_at}
+use Rattle.run_theory.specs.Begun.{Begun, Got, Moves, Needs}
+use Rattle.run_theory.proofs.Begins.{begun_use, begun_use-gone, begun_held, begun_held-gone, got_back}
 use Rattle.unit_reader.specs.declared.stop.ReadStop.{ReadStop}
 use Rattle.unit_reader.specs.declared.stop.ReadStop.TheVariants as stops
 use Rattle.unit_reader.specs.declared.window.Halt.{Halt}
@@ -23,11 +23,10 @@ use Rattle.unit_reader.specs.Stops.{stop_of, StopsOver, limit}
 use Rattle.unit_reader.proofs.Stopping.{stops_lost, stops_short, stops_refused, stops_due}
 use Rattle.stream_rows.specs.declared.reason.Reason.{Reason}
 use Rattle.stream_rows.specs.declared.reason.Reason.TheVariants as reasons
-use Rattle.stream_rows.specs.Units.{Past, First, DataUnit, Sequence, Repeated, Picture, End, reason_of, next_checked}
+use Rattle.stream_rows.specs.Units.{Past, First, DataUnit, Sequence, Repeated, Picture, End, reason_of, next_checked, leads_behind}
 use Rattle.stream_cut.specs.declared.opening.PictureOpening.{PictureOpening}
 use Rattle.stream_cut.specs.declared.opening.Opening.{Opening}
 use Rattle.stream_cut.specs.declared.opening.Opening.TheVariants as openings
-use Rattle.stream_units.specs.Heads.{leads_behind}
 use Rattle.stream_cut.specs.declared.table.Found.{Found}
 use Rattle.stream_cut.specs.declared.table.Found.TheVariants as founds
 use Rattle.stream_cut.specs.declared.table.PictureFound.{PictureFound}
@@ -36,7 +35,7 @@ use Rattle.stream_cut.specs.SkimTable.{SkimTableSeen, IsFoundBy, Keeps}
 use Rattle.stream_cut.specs.Opening.{Opened, OpensSequence, OpensRepeated, OpensEnd, Opens, open_rows, rest_rows}
 use Rattle.stream_cut.specs.Skim.{skim_slices, skimmed, skim_rows}
 use Rattle.stream_cut.specs.SkimGrammar.{skimmed_laws}
-use Rattle.stream_units.proofs.HeadRows.{read-checked_unit}
+use Rattle.stream_rows.proofs.CheckedRows.{read-checked_unit}
 use Rattle.stream_cut.proofs.OpenMoves.{opening_moves}
 use Rattle.stream_cut.proofs.SliceBytes.{slices_move, slices_need, slices_short}
 

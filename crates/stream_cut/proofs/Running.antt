@@ -4,10 +4,10 @@ use Rattle.std.proofs.Math.Seq.{drop-append_seam}
 use Rattle.std.proofs.lemmas.List.{take_at, length-append}
 use Rattle.slice_geometry.specs.declared.unit_list.UnitShape.{UnitShape}
 use Rattle.stream_cut.proofs.NoLonger.{written_by}
-use Rattle.vc2_run.specs.Walk.{IsMachine, Answer, Ends, answer_from, answer_to, after_step, before}
-use Rattle.vc2_run.proofs.Walks.{answer_step}
-use Rattle.unit_table.specs.Fronts.{Front, Stands, Finishes, Refuses, front_within, Between, Close, step_by}
-use Rattle.unit_table.proofs.FrontLaws.{step-stands, machine_laws}
+use Rattle.run_theory.specs.Walk.{IsMachine, Answer, Ends, answer_from, answer_to, after_step, before}
+use Rattle.run_theory.proofs.Walks.{answer_step}
+use Rattle.run_theory.specs.Fronts.{Front, Stands, Finishes, Refuses, front_within, Between, Close, step_by}
+use Rattle.run_theory.proofs.FrontLaws.{step-stands, machine_laws}
 use Rattle.stream_rows.specs.declared.reason.Reason.{Reason}
 use Rattle.stream_rows.specs.Units.{Past, nothing_yet, DataUnit, after}
 use Rattle.stream_rows.specs.Streams.{limit, past_limit, refusal_of}

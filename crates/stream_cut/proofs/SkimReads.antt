@@ -1,9 +1,9 @@
 -- What a call of the reader says, over the reader of its table.
 use Rattle.std.proofs.Common.{◌≡◌, ◌++◌, ℕ, true, false, List, length, Option, Some, Result, Ok, Err, refl, sym, subst}
-use Rattle.unit_table.specs.Grammar.{Final}
-use Rattle.unit_table.specs.Fronts.{Finishes}
-use Rattle.unit_table.specs.Turn.{MeetsFront}
-use Rattle.stream_units.specs.ReadStops.{ReadStop}
+use Rattle.run_theory.specs.Grammar.{Final}
+use Rattle.run_theory.specs.Fronts.{Finishes}
+use Rattle.run_theory.specs.Turn.{MeetsFront}
+use Rattle.stream_reader.specs.ReadStops.{ReadStop}
 use Rattle.unit_reader.specs.declared.reader.Turn.{Turn}
 use Rattle.unit_reader.specs.declared.reader.Turn.TheVariants as turns
 use Rattle.unit_reader.specs.Reading.{ReaderSeen, NextOver as TableNext}

@@ -7,7 +7,7 @@ use Rattle.parse_info.specs.declared.Code.TheVariants.{SequenceHeader, EndOfSequ
 use Rattle.parse_info.specs.declared.ParseInfo.{ParseInfo}
 use Rattle.parse_info.specs.Head.{head_rows}
 use Rattle.transform_params.specs.Params.{Params}
-use Rattle.unit_table.proofs.Whole.{EndsWhole, ends_whole, EndsWhole-bind, EndsWhole-done, EndsWhole-bytes_under}
+use Rattle.run_theory.proofs.Whole.{EndsWhole, ends_whole, EndsWhole-bind, EndsWhole-done, EndsWhole-bytes_under}
 use Rattle.stream_rows.specs.Units.{Past, First, reason_of, unit_head, payload_of, payload_rows, next_checked, share}
 use Rattle.stream_rows.proofs.Whole.{params_whole, payload_whole}
 use Rattle.stream_rows.proofs.Tables.{IsTable}

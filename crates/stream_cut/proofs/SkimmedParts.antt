@@ -1,7 +1,7 @@
 -- Pieces of a stream's units are pieces of skimmed units: both have the same reasons.
 use Rattle.std.specs.Prelude.{ℕ, List}
 use Rattle.field_rows.specs.Rows.{Rows}
-use Rattle.unit_table.specs.Begun.{Moves}
+use Rattle.run_theory.specs.Begun.{Moves}
 use Rattle.stream_rows.specs.declared.reason.Reason.{Reason}
 use Rattle.stream_rows.specs.Units.{DataUnit, units}
 use Rattle.stream_cut.specs.Skim.{skimmed}

@@ -2,10 +2,10 @@
 use Rattle.std.proofs.Common.{◌≡◌, ℕ, ◌+◌, ◌-◌, ◌*◌, ◌^◌, ◌<◌, ◌≤◌, true, false, List, ◌++◌, length, take, drop, Option, None, Ok, Err, refl, sym, ap, subst, ◌∙◌, append-nil, arith}
 use Rattle.std.proofs.lemmas.List.{length-append, length-take, take-append-drop}
 use Rattle.field_rows.specs.Rows.{done, read, ◌>>=◌, bytes_under}
-use Rattle.unit_table.specs.Grammar.{bytes_at}
-use Rattle.unit_table.specs.Begun.{Begun, Needs, Moves}
-use Rattle.unit_table.proofs.Begins.{begun_more, begun_held, begun_use, got_back}
-use Rattle.unit_table.proofs.Fields.{needs_row, moves_blind, short_row}
+use Rattle.run_theory.specs.Grammar.{bytes_at}
+use Rattle.run_theory.specs.Begun.{Begun, Needs, Moves}
+use Rattle.run_theory.proofs.Begins.{begun_more, begun_held, begun_use, got_back}
+use Rattle.run_theory.proofs.Fields.{needs_row, moves_blind, short_row}
 use Rattle.unit_reader.specs.declared.stop.ReadStop.{ReadStop}
 use Rattle.unit_reader.specs.declared.stop.ReadStop.TheVariants as stops
 use Rattle.unit_reader.specs.declared.window.Halt.{Halt}

@@ -9,9 +9,9 @@ use Rattle.field_rows.proofs.Words.{split-bits}
 use Rattle.slice_geometry.specs.Slicing.{slice_count, bytes_before, total_bytes}
 use Rattle.slice_geometry.proofs.Shares.{bytes_before-rises, bytes_before-zero}
 use Rattle.transform_params.specs.Params.{Params}
-use Rattle.unit_table.specs.Grammar.{bytes_at, is_settled_by}
-use Rattle.unit_table.specs.Begun.{Needs, Moves}
-use Rattle.unit_table.proofs.Fields.{short_row}
+use Rattle.run_theory.specs.Grammar.{bytes_at, is_settled_by}
+use Rattle.run_theory.specs.Begun.{Needs, Moves}
+use Rattle.run_theory.proofs.Fields.{short_row}
 use Rattle.stream_rows.specs.declared.reason.Reason.{Reason}
 use Rattle.stream_rows.specs.declared.reason.Reason.TheVariants as reasons
 use Rattle.stream_rows.specs.Units.{DataUnit, reason_of, share}

@@ -23,10 +23,10 @@ use Rattle.slice_geometry.specs.Slicing.{slice_count, bytes_before, total_bytes}
 use Rattle.slice_geometry.proofs.Shares.{bytes_before-rises, bytes_before-zero}
 use Rattle.transform_params.specs.Params as params
 use Rattle.transform_params.specs.Params.{Params, params_rows}
-use Rattle.unit_table.specs.Grammar.{bytes_at, unit_at}
-use Rattle.unit_table.specs.Begun.{Moves}
-use Rattle.unit_table.specs.Fronts.{size_to}
-use Rattle.unit_table.proofs.Fields.{moves_row}
+use Rattle.run_theory.specs.Grammar.{bytes_at, unit_at}
+use Rattle.run_theory.specs.Begun.{Moves}
+use Rattle.run_theory.specs.Fronts.{size_to}
+use Rattle.run_theory.proofs.Fields.{moves_row}
 use Rattle.stream_rows.specs.declared.reason.Reason.{Reason}
 use Rattle.stream_rows.specs.declared.reason.Reason.TheVariants as reasons
 use Rattle.stream_rows.specs.Units.{Past, First, DataUnit, Sequence, Repeated, Picture, Skipped, End, reason_of, header_reason, transform_reason, code_rules, next_rules, previous_rules, number_rules, next_checked, share, unit_head, first_payload, repeated_payload, skipped_payload, payload_rows}
@@ -38,8 +38,8 @@ use Rattle.stream_rows.proofs.LongestParams.{params_most}
 use Rattle.stream_cut.specs.Skim.{skim_slices, skim_picture, skim_payload_of, skim_payload, skim_rows, skimmed}
 use Rattle.stream_cut.proofs.Fields.{IsBytes, fit_take, fit_drop, byte_field, no_bits, split, others_hold}
 use Rattle.stream_cut.proofs.ParamsRead.{made, few_in, params_in, header_in}
-use Rattle.stream_units.proofs.EncodedPieces.{moves_then, moves_none, moves_bytes}
-use Rattle.stream_units.proofs.EncodedParts.{moves_checked}
+use Rattle.stream_writer.proofs.EncodedPieces.{moves_then, moves_none, moves_bytes}
+use Rattle.stream_writer.proofs.EncodedParts.{moves_checked}
 use Rattle.stream_cut.proofs.SkimmedParts.{skims}
 
 -- ---- the head

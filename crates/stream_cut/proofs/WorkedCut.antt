@@ -6,7 +6,7 @@ use Rattle.bit_codes.specs.Codes.{intlog2}
 use Rattle.parse_info.specs.Head.{head_rows}
 use Rattle.transform_params.specs.Params.{wavelet_index_rows, wavelet_rows, slices_y_rows, denominator_rows, slicing_rows, matrix_rows, params_fields, params_rows}
 use Rattle.slice_geometry.specs.declared.unit_list.UnitShape.{UnitShape}
-use Rattle.vc2_run.specs.Walk.{Answer, answer_from, answer_to, out_of}
+use Rattle.run_theory.specs.Walk.{Answer, answer_from, answer_to, out_of}
 use Rattle.stream_rows.specs.declared.reason.Reason.TheVariants as reasons
 use Rattle.stream_rows.specs.Units.{unit_head, payload_of, payload_rows, first_payload, repeated_payload, skipped_payload, next_checked}
 use Rattle.stream_cut.specs.Skim.{skim_slices, skim_picture, skim_payload_of, skim_payload, skim_rows}

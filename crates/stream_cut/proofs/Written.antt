@@ -12,16 +12,16 @@ use Rattle.parse_info.specs.declared.ParseInfo.{ParseInfo}
 use Rattle.parse_info.specs.Head.{head_bytes}
 use Rattle.sequence_header.specs.declared.parts.HeaderParts.{HeaderParts}
 use Rattle.transform_params.specs.Params.{Params}
-use Rattle.unit_table.specs.Grammar.{Behind, Inner, Final, bytes_at, unit_at}
-use Rattle.unit_table.specs.Begun.{Moves}
-use Rattle.unit_table.specs.Fronts.{Stands, Finishes, size_to, front_behind, front_by, front_of}
+use Rattle.run_theory.specs.Grammar.{Behind, Inner, Final, bytes_at, unit_at}
+use Rattle.run_theory.specs.Begun.{Moves}
+use Rattle.run_theory.specs.Fronts.{Stands, Finishes, size_to, front_behind, front_by, front_of}
 use Rattle.stream_rows.specs.declared.reason.Reason.{Reason}
 use Rattle.stream_rows.specs.Units.{Past, First, DataUnit, Sequence, Picture, End, unit_behind, reason_of, has_fields, code_rules, previous_rules, number_rules, payload_rows, payload_of, after}
 use Rattle.stream_cut.specs.Skim.{skim_payload_of, skim_payload, skim_rows, skimmed}
 use Rattle.stream_cut.specs.Cut.{header_unit, picture_unit, end_unit, Piece}
 use Rattle.stream_cut.specs.CutLaws.{bytes_in, IsStreamWith}
-use Rattle.stream_units.proofs.EncodedPieces.{moves_then, moves_none}
-use Rattle.stream_units.proofs.EncodedParts.{moves_head, true_previous}
+use Rattle.stream_writer.proofs.EncodedPieces.{moves_then, moves_none}
+use Rattle.stream_writer.proofs.EncodedParts.{moves_head, true_previous}
 use Rattle.stream_cut.proofs.SkimmedParts.{skims}
 use Rattle.stream_cut.proofs.UnitsRead.{IsHeader, IsPicture}
 

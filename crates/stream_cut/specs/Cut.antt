@@ -8,8 +8,8 @@ use Rattle.parse_info.specs.declared.Code.TheVariants.{SequenceHeader, EndOfSequ
 use Rattle.parse_info.specs.Head.{head_bytes}
 use Rattle.slice_geometry.specs.declared.unit_list.UnitShape.{UnitShape}
 use Rattle.slice_geometry.specs.Slicing.{slice_count, total_bytes}
-use Rattle.vc2_run.specs.Walk.{Machine}
-use Rattle.unit_table.specs.Fronts.{Between, Close, Command, machine_of}
+use Rattle.run_theory.specs.Walk.{Machine}
+use Rattle.run_theory.specs.Fronts.{Between, Close, Command, machine_of}
 use Rattle.stream_rows.specs.declared.reason.Reason.{Reason}
 use Rattle.stream_rows.specs.Refusals.{Refusal}
 use Rattle.stream_rows.specs.Units.{Past, nothing_yet, First, DataUnit, Sequence, Repeated, Picture, Skipped, End, has_fields, after}
@@ -23,6 +23,7 @@ pub record Frames : Type 0 where
   pub from : ℕ
   pub to : ℕ
 
+-- a frame is one of those that are cut out
 abbrev pub is_in : Frames → ℕ → Bool
 is_in frames frame = nat_le frames.from frame && nat_lt frame frames.to
 
@@ -56,6 +57,7 @@ pub record Cutting : Type 0 where
   pub written : ℕ
   pub previous : Option ℕ
 
+-- nothing is written so far
 abbrev pub nothing_cut : Cutting
 nothing_cut = record { frames = 0; first = None; written = 0; previous = None }
 
@@ -63,6 +65,7 @@ nothing_cut = record { frames = 0; first = None; written = 0; previous = None }
 abbrev pub frame_now : Past → Cutting → ℕ
 frame_now z w = w.frames + frames_so_far z
 
+-- the first header's bytes behind its head
 abbrev pub payload_of : Option First → List ℕ
 payload_of None = []
 payload_of (Some first) = first.payload
@@ -77,6 +80,7 @@ abbrev pub length_before : Past → Option ℕ → ℕ
 length_before z None = HEAD_SIZE + length (payload_of z.first)
 length_before z (Some previous) = previous
 
+-- the end of the sequence, if anything was written
 abbrev pub end_due : Option ℕ → List ℕ
 end_due None = []
 end_due (Some previous) = end_unit previous
@@ -127,6 +131,7 @@ closing_by None zero (Some first) = empty_cut first.payload
 closing_by None zero None = []
 closing_by None (suc n) first = []
 
+-- what is written at the end of the stream
 abbrev pub closing : Cutting → List ℕ
 closing w = closing_by w.previous w.written w.first
 
@@ -143,6 +148,7 @@ front_from frames z w [] = []
 front_from frames z w (p ∷ pieces) = cut_text frames z w p.unit p.bytes
     ++ front_from frames (after z p.unit p.bytes) (cut_next frames z w p.unit p.bytes) pieces
 
+-- what stands behind so many units
 abbrev pub left_from : Frames → Past → Cutting → List Piece → Cutting
 left_from frames z w [] = w
 left_from frames z w (p ∷ pieces) = left_from frames (after z p.unit p.bytes) (cut_next frames z w p.unit p.bytes) pieces
@@ -162,10 +168,12 @@ abbrev pub header_shapes : Past → ℕ → Option ℕ → List UnitShape
 header_shapes z start None = record { start = start; head = HEAD_SIZE + length (payload_of z.first); slices = 0; a = 1; b = 1 } ∷ []
 header_shapes z start (Some previous) = []
 
+-- the shape of an end of sequence
 abbrev pub end_shapes : ℕ → Option ℕ → List UnitShape
 end_shapes start None = []
 end_shapes start (Some previous) = record { start = start; head = HEAD_SIZE; slices = 0; a = 1; b = 1 } ∷ []
 
+-- the shapes of what a unit has the cut write
 abbrev pub cut_shapes : Frames → Past → Cutting → DataUnit → List ℕ → List UnitShape
 cut_shapes frames z w (Picture parts number p slices) bytes =
     if is_in frames (frame_now z w)
@@ -181,6 +189,7 @@ cut_shapes frames z w (Sequence parts) bytes = []
 cut_shapes frames z w Repeated bytes = []
 cut_shapes frames z w Skipped bytes = []
 
+-- those of what is written at the end: an end, or of no frames header and end
 abbrev pub closing_shapes_by : Option ℕ → ℕ → Option First → List UnitShape
 closing_shapes_by (Some previous) written first = end_shapes written (Some previous)
 closing_shapes_by None zero (Some first) =
@@ -189,6 +198,7 @@ closing_shapes_by None zero (Some first) =
 closing_shapes_by None zero None = []
 closing_shapes_by None (suc n) first = []
 
+-- the same of a cut
 abbrev pub closing_shapes : Cutting → List UnitShape
 closing_shapes w = closing_shapes_by w.previous w.written w.first
 
@@ -199,6 +209,7 @@ pub record CutSoFar : Type 0 where
   pub cut : Cutting
   pub shapes : List UnitShape
 
+-- a cut of these frames, of which nothing is written
 abbrev pub no_cut : Frames → CutSoFar
 no_cut frames = record { frames = frames; cut = nothing_cut; shapes = [] }
 
@@ -207,12 +218,14 @@ pub data CutEnd : Type 0 where
   Whole : List UnitShape → ℕ → CutEnd
   Refused : Refusal → CutEnd
 
+-- the end of a whole cut
 abbrev pub whole_cut : CutSoFar → Close CutEnd
 whole_cut s = record {
   ending = Whole (s.shapes ++ closing_shapes s.cut) (s.cut.written + length (closing s.cut));
   last = closing s.cut;
 }
 
+-- the cut with one unit more
 abbrev pub cut_more : Past → CutSoFar → DataUnit → List ℕ → CutSoFar
 cut_more z s unit bytes = record {
   frames = s.frames;
@@ -220,6 +233,7 @@ cut_more z s unit bytes = record {
   shapes = s.shapes ++ cut_shapes s.frames z s.cut unit bytes;
 }
 
+-- cut, as a command over units
 abbrev pub cutting : Frames → Command Past Reason DataUnit CutSoFar CutEnd
 cutting frames = record {
   opening = [];
@@ -232,5 +246,6 @@ cutting frames = record {
   endless = Whole [] 0;
 }
 
+-- that over the units of a skimmed stream
 abbrev pub cut_machine : Frames → Machine (Between Past CutSoFar) CutEnd
 cut_machine frames = machine_of limit past_limit skimmed nothing_yet (cutting frames)

@@ -12,13 +12,13 @@ use Rattle.sequence_header.specs.Header.{header_rows}
 use Rattle.transform_params.specs.Params.{Params, params_rows}
 use Rattle.transform_params.specs.Views.{params_of}
 use Rattle.slice_geometry.specs.Slicing.{slice_count}
-use Rattle.unit_table.specs.Grammar.{bytes_at}
+use Rattle.run_theory.specs.Grammar.{bytes_at}
 use Rattle.stream_rows.specs.declared.reason.Reason.{Reason}
 use Rattle.stream_rows.specs.declared.reason.Reason.TheVariants as reasons
 use Rattle.stream_rows.specs.Refusals.{Refusal}
 use Rattle.stream_rows.specs.Units.{Past, First, DataUnit, Sequence, Repeated, Picture, Skipped, End, reason_of, header_reason, transform_reason, number_rules, next_checked, unit_head}
 use Rattle.stream_rows.specs.Streams.{refusal_of}
-use Rattle.unit_table.specs.Begun.{Begun}
+use Rattle.run_theory.specs.Begun.{Begun}
 use Rattle.unit_reader.specs.Asking.{WindowSeen}
 use Rattle.unit_reader.specs.Stops.{StopsOver}
 use Rattle.unit_reader.specs.declared.stop.ReadStop.{ReadStop}

@@ -7,7 +7,7 @@ use Rattle.parse_info.specs.declared.Code.TheVariants.{LowDelayPicture}
 use Rattle.parse_info.specs.declared.ParseInfo.{ParseInfo}
 use Rattle.transform_params.specs.Params.{Params, params_rows}
 use Rattle.slice_geometry.specs.Slicing.{slice_count}
-use Rattle.unit_table.specs.Grammar.{Grammar}
+use Rattle.run_theory.specs.Grammar.{Grammar}
 use Rattle.stream_rows.specs.declared.reason.Reason.{Reason}
 use Rattle.stream_rows.specs.Refusals.{Refusal}
 use Rattle.stream_rows.specs.Streams.{Entry, units_by, IsStreamBy, IsRefusalBy, HasOneAnswerBy}
@@ -52,6 +52,7 @@ skimmed = units_by skim_rows
 abbrev pub IsSkimStream : List ℕ → List Entry → Entry → Type 0
 IsSkimStream bytes es last = IsStreamBy skim_rows bytes es last
 
+-- a refusal of a skimmed stream
 abbrev pub IsSkimRefusal : List ℕ → Refusal → Type 0
 IsSkimRefusal bytes refusal = IsRefusalBy skim_rows bytes refusal
 

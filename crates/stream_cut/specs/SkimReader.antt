@@ -3,9 +3,9 @@ use Rattle.std.specs.Prelude.{◌≡◌, ℕ, ◌++◌, Bool, true, false, List,
 use Rattle.std.specs.Io.KnownBytes.{IsAtEnd}
 use Rattle.sequence_header.specs.declared.parts.HeaderParts.{HeaderParts}
 use Rattle.slice_geometry.specs.declared.unit_list.UnitShape.{UnitShape}
-use Rattle.unit_table.specs.Fronts.{Finishes}
-use Rattle.unit_table.specs.Turn.{TakesUnit, MeetsFront}
-use Rattle.stream_units.specs.ReadStops.{ReadStop}
+use Rattle.run_theory.specs.Fronts.{Finishes}
+use Rattle.run_theory.specs.Turn.{TakesUnit, MeetsFront}
+use Rattle.stream_reader.specs.ReadStops.{ReadStop}
 use Rattle.unit_reader.specs.declared.reader.Turn.{Turn}
 use Rattle.unit_reader.specs.declared.reader.Turn.TheVariants as turns
 use Rattle.unit_reader.specs.Reading.{ReaderSeen}
@@ -15,7 +15,8 @@ use Rattle.stream_rows.specs.Units.{Past, nothing_yet, DataUnit, End, after}
 use Rattle.stream_rows.specs.Streams.{limit, past_limit}
 use Rattle.unit_reader.specs.Stops.{LimitStops}
 use Rattle.stream_cut.specs.Skim.{skimmed}
-use Rattle.stream_cut.specs.SkimTable.{SkimTableSeen, kept_behind, header_behind, shape_behind, item_of}
+use Rattle.stream_reader.specs.Reader.{header_behind}
+use Rattle.stream_cut.specs.SkimTable.{SkimTableSeen, kept_behind, shape_behind, item_of}
 use Rattle.stream_cut.specs.declared.table.SkimItem.{SkimItem}
 use Rattle.stream_cut.specs.declared.table.SkimItem.TheVariants as items
 

@@ -6,6 +6,7 @@ use Rattle.slice_geometry.specs.declared.unit_list.UnitShape.{UnitShape}
 use Rattle.slice_geometry.specs.Slicing.{IsAllowed, slice_count, total_bytes}
 use Rattle.transform_params.specs.Params.{Params}
 use Rattle.stream_rows.specs.Units.{Past, First, DataUnit, Sequence, Repeated, Picture, Skipped, End}
+use Rattle.stream_reader.specs.Reader.{header_behind}
 use Rattle.stream_cut.specs.declared.table.Found.{Found}
 use Rattle.stream_cut.specs.declared.table.Found.TheVariants as founds
 use Rattle.stream_cut.specs.declared.table.SkimItem.{SkimItem}
@@ -38,10 +39,6 @@ kept_behind (Picture parts number p slices) bytes before = bytes
 kept_behind Skipped bytes before = before
 kept_behind End bytes before = before
 
-abbrev pub header_behind : DataUnit → Option HeaderParts → Option HeaderParts
-header_behind (Sequence parts) before = Some parts
-header_behind other before = before
-
 -- the shape of a picture's unit
 abbrev pub shape_behind : Past → DataUnit → List ℕ → UnitShape → UnitShape
 shape_behind z (Picture parts number p slices) bytes before = record {
@@ -53,6 +50,7 @@ shape_behind z (Picture parts number p slices) bytes before = record {
 }
 shape_behind z other bytes before = before
 
+-- what a unit is told as
 abbrev pub item_of : DataUnit → SkimItem
 item_of (Sequence parts) = items.Sequence
 item_of Repeated = items.Repeated

@@ -4,9 +4,9 @@ ghost use Rattle.vc2_io.specs.declared.TheConstants.{INPUT_LIMIT, READ_SIZE};
 ghost use Rattle.std.specs.Prelude.{◌≡◌, ◌≤◌, ◌<◌, ◌+◌, ◌++◌, ◌∷◌, [], true, false, refl, length, IfOk, OnOk, OnErr, Ok, Err, Some, None};
 ghost use Rattle.std.specs.Io.KnownBytes.{Appends};
 ghost use Rattle.vc2_io.specs.Outside.{HasCause, GrewShort};
-ghost use Rattle.vc2_run.specs.Ran.{HaltHasCause};
-ghost use Rattle.vc2_run.specs.declared.Halt.TheVariants as halts;
-ghost use Rattle.vc2_run.specs.Runs.{change, Runs, WritesText};
+ghost use Rattle.run_theory.specs.Ran.{HaltHasCause};
+ghost use Rattle.run_theory.specs.declared.Halt.TheVariants as halts;
+ghost use Rattle.run_theory.specs.Runs.{change, Runs, WritesText};
 ghost use Rattle.parse_info.specs.declared.TheConstants.{HEAD_SIZE};
 ghost use Rattle.parse_info.specs.Head.{head_bytes};
 ghost use Rattle.parse_info.specs.declared.ParseInfo.{ParseInfo};
@@ -23,10 +23,10 @@ use std::alloc::Global;
 use std::marker::Model;
 use std::mem;
 use stream_rows::{Reason, Refusal};
-use stream_units::{Earlier, First};
+use stream_reader::{Earlier, First};
 use unit_reader::{Reader, UnitCommand, run_units};
 use vc2_io::{Failed, Sink, Source, write_whole};
-use vc2_run::Halt;
+use run_theory::Halt;
 
 /// Why a cut stopped.
 #[derive(Clone, Copy, Debug, PartialEq, Eq)]

@@ -9,7 +9,7 @@ ghost use Rattle.stream_cut.specs.Opening.{OpensBy, open_first, open_repeated, o
 use parse_info::Code;
 use sequence_header::SequenceHeader;
 use stream_rows::{Reason, Refusal};
-use stream_units::{Earlier, First, header_reason, leads_behind, read_head, transform_reason};
+use stream_reader::{Earlier, First, header_reason, leads_behind, read_head, transform_reason};
 use transform_params::TransformParams;
 
 /// What a unit is by its beginning.

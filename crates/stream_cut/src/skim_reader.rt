@@ -12,7 +12,7 @@ use sequence_header::SequenceHeader;
 use slice_geometry::UnitShape;
 use std::alloc::Global;
 use std::marker::Model;
-use stream_units::ReadStop;
+use stream_reader::ReadStop;
 use unit_reader::{Reader, Turn};
 use vc2_io::Source;
 

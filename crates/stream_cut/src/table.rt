@@ -2,7 +2,7 @@
 
 ghost use Rattle.vc2_io.specs.declared.TheConstants.{INPUT_LIMIT, READ_SIZE};
 ghost use Rattle.std.specs.Prelude.{◌≡◌, ◌+◌, ◌≤◌, ◌<◌, IfOk, refl, ℕ, List, Option, length};
-ghost use Rattle.unit_table.specs.Begun.{Begun};
+ghost use Rattle.run_theory.specs.Begun.{Begun};
 ghost use Rattle.unit_reader.specs.Stops.{StopCause};
 ghost use Rattle.unit_reader.specs.Reading.{UnitOver};
 ghost use Rattle.stream_cut.specs.Opening.{OpenOver, Opens};
@@ -22,7 +22,7 @@ use slice_geometry::{Layout, UnitShape};
 use std::alloc::Global;
 use std::marker::Model;
 use stream_rows::Reason;
-use stream_units::{Earlier, First, leads_behind};
+use stream_reader::{Earlier, First, leads_behind};
 use unit_reader::{After, Halt, ReadStop, Table, Units, Window, read_on, refused, stop_of};
 use vc2_io::Source;
 

@@ -7,11 +7,11 @@ use Rattle.bit_codes.proofs.ByteLemmas.{bytes_of-bits_of}
 use Rattle.field_rows.specs.Rows.{Value, Fault}
 use Rattle.field_rows.specs.Standing.{Stand, IsRefused}
 use Rattle.field_rows.proofs.Words.{split-bits}
-use Rattle.vc2_run.specs.Walk.{Machine, IsMachine, Ends, Answer, answer_from, answer_to, before, after_step}
-use Rattle.vc2_run.proofs.Walks.{answer_step}
-use Rattle.unit_table.specs.Grammar.{bytes_at, unit_at}
-use Rattle.unit_table.specs.Fronts.{Close, Front, Stands, Finishes, Refuses, front_by, front_of, front_within, Between, Command, step_by, machine_of}
-use Rattle.unit_table.proofs.FrontLaws.{front_stands, front_near, front_before, front_past, step-stands, machine_laws}
+use Rattle.run_theory.specs.Walk.{Machine, IsMachine, Ends, Answer, answer_from, answer_to, before, after_step}
+use Rattle.run_theory.proofs.Walks.{answer_step}
+use Rattle.run_theory.specs.Grammar.{bytes_at, unit_at}
+use Rattle.run_theory.specs.Fronts.{Close, Front, Stands, Finishes, Refuses, front_by, front_of, front_within, Between, Command, step_by, machine_of}
+use Rattle.run_theory.proofs.FrontLaws.{front_stands, front_near, front_before, front_past, step-stands, machine_laws}
 use Rattle.stream_rows.specs.declared.reason.Reason.{Reason}
 use Rattle.stream_rows.specs.declared.reason.Reason.TheVariants as reasons
 use Rattle.stream_rows.specs.Refusals.{Refusal}

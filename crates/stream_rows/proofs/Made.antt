@@ -5,8 +5,8 @@ use Rattle.bit_codes.specs.declared.CodeFault.{CodeFault}
 use Rattle.bit_codes.specs.Bits.{Cursor}
 use Rattle.field_rows.specs.Rows.{Value, Fault, ◌or_else◌, Rule, first_broken, Rows, done, row, ◌>>=◌, renamed, field_at, and_then, judged, read}
 use Rattle.field_rows.specs.Standing.{Stand}
-use Rattle.unit_table.specs.Grammar.{Behind, Inner, Final, unit_at}
-use Rattle.unit_table.specs.Fronts.{Stands, front_behind, front_by, front_within}
+use Rattle.run_theory.specs.Grammar.{Behind, Inner, Final, unit_at}
+use Rattle.run_theory.specs.Fronts.{Stands, front_behind, front_by, front_within}
 use Rattle.stream_rows.specs.declared.reason.Reason.{Reason}
 use Rattle.stream_rows.specs.Refusals.{Refusal}
 use Rattle.stream_rows.specs.Units.{Past, DataUnit, Sequence, Repeated, Picture, Skipped, End, nothing_yet, after, unit_behind, unit_rows, units}

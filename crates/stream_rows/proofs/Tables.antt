@@ -8,9 +8,9 @@ use Rattle.field_rows.specs.Rows.{Value, Number, Flag, Bytes, Skipped, Here, IsE
 use Rattle.field_rows.specs.Standing.{StandsAt, Stand}
 use Rattle.field_rows.proofs.Pieces.{Stand-along}
 use Rattle.field_rows.proofs.Shorter.{BeginsWithBytes}
-use Rattle.unit_table.specs.Grammar.{bytes_at, unit_at}
-use Rattle.unit_table.specs.GrammarLaws.{IsGrammar}
-use Rattle.unit_table.proofs.Whole.{EndsWhole}
+use Rattle.run_theory.specs.Grammar.{bytes_at, unit_at}
+use Rattle.run_theory.specs.GrammarLaws.{IsGrammar}
+use Rattle.run_theory.proofs.Whole.{EndsWhole}
 use Rattle.stream_rows.specs.declared.reason.Reason.{Reason}
 use Rattle.stream_rows.specs.declared.reason.Reason.TheVariants as reasons
 use Rattle.stream_rows.specs.Units.{Past, DataUnit, reason_of, unit_rows}

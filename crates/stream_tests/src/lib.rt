@@ -1,22 +1,12 @@
-//! Tests of streams, read from sources that give all they have, single bytes, or fail. What is expected was worked out
-//! apart from the program.
+//! Tests of streams, read from sources that give all they have, single bytes, or fail, in modules named by the crates
+//! that they test. What is expected was worked out apart from the program.
 #![tactic(auto)]
 
 #[cfg(test)]
-mod cutting;
+mod stream_cut_tests;
 #[cfg(test)]
-mod pictures;
+mod stream_units_tests;
 #[cfg(test)]
-mod reading;
+mod told;
 #[cfg(test)]
-mod refusals;
-#[cfg(test)]
-mod smallest;
-#[cfg(test)]
-mod sources;
-#[cfg(test)]
-mod std_streams;
-#[cfg(test)]
-mod words;
-#[cfg(test)]
-mod writing;
+mod vc2_io_tests;

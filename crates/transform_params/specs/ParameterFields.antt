@@ -10,6 +10,7 @@ use Rattle.lifting.specs.declared.Wavelet.{Wavelet}
 use Rattle.lifting.specs.declared.Wavelet.TheVariants.{LeGall, HaarFlat, HaarShift}
 use Rattle.transform_params.specs.Params.{Params}
 
+-- a wavelet's index (12.4.1)
 abbrev pub wavelet_index : Wavelet → ℕ
 wavelet_index LeGall = 1
 wavelet_index HaarFlat = 3
@@ -18,15 +19,18 @@ wavelet_index HaarShift = 4
 abbrev pub wavelet_fields : Wavelet → List Value
 wavelet_fields wavelet = Number (wavelet_index wavelet) ∷ []
 
+-- the depth, and slice_parameters (12.4.5.2)
 abbrev pub slicing_fields : Slicing → List Value
 slicing_fields s = Number s.depth ∷ Number s.slices_x ∷ Number s.slices_y ∷ Number s.a ∷ Number s.b ∷ []
 
 abbrev pub entry_fields : List ℕ → List Value
 entry_fields entries = map Number entries
 
+-- quant_matrix (12.4.5.3)
 abbrev pub matrix_fields : Weights → List Value
 matrix_fields matrix = Flag true ∷ entry_fields matrix.entries
 
+-- the fields of parameters in their order (12.4)
 abbrev pub fields_of : Params → List Value
 fields_of p = wavelet_fields p.wavelet ++ (slicing_fields p.slicing ++ matrix_fields p.matrix)
 

@@ -24,6 +24,7 @@ abbrev pub reason_of : CodeFault → TransformReason
 reason_of codes.Short = Truncated
 reason_of codes.TooLarge = NumberTooLarge
 
+-- a fault as rows have it
 abbrev pub fault_of : TransformFault → Fault TransformReason
 fault_of f = record { place = f.bit; reason = f.reason }
 

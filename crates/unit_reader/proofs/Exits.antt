@@ -4,20 +4,20 @@ use Rattle.std.proofs.lemmas.List.{length-append, length-take, take_all}
 use Rattle.std.specs.Io.KnownBytes.{Appends, Consumes}
 use Rattle.vc2_io.proofs.Known.{Consumes-none, Consumes-then}
 use Rattle.field_rows.specs.Rows.{Fault}
-use Rattle.vc2_run.specs.Walk.{Machine, Ends, IsMachine, answer_to}
-use Rattle.vc2_run.specs.Ran.{Ran, TakesAtMost}
-use Rattle.vc2_run.specs.Runs.{WritesText, Closes}
-use Rattle.vc2_run.specs.Window.{Holds}
-use Rattle.vc2_run.specs.declared.Halt.{Halt}
-use Rattle.vc2_run.specs.declared.Halt.TheVariants as halts
-use Rattle.vc2_run.proofs.Windows.{holds_opened, ran_unopened, ran_unbegun}
-use Rattle.unit_table.specs.Grammar.{Grammar}
-use Rattle.unit_table.specs.Fronts.{Close, Front, Refuses, Between, Command, step_by}
-use Rattle.unit_table.specs.Turn.{MeetsFront, RestsHere}
-use Rattle.unit_table.specs.Begun.{Prompt, Lost, Due}
-use Rattle.unit_table.proofs.FrontLaws.{machine_laws}
-use Rattle.unit_table.proofs.Turning.{left_by, whole_unit, turned_more, turned_out_fault, turned_unwritten, turned_ended, turned_last_fault, turned_last_unwritten, turned_rested, turned_rest_fault, turned_rest_unwritten, turned_lost, turned_no_memory}
-use Rattle.unit_table.specs.GrammarLaws.{IsGrammar}
+use Rattle.run_theory.specs.Walk.{Machine, Ends, IsMachine, answer_to}
+use Rattle.run_theory.specs.Ran.{Ran, TakesAtMost}
+use Rattle.run_theory.specs.Runs.{WritesText, Closes}
+use Rattle.run_theory.specs.Window.{Holds}
+use Rattle.run_theory.specs.declared.Halt.{Halt}
+use Rattle.run_theory.specs.declared.Halt.TheVariants as halts
+use Rattle.run_theory.proofs.Windows.{holds_opened, ran_unopened, ran_unbegun}
+use Rattle.run_theory.specs.Grammar.{Grammar}
+use Rattle.run_theory.specs.Fronts.{Close, Front, Refuses, Between, Command, step_by}
+use Rattle.run_theory.specs.Turn.{MeetsFront, RestsHere}
+use Rattle.run_theory.specs.Begun.{Prompt, Lost, Due}
+use Rattle.run_theory.proofs.FrontLaws.{machine_laws}
+use Rattle.run_theory.proofs.Turning.{left_by, whole_unit, turned_more, turned_out_fault, turned_unwritten, turned_ended, turned_last_fault, turned_last_unwritten, turned_rested, turned_rest_fault, turned_rest_unwritten, turned_lost, turned_no_memory}
+use Rattle.run_theory.specs.GrammarLaws.{IsGrammar}
 use Rattle.unit_reader.specs.declared.stop.ReadStop.{ReadStop}
 use Rattle.unit_reader.specs.declared.stop.ReadStop.TheVariants as stops
 use Rattle.unit_reader.specs.declared.reader.Turn.{Turn}

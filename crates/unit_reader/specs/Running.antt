@@ -1,11 +1,11 @@
 -- A command over the units of a table: its machine, and what a turn of it is given and leaves.
 use Rattle.std.specs.Prelude.{◌≡◌, ◌≤◌, ◌<◌, ◌⊎◌, ℕ, ◌+◌, List, ◌++◌, length, Option, Result, Ok, Err}
 use Rattle.std.specs.Io.KnownBytes.{Appends}
-use Rattle.vc2_run.specs.Walk.{Machine}
-use Rattle.vc2_run.specs.Runs.{WritesText}
-use Rattle.vc2_run.specs.declared.Halt.{Halt}
-use Rattle.unit_table.specs.Grammar.{Grammar, Final}
-use Rattle.unit_table.specs.Fronts.{Stands, front_within, Between, Command, machine_of}
+use Rattle.run_theory.specs.Walk.{Machine}
+use Rattle.run_theory.specs.Runs.{WritesText}
+use Rattle.run_theory.specs.declared.Halt.{Halt}
+use Rattle.run_theory.specs.Grammar.{Grammar, Final}
+use Rattle.run_theory.specs.Fronts.{Stands, front_within, Between, Command, machine_of}
 use Rattle.unit_reader.specs.Stops.{limit, past_limit}
 
 -- the command, where it begins with this

@@ -3,10 +3,10 @@
 ghost use Rattle.vc2_io.specs.declared.TheConstants.{READ_SIZE};
 ghost use Rattle.std.specs.Prelude.{◌≡◌, ◌/◌, ℕ, List, Option, true, OnOk};
 ghost use Rattle.field_rows.specs.Rows.{Fault};
-ghost use Rattle.vc2_run.specs.Ran.{HaltHasCause};
-ghost use Rattle.vc2_run.specs.Runs.{change, Runs, WritesText, Closes};
-ghost use Rattle.unit_table.specs.Grammar.{Final};
-ghost use Rattle.unit_table.specs.Fronts.{Command};
+ghost use Rattle.run_theory.specs.Ran.{HaltHasCause};
+ghost use Rattle.run_theory.specs.Runs.{change, Runs, WritesText, Closes};
+ghost use Rattle.run_theory.specs.Grammar.{Final};
+ghost use Rattle.run_theory.specs.Fronts.{Command};
 ghost use Rattle.unit_reader.specs.declared.stop.ReadStop.TheVariants as stops;
 ghost use Rattle.unit_reader.specs.Reading.{new_reader};
 ghost use Rattle.unit_reader.specs.Soon.{Soon, HasOpenEndings};
@@ -16,7 +16,7 @@ use crate::reader::{Reader, Turn};
 use crate::stop::ReadStop;
 use crate::table::Table;
 use vc2_io::{Sink, Source};
-use vc2_run::Halt;
+use run_theory::Halt;
 
 /// A command, by what it writes for each unit and at the end.
 pub trait UnitCommand<T: Table>: Drop {

@@ -5,7 +5,7 @@ use Rattle.std.specs.Io.KnownBytes.{Appends, Keeps}
 use Rattle.vc2_io.specs.Outside.{IsPrefix, IsProperPrefix}
 use Rattle.vc2_cli.specs.declared.status.Status.{Status}
 use Rattle.vc2_cli.specs.declared.status.Status.TheVariants as st
-use Rattle.vc2_run.specs.Runs.{Change, HasFailed}
+use Rattle.run_theory.specs.Runs.{Change, HasFailed}
 use Rattle.vc2_cli.specs.Exit.{exit_code_of}
 use Rattle.vc2_cli.specs.Program.{Ran}
 use Rattle.vc2_cli.specs.Reply.{Reply, reply_to}

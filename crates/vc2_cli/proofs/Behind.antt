@@ -7,9 +7,9 @@ use Rattle.std.proofs.lemmas.Bool.{le-leb, leb-true, lt-ltb, eqb-true, eq-eqb, f
 use Rattle.slice_geometry.specs.Slicing.{slice_count}
 use Rattle.transform_params.specs.ParameterFields.{unit_length}
 use Rattle.stream_rows.specs.Streams.{limit}
-use Rattle.stream_units.specs.EncodedStream.{begins_at, header_length, number_after, units_with}
-use Rattle.stream_units.specs.Writer.{StreamWriterSeen, pictures_among, bytes_before, due_shapes, due_units, begins_next, after_picture, HasRoom}
-use Rattle.stream_units.proofs.WrittenShapes.{total_due, pictures_due, last_due, plain_length}
+use Rattle.stream_writer.specs.EncodedStream.{begins_at, header_length, number_after, units_with}
+use Rattle.stream_writer.specs.Writer.{StreamWriterSeen, pictures_among, bytes_before, due_shapes, due_units, begins_next, after_picture, HasRoom}
+use Rattle.stream_writer.proofs.WrittenShapes.{total_due, pictures_due, last_due, plain_length}
 use Rattle.vc2_words.specs.Settings.{Asked, later_sequences, stream_length}
 use Rattle.vc2_cli.specs.Encode.{shapes_at, stream_place, previous_at, number_at, units_at, place_due, has_room}
 use Rattle.vc2_cli.specs.EncodeTurn.{behind, IsBehind}

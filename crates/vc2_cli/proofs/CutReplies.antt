@@ -1,8 +1,8 @@
 -- The replies of `cut`.
 use Rattle.std.proofs.Common.{◌≡◌, ℕ, ◌+◌, ◌-◌, ◌≤◌, List, [], ◌∷◌, ◌++◌, length, Ok, sym, ap, subst, ◌∙◌, append-nil, append_assoc, arith}
 use Rattle.std.proofs.lemmas.List.{length-append}
-use Rattle.vc2_run.specs.Walk.{Answer}
-use Rattle.unit_table.proofs.FrontLaws.{front_before}
+use Rattle.run_theory.specs.Walk.{Answer}
+use Rattle.run_theory.proofs.FrontLaws.{front_before}
 use Rattle.stream_rows.specs.Refusals.{Refusal}
 use Rattle.stream_rows.specs.Units.{Past, nothing_yet, after}
 use Rattle.stream_rows.specs.Streams.{limit, past_limit, refusal_of}

@@ -1,10 +1,10 @@
 -- `cut` runs as its machine does.
 use Rattle.std.proofs.Common.{ℕ, List, Option, Result, Err}
-use Rattle.vc2_run.specs.Walk.{IsMachine}
-use Rattle.vc2_run.specs.Runs.{Change, Runs}
-use Rattle.vc2_run.specs.declared.Halt.{Halt}
-use Rattle.vc2_run.specs.declared.Halt.TheVariants.{NoMemory}
-use Rattle.unit_table.proofs.FrontLaws.{machine_laws}
+use Rattle.run_theory.specs.Walk.{IsMachine}
+use Rattle.run_theory.specs.Runs.{Change, Runs}
+use Rattle.run_theory.specs.declared.Halt.{Halt}
+use Rattle.run_theory.specs.declared.Halt.TheVariants.{NoMemory}
+use Rattle.run_theory.proofs.FrontLaws.{machine_laws}
 use Rattle.unit_reader.specs.Soon.{Soon}
 use Rattle.unit_reader.proofs.Opens.{IsOpenMachine, opens_machine}
 use Rattle.unit_reader.proofs.Exits.{none_soon}

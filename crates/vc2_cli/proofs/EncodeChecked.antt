@@ -30,22 +30,23 @@ use Rattle.picture_codec.proofs.Runs.{below-all}
 use Rattle.picture_codec.proofs.Tables.{positive}
 use Rattle.raw_video.specs.RawText.{raw_text}
 use Rattle.raw_video.specs.RawParse.{AreRows, IsOfFrame, raw_texts}
-use Rattle.vc2_run.specs.Walk.{Answer, answer_from, answer_to, before}
+use Rattle.run_theory.specs.Walk.{Answer, answer_from, answer_to, before}
 use Rattle.stream_rows.specs.Units.{Past, nothing_yet, DataUnit, Sequence, Picture, End, after}
 use Rattle.stream_rows.specs.Streams.{Entry, total, limit, frame_under}
-use Rattle.stream_units.specs.StreamPictures.{pictures_of}
-use Rattle.stream_units.specs.Turns.{shape_of}
-use Rattle.stream_units.specs.EncodedStream.{Settings, begins_at, header_length, header_unit, picture_unit, end_unit, number_after, units_with, units_behind, found_before, pictures_under, units_of, AreLawful, IsSliced}
-use Rattle.stream_units.specs.Writer.{plain_shape, picture_shape, bytes_before, due_shapes}
-use Rattle.stream_units.proofs.WriterCalls.{length-with}
-use Rattle.stream_units.proofs.WrittenShapes.{plain_length, picture_length}
-use Rattle.stream_units.proofs.EncodedUnits.{length-header_unit, length-picture_unit, length-end_unit}
-use Rattle.stream_units.proofs.EncodedStreams.{Going, going_start, header_small, encoded_fits, encoded_stream, encoded_pictures}
-use Rattle.unit_table.specs.Fronts.{Between, Command, Close}
+use Rattle.stream_writer.specs.StreamPictures.{pictures_of}
+use Rattle.stream_reader.specs.Turns.{shape_of}
+use Rattle.stream_writer.specs.EncodedStream.{Settings, begins_at, header_length, header_unit, picture_unit, end_unit, number_after, units_with, units_behind, found_before, pictures_under, units_of, AreLawful, IsSliced}
+use Rattle.stream_writer.specs.Writer.{plain_shape, picture_shape, bytes_before, due_shapes}
+use Rattle.stream_writer.proofs.WriterCalls.{length-with}
+use Rattle.stream_writer.proofs.WrittenShapes.{plain_length, picture_length}
+use Rattle.stream_writer.proofs.EncodedUnits.{length-header_unit, length-picture_unit, length-end_unit}
+use Rattle.stream_writer.proofs.EncodedStreams.{Going, going_start, header_small, encoded_fits, encoded_stream, encoded_pictures}
+use Rattle.run_theory.specs.Fronts.{Between, Command, Close}
 use Rattle.stream_rows.specs.declared.reason.Reason.{Reason}
 use Rattle.stream_rows.proofs.Answering.{machine}
-use Rattle.stream_units.proofs.EncodedPictures.{all_sliced}
-use Rattle.stream_units.proofs.SameShapes.{frame_is, steep_for}
+use Rattle.stream_writer.proofs.EncodedPictures.{all_sliced}
+use Rattle.stream_rows.proofs.Frames.{frame_is}
+use Rattle.stream_writer.proofs.SameShapes.{steep_for}
 use Rattle.vc2_words.specs.Settings.{Asked}
 use Rattle.vc2_cli.specs.declared.status.Ending.{Ending}
 use Rattle.vc2_cli.specs.Decode.{pictures_in, slices_in}

@@ -20,13 +20,13 @@ use Rattle.raw_video.specs.PictureRuns.{BehindPictures, step_shown, step_by}
 use Rattle.raw_video.proofs.PictureTurns.{some_raw}
 use Rattle.raw_video.proofs.Fronts.{front_over}
 use Rattle.raw_video.proofs.ReadBack.{length_raw, picture_back}
-use Rattle.vc2_run.specs.Walk.{Answer, answer_from, answer_to, after_step, before}
-use Rattle.vc2_run.proofs.Walks.{answer_step}
+use Rattle.run_theory.specs.Walk.{Answer, answer_from, answer_to, after_step, before}
+use Rattle.run_theory.proofs.Walks.{answer_step}
 use Rattle.stream_rows.specs.declared.reason.Reason.TheVariants.{StreamTooLong}
 use Rattle.stream_rows.specs.Streams.{limit, frame_under}
-use Rattle.stream_units.specs.EncodedStream.{begins_at, header_length, header_unit, end_unit, number_after, units_with, units_behind}
-use Rattle.stream_units.proofs.WrittenShapes.{plain_length}
-use Rattle.stream_units.proofs.SameShapes.{frame_is}
+use Rattle.stream_writer.specs.EncodedStream.{begins_at, header_length, header_unit, end_unit, number_after, units_with, units_behind}
+use Rattle.stream_writer.proofs.WrittenShapes.{plain_length}
+use Rattle.stream_rows.proofs.Frames.{frame_is}
 use Rattle.channel_schedule.specs.declared.schedule.Schedule.{Schedule}
 use Rattle.vc2_words.specs.Settings.{Asked}
 use Rattle.vc2_cli.specs.declared.status.Ending.{Ending}

@@ -22,28 +22,28 @@ use Rattle.raw_video.specs.declared.reader.RawStep.{RawStep}
 use Rattle.raw_video.specs.declared.reader.RawStep.TheVariants as steps
 use Rattle.raw_video.specs.declared.reader.RawFault.{RawFault}
 use Rattle.raw_video.specs.declared.reader.RawFault.TheVariants as faults
-use Rattle.vc2_run.specs.Walk.{IsMachine}
-use Rattle.vc2_run.specs.Ran.{Ran, TakesAtMost, HaltHasCause}
-use Rattle.vc2_run.specs.declared.Halt.{Halt}
-use Rattle.vc2_run.specs.declared.Halt.TheVariants as halts
-use Rattle.vc2_run.proofs.Windows.{ran_unopened, ran_unbegun}
+use Rattle.run_theory.specs.Walk.{IsMachine}
+use Rattle.run_theory.specs.Ran.{Ran, TakesAtMost, HaltHasCause}
+use Rattle.run_theory.specs.declared.Halt.{Halt}
+use Rattle.run_theory.specs.declared.Halt.TheVariants as halts
+use Rattle.run_theory.proofs.Windows.{ran_unopened, ran_unbegun}
 use Rattle.stream_rows.specs.declared.reason.Reason.{Reason}
 use Rattle.stream_rows.specs.declared.reason.Reason.TheVariants as reasons
-use Rattle.stream_units.specs.declared.write_stop.WriteStop.{WriteStop}
-use Rattle.stream_units.specs.declared.write_stop.WriteStop.TheVariants as stops
+use Rattle.stream_writer.specs.declared.write_stop.WriteStop.{WriteStop}
+use Rattle.stream_writer.specs.declared.write_stop.WriteStop.TheVariants as stops
 use Rattle.stream_rows.specs.Streams.{limit, frame_under}
-use Rattle.stream_units.specs.EncodedStream.{header_unit, end_unit}
-use Rattle.stream_units.specs.Writer.{StreamWriterSeen, total_length, next_place, next_previous, due_units, plain_shape, started, after_end, WritesPicture, WriteCause, Starts, IsSteepUnder}
-use Rattle.stream_units.proofs.WrittenShapes.{total_push, plain_length}
+use Rattle.stream_writer.specs.EncodedStream.{header_unit, end_unit}
+use Rattle.stream_writer.specs.Writer.{StreamWriterSeen, total_length, next_place, next_previous, due_units, plain_shape, started, after_end, WritesPicture, WriteCause, Starts, IsSteepUnder}
+use Rattle.stream_writer.proofs.WrittenShapes.{total_push, plain_length}
 use Rattle.vc2_cli.specs.declared.status.Ending.{Ending}
 use Rattle.vc2_cli.specs.declared.status.Note.TheVariants.{Encoded}
 use Rattle.vc2_cli.specs.declared.status.Ending.TheVariants.{Done}
-use Rattle.vc2_run.specs.Runs.{Runs, Closes}
+use Rattle.run_theory.specs.Runs.{Runs, Closes}
 use Rattle.vc2_cli.specs.Endings.{IsDone}
 use Rattle.vc2_cli.specs.Encode.{written_under, raw_size, units_at, has_room, is_half, refused_at, ended_plan, ended_at, last_text, encoding, encode_machine, told_of_fault, told_of_stop}
 use Rattle.vc2_cli.specs.EncodeTurn.{IsBehind, Goes}
 use Rattle.vc2_cli.proofs.Behind.{behind_next, due_is, room_is, no_room_is}
-use Rattle.vc2_run.proofs.Closing.{takes_none, cause_then}
+use Rattle.run_theory.proofs.Closing.{takes_none, cause_then}
 
 pub encode_laws : (e : Asked) → 0 < raw_length (frame_under e.parts) → IsMachine (encode_machine e)
 encode_laws e some = turns.picture_laws (frame_under e.parts) (encoding e) some

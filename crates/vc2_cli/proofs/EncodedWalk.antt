@@ -5,20 +5,20 @@ use Rattle.field_rows.specs.Rows.{done}
 use Rattle.sequence_header.specs.declared.parts.HeaderParts.{HeaderParts}
 use Rattle.transform_params.specs.ParameterFields.{unit_length}
 use Rattle.transform_params.proofs.Bounds.{unit_small}
-use Rattle.vc2_run.specs.Walk.{Answer, answer_from, before}
-use Rattle.unit_table.specs.Grammar.{bytes_at}
-use Rattle.unit_table.specs.Begun.{Moves}
-use Rattle.unit_table.specs.Fronts.{Between, Command}
+use Rattle.run_theory.specs.Walk.{Answer, answer_from, before}
+use Rattle.run_theory.specs.Grammar.{bytes_at}
+use Rattle.run_theory.specs.Begun.{Moves}
+use Rattle.run_theory.specs.Fronts.{Between, Command}
 use Rattle.stream_rows.specs.declared.reason.Reason.{Reason}
 use Rattle.stream_rows.specs.Units.{Past, nothing_yet, DataUnit, Sequence, Picture, End, unit_rows, after, units}
 use Rattle.stream_rows.specs.Streams.{ends, limit}
 use Rattle.stream_rows.proofs.Answering.{machine}
-use Rattle.stream_units.specs.EncodedStream.{Settings, begins_at, header_length, header_unit, picture_unit, end_unit, number_after, units_with, AreLawful, IsSliced}
-use Rattle.stream_units.specs.Writer.{bytes_before}
-use Rattle.stream_units.proofs.EncodedParts.{no_previous}
-use Rattle.stream_units.proofs.EncodedUnits.{length-header_unit, length-picture_unit, length-end_unit, moves_header_unit, moves_picture_unit, moves_end_unit}
-use Rattle.stream_units.proofs.EncodedStreams.{Going, ended, picture_code, end_code, going_on, going_later, begins_even, header_small}
-use Rattle.stream_units.proofs.EncodedAnswers.{one_unit, last_unit}
+use Rattle.stream_writer.specs.EncodedStream.{Settings, begins_at, header_length, header_unit, picture_unit, end_unit, number_after, units_with, AreLawful, IsSliced}
+use Rattle.stream_writer.specs.Writer.{bytes_before}
+use Rattle.stream_writer.proofs.EncodedParts.{no_previous}
+use Rattle.stream_writer.proofs.EncodedUnits.{length-header_unit, length-picture_unit, length-end_unit, moves_header_unit, moves_picture_unit, moves_end_unit}
+use Rattle.stream_writer.proofs.EncodedStreams.{Going, ended, picture_code, end_code, going_on, going_later, begins_even, header_small}
+use Rattle.stream_writer.proofs.EncodedAnswers.{one_unit, last_unit}
 
 module _ {W E : Type 0} (command : Command Past Reason DataUnit W E) (quiet : (z : Past) (own : W) (unit : DataUnit) (bytes : List ℕ) → command.text z own unit bytes ≡ []) (s : Settings) (f : AreLawful s) where
   abbrev pub behind_unit : Between Past W → DataUnit → List ℕ → Between Past W

@@ -10,7 +10,7 @@ use Rattle.slice_decoder.proofs.Whole.{is_band}
 use Rattle.transform_params.specs.ParameterFields.{IsLawful}
 use Rattle.vc2_words.specs.Settings.{Asked}
 use Rattle.slice_encoder.specs.TrialLaws.{IsSteepOk}
-use Rattle.stream_units.specs.Writer.{IsSteepUnder}
+use Rattle.stream_writer.specs.Writer.{IsSteepUnder}
 use Rattle.vc2_cli.specs.Encode.{written_under}
 use Rattle.vc2_cli.specs.Words.{greater_depth, is_flat}
 

@@ -4,7 +4,7 @@ use Rattle.slice_geometry.specs.Frames.{Frame}
 use Rattle.sequence_header.specs.declared.parts.HeaderParts.{HeaderParts}
 use Rattle.picture_codec.specs.Samples.{PictureSamples, picture_of}
 use Rattle.raw_video.specs.RawText.{raw_text}
-use Rattle.vc2_run.specs.Walk.{answer_to}
+use Rattle.run_theory.specs.Walk.{answer_to}
 use Rattle.stream_rows.specs.Refusals.{Refusal}
 use Rattle.stream_rows.specs.Units.{Past, First, nothing_yet, DataUnit, Sequence, Repeated, Picture, Skipped, End, unit_rows, after}
 use Rattle.stream_rows.specs.Streams.{Entry, IsStream, IsRefusal, frame_under}

@@ -9,12 +9,12 @@ use Rattle.picture_codec.specs.Pictures.{sample}
 use Rattle.picture_codec.specs.Samples.{PictureSamples, PictureSeen, picture_of}
 use Rattle.picture_codec.specs.Decoding.{PictureDecoderSeen}
 use Rattle.raw_video.specs.RawText.{raw_text}
-use Rattle.vc2_run.specs.Walk.{IsMachine}
+use Rattle.run_theory.specs.Walk.{IsMachine}
 use Rattle.stream_rows.specs.Units.{Past, First, DataUnit, Sequence, Repeated, Picture, Skipped, End, after}
 use Rattle.stream_rows.specs.Streams.{frame_under}
-use Rattle.stream_units.specs.declared.stop.Item.{Item}
-use Rattle.stream_units.specs.StreamTable.{StreamTableSeen}
-use Rattle.stream_units.specs.Reader.{IsPictureOf, header_behind}
+use Rattle.stream_reader.specs.declared.stop.Item.{Item}
+use Rattle.stream_reader.specs.StreamTable.{StreamTableSeen}
+use Rattle.stream_reader.specs.Reader.{IsPictureOf, header_behind}
 use Rattle.field_weave.specs.declared.Order.{Order}
 use Rattle.field_weave.specs.Weaving.{doubled, split, placed}
 use Rattle.field_weave.specs.WeaveRuns.{field_text, first_of}

@@ -2,10 +2,10 @@
 use Rattle.std.proofs.Common.{◌≡◌, ◌⊎◌, inl, inr, ℕ, true, false, None, List, drop, refl, sym, ap, subst, ◌∙◌}
 use Rattle.bit_codes.specs.Bits.{Cursor}
 use Rattle.field_rows.specs.Rows.{Fault}
-use Rattle.unit_table.specs.Grammar.{bytes_at}
-use Rattle.unit_table.specs.Fronts.{Front, Stands, Finishes, Rests, Refuses}
-use Rattle.vc2_run.specs.Walk.{Answer, answer_from, answer_to, after_step}
-use Rattle.vc2_run.proofs.Walks.{answer_step}
+use Rattle.run_theory.specs.Grammar.{bytes_at}
+use Rattle.run_theory.specs.Fronts.{Front, Stands, Finishes, Rests, Refuses}
+use Rattle.run_theory.specs.Walk.{Answer, answer_from, answer_to, after_step}
+use Rattle.run_theory.proofs.Walks.{answer_step}
 use Rattle.sequence_header.specs.declared.parts.HeaderParts.{HeaderParts}
 use Rattle.parse_info.specs.declared.ParseInfo.{ParseInfo}
 use Rattle.stream_rows.specs.declared.reason.Reason.{Reason}

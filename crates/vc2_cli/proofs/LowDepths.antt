@@ -11,8 +11,8 @@ use Rattle.transform_params.specs.declared.faults.TransformReason.TheVariants.{D
 use Rattle.transform_params.specs.declared.faults.TransformReason.{TransformReason}
 use Rattle.slice_geometry.specs.Slicing.{Slicing}
 use Rattle.transform_params.specs.Params.{Params, slicing_rows, params_fields, params_rows}
-use Rattle.unit_table.specs.Grammar.{Final}
-use Rattle.unit_table.specs.Fronts.{Stands, front_within}
+use Rattle.run_theory.specs.Grammar.{Final}
+use Rattle.run_theory.specs.Fronts.{Stands, front_within}
 use Rattle.stream_rows.specs.Refusals.{Refusal}
 use Rattle.stream_rows.specs.Units.{transform_reason, Past, DataUnit, First, after, unit_head, first_payload, repeated_payload, picture_payload, skipped_payload, payload_of, payload_rows, unit_behind, unit_rows, nothing_yet, units}
 use Rattle.stream_rows.specs.Streams.{Entry, limit, past_limit, IsStream, IsRefusal}

@@ -21,7 +21,7 @@ use Rattle.vc2_words.specs.declared.words.TrialPart.{TrialPart}
 use Rattle.vc2_words.specs.declared.settings.CutSettings.{CutSettings}
 use Rattle.vc2_words.specs.declared.settings.FieldVideo.{FieldVideo}
 use Rattle.vc2_words.specs.Lawful.{AreLawful, IsAskedSchedule, IsTrial, IsFieldVideo, IsCut}
-use Rattle.stream_units.specs.Writer.{IsSteepUnder}
+use Rattle.stream_writer.specs.Writer.{IsSteepUnder}
 use Rattle.vc2_cli.specs.Encode.{written_under}
 use Rattle.vc2_cli.specs.Words.{seen_words, is_flat, unless_steep, checked, words_ask}
 use Rattle.vc2_cli.proofs.Flat.{flat_is_steep}

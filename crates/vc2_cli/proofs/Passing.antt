@@ -9,10 +9,10 @@ use Rattle.picture_codec.specs.Decoding.{PictureDecoderSeen}
 use Rattle.stream_rows.specs.Units.{Past, DataUnit, Sequence, Repeated, Picture, Skipped, End}
 use Rattle.stream_rows.specs.Streams.{frame_under}
 use Rattle.stream_rows.proofs.Answering.{after-place}
-use Rattle.stream_units.specs.declared.stop.Item.{Item}
-use Rattle.stream_units.specs.Reader.{item_of, IsPictureOf, IsTakerOf}
-use Rattle.stream_units.specs.ReaderInside.{seen_of}
-use Rattle.stream_units.specs.StreamTable.{StreamTableSeen, IsMaker, DecoderBehind}
+use Rattle.stream_reader.specs.declared.stop.Item.{Item}
+use Rattle.stream_reader.specs.Reader.{item_of, IsPictureOf, IsTakerOf}
+use Rattle.stream_reader.specs.ReaderInside.{seen_of}
+use Rattle.stream_reader.specs.StreamTable.{StreamTableSeen, IsMaker, DecoderBehind}
 use Rattle.vc2_words.proofs.Plainness.{some_same}
 use Rattle.vc2_cli.specs.Decode.{pictures_in}
 use Rattle.vc2_cli.specs.Telling.{PassesUnit, tells_picture}

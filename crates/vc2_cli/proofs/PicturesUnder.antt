@@ -3,8 +3,8 @@ use Rattle.std.proofs.Common.{◌≡◌, ◌⊎◌, ℕ, List, ◌++◌, length,
 use Rattle.parse_info.specs.declared.ParseInfo.{ParseInfo}
 use Rattle.parse_info.specs.declared.Code.{Code}
 use Rattle.parse_info.specs.declared.Code.TheVariants.{SequenceHeader, EndOfSequence, Auxiliary, Padding, LowDelayPicture}
-use Rattle.unit_table.specs.Grammar.{Final}
-use Rattle.unit_table.specs.Fronts.{Stands, front_within}
+use Rattle.run_theory.specs.Grammar.{Final}
+use Rattle.run_theory.specs.Fronts.{Stands, front_within}
 use Rattle.stream_rows.specs.Refusals.{Refusal}
 use Rattle.stream_rows.specs.Streams.{Entry, limit, past_limit, IsStream, IsRefusal}
 use Rattle.stream_rows.specs.Units.{Past, First, DataUnit, nothing_yet, unit_head, first_payload, repeated_payload, picture_payload, skipped_payload, payload_of, payload_rows, unit_behind, unit_rows, units}

@@ -1,6 +1,6 @@
 -- The replies of `proxy` to streams and refusals.
 use Rattle.std.proofs.Common.{◌≡◌, ℕ, ◌+◌, ◌≤◌, List, [], ◌∷◌, ◌++◌, length, map, refl, sym, ap, ◌∙◌, arith, append-nil, inl, inr}
-use Rattle.vc2_run.specs.Walk.{answer_to}
+use Rattle.run_theory.specs.Walk.{answer_to}
 use Rattle.stream_rows.specs.Refusals.{Refusal}
 use Rattle.stream_rows.specs.Units.{DataUnit, Sequence, Repeated, Picture, Skipped, End, unit_rows}
 use Rattle.stream_rows.specs.Streams.{Entry, total, IsStream, IsRefusal, frame_under}

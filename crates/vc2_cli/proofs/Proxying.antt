@@ -7,11 +7,11 @@ use Rattle.transform_params.specs.Params.{Params}
 use Rattle.picture_codec.specs.Decoding.{PictureDecoderSeen, CanSynthesise, AllCanSynthesise, HoldUnit}
 use Rattle.picture_codec.specs.Samples.{PictureSeen, picture_of}
 use Rattle.raw_video.specs.RawText.{raw_text}
-use Rattle.vc2_run.specs.Walk.{IsMachine}
+use Rattle.run_theory.specs.Walk.{IsMachine}
 use Rattle.stream_rows.specs.Units.{DataUnit, Sequence, Repeated, Picture, Skipped, End}
 use Rattle.stream_rows.specs.Streams.{frame_under}
-use Rattle.stream_units.specs.Turns.{IsTaker}
-use Rattle.stream_units.specs.Reader.{IsPictureOf, IsTakerOf, AreBandsOf}
+use Rattle.stream_reader.specs.Turns.{IsTaker}
+use Rattle.stream_reader.specs.Reader.{IsPictureOf, IsTakerOf, AreBandsOf}
 use Rattle.proxy_picture.specs.Proxy.{proxy_frame, proxy_picture}
 use Rattle.proxy_picture.specs.Making.{ProxyDecoderSeen, reduced_picture}
 use Rattle.proxy_picture.proofs.Full.{full_is}

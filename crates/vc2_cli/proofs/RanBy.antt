@@ -2,9 +2,9 @@
 use Rattle.std.proofs.Common.{◌≡◌, ◌+◌, ℕ, List, IfSome}
 use Rattle.std.specs.Prelude.{IfErr}
 use Rattle.vc2_io.specs.declared.TheConstants.{INPUT_LIMIT}
-use Rattle.vc2_run.specs.Ran.{TakesAtMost}
+use Rattle.run_theory.specs.Ran.{TakesAtMost}
 use Rattle.vc2_cli.specs.declared.status.Status.{Status}
-use Rattle.vc2_run.specs.Runs.{Change, IsSteady}
+use Rattle.run_theory.specs.Runs.{Change, IsSteady}
 use Rattle.vc2_cli.specs.Words.{words_ask}
 use Rattle.vc2_cli.specs.Trial.{trial_text}
 use Rattle.vc2_cli.specs.Soon.{StopsSoon, IfUnits}

@@ -9,13 +9,13 @@ use Rattle.picture_codec.specs.Encoding.{slices_of}
 use Rattle.raw_video.specs.RawParse.{RawFront, Shown, Over, LargeAt, CutAt, TooLong, raw_front, ahead, parse_from, raw_parse}
 use Rattle.raw_video.specs.PictureRuns.{BehindPictures, step_shown, step_by}
 use Rattle.raw_video.proofs.ShownFronts.{shown_length}
-use Rattle.vc2_run.specs.Walk.{Answer, answer_from, answer_to, after_step, before}
-use Rattle.vc2_run.proofs.Walks.{answer_step}
+use Rattle.run_theory.specs.Walk.{Answer, answer_from, answer_to, after_step, before}
+use Rattle.run_theory.proofs.Walks.{answer_step}
 use Rattle.stream_rows.specs.declared.reason.Reason.TheVariants.{HalfFrame, StreamTooLong}
 use Rattle.stream_rows.specs.Refusals.{Refusal}
 use Rattle.stream_rows.specs.Streams.{frame_under}
-use Rattle.stream_units.specs.EncodedStream.{header_unit, end_unit}
-use Rattle.stream_units.proofs.EncodedUnits.{length-end_unit}
+use Rattle.stream_writer.specs.EncodedStream.{header_unit, end_unit}
+use Rattle.stream_writer.proofs.EncodedUnits.{length-end_unit}
 use Rattle.vc2_words.specs.Settings.{Asked}
 use Rattle.vc2_words.specs.Commands.{AskedCommand}
 use Rattle.vc2_words.specs.declared.keys.WordFault.{WordFault}

@@ -1,11 +1,11 @@
 -- What `check` with a schedule makes of a unit that was read.
 use Rattle.std.proofs.Common.{◌≡◌, ℕ, ◌+◌, List, [], ◌∷◌, ◌++◌, length, ap, ◌∙◌}
-use Rattle.vc2_run.specs.Walk.{IsMachine}
+use Rattle.run_theory.specs.Walk.{IsMachine}
 use Rattle.slice_geometry.specs.declared.unit_list.UnitShape.{UnitShape}
 use Rattle.slice_geometry.specs.UnitLengths.{UnitShapesSeen}
-use Rattle.stream_units.specs.Turns.{shape_of}
-use Rattle.stream_units.specs.declared.stop.Item.{Item}
-use Rattle.stream_units.specs.StreamTable.{StreamTableSeen}
+use Rattle.stream_reader.specs.Turns.{shape_of}
+use Rattle.stream_reader.specs.declared.stop.Item.{Item}
+use Rattle.stream_reader.specs.StreamTable.{StreamTableSeen}
 use Rattle.channel_schedule.specs.declared.schedule.Schedule.{Schedule}
 use Rattle.channel_schedule.specs.declared.schedule.Outcome.{Outcome}
 use Rattle.channel_schedule.specs.Courses.{course_of, count_in, IsOutcome}

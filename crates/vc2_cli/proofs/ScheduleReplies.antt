@@ -14,12 +14,12 @@ use Rattle.channel_schedule.specs.declared.schedule.Outcome.{Outcome}
 use Rattle.channel_schedule.specs.declared.schedule.Outcome.TheVariants as outcomes
 use Rattle.channel_schedule.specs.Courses.{course_of, count_in}
 use Rattle.channel_schedule.proofs.Unique.{one_outcome}
-use Rattle.vc2_run.specs.Walk.{Answer, answer_from, answer_to, after_step}
-use Rattle.vc2_run.proofs.Walks.{answer_step}
-use Rattle.unit_table.specs.Grammar.{bytes_at}
-use Rattle.unit_table.specs.Fronts.{Front, Stands, Finishes, Rests, Refuses, front_within, Between, step_by}
-use Rattle.unit_table.proofs.FrontLaws.{front_stands, front_before, within_laws, step-stands}
-use Rattle.unit_table.proofs.Whole.{behind-bytes}
+use Rattle.run_theory.specs.Walk.{Answer, answer_from, answer_to, after_step}
+use Rattle.run_theory.proofs.Walks.{answer_step}
+use Rattle.run_theory.specs.Grammar.{bytes_at}
+use Rattle.run_theory.specs.Fronts.{Front, Stands, Finishes, Rests, Refuses, front_within, Between, step_by}
+use Rattle.run_theory.proofs.FrontLaws.{front_stands, front_before, within_laws, step-stands}
+use Rattle.run_theory.proofs.Whole.{behind-bytes}
 use Rattle.stream_rows.specs.declared.reason.Reason.{Reason}
 use Rattle.stream_rows.specs.Refusals.{Refusal}
 use Rattle.stream_rows.specs.Units.{Past, nothing_yet, DataUnit, Sequence, Repeated, Picture, Skipped, End, reason_of, unit_rows, after, units}
@@ -29,7 +29,7 @@ use Rattle.stream_rows.proofs.Steady.{units_laws}
 use Rattle.stream_rows.proofs.Whole.{unit_whole}
 use Rattle.stream_rows.proofs.FrontIs.{front_is}
 use Rattle.stream_rows.proofs.Answering.{near, after-place}
-use Rattle.stream_units.specs.Turns.{shape_of}
+use Rattle.stream_reader.specs.Turns.{shape_of}
 use Rattle.vc2_cli.specs.declared.status.Ending.{Ending}
 use Rattle.vc2_cli.specs.declared.status.Ending.TheVariants.{Done, Scheduled, Refused}
 use Rattle.vc2_cli.specs.declared.status.Status.TheVariants as status

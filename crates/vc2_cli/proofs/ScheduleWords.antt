@@ -15,7 +15,8 @@ use Rattle.vc2_words.specs.declared.keys.Key.TheVariants as of_key
 use Rattle.vc2_words.specs.declared.keys.Name.TheVariants as names
 use Rattle.vc2_words.specs.declared.keys.WordFault.{WordFault}
 use Rattle.vc2_words.specs.Forms.{digits_from, number_in, in_range, single, cut_at, both_parts, value_in}
-use Rattle.vc2_words.specs.Operands.{Table, nothing, with_value, cut_operand, operand, operands_from, and_then, missing, unless}
+use Rattle.field_rows.specs.Rows.{and_then}
+use Rattle.vc2_words.specs.Operands.{Table, nothing, with_value, cut_operand, operand, operands_from, missing, unless}
 use Rattle.vc2_words.specs.Commands.{AskedCommand, check, command_of}
 use Rattle.vc2_cli.specs.Words.{checked, words_ask}
 use Rattle.vc2_cli.specs.Texts.{schedule_line}

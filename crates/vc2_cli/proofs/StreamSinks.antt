@@ -5,10 +5,10 @@ use Rattle.std.proofs.lemmas.List.{length-append}
 use Rattle.vc2_io.specs.Outside.{Rose, GrewShort}
 use Rattle.vc2_io.specs.Memory.{MemSinkSeen}
 use Rattle.vc2_io.proofs.Short.{IsProperPrefix-shorter}
-use Rattle.stream_units.specs.EncodedStream.{Settings, header_unit, end_unit}
-use Rattle.stream_units.specs.Writer.{StreamWriterSeen, next_previous, due_units, HasRoom, WritesPicture, WritesEnd, WriteCause, Starts, IsSteepUnder}
-use Rattle.stream_units.specs.declared.write_stop.WriteStop.{WriteStop}
-use Rattle.stream_units.specs.declared.write_stop.WriteStop.TheVariants as stops
+use Rattle.stream_writer.specs.EncodedStream.{Settings, header_unit, end_unit}
+use Rattle.stream_writer.specs.Writer.{StreamWriterSeen, next_previous, due_units, HasRoom, WritesPicture, WritesEnd, WriteCause, Starts, IsSteepUnder}
+use Rattle.stream_writer.specs.declared.write_stop.WriteStop.{WriteStop}
+use Rattle.stream_writer.specs.declared.write_stop.WriteStop.TheVariants as stops
 use Rattle.vc2_cli.specs.TrialTurn.{FailsWhenFull, told_of_sink, IsWant}
 
 -- ---- what a call leaves

@@ -1,11 +1,11 @@
 -- A command's run by its line of the table, and what more is said of two.
 use Rattle.std.proofs.Common.{◌≡◌, ◌+◌, ℕ, List, [], Option, None, Some, IfSome, Result, Ok, IfOk, refl, arith}
 use Rattle.vc2_io.specs.declared.TheConstants.{INPUT_LIMIT}
-use Rattle.vc2_run.specs.Walk.{Machine, answer_to, IsMachine}
-use Rattle.vc2_run.specs.Ran.{Ran, TakesAtMost, HaltHasCause}
-use Rattle.vc2_run.specs.Runs.{Change, IsSteady, Runs, Closes}
-use Rattle.vc2_run.specs.declared.Halt.{Halt}
-use Rattle.vc2_run.proofs.Closing.{takes_none, cause_then}
+use Rattle.run_theory.specs.Walk.{Machine, answer_to, IsMachine}
+use Rattle.run_theory.specs.Ran.{Ran, TakesAtMost, HaltHasCause}
+use Rattle.run_theory.specs.Runs.{Change, IsSteady, Runs, Closes}
+use Rattle.run_theory.specs.declared.Halt.{Halt}
+use Rattle.run_theory.proofs.Closing.{takes_none, cause_then}
 use Rattle.unit_reader.specs.Soon.{Soon}
 use Rattle.vc2_words.specs.declared.words.TrialPart.{TrialPart}
 use Rattle.vc2_words.specs.Settings.{Asked}

@@ -11,18 +11,18 @@ use Rattle.picture_codec.specs.Samples.{PictureSamples, picture_of}
 use Rattle.picture_codec.specs.Encoding.{slices_of}
 use Rattle.trial_video.specs.Video.{TrialVideoSeen, video_picture}
 use Rattle.trial_video.specs.Worst.{worst, worst_of}
-use Rattle.vc2_run.specs.Walk.{Machine, Answer, answer_from, answer_to}
-use Rattle.vc2_run.specs.Ran.{Ran, HaltHasCause}
-use Rattle.vc2_run.specs.declared.Halt.{Halt}
-use Rattle.vc2_run.specs.declared.Halt.TheVariants as halts
-use Rattle.unit_table.specs.Fronts.{Between, Command}
+use Rattle.run_theory.specs.Walk.{Machine, Answer, answer_from, answer_to}
+use Rattle.run_theory.specs.Ran.{Ran, HaltHasCause}
+use Rattle.run_theory.specs.declared.Halt.{Halt}
+use Rattle.run_theory.specs.declared.Halt.TheVariants as halts
+use Rattle.run_theory.specs.Fronts.{Between, Command}
 use Rattle.stream_rows.specs.declared.reason.Reason.{Reason}
 use Rattle.stream_rows.specs.Units.{Past, nothing_yet, DataUnit, Sequence, after}
 use Rattle.stream_rows.specs.Streams.{limit, frame_under}
-use Rattle.stream_units.specs.EncodedStream.{begins_at, header_length, header_unit, number_after, units_behind, AreLawful, IsSliced}
-use Rattle.stream_units.specs.Writer.{bytes_before, IsSteepUnder}
-use Rattle.stream_units.proofs.EncodedUnits.{length-header_unit}
-use Rattle.stream_units.proofs.EncodedStreams.{Going, header_small, going_start}
+use Rattle.stream_writer.specs.EncodedStream.{begins_at, header_length, header_unit, number_after, units_behind, AreLawful, IsSliced}
+use Rattle.stream_writer.specs.Writer.{bytes_before, IsSteepUnder}
+use Rattle.stream_writer.proofs.EncodedUnits.{length-header_unit}
+use Rattle.stream_writer.proofs.EncodedStreams.{Going, header_small, going_start}
 use Rattle.stream_rows.proofs.Answering.{machine}
 use Rattle.vc2_words.specs.declared.words.TrialPart.{TrialPart}
 use Rattle.vc2_words.specs.Settings.{Asked}

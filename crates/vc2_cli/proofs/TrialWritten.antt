@@ -20,10 +20,10 @@ use Rattle.trial_video.specs.Video.{TrialVideoSeen, video, video_picture}
 use Rattle.trial_video.proofs.Fits.{pictures_fit}
 use Rattle.channel_schedule.specs.Plans.{plan_of}
 use Rattle.stream_rows.specs.Streams.{limit, frame_under}
-use Rattle.stream_units.specs.EncodedStream.{begins_at, header_length, header_unit, end_unit, number_after, units_with, units_behind, IsGroup}
-use Rattle.stream_units.specs.Writer.{StreamWriterSeen, total_length, next_place, next_previous, plain_shape, started, HasRoom, WritesPicture, WritesEnd, IsSteepUnder}
-use Rattle.stream_units.proofs.WrittenShapes.{plain_length}
-use Rattle.stream_units.proofs.SameShapes.{frame_is}
+use Rattle.stream_writer.specs.EncodedStream.{begins_at, header_length, header_unit, end_unit, number_after, units_with, units_behind, IsGroup}
+use Rattle.stream_writer.specs.Writer.{StreamWriterSeen, total_length, next_place, next_previous, plain_shape, started, HasRoom, WritesPicture, WritesEnd, IsSteepUnder}
+use Rattle.stream_writer.proofs.WrittenShapes.{plain_length}
+use Rattle.stream_rows.proofs.Frames.{frame_is}
 use Rattle.vc2_words.specs.declared.words.TrialPart.{TrialPart}
 use Rattle.vc2_words.specs.Settings.{Asked, stream_length}
 use Rattle.vc2_words.specs.Lawful as words

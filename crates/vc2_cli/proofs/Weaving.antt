@@ -4,15 +4,15 @@ use Rattle.raw_video.specs.RawText.{is_wide}
 use Rattle.std.specs.Io.KnownBytes.{IsAtEnd}
 use Rattle.slice_geometry.specs.Frames.{Frame}
 use Rattle.raw_video.specs.RawParse.{sample_size, raw_length}
-use Rattle.vc2_run.specs.Walk.{Answer, Machine, IsMachine, answer_to}
+use Rattle.run_theory.specs.Walk.{Answer, Machine, IsMachine, answer_to}
 use Rattle.field_weave.specs.WeaveAnswers.{woven_answer, split_answer}
 use Rattle.field_weave.proofs.Answers.{weave_answer, split_answers}
-use Rattle.vc2_run.specs.Ran.{HaltHasCause}
-use Rattle.vc2_run.specs.declared.Halt.{Halt}
+use Rattle.run_theory.specs.Ran.{HaltHasCause}
+use Rattle.run_theory.specs.declared.Halt.{Halt}
 use Rattle.sequence_header.specs.Checking.{Passes}
 use Rattle.sequence_header.specs.declared.parts.HeaderParts.{HeaderParts}
 use Rattle.stream_rows.specs.Streams.{frame_under}
-use Rattle.stream_units.proofs.SameShapes.{frame_is}
+use Rattle.stream_rows.proofs.Frames.{frame_is}
 use Rattle.field_weave.specs.Weaving.{doubled}
 use Rattle.field_weave.specs.declared.weaver.WeaveStop.{WeaveStop}
 use Rattle.field_weave.specs.declared.weaver.WeaveStop.TheVariants as stops
@@ -22,7 +22,7 @@ use Rattle.raw_video.proofs.PictureTurns.{picture_laws, some_raw}
 use Rattle.vc2_words.specs.declared.settings.FieldVideo.{FieldVideo}
 use Rattle.vc2_words.specs.Lawful.{IsFieldVideo}
 use Rattle.vc2_cli.specs.declared.status.Ending.{Ending}
-use Rattle.vc2_run.specs.Runs.{Runs}
+use Rattle.run_theory.specs.Runs.{Runs}
 use Rattle.vc2_cli.specs.Endings.{IsDone}
 use Rattle.vc2_cli.specs.Mapped.{told_as, answer_told}
 use Rattle.vc2_cli.specs.Weave.{order_of, ending_of, weave_machine, split_machine, outcome_of}

@@ -1,7 +1,7 @@
 -- The command `cut`.
 use Rattle.std.specs.Prelude.{ℕ}
-use Rattle.vc2_run.specs.Walk.{Machine}
-use Rattle.unit_table.specs.Fronts.{Between}
+use Rattle.run_theory.specs.Walk.{Machine}
+use Rattle.run_theory.specs.Fronts.{Between}
 use Rattle.channel_schedule.specs.declared.schedule.Rate.{Rate}
 use Rattle.channel_schedule.specs.Plans.{plan_of}
 use Rattle.stream_rows.specs.Units.{Past}
@@ -23,5 +23,6 @@ ending_of rate idle (Refused refusal) = ending.Refused refusal
 abbrev pub frames_of : CutSettings → Frames
 frames_of c = record { from = c.from; to = c.to }
 
+-- cut, with its ending told
 abbrev pub cut_machine : CutSettings → Machine (Between Past CutSoFar) Ending
 cut_machine c = told_as (ending_of c.rate c.idle) (cutter.cut_machine (frames_of c))

@@ -1,7 +1,7 @@
 -- What `cut` replies to a skimmed stream, and to an input that is refused. A skimmed stream is one whose slices are bytes alone.
 use Rattle.std.specs.Prelude.{◌≡◌, ℕ, List, [], ◌++◌, length, Ok}
 use Rattle.field_rows.specs.Rows.{Fault}
-use Rattle.unit_table.specs.Fronts.{Finishes, Refuses, front_within}
+use Rattle.run_theory.specs.Fronts.{Finishes, Refuses, front_within}
 use Rattle.channel_schedule.specs.Plans.{plan_of}
 use Rattle.stream_rows.specs.declared.reason.Reason.{Reason}
 use Rattle.stream_rows.specs.Refusals.{Refusal}

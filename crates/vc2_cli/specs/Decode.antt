@@ -5,14 +5,14 @@ use Rattle.slice_geometry.specs.declared.unit_list.UnitShape.{UnitShape}
 use Rattle.slice_geometry.specs.Frames.{frame_of}
 use Rattle.picture_codec.specs.Samples.{PictureSeen, picture_of}
 use Rattle.raw_video.specs.RawText.{raw_text}
-use Rattle.vc2_run.specs.Walk.{Machine}
-use Rattle.unit_table.specs.Fronts.{Between, Command, machine_of}
+use Rattle.run_theory.specs.Walk.{Machine}
+use Rattle.run_theory.specs.Fronts.{Between, Command, machine_of}
 use Rattle.stream_rows.specs.declared.reason.Reason.{Reason}
 use Rattle.stream_rows.specs.Units.{Past, nothing_yet, DataUnit, Sequence, Repeated, Picture, Skipped, End, units}
 use Rattle.stream_rows.specs.Streams.{limit, past_limit, refusal_of, frame_under}
-use Rattle.stream_units.specs.StreamTable.{StreamTableSeen}
-use Rattle.stream_units.specs.declared.stop.Item.{Item}
-use Rattle.stream_units.specs.declared.stop.Item.TheVariants as items
+use Rattle.stream_reader.specs.StreamTable.{StreamTableSeen}
+use Rattle.stream_reader.specs.declared.stop.Item.{Item}
+use Rattle.stream_reader.specs.declared.stop.Item.TheVariants as items
 use Rattle.vc2_cli.specs.Endings.{closed, accepted}
 use Rattle.vc2_cli.specs.declared.status.Ending.{Ending}
 use Rattle.vc2_cli.specs.declared.status.Ending.TheVariants.{Done, Refused}
@@ -61,9 +61,11 @@ pub record Counts : Type 0 where
   pub pictures : ℕ
   pub slices : ℕ
 
+-- no picture so far
 abbrev pub nothing_counted : Counts
 nothing_counted = record { pictures = 0; slices = 0 }
 
+-- the counts with one unit more
 abbrev pub counted : Counts → DataUnit → Counts
 counted own unit = record { pictures = own.pictures + pictures_in unit; slices = own.slices + slices_in unit }
 
@@ -81,9 +83,11 @@ checking = record {
   endless = Done Nothing;
 }
 
+-- decode over the units of a stream
 abbrev pub decode_machine : Machine (Between Past ℕ) Ending
 decode_machine = machine_of limit past_limit units nothing_yet decoding
 
+-- check over the same
 abbrev pub check_machine : Machine (Between Past Counts) Ending
 check_machine = machine_of limit past_limit units nothing_yet checking
 

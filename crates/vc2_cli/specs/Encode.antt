@@ -8,20 +8,20 @@ use Rattle.raw_video.specs.RawParse.{raw_length, RawFront, LargeAt, CutAt}
 use Rattle.raw_video.specs.PictureRuns.{PictureCommand, BehindPictures, picture_machine}
 use Rattle.raw_video.specs.declared.reader.RawFault.{RawFault}
 use Rattle.raw_video.specs.declared.reader.RawFault.TheVariants as faults
-use Rattle.vc2_run.specs.Walk.{Machine}
-use Rattle.vc2_run.specs.declared.Halt.{Halt}
-use Rattle.vc2_run.specs.declared.Halt.TheVariants as halts
+use Rattle.run_theory.specs.Walk.{Machine}
+use Rattle.run_theory.specs.declared.Halt.{Halt}
+use Rattle.run_theory.specs.declared.Halt.TheVariants as halts
 use Rattle.stream_rows.specs.declared.reason.Reason.{Reason}
 use Rattle.stream_rows.specs.declared.reason.Reason.TheVariants.{HalfFrame, StreamTooLong, SampleTooLarge, RawTruncated}
 use Rattle.stream_rows.specs.Streams.{limit, frame_under}
-use Rattle.stream_units.specs.EncodedStream.{Settings, begins_at, header_length, header_unit, end_unit, units_with}
-use Rattle.stream_units.specs.Writer.{total_length, last_length, bytes_before, due_shapes, plain_shape}
+use Rattle.stream_writer.specs.EncodedStream.{Settings, begins_at, header_length, header_unit, end_unit, units_with}
+use Rattle.stream_writer.specs.Writer.{total_length, last_length, bytes_before, due_shapes, plain_shape}
 use Rattle.slice_geometry.specs.declared.unit_list.UnitShape.{UnitShape}
 use Rattle.channel_schedule.specs.declared.schedule.Schedule.{Schedule}
 use Rattle.channel_schedule.specs.Plans.{plan_of}
 use Rattle.vc2_words.specs.Settings.{Asked}
-use Rattle.stream_units.specs.declared.write_stop.WriteStop.{WriteStop}
-use Rattle.stream_units.specs.declared.write_stop.WriteStop.TheVariants as stops
+use Rattle.stream_writer.specs.declared.write_stop.WriteStop.{WriteStop}
+use Rattle.stream_writer.specs.declared.write_stop.WriteStop.TheVariants as stops
 use Rattle.vc2_cli.specs.declared.status.Ending.{Ending}
 use Rattle.vc2_cli.specs.declared.status.Ending.TheVariants.{Done, Refused}
 use Rattle.vc2_cli.specs.declared.status.Note.TheVariants.{Nothing, Encoded}
@@ -77,6 +77,7 @@ is_half coding n = coding == 1 && n % 2 == 1
 
 -- ---- the machine
 
+-- a refusal at a place of the raw video
 abbrev pub refused_at : ℕ → Reason → Ending
 refused_at place reason = Refused (record { place = place; reason = reason })
 
@@ -109,6 +110,7 @@ encoding s = record {
   endless = Done Nothing;
 }
 
+-- encode over raw pictures
 abbrev pub encode_machine : Asked → Machine (BehindPictures ℕ) Ending
 encode_machine s = picture_machine (frame_under s.parts) (encoding s)
 

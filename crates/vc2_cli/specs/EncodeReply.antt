@@ -9,8 +9,8 @@ use Rattle.raw_video.specs.RawParse.{IsOfFrame}
 use Rattle.stream_rows.specs.Streams.{limit, frame_under}
 use Rattle.channel_schedule.specs.declared.schedule.Outcome.TheVariants.{Runs}
 use Rattle.channel_schedule.specs.Rates.{IsRate}
-use Rattle.stream_units.specs.EncodedStream.{AreLawful}
-use Rattle.stream_units.specs.Writer.{IsSteepUnder}
+use Rattle.stream_writer.specs.EncodedStream.{AreLawful}
+use Rattle.stream_writer.specs.Writer.{IsSteepUnder}
 use Rattle.vc2_words.specs.Settings.{Asked}
 use Rattle.vc2_words.specs.Commands.{decode, encode}
 use Rattle.vc2_cli.specs.declared.status.Status.TheVariants as status
@@ -43,6 +43,7 @@ abbrev pub encoded_reply : Asked → List PictureSamples → Reply
 encoded_reply s pictures =
     record { status = status.Done; rest = []; out = stream_of s pictures; note = schedule_line (plan_for s pictures) }
 
+-- of whole pictures encode writes their stream and tells their schedule
 abbrev pub AreEncoded : Asked → List PictureSamples → Type 0
 AreEncoded s pictures =
     AreSettings s → MayBeWritten s pictures → command_reply (Ok (encode s)) (raw_input s pictures) ≡ encoded_reply s pictures
@@ -56,6 +57,7 @@ replayed_reply s pictures = record {
   note = [];
 }
 
+-- that schedule runs over that stream
 abbrev pub TheScheduleRuns : Asked → List PictureSamples → Type 0
 TheScheduleRuns s pictures = AreSettings s → MayBeWritten s pictures
     → reply_to (words_of (plan_for s pictures)) (stream_of s pictures) ≡ replayed_reply s pictures
@@ -69,6 +71,7 @@ decoded_reply s pictures = record {
   note = decoded_line (length pictures) (stream_length s pictures);
 }
 
+-- of that stream decode writes the pictures that its slices make
 abbrev pub AreDecoded : Asked → List PictureSamples → Type 0
 AreDecoded s pictures =
     AreSettings s → MayBeWritten s pictures → command_reply (Ok decode) (stream_of s pictures) ≡ decoded_reply s pictures

@@ -5,13 +5,14 @@ use Rattle.raw_video.specs.Reading.{RawReaderSeen}
 use Rattle.raw_video.specs.PictureRuns as pictures
 use Rattle.stream_rows.specs.Streams.{frame_under}
 use Rattle.vc2_words.specs.Settings.{Asked}
-use Rattle.stream_units.specs.Writer.{StreamWriterSeen}
+use Rattle.stream_writer.specs.Writer.{StreamWriterSeen}
 use Rattle.vc2_cli.specs.Encode.{written_under, shapes_at, encoding}
 
 -- the writer behind n pictures
 abbrev pub behind : Asked → ℕ → StreamWriterSeen
 behind s n = record { settings = written_under s; shapes = shapes_at s n; ended = false; stop = None }
 
+-- the writer stands behind n pictures
 abbrev pub IsBehind : Asked → ℕ → StreamWriterSeen → Type 0
 IsBehind s n w = w ≡ behind s n
 

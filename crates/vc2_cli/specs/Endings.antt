@@ -1,6 +1,6 @@
 -- How a command ends: three ways, whatever the command is. Which are of an input that was read whole, and which may change.
 use Rattle.std.specs.Prelude.{◌≡◌, true, ℕ, []}
-use Rattle.unit_table.specs.Fronts.{Close}
+use Rattle.run_theory.specs.Fronts.{Close}
 use Rattle.stream_rows.specs.Units.{is_truncated}
 use Rattle.channel_schedule.specs.declared.schedule.Outcome.{Outcome}
 use Rattle.vc2_cli.specs.Texts.{accepted_line, replayed_lines}

@@ -38,6 +38,7 @@ stream_frames order (Sequence parts ∷ units) =
     frames_in order (frame_under parts) (are_fields parts) (sequence_pictures units) ++ stream_frames order units
 stream_frames order (other ∷ units) = stream_frames order units
 
+-- the frames of these units of a stream
 abbrev pub frames_between : Order → List Entry → List (Frame × PictureSamples)
 frames_between order units = stream_frames order (map (λ entry. entry.unit) units)
 

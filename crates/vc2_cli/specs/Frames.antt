@@ -4,12 +4,12 @@ use Rattle.slice_geometry.specs.Frames.{Frame, frame_of}
 use Rattle.sequence_header.specs.declared.parts.HeaderParts.{HeaderParts}
 use Rattle.picture_codec.specs.Samples.{PictureSamples, PictureSeen, picture_of}
 use Rattle.raw_video.specs.RawText.{raw_text}
-use Rattle.vc2_run.specs.Walk.{Machine}
-use Rattle.unit_table.specs.Fronts.{Between, Command, machine_of}
+use Rattle.run_theory.specs.Walk.{Machine}
+use Rattle.run_theory.specs.Fronts.{Between, Command, machine_of}
 use Rattle.stream_rows.specs.declared.reason.Reason.{Reason}
 use Rattle.stream_rows.specs.Units.{Past, First, nothing_yet, DataUnit, Sequence, Repeated, Picture, Skipped, End, units}
 use Rattle.stream_rows.specs.Streams.{limit, past_limit, refusal_of, frame_under}
-use Rattle.stream_units.specs.StreamTable.{StreamTableSeen}
+use Rattle.stream_reader.specs.StreamTable.{StreamTableSeen}
 use Rattle.field_weave.specs.declared.Order.{Order}
 use Rattle.field_weave.specs.declared.Order.TheVariants.{Top}
 use Rattle.field_weave.specs.Weaving.{doubled, split}
@@ -29,6 +29,7 @@ pub record FramesSoFar : Type 0 where
   pub frames : ℕ
   pub first : Option PictureSamples
 
+-- no frame so far
 abbrev pub no_frames : Order → FramesSoFar
 no_frames order = record { order = order; frames = 0; first = None }
 
@@ -56,6 +57,7 @@ frames_after own Repeated = own
 frames_after own Skipped = own
 frames_after own End = own
 
+-- the frame that a unit completes
 abbrev pub frames_text : FramesSoFar → DataUnit → List ℕ
 frames_text own (Picture parts number params slices) =
     frame_text own.order (frame_under parts) (are_fields parts) (picture_of (frame_under parts) params slices) own.first
@@ -64,6 +66,7 @@ frames_text own Repeated = []
 frames_text own Skipped = []
 frames_text own End = []
 
+-- frames: two fields as one frame
 abbrev pub framing : Order → Command Past Reason DataUnit FramesSoFar Ending
 framing order = record {
   opening = [];
@@ -76,6 +79,7 @@ framing order = record {
   endless = Done Nothing;
 }
 
+-- frames over the units of a stream
 abbrev pub frames_machine : Order → Machine (Between Past FramesSoFar) Ending
 frames_machine order = machine_of limit past_limit units nothing_yet (framing order)
 

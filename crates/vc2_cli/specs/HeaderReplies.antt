@@ -2,7 +2,7 @@
 use Rattle.std.specs.Prelude.{◌≡◌, ◌⊎◌, ℕ, false, List, [], drop, Ok}
 use Rattle.field_rows.specs.Rows.{Value, Fault}
 use Rattle.field_rows.specs.Standing.{IsRefused}
-use Rattle.unit_table.specs.Grammar.{bytes_at}
+use Rattle.run_theory.specs.Grammar.{bytes_at}
 use Rattle.sequence_header.specs.declared.parts.HeaderParts.{HeaderParts}
 use Rattle.stream_rows.specs.declared.reason.Reason.{Reason}
 use Rattle.stream_rows.specs.Units.{nothing_yet, Sequence, reason_of, unit_rows}

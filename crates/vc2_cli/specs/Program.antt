@@ -5,10 +5,10 @@ use Rattle.std.specs.declared.io.ErrorKind.{ErrorKind}
 use Rattle.std.specs.declared.io.ErrorKind.TheVariants as kinds
 use Rattle.vc2_io.specs.declared.TheConstants.{INPUT_LIMIT}
 use Rattle.vc2_io.specs.Outside.{GrewShort}
-use Rattle.vc2_run.specs.Ran.{TakesAtMost}
+use Rattle.run_theory.specs.Ran.{TakesAtMost}
 use Rattle.vc2_cli.specs.declared.status.Status.{Status}
 use Rattle.vc2_cli.specs.declared.status.Status.TheVariants as st
-use Rattle.vc2_run.specs.Runs.{Change, IsSteady, IsUntouched}
+use Rattle.run_theory.specs.Runs.{Change, IsSteady, IsUntouched}
 use Rattle.vc2_cli.specs.Exit.{exit_code_of}
 use Rattle.vc2_cli.specs.Trial.{trial_text}
 use Rattle.vc2_cli.specs.Words.{words_ask}

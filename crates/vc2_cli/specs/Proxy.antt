@@ -4,12 +4,12 @@ use Rattle.slice_geometry.specs.declared.PictureShape.{PictureShape}
 use Rattle.slice_geometry.specs.Frames.{frame_of}
 use Rattle.transform_params.specs.Params.{Params}
 use Rattle.raw_video.specs.RawText.{raw_text}
-use Rattle.vc2_run.specs.Walk.{Machine}
-use Rattle.unit_table.specs.Fronts.{Between, Command, machine_of}
+use Rattle.run_theory.specs.Walk.{Machine}
+use Rattle.run_theory.specs.Fronts.{Between, Command, machine_of}
 use Rattle.stream_rows.specs.declared.reason.Reason.{Reason}
 use Rattle.stream_rows.specs.Units.{Past, nothing_yet, DataUnit, Sequence, Repeated, Picture, Skipped, End, units}
 use Rattle.stream_rows.specs.Streams.{limit, past_limit, refusal_of, frame_under}
-use Rattle.stream_units.specs.StreamTable.{StreamTableSeen}
+use Rattle.stream_reader.specs.StreamTable.{StreamTableSeen}
 use Rattle.proxy_picture.specs.Proxy.{proxy_frame, proxy_picture}
 use Rattle.proxy_picture.specs.Making.{ProxyDecoderSeen}
 use Rattle.vc2_cli.specs.Decode.{pictures_in, KeepsPictures}
@@ -23,6 +23,7 @@ pub record Proxied : Type 0 where
   pub level : ℕ
   pub pictures : ℕ
 
+-- no picture so far
 abbrev pub nothing_proxied : ℕ → Proxied
 nothing_proxied level = record { level = level; pictures = 0 }
 
@@ -48,6 +49,7 @@ proxying level = record {
   endless = Done Nothing;
 }
 
+-- proxy over the units of a stream
 abbrev pub proxy_machine : ℕ → Machine (Between Past Proxied) Ending
 proxy_machine level = machine_of limit past_limit units nothing_yet (proxying level)
 

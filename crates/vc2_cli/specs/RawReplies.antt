@@ -47,6 +47,7 @@ raw_reply s bytes =
     if length written == length video.pictures then behind_reply s written video.ending
     else refused_behind s written (length written * raw_size s) StreamTooLong
 
+-- what encode replies to any raw video
 abbrev pub IsRawReply : Asked → List ℕ → Type 0
 IsRawReply s bytes = AreSettings s → command_reply (Ok (encode s)) bytes ≡ raw_reply s bytes
 

@@ -2,14 +2,14 @@
 use Rattle.std.specs.Prelude.{◌≡◌, ◌⊎◌, ℕ, List, [], Option, Some, None, Result, Ok, Err}
 use Rattle.std.specs.Io.KnownBytes.{Appends, Consumes, Keeps}
 use Rattle.vc2_io.specs.Outside.{IsPrefix, IsProperPrefix, GrewShort}
-use Rattle.vc2_run.specs.Walk.{Answer, out_of, IsPrompt}
+use Rattle.run_theory.specs.Walk.{Answer, out_of, IsPrompt}
 use Rattle.channel_schedule.specs.declared.schedule.Outcome.{Outcome}
 use Rattle.channel_schedule.specs.declared.schedule.Outcome.TheVariants as outcomes
 use Rattle.vc2_words.specs.declared.keys.WordFault.{WordFault}
 use Rattle.vc2_words.specs.declared.words.TrialPart.{TrialPart}
 use Rattle.vc2_words.specs.Settings.{Asked}
 use Rattle.vc2_words.specs.Commands.{AskedCommand, header, trial}
-use Rattle.vc2_run.specs.Runs.{Change, IsSteady, HasFailed}
+use Rattle.run_theory.specs.Runs.{Change, IsSteady, HasFailed}
 use Rattle.vc2_cli.specs.declared.status.ScheduleFault.{ScheduleFault}
 use Rattle.vc2_cli.specs.declared.status.ScheduleFault.TheVariants.{Late, Overfull}
 use Rattle.vc2_cli.specs.declared.status.Status.{Status}
@@ -35,14 +35,17 @@ fault_of outcomes.Runs = None
 fault_of (outcomes.Late slot have need) = Some (Late slot have need)
 fault_of (outcomes.Overfull slot fill size) = Some (Overfull slot fill size)
 
+-- the status of a replayed schedule
 abbrev pub schedule_status : Option ScheduleFault → Status
 schedule_status None = status.Done
 schedule_status (Some fault) = status.Schedule fault
 
+-- and its note, a line where it doesn't run
 abbrev pub schedule_note : Option ScheduleFault → List ℕ
 schedule_note None = []
 schedule_note (Some fault) = fault_line fault
 
+-- the status of an ending
 abbrev pub status_of : Ending → Status
 status_of (ending.Done note) = status.Done
 status_of (ending.Scheduled outcome) = schedule_status (fault_of outcome)
@@ -55,6 +58,7 @@ note_line (notes.Decoded pictures bytes) = decoded_line pictures bytes
 note_line (notes.Framed count bytes) = framed_line count bytes
 note_line (notes.Encoded schedule) = schedule_line schedule
 
+-- the note of an ending
 abbrev pub note_of : Ending → List ℕ
 note_of (ending.Done note) = note_line note
 note_of (ending.Scheduled outcome) = schedule_note (fault_of outcome)
@@ -86,6 +90,7 @@ command_due (Ok asked) taken = (running_of asked).due taken
 abbrev pub reply_to : List (List ℕ) → List ℕ → Reply
 reply_to words input = command_reply (words_ask words) input
 
+-- what these words owe for the bytes that were taken
 abbrev pub due_to : List (List ℕ) → List ℕ → List ℕ
 due_to words taken = command_due (words_ask words) taken
 

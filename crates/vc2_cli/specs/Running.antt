@@ -1,7 +1,7 @@
 -- The one table of the commands: what each comes to, with no word of what its machine keeps between units.
 use Rattle.std.specs.Prelude.{ℕ, List, [], Option, Some, None}
 use Rattle.vc2_io.specs.declared.TheConstants.{READ_SIZE}
-use Rattle.vc2_run.specs.Walk.{Machine, Answer, answer_to, due}
+use Rattle.run_theory.specs.Walk.{Machine, Answer, answer_to, due}
 use Rattle.vc2_words.specs.declared.words.TrialPart.{TrialPart}
 use Rattle.vc2_words.specs.Settings.{Asked}
 use Rattle.vc2_words.specs.Commands.{AskedCommand, chain, header, decode, proxy, check, encode, trial, weave, split, frames, cut}
@@ -35,6 +35,7 @@ running machine rest most = record { answer = answer_to machine; due = due machi
 abbrev pub over_units : {Z : Type 0} → Machine Z Ending → Running
 over_units machine = running machine (λ input. []) (Some READ_SIZE)
 
+-- a command over raw video, whose line tells nothing of its own
 abbrev pub over_video : {Z : Type 0} → Machine Z Ending → Running
 over_video machine = running machine (λ input. []) None
 

@@ -8,7 +8,7 @@ use Rattle.channel_schedule.specs.Courses.{course_of, count_in, IsOutcome}
 use Rattle.stream_rows.specs.Refusals.{Refusal}
 use Rattle.stream_rows.specs.Units.{Past, nothing_yet, after}
 use Rattle.stream_rows.specs.Streams.{bytes_between, Entry, total, Units, IsStream, IsRefusal}
-use Rattle.stream_units.specs.Turns.{shape_of}
+use Rattle.stream_reader.specs.Turns.{shape_of}
 use Rattle.vc2_words.specs.Commands.{check}
 use Rattle.vc2_cli.specs.Texts.{replayed_lines}
 use Rattle.vc2_cli.specs.Decode.{pictures_in, slices_in}

@@ -6,15 +6,19 @@ use Rattle.vc2_words.specs.Commands.{check}
 use Rattle.vc2_cli.specs.Texts.{schedule_line}
 use Rattle.vc2_cli.specs.Words.{words_ask}
 
+-- `rate=..`
 abbrev pub rate_word : Schedule → List ℕ
 rate_word s = codes "rate=" ++ (decimal s.rate.num ++ (codes "/" ++ decimal s.rate.den))
 
+-- `delay=..`
 abbrev pub delay_word : Schedule → List ℕ
 delay_word s = codes "delay=" ++ decimal s.delay
 
+-- `buffer=..`
 abbrev pub buffer_word : Schedule → List ℕ
 buffer_word s = codes "buffer=" ++ decimal s.size
 
+-- `idle=..`
 abbrev pub idle_word : Schedule → List ℕ
 idle_word s = codes "idle=" ++ decimal s.idle
 
@@ -22,9 +26,11 @@ idle_word s = codes "idle=" ++ decimal s.idle
 abbrev pub idle_words : Schedule → List (List ℕ)
 idle_words s = if s.idle == 0 then [] else idle_word s ∷ []
 
+-- the operands that name a schedule
 abbrev pub operands_of : Schedule → List (List ℕ)
 operands_of s = rate_word s ∷ delay_word s ∷ buffer_word s ∷ idle_words s
 
+-- the words with which check replays it
 abbrev pub words_of : Schedule → List (List ℕ)
 words_of s = codes "check" ∷ operands_of s
 

@@ -1,13 +1,13 @@
 -- The command `check` with a schedule: nothing before the end, and there the counts, and whether the schedule runs.
 use Rattle.std.specs.Prelude.{ℕ, ◌+◌, List, [], ◌∷◌, ◌++◌, length}
-use Rattle.vc2_run.specs.Walk.{Machine}
+use Rattle.run_theory.specs.Walk.{Machine}
 use Rattle.slice_geometry.specs.declared.unit_list.UnitShape.{UnitShape}
 use Rattle.slice_geometry.specs.UnitLengths.{UnitShapesSeen}
-use Rattle.unit_table.specs.Fronts.{Between, Command, machine_of}
+use Rattle.run_theory.specs.Fronts.{Between, Command, machine_of}
 use Rattle.stream_rows.specs.declared.reason.Reason.{Reason}
 use Rattle.stream_rows.specs.Units.{Past, nothing_yet, DataUnit, units}
 use Rattle.stream_rows.specs.Streams.{limit, past_limit, refusal_of}
-use Rattle.stream_units.specs.Turns.{shape_of}
+use Rattle.stream_reader.specs.Turns.{shape_of}
 use Rattle.channel_schedule.specs.declared.schedule.Schedule.{Schedule}
 use Rattle.channel_schedule.specs.declared.schedule.Outcome.{Outcome}
 use Rattle.channel_schedule.specs.Courses.{course_of, count_in, outcome_from}
@@ -24,9 +24,11 @@ pub record Replayed : Type 0 where
   pub slices : ℕ
   pub shapes : List UnitShape
 
+-- no picture so far
 abbrev pub nothing_replayed : Schedule → Replayed
 nothing_replayed schedule = record { schedule = schedule; pictures = 0; slices = 0; shapes = [] }
 
+-- units of so many bytes in all
 abbrev pub shapes_in : List UnitShape → ℕ → UnitShapesSeen
 shapes_in units total = record { units = units; total = total; spare = 0 }
 
@@ -35,6 +37,7 @@ abbrev pub outcome_of : Schedule → List UnitShape → ℕ → Outcome
 outcome_of schedule units total = outcome_from (course_of
     (shapes_in units total) schedule.rate schedule.idle schedule.delay) schedule.size 0 (count_in (shapes_in units total))
 
+-- check with a schedule: the units are counted and their shapes kept
 abbrev pub replaying : Schedule → Command Past Reason DataUnit Replayed Ending
 replaying schedule = record {
   opening = [];
@@ -53,6 +56,7 @@ replaying schedule = record {
   endless = Done Nothing;
 }
 
+-- that over the units of a stream
 abbrev pub replay_machine : Schedule → Machine (Between Past Replayed) Ending
 replay_machine schedule = machine_of limit past_limit units nothing_yet (replaying schedule)
 

@@ -6,7 +6,7 @@ use Rattle.picture_codec.specs.Samples.{PictureSamples}
 use Rattle.raw_video.specs.RawText.{raw_text}
 use Rattle.stream_rows.specs.Refusals.{Refusal}
 use Rattle.stream_rows.specs.Streams.{Entry, total, IsStream, IsRefusal}
-use Rattle.stream_units.specs.StreamPictures.{pictures_of}
+use Rattle.stream_writer.specs.StreamPictures.{pictures_of}
 use Rattle.vc2_words.specs.Commands.{decode, check}
 use Rattle.vc2_cli.specs.declared.status.Status.TheVariants as status
 use Rattle.vc2_cli.specs.Texts.{refusal_line, decoded_line, accepted_line}

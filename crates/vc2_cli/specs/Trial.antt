@@ -8,7 +8,7 @@ use Rattle.trial_video.specs.Worst.{worst, worst_of}
 use Rattle.stream_rows.specs.declared.reason.Reason.{Reason}
 use Rattle.stream_rows.specs.Units.{is_truncated, Past, DataUnit, Sequence, Repeated, Picture, Skipped, End}
 use Rattle.stream_rows.specs.Streams.{frame_under, refusal_of}
-use Rattle.unit_table.specs.Fronts.{Command}
+use Rattle.run_theory.specs.Fronts.{Command}
 use Rattle.vc2_words.specs.declared.words.TrialPart.{TrialPart}
 use Rattle.vc2_words.specs.Settings.{Asked}
 use Rattle.vc2_cli.specs.declared.comparing.ComparisonEnd.{ComparisonEnd}
@@ -16,6 +16,7 @@ use Rattle.vc2_cli.specs.declared.comparing.ComparisonEnd.TheVariants.{Compared,
 use Rattle.vc2_cli.specs.Texts.{trial_lines}
 use Rattle.vc2_cli.specs.WholePictures.{stream_of, decoded_of, plan_for}
 
+-- the pictures of a trial
 abbrev pub trial_pictures : Asked → TrialPart → List PictureSamples
 trial_pictures s part = video (frame_under s.parts) part.seed part.pictures
 
@@ -23,6 +24,7 @@ trial_pictures s part = video (frame_under s.parts) part.seed part.pictures
 abbrev pub trial_worst : Asked → TrialPart → ℕ
 trial_worst s part = worst_of (trial_pictures s part) (decoded_of s (trial_pictures s part))
 
+-- the four lines of a trial
 abbrev pub trial_text : Asked → TrialPart → List ℕ
 trial_text s part =
     let pictures = trial_pictures s part in
@@ -62,6 +64,7 @@ with_picture (suc left) own decoded =
       worst = max own.worst (worst (video_picture own.frame own.seed own.pictures) decoded);
     }
 
+-- the comparison with one unit more
 abbrev pub with_unit : Comparison → DataUnit → Comparison
 with_unit own (Picture parts number params slices) = with_picture own.left own (picture_of (frame_under parts) params slices)
 with_unit own (Sequence parts) = own
@@ -69,6 +72,7 @@ with_unit own Repeated = own
 with_unit own Skipped = own
 with_unit own End = own
 
+-- the decoded pictures beside those that were encoded
 abbrev pub comparing : Comparison → Command Past Reason DataUnit Comparison ComparisonEnd
 comparing start = record {
   opening = [];

@@ -6,13 +6,13 @@ use Rattle.slice_geometry.specs.Frames.{Frame, frame_of}
 use Rattle.picture_codec.specs.Samples.{PictureSamples}
 use Rattle.picture_codec.specs.Encoding.{slices_of}
 use Rattle.trial_video.specs.Video.{TrialVideoSeen, video_picture}
-use Rattle.vc2_run.specs.declared.Halt.{Halt}
-use Rattle.vc2_run.specs.declared.Halt.TheVariants.{NoMemory}
+use Rattle.run_theory.specs.declared.Halt.{Halt}
+use Rattle.run_theory.specs.declared.Halt.TheVariants.{NoMemory}
 use Rattle.stream_rows.specs.Streams.{frame_under}
-use Rattle.stream_units.specs.EncodedStream.{end_unit}
-use Rattle.stream_units.specs.Writer.{StreamWriterSeen}
-use Rattle.stream_units.specs.declared.write_stop.WriteStop.{WriteStop}
-use Rattle.stream_units.specs.declared.write_stop.WriteStop.TheVariants as stops
+use Rattle.stream_writer.specs.EncodedStream.{end_unit}
+use Rattle.stream_writer.specs.Writer.{StreamWriterSeen}
+use Rattle.stream_writer.specs.declared.write_stop.WriteStop.{WriteStop}
+use Rattle.stream_writer.specs.declared.write_stop.WriteStop.TheVariants as stops
 use Rattle.vc2_words.specs.declared.words.TrialPart.{TrialPart}
 use Rattle.vc2_words.specs.Settings.{Asked}
 use Rattle.vc2_cli.specs.declared.comparing.ComparisonEnd.{ComparisonEnd}

@@ -1,7 +1,7 @@
 -- The commands `weave` and `split`.
 use Rattle.std.specs.Prelude.{ℕ, Bool, true, false, Result, Ok, Err}
-use Rattle.vc2_run.specs.Walk.{Machine}
-use Rattle.vc2_run.specs.declared.Halt.{Halt}
+use Rattle.run_theory.specs.Walk.{Machine}
+use Rattle.run_theory.specs.declared.Halt.{Halt}
 use Rattle.stream_rows.specs.declared.reason.Reason.TheVariants as reasons
 use Rattle.stream_rows.specs.Streams.{limit, frame_under}
 use Rattle.field_weave.specs.declared.Order.{Order}
@@ -18,6 +18,7 @@ use Rattle.vc2_cli.specs.declared.status.Note.TheVariants.{Nothing}
 use Rattle.vc2_cli.specs.Encode.{refused_at}
 use Rattle.vc2_cli.specs.Mapped.{told_as, result_told}
 
+-- which field comes first
 abbrev pub order_of : Bool → Order
 order_of true = Top
 order_of false = Bottom
@@ -35,10 +36,12 @@ ending_of (Err other) = refused_at limit reasons.StreamTooLong
 abbrev pub weave_machine : FieldVideo → Machine (BehindPictures FieldsSoFar) Ending
 weave_machine video = told_as ending_of (weaver.weave_machine (order_of video.top) (frame_under video.header))
 
+-- split, with its ending told
 abbrev pub split_machine : FieldVideo → Machine (BehindPictures ℕ) Ending
 split_machine video = told_as ending_of (weaver.split_machine (order_of video.top) (frame_under video.header))
 
 -- ---- for the code
 
+-- what a weaver's result comes to
 abbrev pub outcome_of : Result ℕ WeaveStop → Result Ending Halt
 outcome_of result = result_told ending_of (told result)

@@ -5,7 +5,7 @@ use Rattle.picture_codec.specs.Samples.{PictureSamples, picture_of}
 use Rattle.picture_codec.specs.Encoding.{slices_of}
 use Rattle.raw_video.specs.RawParse.{raw_texts}
 use Rattle.stream_rows.specs.Streams.{frame_under}
-use Rattle.stream_units.specs.EncodedPictures.{encoded_pictures}
+use Rattle.stream_writer.specs.EncodedPictures.{encoded_pictures}
 use Rattle.channel_schedule.specs.declared.schedule.Schedule.{Schedule}
 use Rattle.vc2_words.specs.Settings.{Asked}
 use Rattle.vc2_cli.specs.Encode.{written_under, stream_place, shapes_at, ended_plan}

@@ -16,16 +16,20 @@ seen_words (Err fault) = Err fault
 
 -- ---- the last rule of settings: each entry of the matrix leaves index 127 so coarse that every slice can be written
 
+-- the greater of luma's and colour's depth in bits
 abbrev pub greater_depth : Asked → ℕ
 greater_depth s = max (luma_depth s.parts) (colour_depth s.parts)
 
+-- at index 127 each quantiser makes 0 of each coefficient of any picture, so there is an index for each slice
 abbrev pub is_flat : Asked → Bool
 is_flat s =
     list_all (λ entry. nat_le (entry + 4 * (greater_depth s + 2 + 3 * s.params.slicing.depth)) 127) s.params.matrix.entries
 
+-- a command, if its matrix passes
 abbrev pub unless_steep : Asked → AskedCommand → Result AskedCommand WordFault
 unless_steep s command = if is_flat s then Ok command else Err (SettingsRefused MatrixTooSteep)
 
+-- what is asked for, if its matrix passes
 abbrev pub checked : Result AskedCommand WordFault → Result AskedCommand WordFault
 checked (Ok (encode s)) = unless_steep s (encode s)
 checked (Ok (trial s part)) = unless_steep s (trial s part)

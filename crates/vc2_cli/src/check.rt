@@ -2,8 +2,8 @@
 ghost use Rattle.vc2_io.specs.declared.TheConstants.{READ_SIZE};
 ghost use Rattle.std.specs.Prelude.{◌≡◌, refl};
 ghost use Rattle.stream_rows.specs.Units.{nothing_yet};
-ghost use Rattle.vc2_run.specs.Ran.{HaltHasCause};
-ghost use Rattle.vc2_run.specs.Runs.{change, Runs, Closes};
+ghost use Rattle.run_theory.specs.Ran.{HaltHasCause};
+ghost use Rattle.run_theory.specs.Runs.{change, Runs, Closes};
 ghost use Rattle.vc2_cli.specs.Endings.{IsDone, MayGoOn, accepted};
 ghost use Rattle.unit_reader.specs.Soon.{Soon};
 ghost use Rattle.vc2_cli.specs.Decode.{Counts, nothing_counted, checking, check_machine, pictures_told, IsLastCount, KeepsFew};
@@ -14,7 +14,7 @@ use std::alloc::Global;
 use stream_units::{Item, Reason, Refusal, StreamTable};
 use unit_reader::{Reader, UnitCommand, run_units};
 use vc2_io::{Sink, Source, write_whole};
-use vc2_run::Halt;
+use run_theory::Halt;
 
 // Writes the line of a stream that is accepted.
 fn accept<K: Sink>(

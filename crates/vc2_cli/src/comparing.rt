@@ -1,6 +1,6 @@
 // The pictures of a stream beside those of a video.
 ghost use Rattle.std.specs.Prelude.{◌≡◌, ◌≤◌, ◌+◌, ◌^◌, ℕ, true, refl, IfOk};
-ghost use Rattle.stream_units.specs.Writer.{IsSteepUnder};
+ghost use Rattle.stream_writer.specs.Writer.{IsSteepUnder};
 ghost use Rattle.vc2_words.specs.Shown.{shown};
 ghost use Rattle.vc2_words.specs.Lawful.{IsTrial};
 ghost use Rattle.stream_rows.specs.Units.{nothing_yet};
@@ -16,7 +16,7 @@ use stream_units::{Item, Reason, Refusal, StreamTable};
 use trial_video::{TrialVideo, worst_difference};
 use unit_reader::{Reader, UnitCommand, run_units};
 use vc2_io::{NoMemory, NullSink, Sink, SteadySource};
-use vc2_run::Halt;
+use run_theory::Halt;
 use vc2_words::{Settings, TrialPart};
 
 /// How a comparison ends: with the greatest difference of a sample, or the stream is refused.

@@ -4,7 +4,7 @@ ghost use Rattle.vc2_io.specs.declared.TheConstants.{READ_SIZE};
 ghost use Rattle.channel_schedule.specs.Rates.{IsRate};
 ghost use Rattle.unit_reader.specs.Soon.{Soon};
 ghost use Rattle.stream_cut.specs.Cutter.{run_of};
-ghost use Rattle.vc2_run.specs.Runs.{change, Runs};
+ghost use Rattle.run_theory.specs.Runs.{change, Runs};
 ghost use Rattle.vc2_words.specs.Lawful.{IsCut};
 ghost use Rattle.vc2_cli.specs.Cut.{ending_of, cut_machine};
 ghost use Rattle.vc2_cli.specs.Endings.{IsDone, MayGoOn};
@@ -15,7 +15,7 @@ use channel_schedule::plan;
 use std::alloc::Global;
 use stream_cut::{CutStop, Cutter};
 use vc2_io::{Sink, Source};
-use vc2_run::Halt;
+use run_theory::Halt;
 use vc2_words::CutSettings;
 
 // How the command comes out.

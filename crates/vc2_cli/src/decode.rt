@@ -3,11 +3,11 @@ ghost use Rattle.vc2_io.specs.declared.TheConstants.{READ_SIZE};
 ghost use Rattle.std.specs.Prelude.{◌≡◌, ◌≢◌, ℕ, Some, None, true, false, refl, OnOk, OnErr, IfSome, IsNone};
 ghost use Rattle.std.specs.Io.KnownBytes.{Appends};
 ghost use Rattle.vc2_io.specs.Outside.{HasCause, GrewShort};
-ghost use Rattle.vc2_run.specs.Runs.{change, Runs};
+ghost use Rattle.run_theory.specs.Runs.{change, Runs};
 ghost use Rattle.vc2_cli.specs.Endings.{IsDone, MayGoOn};
 ghost use Rattle.unit_reader.specs.Soon.{Soon};
 ghost use Rattle.stream_rows.specs.Units.{nothing_yet};
-ghost use Rattle.stream_units.specs.ReaderInside.{seen_of};
+ghost use Rattle.stream_reader.specs.ReaderInside.{seen_of};
 ghost use Rattle.vc2_cli.specs.Telling.{tells_picture};
 ghost use Rattle.vc2_cli.specs.Decode.{decoding, decode_machine, shown_text, KeepsPictures};
 
@@ -18,7 +18,7 @@ use std::alloc::Global;
 use stream_units::{Item, Reason, Refusal, StreamTable};
 use unit_reader::{Reader, UnitCommand, run_units};
 use vc2_io::{Failed, Sink, Source};
-use vc2_run::Halt;
+use run_theory::Halt;
 
 /// The decoder of the picture that the item tells, if it tells one.
 pub(crate) fn decoder_of(table: &StreamTable, item: Item) -> Option<&PictureDecoder>

@@ -5,9 +5,9 @@ ghost use Rattle.sequence_header.specs.Coding.{IsShapeOf};
 ghost use Rattle.channel_schedule.specs.Rates.{IsRate};
 ghost use Rattle.vc2_words.specs.Shown.{shown};
 ghost use Rattle.vc2_words.specs.Lawful.{AreLawful};
-ghost use Rattle.vc2_run.specs.Ran.{HaltHasCause};
-ghost use Rattle.stream_units.specs.Writer.{next_place, next_previous, IsSteepUnder};
-ghost use Rattle.vc2_run.specs.Runs.{change, Runs, Closes};
+ghost use Rattle.run_theory.specs.Ran.{HaltHasCause};
+ghost use Rattle.stream_writer.specs.Writer.{next_place, next_previous, IsSteepUnder};
+ghost use Rattle.run_theory.specs.Runs.{change, Runs, Closes};
 ghost use Rattle.vc2_cli.specs.Endings.{IsDone};
 ghost use Rattle.vc2_cli.specs.Encode.{written_under, raw_size, encode_machine, refused_at, is_half, ended_plan, ended_at, last_text, told_of_fault, told_of_stop};
 ghost use Rattle.vc2_cli.specs.EncodeTurn.{Goes};
@@ -19,7 +19,7 @@ use raw_video::{RawFault, RawReader, RawStep};
 use std::alloc::Global;
 use stream_units::{Reason, Refusal, StreamWriter, WriteStop};
 use vc2_io::{INPUT_LIMIT, Sink, Source};
-use vc2_run::Halt;
+use run_theory::Halt;
 use vc2_words::Settings;
 
 fn refused(place: u64, reason: Reason) -> Result<Ending, Halt>

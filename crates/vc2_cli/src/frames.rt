@@ -3,13 +3,13 @@ ghost use Rattle.vc2_io.specs.declared.TheConstants.{READ_SIZE};
 ghost use Rattle.std.specs.Prelude.{◌≡◌, ◌≤◌, ◌+◌, ◌^◌, ◌<◌, Some, None, true, refl, Option, IfOk, OnOk, OnErr};
 ghost use Rattle.std.specs.Io.KnownBytes.{Appends};
 ghost use Rattle.vc2_io.specs.Outside.{HasCause, GrewShort};
-ghost use Rattle.vc2_run.specs.Ran.{HaltHasCause};
+ghost use Rattle.run_theory.specs.Ran.{HaltHasCause};
 ghost use Rattle.slice_geometry.specs.Frames.{frame_of};
 ghost use Rattle.sequence_header.specs.declared.parts.HeaderParts.{HeaderParts};
 ghost use Rattle.picture_codec.specs.Samples.{PictureSeen, PictureSamples};
 ghost use Rattle.stream_rows.specs.Units.{nothing_yet};
 ghost use Rattle.field_weave.specs.Weaving.{doubled, split};
-ghost use Rattle.vc2_run.specs.Runs.{change, Runs, WritesText};
+ghost use Rattle.run_theory.specs.Runs.{change, Runs, WritesText};
 ghost use Rattle.vc2_cli.specs.Endings.{IsDone, MayGoOn};
 ghost use Rattle.unit_reader.specs.Soon.{Soon};
 ghost use Rattle.vc2_cli.specs.Telling.{tells_sequence};
@@ -27,7 +27,7 @@ use std::alloc::Global;
 use stream_units::{Item, Reason, Refusal, StreamTable};
 use unit_reader::{Reader, UnitCommand, run_units};
 use vc2_io::{Failed, Sink, Source};
-use vc2_run::Halt;
+use run_theory::Halt;
 
 // Whether the pictures under the header that was read last are fields.
 fn are_fields(table: &StreamTable) -> bool

@@ -1,6 +1,6 @@
 // The command `header`.
 ghost use Rattle.std.specs.Prelude.{◌≡◌, List, ℕ, Some, IfOk};
-ghost use Rattle.vc2_run.specs.Ran.{Ran, TakesAtMost, HaltHasCause};
+ghost use Rattle.run_theory.specs.Ran.{Ran, TakesAtMost, HaltHasCause};
 ghost use Rattle.vc2_cli.specs.Reply.{ReadsAll, status_of};
 ghost use Rattle.vc2_cli.specs.First.{header_machine, behind_first};
 ghost use Rattle.vc2_cli.specs.FirstTurn.{TookFirst};
@@ -13,7 +13,7 @@ use sequence_header::SequenceHeader;
 use std::alloc::Global;
 use stream_units::{Refusal, first_unit};
 use vc2_io::{Sink, Source, fill, write_whole};
-use vc2_run::Halt;
+use run_theory::Halt;
 
 // More bytes than any first unit has.
 const MOST: usize = 250;

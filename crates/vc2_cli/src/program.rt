@@ -2,7 +2,7 @@
 ghost use Rattle.std.specs.Prelude.{◌≡◌, drop, map, string_bytes, IfOk, IfErr};
 ghost use Rattle.std.specs.IoError.{error_kind};
 ghost use Rattle.std.specs.Vec.Iter.{into_iter_items};
-ghost use Rattle.vc2_run.specs.Runs.{change, IsUntouched};
+ghost use Rattle.run_theory.specs.Runs.{change, IsUntouched};
 ghost use Rattle.vc2_cli.specs.Program.{Exits, exit_of_kind};
 
 use crate::status::{Status, exit_code};

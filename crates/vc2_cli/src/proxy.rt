@@ -3,17 +3,17 @@ ghost use Rattle.vc2_io.specs.declared.TheConstants.{READ_SIZE};
 ghost use Rattle.std.specs.Prelude.{◌≡◌, ◌≤◌, ℕ, Some, List, refl, OnOk, OnErr, IfOk};
 ghost use Rattle.std.specs.Io.KnownBytes.{Appends};
 ghost use Rattle.vc2_io.specs.Outside.{HasCause, GrewShort};
-ghost use Rattle.vc2_run.specs.Ran.{HaltHasCause};
+ghost use Rattle.run_theory.specs.Ran.{HaltHasCause};
 ghost use Rattle.slice_geometry.specs.Frames.{frame_of};
 ghost use Rattle.transform_params.specs.Views.{params_of};
 ghost use Rattle.picture_codec.specs.Decoding.{AllCanSynthesise, HoldUnit};
 ghost use Rattle.raw_video.specs.RawText.{raw_text};
 ghost use Rattle.stream_rows.specs.Units.{DataUnit, nothing_yet};
-ghost use Rattle.stream_units.specs.Turns.{IsWhole};
-ghost use Rattle.stream_units.specs.Reader.{IsTakerOf};
+ghost use Rattle.stream_reader.specs.Turns.{IsWhole};
+ghost use Rattle.stream_reader.specs.Reader.{IsTakerOf};
 ghost use Rattle.proxy_picture.specs.Proxy.{proxy_frame, proxy_picture};
 ghost use Rattle.proxy_picture.specs.Making.{reduced_picture};
-ghost use Rattle.vc2_run.specs.Runs.{change, Runs, WritesText};
+ghost use Rattle.run_theory.specs.Runs.{change, Runs, WritesText};
 ghost use Rattle.vc2_cli.specs.Endings.{IsDone, MayGoOn};
 ghost use Rattle.unit_reader.specs.Soon.{Soon};
 ghost use Rattle.vc2_cli.specs.Proxy.{Proxied, nothing_proxied, proxying_any, proxy_machine, proxy_text, KeepsWhole, MakesProxiesOf};
@@ -30,7 +30,7 @@ use stream_units::{Item, Reason, Refusal, StreamTable};
 use transform_params::TransformParams;
 use unit_reader::{Reader, UnitCommand, run_units};
 use vc2_io::{Failed, Sink, Source};
-use vc2_run::Halt;
+use run_theory::Halt;
 
 // A maker of the proxies of pictures of this shape and with these parameters: the one that is kept, or else a new one.
 fn ready(

@@ -1,7 +1,7 @@
 // The top call.
 ghost use Rattle.vc2_io.specs.declared.TheConstants.{INPUT_LIMIT};
 ghost use Rattle.std.specs.Prelude.{◌≡◌, ◌+◌, ℕ, List, map, string_bytes, Ok, Some, IfOk, IfErr};
-ghost use Rattle.vc2_run.specs.Ran.{TakesAtMost};
+ghost use Rattle.run_theory.specs.Ran.{TakesAtMost};
 ghost use Rattle.channel_schedule.specs.declared.schedule.Schedule.{Schedule};
 ghost use Rattle.channel_schedule.specs.Rates.{IsSchedule};
 ghost use Rattle.vc2_words.specs.Commands as asked;
@@ -11,11 +11,11 @@ ghost use Rattle.vc2_words.specs.declared.words.TrialPart.{TrialPart};
 ghost use Rattle.vc2_words.specs.declared.settings.CutSettings.{CutSettings};
 ghost use Rattle.vc2_words.specs.declared.settings.FieldVideo.{FieldVideo};
 ghost use Rattle.vc2_words.specs.Lawful.{AreLawful, IsTrial, IsFieldVideo, IsCut};
-ghost use Rattle.stream_units.specs.Writer.{IsSteepUnder};
+ghost use Rattle.stream_writer.specs.Writer.{IsSteepUnder};
 ghost use Rattle.vc2_cli.specs.Encode.{written_under};
 ghost use Rattle.vc2_cli.specs.Words.{seen_words};
 ghost use Rattle.vc2_cli.specs.Trial.{trial_text};
-ghost use Rattle.vc2_run.specs.Runs.{change};
+ghost use Rattle.run_theory.specs.Runs.{change};
 ghost use Rattle.vc2_cli.specs.Program.{Ran};
 ghost use Rattle.vc2_cli.specs.Reply.{command_reply, command_due, status_of, note_line, note_of, fault_of, schedule_status, schedule_note, HasCauses, AnswersUsage, AnswersTrial, IfTrial, IfHeader};
 ghost use Rattle.vc2_cli.specs.Soon.{StopsSoon, IfUnits};
@@ -41,7 +41,7 @@ use crate::words::checked;
 use channel_schedule::Outcome;
 use std::alloc::{AllocError, Global};
 use vc2_io::{Sink, Source, write_whole};
-use vc2_run::Halt;
+use run_theory::Halt;
 use vc2_words::{Command, WordFault, read_words};
 
 fn status_of_halt(halt: Halt) -> Status

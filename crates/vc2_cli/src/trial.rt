@@ -6,11 +6,11 @@ ghost use Rattle.channel_schedule.specs.Plans.{plan_of};
 ghost use Rattle.vc2_words.specs.Settings.{stream_length};
 ghost use Rattle.vc2_words.specs.Shown.{shown};
 ghost use Rattle.vc2_words.specs.Lawful.{IsTrial};
-ghost use Rattle.vc2_run.specs.Ran.{HaltHasCause};
-ghost use Rattle.stream_units.specs.Writer.{IsSteepUnder};
+ghost use Rattle.run_theory.specs.Ran.{HaltHasCause};
+ghost use Rattle.stream_writer.specs.Writer.{IsSteepUnder};
 ghost use Rattle.vc2_cli.specs.declared.status.Ending.TheVariants as ending;
 ghost use Rattle.vc2_cli.specs.declared.status.Note.TheVariants as note;
-ghost use Rattle.vc2_run.specs.Runs.{Closes};
+ghost use Rattle.run_theory.specs.Runs.{Closes};
 ghost use Rattle.vc2_cli.specs.Encode.{written_under};
 ghost use Rattle.vc2_cli.specs.WholePictures.{stream_of, plan_for};
 ghost use Rattle.vc2_cli.specs.Trial.{trial_pictures, trial_worst, trial_text};
@@ -27,7 +27,7 @@ use std::alloc::Global;
 use stream_units::{StreamWriter, WriteStop};
 use trial_video::TrialVideo;
 use vc2_io::{NoMemory, Sink, write_whole};
-use vc2_run::Halt;
+use run_theory::Halt;
 use vc2_words::{Settings, TrialPart, later_sequences};
 
 /// What a trial finds: the bytes of its stream, the least schedule with which that runs, and the greatest difference.

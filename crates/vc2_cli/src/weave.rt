@@ -1,7 +1,7 @@
 // The commands `weave` and `split`.
 ghost use Rattle.std.specs.Prelude.{◌≡◌, Ok};
 ghost use Rattle.vc2_words.specs.Lawful.{IsFieldVideo};
-ghost use Rattle.vc2_run.specs.Runs.{change, Runs};
+ghost use Rattle.run_theory.specs.Runs.{change, Runs};
 ghost use Rattle.vc2_cli.specs.Endings.{IsDone};
 ghost use Rattle.vc2_cli.specs.Encode.{refused_at};
 ghost use Rattle.vc2_cli.specs.Weave.{order_of, weave_machine, split_machine, outcome_of};
@@ -11,7 +11,7 @@ use field_weave::{Order, WeaveStop, Weaver};
 use std::alloc::Global;
 use stream_units::{Reason, Refusal};
 use vc2_io::{INPUT_LIMIT, Sink, Source};
-use vc2_run::Halt;
+use run_theory::Halt;
 use vc2_words::FieldVideo;
 
 pub(crate) fn order_of(top: bool) -> Order

@@ -3,12 +3,14 @@ use Rattle.std.proofs.Common.{◌≡◌, ◌≢◌, ℕ, ◌+◌, true, false, L
 use Rattle.std.specs.Prelude.{Option, Bool, Result, is_some, set, if◌then◌else◌}
 use Rattle.std.proofs.lemmas.Bool.{false≢true}
 use Rattle.std.proofs.lemmas.List.{get_or-set_same, get_or-set_other, length-set, set_comm}
+use Rattle.vc2_words.specs.declared.keys.TheConstants.{KEY_COUNT}
 use Rattle.vc2_words.specs.declared.keys.Key.{Key}
 use Rattle.vc2_words.specs.declared.keys.Name.{Name}
 use Rattle.vc2_words.specs.declared.keys.WordFault.{WordFault}
 use Rattle.vc2_words.specs.Keys.{name_of, key_of, takes, place_of}
 use Rattle.vc2_words.specs.Forms.{cut_at, value_in}
-use Rattle.vc2_words.specs.Operands.{Table, nothing, value_of, with_value, valued, keyed, cut_operand, operand, operands_from, operands_of, and_then, unless, missing}
+use Rattle.field_rows.specs.Rows.{and_then}
+use Rattle.vc2_words.specs.Operands.{Table, nothing, value_of, with_value, valued, keyed, cut_operand, operand, operands_from, operands_of, unless, missing}
 use Rattle.vc2_words.specs.Commands.{AskedCommand, asked_by, named, command_of}
 use Rattle.vc2_words.specs.Order.{IsFirstFault, FirstIsTold}
 use Rattle.vc2_words.proofs.Plainness.{in_table, nothing_read}
@@ -118,7 +120,7 @@ taken_at : (name : Name) (i : ℕ) (given : Table) (word : List ℕ) (next : Tab
 taken_at name i given word next t other free = rw (t.cut, t.named_key, t.may, free, t.reads) refl
 
 abbrev HasPlaces : Table → Type 0
-HasPlaces given = length given ≡ 23
+HasPlaces given = length given ≡ KEY_COUNT
 
 -- two words that are taken, exchanged
 exchanged : (name : Name) (i : ℕ) (given one two : Table) (a b : List ℕ) (back : List (List ℕ)) → HasPlaces given → operand name i given a ≡ Ok one → operand name (i + 1) one b ≡ Ok two

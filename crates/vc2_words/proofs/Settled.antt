@@ -15,7 +15,8 @@ use Rattle.std.proofs.Math.Nat.{mul-le-mul_left}
 use Rattle.vc2_words.specs.declared.keys.Key.TheVariants as of_key
 use Rattle.vc2_words.specs.declared.keys.Rule as settings
 use Rattle.vc2_words.specs.Forms.{greatest, cut_at, slash, number_in, number_from}
-use Rattle.vc2_words.specs.Operands.{Table, value_of, has_schedule, and_then, operands_of}
+use Rattle.field_rows.specs.Rows.{and_then}
+use Rattle.vc2_words.specs.Operands.{Table, value_of, has_schedule, operands_of}
 use Rattle.vc2_words.specs.Plain.{IsPlain, IsPlainFor}
 use Rattle.vc2_words.specs.Lawful.{AreLawful, IsGroup, IsAskedSchedule, IsTrial, IsFieldVideo, IsCut}
 use Rattle.vc2_words.specs.declared.keys.Name.{Name}

@@ -3,6 +3,7 @@ use Rattle.std.proofs.Common.{◌≡◌, ℕ, zero, suc, ◌≤◌, ◌^◌, tru
 use Rattle.std.specs.Prelude.{Option, Bool, slice_index, ◌==◌, if◌then◌else◌, codes, get_or, set}
 use Rattle.std.specs.Str.{bytes_eq}
 use Rattle.std.specs.List.{AllByRecursion}
+use Rattle.vc2_words.specs.declared.keys.TheConstants.{KEY_COUNT}
 use Rattle.vc2_words.specs.declared.keys.Key.{Key}
 use Rattle.vc2_words.specs.declared.keys.Key.TheVariants as of_key
 use Rattle.vc2_words.specs.Forms as Forms
@@ -124,7 +125,7 @@ value_fit key text ns e = λ i. index_up_to (bound_of key) ns i (value_small key
 
 pub nothing_fit : IsFit nothing
 nothing_fit = record {
-  fits = λ key ns i e. none_some (sym (get_or-replicate 23 (place_of key) None None (in_table key)) ∙ e);
+  fits = λ key ns i e. none_some (sym (get_or-replicate KEY_COUNT (place_of key) None None (in_table key)) ∙ e);
   many = refl;
 }
 

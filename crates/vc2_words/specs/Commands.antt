@@ -15,10 +15,12 @@ use Rattle.vc2_words.specs.declared.words.TrialPart.{TrialPart}
 use Rattle.vc2_words.specs.declared.words.Command.{Command}
 use Rattle.vc2_words.specs.declared.words.Command.TheVariants as commands
 use Rattle.vc2_words.specs.Keys.{name_of}
-use Rattle.vc2_words.specs.Operands.{Table, value_of, and_then, operands_of}
+use Rattle.field_rows.specs.Rows.{and_then}
+use Rattle.vc2_words.specs.Operands.{Table, value_of, operands_of}
 use Rattle.vc2_words.specs.Settings.{Asked, asked_of, broken_rule, field_parts, field_rules, video_of, cut_of, cut_rules, is_top, number_at, rate_given, buffer_given}
 use Rattle.vc2_words.specs.Shown.{shown}
 
+-- what words ask for: a command with its settings
 pub data AskedCommand : Type 0 where
   chain : AskedCommand
   header : AskedCommand
@@ -38,17 +40,21 @@ schedule_from (Some rate) (Some delay) (Some size) idle =
     Some (record { rate = rate; delay = slice_index delay 0; size = size; idle = idle })
 schedule_from rate delay size idle = None
 
+-- the schedule that is given, if one is
 abbrev pub schedule_of : Table → Option Schedule
 schedule_of given = schedule_from (rate_given (value_of given of_key.Rate)) (value_of given of_key.Delay)
     (buffer_given (value_of given of_key.Buffer)) (number_at given of_key.Idle 0)
 
+-- what a trial is asked for beside its stream
 abbrev pub part_of : Table → TrialPart
 part_of given = record { seed = number_at given of_key.Seed 0; pictures = number_at given of_key.Pictures 0 }
 
+-- the command, or the first rule that its settings break
 abbrev pub unless_broken : Option settings.Rule → AskedCommand → Result AskedCommand WordFault
 unless_broken None command = Ok command
 unless_broken (Some rule) command = Err (faults.SettingsRefused rule)
 
+-- the command of a name with what is given, or the fault of its settings
 abbrev pub command_of : Name → Table → Result AskedCommand WordFault
 command_of names.Chain given = Ok chain
 command_of names.Header given = Ok header
@@ -63,6 +69,7 @@ command_of names.Frames given = Ok (frames (is_top given))
 command_of names.Proxy given = Ok (proxy (number_at given of_key.Level 0))
 command_of names.Cut given = unless_broken (first_broken (cut_rules (cut_of given))) (cut (cut_of given))
 
+-- what the words behind a command's name ask of it
 abbrev pub named : Option Name → List (List ℕ) → Result AskedCommand WordFault
 named None words = Err faults.UnknownCommand
 named (Some name) words = and_then (operands_of name words) (λ given. command_of name given)

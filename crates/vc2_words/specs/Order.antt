@@ -20,6 +20,7 @@ pub record FirstIsTold (name : Name) (words : List (List ℕ)) (fault : WordFaul
   pub told : IsFirstFault name 1 nothing words fault → operands_from name 1 nothing words ≡ Err fault
   pub first : operands_from name 1 nothing words ≡ Err fault → IsFirstFault name 1 nothing words fault
 
+-- of each command's words the first fault is told
 abbrev pub FirstFaultIsTold : Type 0
 FirstFaultIsTold = (name : Name) (words : List (List ℕ)) (fault : WordFault) → FirstIsTold name words fault
 

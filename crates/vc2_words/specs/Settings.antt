@@ -26,10 +26,12 @@ use Rattle.vc2_words.specs.Operands.{Table, value_of}
 
 -- ---- numbers of operands
 
+-- number i of a value, 0 where none is given
 abbrev pub number_of : Option (List ℕ) → ℕ → ℕ
 number_of None i = 0
 number_of (Some ns) i = slice_index ns i
 
+-- number i of what a key was given
 abbrev pub number_at : Table → Key → ℕ → ℕ
 number_at given key i = number_of (value_of given key) i
 
@@ -60,10 +62,12 @@ signal_of (Some ns) =
       colour_excursion = slice_index ns 3;
     })
 
+-- the scan that is given (11.4.5)
 abbrev pub scan_of : Option (List ℕ) → Option ℕ
 scan_of None = None
 scan_of (Some ns) = Some (slice_index ns 0)
 
+-- the header's parts that are asked for (11.1)
 abbrev pub parts_of : Table → HeaderParts
 parts_of given = record {
   major = 1;
@@ -81,15 +85,18 @@ parts_of given = record {
   coding = number_at given of_key.Fields 0;
 }
 
+-- sides of 1 to 8192 samples, and at most 2^24 of them
 abbrev pub is_size : HeaderParts → Bool
 is_size p = is_in_range 1 8192 p.width && (is_in_range 1 8192 p.height && nat_le (p.width * p.height) (2 ^ 24))
 
+-- colour and fields have whole numbers of samples and lines
 abbrev pub is_divided : HeaderParts → Bool
 is_divided p =
     (p.sampling == 0 || p.width % 2 == 0)
     && ((not (p.sampling == 2) || p.height % 2 == 0)
     && (p.coding == 0 || (p.height % 2 == 0 && (not (p.sampling == 2) || p.height % 4 == 0))))
 
+-- a range of its own has excursions of 1 to 65535
 abbrev pub is_signal : SignalField → Bool
 is_signal (signals.Index n) = true
 is_signal (signals.Custom r) = is_in_range 1 65535 r.luma_excursion && is_in_range 1 65535 r.colour_excursion
@@ -100,9 +107,11 @@ is_signal (signals.Custom r) = is_in_range 1 65535 r.luma_excursion && is_in_ran
 abbrev pub of_fields : HeaderParts → HeaderParts
 of_fields p = record p { rate = rates.Index 1; coding = 1 }
 
+-- the header of raw fields
 abbrev pub field_parts : Table → HeaderParts
 field_parts given = of_fields (parts_of given)
 
+-- the rules of raw fields, in the order in which they are asked
 abbrev pub field_rules : HeaderParts → List (Rule settings.Rule)
 field_rules parts =
     (is_size parts or_else broken.Size) ∷ (is_divided parts or_else broken.Divide)
@@ -112,14 +121,17 @@ field_rules parts =
 abbrev pub is_top : Table → Bool
 is_top given = number_at given of_key.Order 0 == 1
 
+-- the video of raw fields
 abbrev pub video_of : Table → FieldVideo
 video_of given = record { header = field_parts given; top = is_top given }
 
 -- ---- the parameters
 
+-- the wavelet of a number
 abbrev pub wavelet_of : ℕ → Wavelet
 wavelet_of n = if n == 0 then LeGall else (if n == 1 then HaarFlat else HaarShift)
 
+-- the depth, the slices and a slice's share (12.4.5.2)
 abbrev pub slicing_of : Table → Slicing
 slicing_of given = record {
   depth = number_at given of_key.Depth 0;
@@ -129,10 +141,12 @@ slicing_of given = record {
   b = number_at given of_key.Bytes 1;
 }
 
+-- the numbers that are given
 abbrev pub entries_of : Option (List ℕ) → List ℕ
 entries_of None = []
 entries_of (Some ns) = ns
 
+-- the transform parameters that are asked for (12.4)
 abbrev pub params_of : Table → Params
 params_of given = record {
   wavelet = wavelet_of (number_at given of_key.Wavelet 0);
@@ -140,14 +154,17 @@ params_of given = record {
   matrix = record { depth = number_at given of_key.Depth 0; entries = entries_of (value_of given of_key.Matrix) };
 }
 
+-- 1 to 8192 slices a side, and at most 2^20 of them
 abbrev pub are_slices : Slicing → Bool
 are_slices s = is_in_range 1 8192 s.slices_x && (is_in_range 1 8192 s.slices_y && nat_le (slice_count s) (2 ^ 20))
 
+-- a byte a slice at least, and at most 2^28 a picture
 abbrev pub is_share : Slicing → Bool
 is_share s = nat_le 1 s.b && (nat_le s.b s.a && nat_le (total_bytes s) (2 ^ 28))
 
 -- ---- all rules
 
+-- fields come in pairs
 abbrev pub is_even_with : ℕ → ℕ → Bool
 is_even_with coding n = not (coding == 1) || n % 2 == 0
 
@@ -167,6 +184,7 @@ abbrev pub stream_length : HeaderParts → Params → Option ℕ → ℕ → ℕ
 stream_length parts params group pictures =
     (1 + later_sequences group pictures) * (13 + header_len parts + 13) + pictures * unit_length params
 
+-- a trial's stream has at most 2^28 bytes
 abbrev pub is_short : HeaderParts → Params → Option ℕ → Option ℕ → Bool
 is_short parts params group None = true
 is_short parts params group (Some pictures) = nat_le (stream_length parts params group pictures) (2 ^ 28)
@@ -189,6 +207,7 @@ number_rules parts params first group pictures =
 abbrev pub trial_rules : HeaderParts → Params → Option ℕ → Option ℕ → List (Rule settings.Rule)
 trial_rules parts params group pictures = (is_short parts params group pictures or_else broken.TrialSize) ∷ []
 
+-- the first of two rules that are broken
 abbrev pub or_first : Option settings.Rule → Option settings.Rule → Option settings.Rule
 or_first None later = later
 or_first (Some rule) later = Some rule
@@ -214,14 +233,17 @@ pub record Asked : Type 0 where
   pub group : Option ℕ
   pub idle : ℕ
 
+-- the rate that is given, in bytes a second
 abbrev pub rate_given : Option (List ℕ) → Option Rate
 rate_given None = None
 rate_given (Some ns) = Some (record { num = slice_index ns 0; den = slice_index ns 1 })
 
+-- the buffer that is given, in bytes
 abbrev pub buffer_given : Option (List ℕ) → Option ℕ
 buffer_given None = None
 buffer_given (Some ns) = Some (slice_index ns 0)
 
+-- the rate that is given, else the usual one
 abbrev pub rate_or : Rate → Option Rate → Rate
 rate_or usual None = usual
 rate_or usual (Some rate) = rate
@@ -231,6 +253,7 @@ abbrev pub rate_of : Params → ℕ → Option (List ℕ) → Rate
 rate_of params idle given =
     rate_or (record { num = unit_length params; den = slice_count params.slicing + idle }) (rate_given given)
 
+-- all that is asked for of a stream
 abbrev pub asked_of : Table → Asked
 asked_of given = record {
   parts = parts_of given;

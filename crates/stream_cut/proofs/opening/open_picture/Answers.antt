@@ -1,7 +1,7 @@
 use Rattle.std.proofs.Common.{◌≡◌, ◌/◌, ◌+◌, Some, None, sym, ap, ◌∙◌, arith}
 use Rattle.std.specs.Int.{w32, from_be_bytes}
 use Rattle.field_rows.specs.Rows.{first_broken}
-use Rattle.unit_table.proofs.Fields.{all_fit}
+use Rattle.run_theory.proofs.Fields.{all_fit}
 use Rattle.stream_rows.specs.declared.reason.Reason.TheVariants as reasons
 use Rattle.stream_rows.specs.Units.{number_rules}
 use Rattle.transform_params.specs.Views.{params_of}

@@ -1,7 +1,7 @@
 use Rattle.std.proofs.Common.{◌≤◌, ◌∙◌, Ok, Err, refl, sym, ap, subst, arith}
 use Rattle.vc2_io.specs.Outside.{Rose}
-use Rattle.vc2_run.proofs.Closing.{takes_none, cause_then, cause_halt, closed_is, closes_no_read, writes_no_read}
-use Rattle.unit_table.proofs.FrontLaws.{machine_laws}
+use Rattle.run_theory.proofs.Closing.{takes_none, cause_then, cause_halt, closed_is, closes_no_read, writes_no_read}
+use Rattle.run_theory.proofs.FrontLaws.{machine_laws}
 use Rattle.unit_reader.specs.Stops.{limit, past_limit, LimitStops, StopCause}
 use Rattle.unit_reader.specs.Reading.{NextOver}
 use Rattle.unit_reader.specs.Running.{begun, machine_over}

@@ -1,5 +1,5 @@
 use Rattle.std.proofs.Common.{◌≡◌, ◌∙◌}
-use Rattle.stream_units.proofs.SameShapes.{frame_is}
+use Rattle.stream_rows.proofs.Frames.{frame_is}
 use Rattle.vc2_words.specs.Settings.{Asked}
 use Rattle.vc2_words.specs.Shown.{shown}
 use Rattle.vc2_cli.specs.Trial.{nothing_compared, trial_worst}

@@ -1,7 +1,7 @@
 use Rattle.std.proofs.Common.{Result, sym, subst}
-use Rattle.vc2_run.specs.Runs.{change, Runs}
-use Rattle.vc2_run.specs.declared.Halt.{Halt}
-use Rattle.vc2_run.proofs.Closing.{runs_unbegun}
+use Rattle.run_theory.specs.Runs.{change, Runs}
+use Rattle.run_theory.specs.declared.Halt.{Halt}
+use Rattle.run_theory.proofs.Closing.{runs_unbegun}
 use Rattle.unit_reader.specs.Soon.{Soon}
 use Rattle.stream_cut.specs.Cut.{Frames}
 use Rattle.stream_cut.specs.Cut as cutter

@@ -1,14 +1,14 @@
 use Rattle.std.proofs.Common.{ℕ, Result, sym, ap, subst, ◌∙◌}
 use Rattle.slice_geometry.specs.Frames.{frame_of}
 use Rattle.raw_video.specs.Reading.{RawReaderSeen}
-use Rattle.vc2_run.specs.declared.Halt.{Halt}
-use Rattle.stream_units.proofs.SameShapes.{frame_is}
+use Rattle.run_theory.specs.declared.Halt.{Halt}
+use Rattle.stream_rows.proofs.Frames.{frame_is}
 use Rattle.vc2_words.specs.Shown.{shown}
 use Rattle.vc2_cli.specs.declared.status.Ending.{Ending}
-use Rattle.vc2_run.specs.Runs.{Runs}
+use Rattle.run_theory.specs.Runs.{Runs}
 use Rattle.vc2_cli.specs.Endings.{IsDone}
 use Rattle.vc2_cli.specs.Encode.{encode_machine}
-use Rattle.vc2_run.proofs.Closing.{runs_unbegun}
+use Rattle.run_theory.proofs.Closing.{runs_unbegun}
 use Rattle.vc2_cli.proofs.EncodeReplies.{some_size, some_slices}
 use Rattle.vc2_cli.proofs.EncodeTurns.{goes_first, runs_unopened}
 use Rattle.vc2_cli.proofs.encode.encode.Goals as goal

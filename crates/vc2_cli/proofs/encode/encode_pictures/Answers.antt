@@ -5,11 +5,11 @@ use Rattle.sequence_header.specs.Coding.{IsShapeOf}
 use Rattle.raw_video.specs.Reading.{RawReaderSeen, ReadsFront, reader_after}
 use Rattle.raw_video.specs.declared.reader.RawStep.{RawStep}
 use Rattle.raw_video.specs.declared.reader.RawStep.TheVariants.{Picture, End}
-use Rattle.vc2_run.specs.declared.Halt.{Halt}
-use Rattle.stream_units.specs.Writer.{StreamWriterSeen}
+use Rattle.run_theory.specs.declared.Halt.{Halt}
+use Rattle.stream_writer.specs.Writer.{StreamWriterSeen}
 use Rattle.vc2_words.specs.Shown.{shown}
 use Rattle.vc2_cli.specs.declared.status.Ending.{Ending}
-use Rattle.vc2_run.specs.Runs.{Runs}
+use Rattle.run_theory.specs.Runs.{Runs}
 use Rattle.vc2_cli.specs.Endings.{IsDone}
 use Rattle.vc2_cli.specs.Encode.{encode_machine}
 use Rattle.vc2_cli.proofs.EncodeTurns.{at_place, goes_more, runs_closed, runs_refused, runs_stopped, runs_on}

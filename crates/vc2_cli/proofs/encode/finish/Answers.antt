@@ -1,7 +1,7 @@
 use Rattle.std.proofs.Common.{◌∙◌, sym, ap}
 use Rattle.sequence_header.specs.declared.parts.HeaderParts.{HeaderParts}
 use Rattle.vc2_words.specs.Shown.{shown}
-use Rattle.stream_units.specs.Writer.{StreamWriterSeen, total_length, next_place, next_previous}
+use Rattle.stream_writer.specs.Writer.{StreamWriterSeen, total_length, next_place, next_previous}
 use Rattle.vc2_cli.specs.Encode.{is_half, ended_plan}
 use Rattle.vc2_cli.proofs.EncodeTurns.{planned, with_end, closes_ended}
 use Rattle.vc2_cli.proofs.encode.finish.Goals as goal

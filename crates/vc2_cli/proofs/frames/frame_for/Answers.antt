@@ -5,7 +5,7 @@ use Rattle.slice_geometry.specs.Frames.{frame_of}
 use Rattle.sequence_header.specs.declared.parts.HeaderParts.{HeaderParts}
 use Rattle.picture_codec.specs.Samples.{PictureSeen}
 use Rattle.stream_rows.specs.Streams.{frame_under}
-use Rattle.stream_units.proofs.SameShapes.{frame_is}
+use Rattle.stream_rows.proofs.Frames.{frame_is}
 use Rattle.vc2_words.proofs.Plainness.{some_same}
 use Rattle.field_weave.specs.Weaving.{doubled}
 use Rattle.vc2_cli.proofs.FieldSizes.{luma_doubled, colour_doubled}

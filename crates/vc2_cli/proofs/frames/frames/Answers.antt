@@ -1,5 +1,5 @@
 use Rattle.std.proofs.Common.{subst}
-use Rattle.vc2_run.specs.Runs.{change, Runs}
+use Rattle.run_theory.specs.Runs.{change, Runs}
 use Rattle.field_weave.specs.declared.Order.{Order}
 use Rattle.vc2_cli.specs.Weave.{order_of}
 use Rattle.vc2_cli.specs.Frames.{frames_machine}

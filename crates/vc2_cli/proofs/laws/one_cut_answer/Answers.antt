@@ -1,4 +1,4 @@
-use Rattle.vc2_run.proofs.UnitLaws.{run_of, answer_of_run}
+use Rattle.run_theory.proofs.UnitLaws.{run_of, answer_of_run}
 use Rattle.vc2_cli.specs.Cut.{cut_machine}
 use Rattle.vc2_cli.proofs.Cutting.{cut_laws}
 use Rattle.vc2_cli.proofs.laws.one_cut_answer.Goals as goal

@@ -1,4 +1,4 @@
-use Rattle.vc2_run.proofs.UnitLaws.{run_of, answer_of_run}
+use Rattle.run_theory.proofs.UnitLaws.{run_of, answer_of_run}
 use Rattle.vc2_cli.specs.Encode.{encode_machine}
 use Rattle.vc2_cli.proofs.EncodeTurns.{encode_laws}
 use Rattle.vc2_cli.proofs.EncodeReplies.{some_size}

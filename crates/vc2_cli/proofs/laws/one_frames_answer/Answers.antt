@@ -1,4 +1,4 @@
-use Rattle.vc2_run.proofs.UnitLaws.{run_of, answer_of_run}
+use Rattle.run_theory.proofs.UnitLaws.{run_of, answer_of_run}
 use Rattle.vc2_cli.specs.Frames.{frames_machine}
 use Rattle.vc2_cli.proofs.Framing.{frames_laws}
 use Rattle.vc2_cli.proofs.laws.one_frames_answer.Goals as goal

@@ -2,7 +2,7 @@ use Rattle.std.proofs.Common.{◌≡◌, ◌∙◌, ℕ, List, Result, Ok, IfOk,
 use Rattle.std.specs.Vec.Iter.{into_iter_items}
 use Rattle.vc2_cli.specs.declared.status.Status.{Status}
 use Rattle.vc2_cli.specs.Exit.{exit_code_of}
-use Rattle.vc2_run.specs.Runs.{Change, change}
+use Rattle.run_theory.specs.Runs.{Change, change}
 use Rattle.vc2_cli.specs.Program.{Ran, Exits}
 use Rattle.vc2_cli.proofs.program.run_to_exit.Goals as goal
 

@@ -1,6 +1,6 @@
 use Rattle.std.proofs.Common.{◌∙◌, sym, ap, arith}
 use Rattle.slice_geometry.specs.Frames.{frame_of}
-use Rattle.stream_units.proofs.Ready.{frame_same, params_same}
+use Rattle.stream_reader.proofs.Ready.{frame_same, params_same}
 use Rattle.vc2_cli.proofs.proxy.ready.Goals as goal
 
 pub returns-then-level : goal.returns-then-level

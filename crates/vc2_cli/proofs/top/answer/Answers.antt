@@ -1,5 +1,5 @@
 use Rattle.std.proofs.Common.{Ok, Result, ap, ◌∙◌, subst, sym}
-use Rattle.vc2_run.specs.Runs.{change}
+use Rattle.run_theory.specs.Runs.{change}
 use Rattle.vc2_words.specs.declared.words.Command.{Command}
 use Rattle.vc2_words.specs.declared.keys.WordFault.{WordFault}
 use Rattle.vc2_words.specs.Commands.{seen}

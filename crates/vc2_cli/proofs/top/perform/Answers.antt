@@ -1,6 +1,6 @@
 use Rattle.std.proofs.Common.{refl, subst, sym, ap, ◌∙◌, Result}
-use Rattle.vc2_run.specs.Runs.{Change, change}
-use Rattle.vc2_run.specs.declared.Halt.{Halt}
+use Rattle.run_theory.specs.Runs.{Change, change}
+use Rattle.run_theory.specs.declared.Halt.{Halt}
 use Rattle.vc2_words.specs.declared.words.Command.{Command}
 use Rattle.vc2_words.specs.declared.words.Command.TheVariants.{Check}
 use Rattle.vc2_words.specs.Commands.{AskedCommand, seen}

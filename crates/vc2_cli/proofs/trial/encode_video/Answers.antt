@@ -1,9 +1,9 @@
 use Rattle.std.proofs.Common.{◌≡◌, ◌∙◌, ℕ, List, length, ap, arith}
 use Rattle.slice_geometry.specs.Frames.{frame_of}
 use Rattle.trial_video.specs.Video.{TrialVideoSeen}
-use Rattle.stream_units.specs.EncodedStream.{header_length, header_unit}
-use Rattle.stream_units.proofs.SameShapes.{frame_is}
-use Rattle.stream_units.proofs.EncodedUnits.{length-header_unit}
+use Rattle.stream_writer.specs.EncodedStream.{header_length, header_unit}
+use Rattle.stream_rows.proofs.Frames.{frame_is}
+use Rattle.stream_writer.proofs.EncodedUnits.{length-header_unit}
 use Rattle.vc2_words.specs.Settings.{Asked}
 use Rattle.vc2_words.specs.Shown.{shown}
 use Rattle.vc2_cli.specs.Encode.{written_under}

@@ -5,7 +5,7 @@ use Rattle.picture_codec.specs.Samples.{PictureSamples, PictureSeen}
 use Rattle.picture_codec.specs.Encoding.{slices_of}
 use Rattle.trial_video.specs.Video.{TrialVideoSeen}
 use Rattle.stream_rows.specs.Streams.{frame_under}
-use Rattle.stream_units.specs.Writer.{StreamWriterSeen}
+use Rattle.stream_writer.specs.Writer.{StreamWriterSeen}
 use Rattle.vc2_words.specs.Shown.{shown}
 use Rattle.vc2_cli.proofs.StreamSinks.{picture_stop, end_stop}
 use Rattle.vc2_cli.proofs.TrialWritten.{has_room, picture_fits, written_more, end_fits, planned_all}

@@ -2,17 +2,17 @@ use Rattle.std.proofs.Common.{◌≡◌, ◌*◌, Result, sym, ap, subst, ◌∙
 use Rattle.slice_geometry.specs.declared.Size.{Size}
 use Rattle.slice_geometry.specs.Shape.{IsSize}
 use Rattle.slice_geometry.specs.Frames.{Frame, frame_of}
-use Rattle.vc2_run.specs.declared.Halt.{Halt}
+use Rattle.run_theory.specs.declared.Halt.{Halt}
 use Rattle.stream_rows.specs.Streams.{frame_under}
-use Rattle.stream_units.proofs.SameShapes.{frame_is}
+use Rattle.stream_rows.proofs.Frames.{frame_is}
 use Rattle.field_weave.specs.WeaveRuns as weaver
 use Rattle.field_weave.specs.WeaveRuns.{WeaverSeen, Weaves}
 use Rattle.field_weave.specs.declared.Order.{Order}
 use Rattle.vc2_cli.specs.declared.status.Ending.{Ending}
-use Rattle.vc2_run.specs.Runs.{change, Runs}
+use Rattle.run_theory.specs.Runs.{change, Runs}
 use Rattle.vc2_cli.specs.Endings.{IsDone}
 use Rattle.vc2_cli.specs.Weave.{order_of, split_machine}
-use Rattle.vc2_run.proofs.Closing.{runs_unbegun}
+use Rattle.run_theory.proofs.Closing.{runs_unbegun}
 use Rattle.vc2_cli.proofs.FieldSizes.{luma_doubled, colour_doubled}
 use Rattle.vc2_cli.proofs.Weaving.{runs_told}
 use Rattle.vc2_cli.proofs.weave.split.Goals as goal

@@ -3,7 +3,7 @@ use Rattle.std.proofs.lemmas.List.{take_rest}
 use Rattle.std.proofs.lemmas.Result.{err_from_is_err_and}
 use Rattle.vc2_io.proofs.Known.{Appends-then, Appends-along}
 use Rattle.vc2_io.proofs.Short.{GrewShort-second, GrewShort-along}
-use Rattle.vc2_run.specs.Runs.{WritesText}
+use Rattle.run_theory.specs.Runs.{WritesText}
 use Rattle.stream_cut.specs.Cut.{CutSoFar, header_due, length_before, picture_unit}
 use Rattle.stream_cut.proofs.CutTurns.{writes_first, picture_is}
 use Rattle.stream_cut.proofs.cutter.CutRun.picture.Goals as goal

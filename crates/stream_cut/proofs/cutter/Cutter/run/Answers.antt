@@ -1,5 +1,5 @@
 use Rattle.std.proofs.Common.{ap, subst}
-use Rattle.vc2_run.specs.Runs.{change, Runs}
+use Rattle.run_theory.specs.Runs.{change, Runs}
 use Rattle.unit_reader.proofs.Exits.{none_soon}
 use Rattle.stream_cut.specs.Cut.{Frames, cut_machine}
 use Rattle.stream_cut.specs.Cutter.{CutterSeen, IsWhole, MayGoOn}

@@ -4,7 +4,7 @@ use Rattle.std.proofs.lemmas.Result.{err_from_is_err_and}
 use Rattle.slice_geometry.specs.Slicing.{total_bytes}
 use Rattle.stream_rows.specs.Units.{Past, Picture}
 use Rattle.transform_params.specs.Views.{params_of}
-use Rattle.unit_table.specs.Begun.{Begun, Got}
+use Rattle.run_theory.specs.Begun.{Begun, Got}
 use Rattle.stream_cut.specs.Keeping.{IsCutSlice}
 use Rattle.stream_cut.specs.Skim.{skimmed}
 use Rattle.stream_cut.specs.SkimTable.{SkimTableSeen}

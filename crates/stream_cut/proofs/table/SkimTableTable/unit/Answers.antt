@@ -1,7 +1,7 @@
 use Rattle.std.proofs.Common.{◌≡◌, ◌∙◌, ◌+◌, ℕ, List, Ok, Err, length, refl, sym, ap, subst, arith}
 use Rattle.std.proofs.lemmas.List.{length-take, length-drop}
 use Rattle.std.proofs.lemmas.Result.{err_from_is_err_and}
-use Rattle.unit_table.specs.Begun.{Begun}
+use Rattle.run_theory.specs.Begun.{Begun}
 use Rattle.unit_reader.specs.Stops.{StopsOver}
 use Rattle.stream_rows.specs.Units.{Past, Repeated, End}
 use Rattle.stream_cut.specs.Skim.{skimmed, skim_rows}

@@ -1,7 +1,7 @@
 use Rattle.std.proofs.Common.{ℕ, ◌+◌, List, ap, sym, subst, arith}
 use Rattle.std.specs.Io.KnownBytes.{Appends}
 use Rattle.vc2_io.specs.Outside.{GrewShort}
-use Rattle.stream_units.specs.ReaderInside.{seen_of}
+use Rattle.stream_reader.specs.ReaderInside.{seen_of}
 use Rattle.vc2_cli.specs.Proxy.{Proxied}
 use Rattle.vc2_cli.proofs.LowDepths.{passed_low}
 use Rattle.vc2_cli.proofs.Passing.{picture_is, one_is}

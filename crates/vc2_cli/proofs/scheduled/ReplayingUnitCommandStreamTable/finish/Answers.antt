@@ -1,7 +1,7 @@
 use Rattle.std.proofs.Common.{subst, ap, ◌∙◌}
 use Rattle.slice_geometry.specs.UnitLengths.{UnitShapesSeen}
-use Rattle.unit_table.specs.Fronts.{Close}
-use Rattle.vc2_run.specs.Runs.{Closes}
+use Rattle.run_theory.specs.Fronts.{Close}
+use Rattle.run_theory.specs.Runs.{Closes}
 use Rattle.stream_rows.specs.Units.{Past}
 use Rattle.vc2_cli.specs.declared.status.Ending.{Ending}
 use Rattle.vc2_cli.proofs.Replaying.{ending_is}

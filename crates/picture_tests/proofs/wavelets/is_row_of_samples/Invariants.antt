@@ -1,7 +1,0 @@
-use Rattle.std.proofs.Common.{ℕ, ◌<◌, ◌^◌}
-use Rattle.planes.specs.Numbers.{Within}
-use Rattle.lifting.specs.Places.{place}
-use Rattle.picture_tests.proofs.wavelets.is_row_of_samples.Given as goal
-
-abbrev pub invariant-loop-value : goal.invariant-loop-value
-invariant-loop-value l = (x : ℕ) → x < l.value-index → Within (2 ^ 15) (place l.row x)

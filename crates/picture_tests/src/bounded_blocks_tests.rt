@@ -1,0 +1,4 @@
+//! Bounded blocks read and written.
+
+mod reading;
+mod writing;

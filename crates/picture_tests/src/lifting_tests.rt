@@ -1,0 +1,4 @@
+//! Lifting steps, and the wavelets of them.
+
+mod lanes;
+mod wavelets;

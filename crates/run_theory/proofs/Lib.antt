@@ -1,0 +1,11 @@
+pub mod Walks
+pub mod Windows
+pub mod UnitLaws
+pub mod Closing
+pub mod GrammarLaws
+pub mod FrontLaws
+pub mod Fields
+pub mod Begins
+pub mod Limited
+pub mod Turning
+pub mod Whole

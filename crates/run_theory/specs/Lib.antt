@@ -1,0 +1,10 @@
+pub mod Walk
+pub mod Ran
+pub mod Runs
+pub mod Window
+pub mod UnitRuns
+pub mod Grammar
+pub mod Fronts
+pub mod Begun
+pub mod Turn
+pub mod GrammarLaws

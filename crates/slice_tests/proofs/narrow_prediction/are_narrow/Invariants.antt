@@ -1,7 +1,0 @@
-use Rattle.std.proofs.Common.{ℕ, ◌<◌, pos}
-use Rattle.std.specs.Prelude.{slice_index_or}
-use Rattle.dc_prediction.specs.Restoring.{IsNarrow}
-use Rattle.slice_tests.proofs.narrow_prediction.are_narrow.Given as goal
-
-abbrev pub invariant-loop-value : goal.invariant-loop-value
-invariant-loop-value l = (x : ℕ) → x < l.value-index → IsNarrow (slice_index_or l.row x (pos 0))

@@ -1,4 +1,0 @@
-use Rattle.slice_tests.proofs.narrow_slices.expect_two_places.Goals as goal
-
-pub values_of-values-requires-clause-ready : goal.values_of-values-requires-clause-ready
-values_of-values-requires-clause-ready g c = c.zeros-bands.ensures.ready 0 0

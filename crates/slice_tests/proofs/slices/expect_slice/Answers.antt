@@ -1,4 +1,0 @@
-use Rattle.slice_tests.proofs.slices.expect_slice.Goals as goal
-
-pub decode_first-found-requires : goal.decode_first-found-requires
-decode_first-found-requires g c = c.zeros-bands.ensures 0 0

@@ -1,8 +1,0 @@
-use Rattle.std.proofs.Common.{ap}
-use Rattle.slice_decoder.proofs.Ready.{ready-zero}
-use Rattle.slice_tests.proofs.slices.zero_bands.Goals as goal
-
-pub returns : goal.returns
-returns g c = λ sx sy.
-    ready-zero c.args.layout.now c.args.size sx sy c.depth.result c.padded_size-padded.result.w c.padded_size-padded.result.h c.expect.result c.depth.ensures.value (ap (λ s. s.w) c.padded_size-padded.ensures.value) (ap (λ s. s.h) c.padded_size-padded.ensures.value)
-    (rw c.expect.ensures at c.new.ensures)

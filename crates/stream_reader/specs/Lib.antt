@@ -1,0 +1,13 @@
+pub mod ReadStops
+pub mod Heads
+pub mod Turns
+pub mod Reader
+pub mod ReaderInside
+pub mod StreamTable
+pub mod StreamTableLaws
+pub mod UnitParts
+pub mod Judging
+pub mod HeadUnits
+pub mod HeadLaws
+pub mod HeadReader
+pub mod Held

@@ -1,0 +1,103 @@
+//! Frames that are cut out of streams.
+
+use crate::told::bytes_of;
+use std::alloc::Global;
+use std::process::Abort;
+use std::test::Fail;
+use stream_cut::{CutStop, Cutter};
+use vc2_io::{MemSink, MemSource};
+
+/// The first and the last frame but one, where the input is refused, the input, and its cut. One of two frames and none of them;
+/// frames of three sequences, between a repeated header, auxiliary data and padding; fields; a single field before the input
+/// ends, and half a frame; an end that stands since a byte follows, and the same where nothing is chosen; a first sequence
+/// without pictures; a slice that breaks a rule, a slice that is cut off, and a wrong next offset.
+const CUTS: &str = "\
+1 2 whole = header unit C8 00000015 00000011 000000000C927001 unit C8 00000015 00000015 000000010C927000 unit 10 \
+    00000000 00000015 = header unit C8 00000015 00000011 000000010C927000 unit 10 00000000 00000015
+5 9 whole = header unit C8 00000015 00000011 000000000C927001 unit C8 00000015 00000015 000000010C927000 unit 10 \
+    00000000 00000015 = header unit 10 00000000 00000011
+2 5 whole = header unit C8 00000015 00000011 000000070C927007 unit 10 00000000 00000015 unit 00 00000011 0000000D \
+    3F27424A unit C8 00000015 00000011 000000000C927000 unit C8 00000015 00000015 000000010C927001 unit 00 00000011 \
+    00000015 3F27424A unit 20 0000000F 00000011 AABB unit 30 0000000D 0000000F unit C8 00000015 0000000D \
+    000000020C927002 unit 10 00000000 00000015 unit 00 00000011 0000000D 3F27424A unit C8 00000015 00000011 \
+    000000090C927009 unit 10 00000000 00000015 = header unit C8 00000015 00000011 000000010C927001 unit C8 00000015 \
+    00000015 000000020C927002 unit 10 00000000 00000015 header unit C8 00000015 00000011 000000090C927009 unit 10 \
+    00000000 00000015
+1 2 whole = header unit C8 00000015 00000011 000000070C927007 unit 10 00000000 00000015 unit 00 00000011 0000000D \
+    3F27424A unit C8 00000015 00000011 000000000C927000 unit C8 00000015 00000015 000000010C927001 unit 00 00000011 \
+    00000015 3F27424A unit 20 0000000F 00000011 AABB unit 30 0000000D 0000000F unit C8 00000015 0000000D \
+    000000020C927002 unit 10 00000000 00000015 unit 00 00000011 0000000D 3F27424A unit C8 00000015 00000011 \
+    000000090C927009 unit 10 00000000 00000015 = header unit C8 00000015 00000011 000000000C927000 unit 10 00000000 \
+    00000015
+0 2 whole = header unit C8 00000015 00000011 000000070C927007 unit 10 00000000 00000015 unit 00 00000011 0000000D \
+    3F27424A unit C8 00000015 00000011 000000000C927000 unit C8 00000015 00000015 000000010C927001 unit 00 00000011 \
+    00000015 3F27424A unit 20 0000000F 00000011 AABB unit 30 0000000D 0000000F unit C8 00000015 0000000D \
+    000000020C927002 unit 10 00000000 00000015 unit 00 00000011 0000000D 3F27424A unit C8 00000015 00000011 \
+    000000090C927009 unit 10 00000000 00000015 = header unit C8 00000015 00000011 000000070C927007 unit 10 00000000 \
+    00000015 header unit C8 00000015 00000011 000000000C927000 unit 10 00000000 00000015
+1 2 whole = fields unit C8 00000015 00000012 000000040C927004 unit C8 00000015 00000015 000000050C927005 unit C8 \
+    00000015 00000015 000000060C927006 unit C8 00000015 00000015 000000070C927007 unit C8 00000015 00000015 \
+    000000080C927008 unit C8 00000015 00000015 000000090C927009 unit 10 00000000 00000015 = fields unit C8 00000015 \
+    00000012 000000060C927006 unit C8 00000015 00000015 000000070C927007 unit 10 00000000 00000015
+1 2 whole = fields unit C8 00000015 00000012 000000040C927004 unit C8 00000015 00000015 000000050C927005 unit 10 \
+    00000000 00000015 unit 00 00000011 0000000D 3F27424A unit C8 00000015 00000011 000000030C927003 unit 10 00000000 \
+    00000015 = header unit C8 00000015 00000011 000000030C927003 unit 10 00000000 00000015
+1 9 81 = fields unit C8 00000015 00000012 000000040C927004 unit C8 00000015 00000015 000000050C927005 unit C8 \
+    00000015 00000015 000000060C927006 = fields unit C8 00000015 00000012 000000060C927006
+0 1 43 = fields unit C8 00000015 00000012 000000040C927004 unit 10 00000000 00000015 = fields unit C8 00000015 \
+    00000012 000000040C927004
+0 9 72 = header unit C8 00000015 00000011 000000000C927001 unit C8 00000015 00000015 000000010C927000 unit 10 \
+    00000000 00000015 42 = header unit C8 00000015 00000011 000000000C927001 unit C8 00000015 00000015 \
+    000000010C927000 unit 10 00000000 00000015
+7 9 72 = header unit C8 00000015 00000011 000000000C927001 unit C8 00000015 00000015 000000010C927000 unit 10 \
+    00000000 00000015 42 = nothing
+5 9 whole = header unit 10 00000000 00000011 unit 00 00000011 0000000D 3F27424A unit C8 00000015 00000011 \
+    000000030C927003 unit 10 00000000 00000015 = header unit 10 00000000 00000011
+0 1 40 = header unit C8 00000017 00000011 000000000C909CFE0000 = header unit C8 00000017 00000011 \
+    000000000C909CFE0000
+0 1 37 = header unit C8 00000017 00000011 000000000C909CFE00 = nothing
+0 1 22 = header unit C8 00000018 00000011 000000000C909CFE0000 = nothing";
+
+/// Where a cut is refused; none where the input was read whole.
+fn place_of(cut: Result<(), CutStop>) -> Option<u64> {
+    match cut {
+        Ok(()) => None,
+        Err(CutStop::Refused(refusal)) => Some(refusal.place),
+        Err(_) => Some(u64::MAX),
+    }
+}
+
+/// Reads the input in pieces.
+fn expect_cut(rt: &impl Abort, alloc: Global, row: &str, piece: usize) -> Result<(), Fail> {
+    let (asked, texts) = row.split_once(" = ").unwrap_or(("", ""));
+    let (input, wanted) = texts.split_once(" = ").unwrap_or(("", ""));
+    let (from, others) = asked.split_once(' ').unwrap_or(("", ""));
+    let (to, place) = others.split_once(' ').unwrap_or(("", ""));
+    let input = bytes_of(alloc, input)?;
+    let wanted = bytes_of(alloc, wanted)?;
+    let pieces = [piece; 512];
+    let mut src = MemSource::new(input.as_slice(), &pieces, &[]);
+    let mut out = MemSink::new(alloc, 4096, 0, &[u64::MAX; 4])?;
+    let (from, to) = (from.parse().unwrap_or(0), to.parse().unwrap_or(0));
+    if from >= to {
+        return Ok(());
+    }
+    let mut cutter = Cutter::new(alloc, from, to)?;
+    let refused = place_of(cutter.cut(&mut src, &mut out));
+    assert_eq!(rt; refused, place.parse().ok());
+    assert!(rt; out.bytes() == wanted.as_slice());
+    if refused.is_none() {
+        assert_eq!(rt; cutter.shapes().total(), wanted.len() as u64);
+    }
+    Ok(())
+}
+
+#[test]
+fn cuts(rt: HostRuntime) -> Result<(), Fail> {
+    for row in CUTS.split('\n') {
+        for piece in [0, 1, 7] {
+            expect_cut(&rt, rt.alloc(), row, piece)?;
+        }
+    }
+    Ok(())
+}

@@ -1,0 +1,7 @@
+//! Streams read and written.
+
+mod pictures;
+pub(crate) mod reading;
+mod refusals;
+mod smallest;
+mod writing;

@@ -1,5 +1,0 @@
-use Rattle.stream_units.proofs.WriterRuns.{runs_write}
-use Rattle.stream_units.proofs.encoding.calls_write_their_pictures.Goals as goal
-
-pub returns : goal.returns
-returns c = runs_write

@@ -1,5 +1,0 @@
-use Rattle.stream_units.proofs.PictureLists.{pictures_hold}
-use Rattle.stream_units.proofs.encoding.encoded_pictures_hold_their_lists.Goals as goal
-
-pub returns : goal.returns
-returns c = pictures_hold

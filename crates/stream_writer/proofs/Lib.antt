@@ -1,0 +1,15 @@
+pub mod EncodedPieces
+pub mod EncodedParts
+pub mod EncodedUnits
+pub mod EncodedStreams
+pub mod EncodedAnswers
+pub mod WorkedEncoding
+pub mod WrittenShapes
+pub mod WriterCalls
+pub mod StartOfWriter
+pub mod DueBytes
+pub mod WrittenSlices
+pub mod EncodedPictures
+pub mod WriterRuns
+pub mod SameShapes
+pub mod PictureLists

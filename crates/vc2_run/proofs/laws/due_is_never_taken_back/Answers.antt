@@ -1,5 +1,0 @@
-use Rattle.vc2_run.proofs.Walks.{due_grows}
-use Rattle.vc2_run.proofs.laws.due_is_never_taken_back.Goals as goal
-
-pub returns : goal.returns
-returns g c = due_grows
