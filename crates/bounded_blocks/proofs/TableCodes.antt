@@ -5,7 +5,7 @@ use Rattle.bit_codes.specs.Bits.{bit, digit, digits_below}
 use Rattle.bit_codes.proofs.CodeOf.{length-digits_below}
 use Rattle.bounded_blocks.specs.Reading.{magnitude_from, with_sign}
 use Rattle.bounded_blocks.specs.ShortCodes.{BeginsBits}
-use Rattle.bounded_blocks.specs.Parts.{IsSmall, Reads, AreWithin}
+use Rattle.bounded_blocks.specs.Parts.{IsSmall, ReadsValues, AreWithin}
 use Rattle.bounded_blocks.specs.CodeTable.{IsSigned, Begin, codes_of, no_head}
 use Rattle.bounded_blocks.specs.declared.code_table.Codes.{Codes}
 use Rattle.bounded_blocks.specs.declared.code_table.Head.{Head}
@@ -78,14 +78,14 @@ code-begins code number left bits word same one is signed some =
 
 -- codes that were read one after another
 pub codes-begin : (codes : Codes) (k word : ℕ) → codes.count ≤ 8 → codes.length ≤ k → AreWithin 127 codes.values
-    → ((rest : List Bool) → Reads codes.count (digits_below k word ++ rest) (take codes.count codes.values) (digits_below (k - codes.length) word ++ rest))
+    → ((rest : List Bool) → ReadsValues codes.count (digits_below k word ++ rest) (take codes.count codes.values) (digits_below (k - codes.length) word ++ rest))
     → Begin codes (digits_below k word)
 codes-begin codes k word few short low read = (
   few,
   omega (arith, short, length-digits_below k word),
   low,
   λ rest.
-      subst (λ (x : List Bool). Reads codes.count (digits_below k word ++ rest) (take codes.count codes.values) (x ++ rest)) (sym (drop-digits codes.length k word short)) (read rest),
+      subst (λ (x : List Bool). ReadsValues codes.count (digits_below k word ++ rest) (take codes.count codes.values) (x ++ rest)) (sym (drop-digits codes.length k word short)) (read rest),
 )
 
 -- a low value in the place of another
@@ -97,9 +97,9 @@ low_set (x ∷ vs) (suc n) v all low = (all.0, low_set vs n v all.1 low)
 -- one code more
 pub one_code_more : (k n length_before word : ℕ) (vs : List ℤ) (code : ShortCode) (v : ℤ) → n < length vs → v ≡ code.value → IsSmall code.value → length_before ≤ k
     → BeginsBits code (digits_below (k - length_before) word) → code.length ≢ 0
-    → ((rest : List Bool) → Reads n (digits_below k word ++ rest) (take n vs) (digits_below (k - length_before) word ++ rest))
+    → ((rest : List Bool) → ReadsValues n (digits_below k word ++ rest) (take n vs) (digits_below (k - length_before) word ++ rest))
     → (length_before + code.length ≤ k)
-    × ((rest : List Bool) → Reads (n + 1) (digits_below k word ++ rest) (take (n + 1) (slice_set vs n v)) (digits_below (k - (length_before + code.length)) word ++ rest))
+    × ((rest : List Bool) → ReadsValues (n + 1) (digits_below k word ++ rest) (take (n + 1) (slice_set vs n v)) (digits_below (k - (length_before + code.length)) word ++ rest))
 one_code_more k n length_before word vs code v room is small le begins some read =
     let q = begins some in
     let left = k - length_before in
@@ -112,9 +112,9 @@ one_code_more k n length_before word vs code v room is small le begins some read
           let there : drop code.length (digits_below left word) ++ rest ≡ behind =
           ap (λ (x : List Bool). x ++ rest) (drop-digits code.length left word within ∙ ap (λ (j : ℕ). digits_below j word) same) in
           let value = ap (λ (x : ℤ × List Bool). x.0) (q.1 rest) in
-          let one : Reads 1 mid (v ∷ []) behind = Reads-one mid behind v (is ∙ sym value) (subst IsSmall (sym value) small) (ap (λ (x : ℤ × List Bool). x.1) (q.1 rest) ∙ there) in
+          let one : ReadsValues 1 mid (v ∷ []) behind = Reads-one mid behind v (is ∙ sym value) (subst IsSmall (sym value) small) (ap (λ (x : ℤ × List Bool). x.1) (q.1 rest) ∙ there) in
           let both = Reads-join n 1 (digits_below k word ++ rest) mid behind (take n vs) (v ∷ []) (read rest) one in
-          subst (λ (x : List ℤ). Reads (n + 1) (digits_below k word ++ rest) x behind) (sym (take_more_set vs n v room)) both,
+          subst (λ (x : List ℤ). ReadsValues (n + 1) (digits_below k word ++ rest) x behind) (sym (take_more_set vs n v room)) both,
     )
 
 -- one entry more

@@ -7,9 +7,9 @@ use Rattle.std.proofs.lemmas.Nat.{shr-shr}
 use Rattle.std.proofs.lemmas.List.{drop-append-le, length-take, get_or-drop, drop_all}
 use Rattle.bit_codes.specs.Bits.{bit, bits_of, digits_below}
 use Rattle.bit_codes.proofs.CodeOf.{length-digits_below}
-use Rattle.bounded_blocks.specs.Parts.{block_of, Reads}
+use Rattle.bounded_blocks.specs.Parts.{block_of, ReadsValues}
 use Rattle.bounded_blocks.specs.declared.window.Window.{Window}
-use Rattle.bounded_blocks.specs.Windows.{IsAt}
+use Rattle.bounded_blocks.specs.Windows.{IsWindowAt}
 use Rattle.bounded_blocks.proofs.BlockLemmas.{block_of-drop}
 use Rattle.bounded_blocks.proofs.Ones.{values_same, left_is_dropped}
 use Rattle.bounded_blocks.proofs.WindowBits.{shifted_bit}
@@ -36,7 +36,7 @@ front_is (suc k) n (x ∷ b) same =
     ∙ ap (λ (y : List Bool). bit n k ∷ y) (front_is k n b (λ i lt. let on : k - 1 - i ≡ suc k - 1 - suc i = omega arith in ap (bit n) on ∙ same (suc i) (omega arith)))
 
 -- What reads a block with ones behind it reads the block.
-reads-cut : (n k used : ℕ) (b : List Bool) (vs : List ℤ) → used ≤ length b + k → Reads n (b ++ replicate k true) vs (drop used (b ++ replicate k true)) → Reads n b vs (drop used b)
+reads-cut : (n k used : ℕ) (b : List Bool) (vs : List ℤ) → used ≤ length b + k → ReadsValues n (b ++ replicate k true) vs (drop used (b ++ replicate k true)) → ReadsValues n b vs (drop used b)
 reads-cut n k used b vs room r = record {
   same = sym (values_same n k b) ∙ r.same;
   behind = left_is_dropped n k used b room r.behind;
@@ -45,16 +45,16 @@ reads-cut n k used b vs room r = record {
 
 -- what reads a number's last digits, whatever follows them, reads a block that begins with them, or with a front of them that ones follow
 codes-read : (k n count short : ℕ) (vs : List ℤ) (b : List Bool) → short ≤ k
-    → ((rest : List Bool) → Reads count (digits_below k n ++ rest) vs (drop short (digits_below k n) ++ rest))
-    → ((i : ℕ) → i < k → bit n (k - 1 - i) ≡ get_or b i true) → Reads count b vs (drop short b)
+    → ((rest : List Bool) → ReadsValues count (digits_below k n ++ rest) vs (drop short (digits_below k n) ++ rest))
+    → ((i : ℕ) → i < k → bit n (k - 1 - i) ≡ get_or b i true) → ReadsValues count b vs (drop short b)
 codes-read k n count short vs b few begin same =
     let ones = replicate (k - length b) true in
     let digits = digits_below k n in
     let whole : b ++ ones ≡ digits ++ drop k b = front_is k n b same in
     let left : drop short (b ++ ones) ≡ drop short digits ++ drop k b = ap (drop short) whole ∙ drop-append-le short digits (drop k b) (omega (arith, few, length-digits_below k n)) in
     reads-cut count (k - length b) short b vs (omega (arith, few))
-    (subst (λ (x : List Bool). Reads count (b ++ ones) vs x) (sym left)
-    (subst (λ (x : List Bool). Reads count x vs (drop short digits ++ drop k b)) (sym whole) (begin (drop k b))))
+    (subst (λ (x : List Bool). ReadsValues count (b ++ ones) vs x) (sym left)
+    (subst (λ (x : List Bool). ReadsValues count x vs (drop short digits ++ drop k b)) (sym whole) (begin (drop k b))))
 
 -- what is left of a block past its end too
 pub block_of-drop_any : (n : ℕ) (bytes : List ℕ) (place end : ℕ) → drop n (block_of bytes place end) ≡ block_of bytes (place + n) end
@@ -82,15 +82,15 @@ top_bit k word i lt most =
 
 -- so does a window that shows as many
 pub window-reads : (k count short : ℕ) (vs : List ℤ) (w : Window) (bytes : List ℕ) (end : ℕ) → short ≤ k
-    → ((rest : List Bool) → Reads count (digits_below k (w.word / 2 ^ (64 - k)) ++ rest) vs (drop short (digits_below k (w.word / 2 ^ (64 - k))) ++ rest))
-    → k ≤ w.shown → IsAt bytes end w → Reads count (block_of bytes w.place end) vs (block_of bytes (w.place + short) end)
+    → ((rest : List Bool) → ReadsValues count (digits_below k (w.word / 2 ^ (64 - k)) ++ rest) vs (drop short (digits_below k (w.word / 2 ^ (64 - k))) ++ rest))
+    → k ≤ w.shown → IsWindowAt bytes end w → ReadsValues count (block_of bytes w.place end) vs (block_of bytes (w.place + short) end)
 window-reads k count short vs w bytes end few begin shown at =
-    subst (λ (x : List Bool). Reads count (block_of bytes w.place end) vs x) (block_of-drop_any short bytes w.place end)
+    subst (λ (x : List Bool). ReadsValues count (block_of bytes w.place end) vs x) (block_of-drop_any short bytes w.place end)
     (codes-read k (w.word / 2 ^ (64 - k)) count short vs (block_of bytes w.place end) few begin
     (λ i lt. top_bit k w.word i lt (omega (arith, at.most)) ∙ at.shows i (omega arith)))
 
 -- the bits that a window shows further on
-pub shows-behind : (w : Window) (by i : ℕ) (bytes : List ℕ) (end : ℕ) → IsAt bytes end w → by ≤ w.shown → i < w.shown - by
+pub shows-behind : (w : Window) (by i : ℕ) (bytes : List ℕ) (end : ℕ) → IsWindowAt bytes end w → by ≤ w.shown → i < w.shown - by
     → bit (w.word * 2 ^ by % 2 ^ 64) (63 - i) ≡ get_or (block_of bytes (w.place + by) end) i true
 shows-behind w by i bytes end at le lt =
     let add : i + by ≡ by + i = omega arith in

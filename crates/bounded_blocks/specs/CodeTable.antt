@@ -2,7 +2,7 @@
 use Rattle.std.specs.Prelude.{◌≡◌, ◌≢◌, ◌-◌, ◌<◌, ◌≤◌, ◌++◌, ℕ, List, [], length, Bool, take, drop, slice_index_or, ℤ}
 use Rattle.bit_codes.specs.Bits.{digits_below}
 use Rattle.bounded_blocks.specs.Reading.{with_sign}
-use Rattle.bounded_blocks.specs.Parts.{Reads, AreWithin}
+use Rattle.bounded_blocks.specs.Parts.{ReadsValues, AreWithin}
 use Rattle.bounded_blocks.specs.declared.short_codes.ShortCode.{ShortCode}
 use Rattle.bounded_blocks.specs.declared.code_table.Codes.{Codes}
 use Rattle.bounded_blocks.specs.declared.code_table.Head.{Head}
@@ -18,7 +18,7 @@ IsSigned magnitude word left bits code =
 abbrev pub Begin : Codes → List Bool → Type 0
 Begin codes bits =
     (codes.count ≤ 8) × (codes.length ≤ length bits) × AreWithin 127 codes.values
-    × ((rest : List Bool) → Reads codes.count (bits ++ rest) (take codes.count codes.values) (drop codes.length bits ++ rest))
+    × ((rest : List Bool) → ReadsValues codes.count (bits ++ rest) (take codes.count codes.values) (drop codes.length bits ++ rest))
 
 -- values with a head
 abbrev pub codes_of : List ℤ → Head → Codes

@@ -6,10 +6,10 @@
 ghost use Rattle.std.specs.Prelude.{◌≡◌, ℕ, ◌+◌, ◌^◌, ◌<◌, ◌≤◌, List, [], ◌∷◌, take, unsigned_abs};
 ghost use Rattle.bit_codes.specs.Bits.{digits_below};
 ghost use Rattle.bounded_blocks.specs.Reading.{with_sign};
-ghost use Rattle.bounded_blocks.specs.Parts.{block_of, Reads, AreWithin};
+ghost use Rattle.bounded_blocks.specs.Parts.{block_of, ReadsValues, AreWithin};
 ghost use Rattle.bounded_blocks.specs.ShortCodes.{BeginsBits};
 ghost use Rattle.bounded_blocks.specs.CodeTable.{IsSigned, Begin, codes_of};
-ghost use Rattle.bounded_blocks.specs.Windows.{IsAt};
+ghost use Rattle.bounded_blocks.specs.Windows.{IsWindowAt};
 
 use crate::short_codes::ShortCode;
 use crate::window::Window;
@@ -178,8 +178,10 @@ impl CodeTable {
         ensures few { result.1.count ≤ 8 }
         ensures low { AreWithin 127 result.0.now }
         ensures short { result.1.length ≤ 12 }
-        ensures reads { (bytes : List ℕ) (end : ℕ) → IsAt bytes end window →
-            Reads result.1.count (block_of bytes window.place end) (take result.1.count result.0.now) (block_of bytes (window.place + result.1.length) end) }
+        ensures reads { (bytes : List ℕ) (end : ℕ) → IsWindowAt bytes end window →
+            ReadsValues result.1.count (block_of bytes window.place end)
+            (take result.1.count result.0.now)
+            (block_of bytes (window.place + result.1.length) end) }
     {
         self.entry(window.word >> (64 - TABLE_BITS))
     }

@@ -5,8 +5,8 @@
 
 ghost use Rattle.std.specs.Prelude.{◌≡◌, ℕ, ◌+◌, ◌-◌, ◌*◌, ◌^◌, ◌<◌, ◌≤◌, List, true, length, take, slice_index_or};
 ghost use Rattle.bit_codes.specs.Bits.{bit};
-ghost use Rattle.bounded_blocks.specs.Parts.{block_of, Reads};
-ghost use Rattle.bounded_blocks.specs.Windows.{IsAt, HasBytes, IsWord};
+ghost use Rattle.bounded_blocks.specs.Parts.{block_of, ReadsValues};
+ghost use Rattle.bounded_blocks.specs.Windows.{IsWindowAt, HasBytes, IsWord};
 
 use crate::short_codes::{ShortCodes, codes_in};
 
@@ -113,7 +113,8 @@ fn bits_at(bytes: &[u8], place: u64, end: u64) -> u64
     requires room { length bytes.now ≤ 2 ^ 40 }
     requires order { place ≤ end }
     requires inside { end ≤ 8 * length bytes.now }
-    ensures { (i : ℕ) → i < 57 → bit result (63 - i) ≡ slice_index_or (block_of bytes.now place end) i true }
+    ensures { (i : ℕ) → i < 57
+        → bit result (63 - i) ≡ slice_index_or (block_of bytes.now place end) i true }
 {
     let word = word_at(bytes, (place / 8) as usize) << (place % 8);
     let left = end - place;
@@ -130,8 +131,8 @@ pub(crate) fn showing(least: u32, bytes: &[u8], window: Window, end: u64) -> Win
     requires few { least ≤ 57 }
     requires room { length bytes.now ≤ 2 ^ 40 }
     requires inside { end ≤ 8 * length bytes.now }
-    requires at { IsAt bytes.now end window }
-    ensures at { IsAt bytes.now end result }
+    requires at { IsWindowAt bytes.now end window }
+    ensures at { IsWindowAt bytes.now end result }
     ensures enough { least ≤ result.shown }
     ensures same { block_of bytes.now result.place end ≡ block_of bytes.now window.place end }
 {
@@ -152,8 +153,9 @@ pub(crate) fn codes_at(window: Window) -> ShortCodes
     requires { 8 ≤ window.shown }
     ensures few { result.count ≤ 4 }
     ensures short { result.length ≤ 8 }
-    ensures reads { (bytes : List ℕ) (end : ℕ) → IsAt bytes end window →
-        Reads result.count (block_of bytes window.place end) (take result.count result.values) (block_of bytes (window.place + result.length) end) }
+    ensures reads { (bytes : List ℕ) (end : ℕ) → IsWindowAt bytes end window →
+        ReadsValues result.count (block_of bytes window.place end)
+        (take result.count result.values) (block_of bytes (window.place + result.length) end) }
 {
     codes_in((window.word >> 56) as u8)
 }
@@ -166,7 +168,8 @@ pub(crate) fn behind(window: Window, length: u8) -> Window
     requires room { window.place < 2 ^ 50 }
     ensures place { result.place ≡ window.place + length }
     ensures shown { result.shown + length ≡ window.shown }
-    ensures at { (bytes : List ℕ) (end : ℕ) → IsAt bytes end window → IsAt bytes end result }
+    ensures at { (bytes : List ℕ) (end : ℕ) → IsWindowAt bytes end window
+        → IsWindowAt bytes end result }
 {
     Window {
         word: window.word << length,

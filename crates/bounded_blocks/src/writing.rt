@@ -68,7 +68,8 @@ impl<'a> Fill<'a> {
         requires { IsInside self.old.bytes.now self.old.place self.old.end }
         ensures same_reference { self.new.bytes.ghost_name ≡ self.old.bytes.ghost_name }
         ensures same_end { self.new.end ≡ self.old.end }
-        ensures puts { Puts self.old.end self.old.place self.old.bytes.now self.new.place self.new.bytes.now (bit ∷ []) }
+        ensures puts { Puts self.old.end self.old.place self.old.bytes.now self.new.place
+            self.new.bytes.now (bit ∷ []) }
     {
         if self.place < self.end {
             let mut writer = BitWriter {
@@ -86,7 +87,8 @@ impl<'a> Fill<'a> {
         requires inside { IsInside self.old.bytes.now self.old.place self.old.end }
         ensures same_reference { self.new.bytes.ghost_name ≡ self.old.bytes.ghost_name }
         ensures same_end { self.new.end ≡ self.old.end }
-        ensures puts { Puts self.old.end self.old.place self.old.bytes.now self.new.place self.new.bytes.now (code_of v) }
+        ensures puts { Puts self.old.end self.old.place self.old.bytes.now self.new.place
+            self.new.bytes.now (code_of v) }
     {
         let number = v + 1;
         let mut left = number.ilog2();
@@ -104,7 +106,8 @@ impl<'a> Fill<'a> {
         requires inside { IsInside self.old.bytes.now self.old.place self.old.end }
         ensures same_reference { self.new.bytes.ghost_name ≡ self.old.bytes.ghost_name }
         ensures same_end { self.new.end ≡ self.old.end }
-        ensures puts { Puts self.old.end self.old.place self.old.bytes.now self.new.place self.new.bytes.now (signed_code_of v) }
+        ensures puts { Puts self.old.end self.old.place self.old.bytes.now self.new.place
+            self.new.bytes.now (signed_code_of v) }
     {
         self.put_code(v.unsigned_abs());
         if v != 0 {
@@ -118,7 +121,8 @@ impl<'a> Fill<'a> {
         requires inside { IsInside self.old.bytes.now self.old.place self.old.end }
         ensures same_reference { self.new.bytes.ghost_name ≡ self.old.bytes.ghost_name }
         ensures same_end { self.new.end ≡ self.old.end }
-        ensures puts { Puts self.old.end self.old.place self.old.bytes.now self.new.place self.new.bytes.now (codes_of values.now) }
+        ensures puts { Puts self.old.end self.old.place self.old.bytes.now self.new.place
+            self.new.bytes.now (codes_of values.now) }
     {
         for value in values {
             self.put(*value);

@@ -4,7 +4,7 @@ use Rattle.std.proofs.lemmas.List.{append-nil}
 use Rattle.std.proofs.Math.Nat.{mul-add, mul-le-mul_right}
 use Rattle.slice_geometry.specs.declared.unit_list.UnitShape.{UnitShape}
 use Rattle.slice_geometry.specs.Slicing.{bytes_before}
-use Rattle.slice_geometry.specs.UnitLengths.{IsUnitAllowed, StandInTurn, unit_length}
+use Rattle.slice_geometry.specs.UnitLengths.{IsUnitAllowed, ShapesInTurn, unit_length}
 use Rattle.channel_schedule.specs.Slices.{slices_in, pictures_in}
 use Rattle.channel_schedule.specs.Repeats.{plain, repeated, sequence, length_of, stream_of, picture_slots, AreKnown, PicturesAreKnown, GroupsAreKnown}
 use Rattle.channel_schedule.proofs.Units.{some_bytes, end_of-here}
@@ -99,7 +99,7 @@ module _ (header end : ℕ) (picture : UnitShape) (pictures idle : ℕ) (allowed
   group-repeats n = subst (λ (us : List UnitShape). Repeats group-part (stream_of us) idle n) (append-nil (repeated n group))
       (repeats [] group [] idle (pictures * picture.slices) (length_of group) (pictures * picture_slots picture idle) none none group-block n)
 
-  group-in_turn : (n : ℕ) → StandInTurn 0 (stream_of (repeated n group)).units (stream_of (repeated n group)).total
+  group-in_turn : (n : ℕ) → ShapesInTurn 0 (stream_of (repeated n group)).units (stream_of (repeated n group)).total
   group-in_turn n = stand_in_turn (repeated n group) 0 (length_of (repeated n group)) (omega arith) (allowed-repeated n group group-allowed)
 
   pub groups-known : AreKnown (λ n. stream_of (repeated n group)) (record { num = length_of group; den = pictures * picture_slots picture idle }) idle (pictures * picture.slices) (pictures * picture_slots picture idle)

@@ -3,7 +3,7 @@ use Rattle.std.proofs.Common.{◌≡◌, ℕ, ◌+◌, ◌*◌, ◌/◌, ◌%◌
 use Rattle.std.proofs.Math.Nat.{mul-le-mul_left, mul-le-mul_right, add-mul}
 use Rattle.std.proofs.lemmas.Bool.{cases_lt}
 use Rattle.std.proofs.lemmas.Grind.{div_ceil_times}
-use Rattle.slice_geometry.specs.UnitLengths.{UnitShapesSeen, StandInTurn}
+use Rattle.slice_geometry.specs.UnitLengths.{UnitShapesSeen, ShapesInTurn}
 use Rattle.slice_geometry.proofs.Quotients.{le-div_of_le, le_of_le-div}
 use Rattle.channel_schedule.specs.declared.schedule.Rate.{Rate}
 use Rattle.channel_schedule.specs.Rates.{IsRate}
@@ -12,14 +12,14 @@ use Rattle.channel_schedule.specs.Courses.{course_of, count_in, AreInTime}
 use Rattle.channel_schedule.specs.Plans.{IsGreatest, lead_of}
 use Rattle.channel_schedule.proofs.Units.{end_of-most}
 
-pub lead_low : (shapes : UnitShapesSeen) (rate : Rate) (idle : ℕ) (k : ℕ) → StandInTurn 0 shapes.units shapes.total → shapes.total ≤ 2 ^ 40 → rate.den < 2 ^ 32 → lead_of shapes rate idle k ≤ 2 ^ 72
+pub lead_low : (shapes : UnitShapesSeen) (rate : Rate) (idle : ℕ) (k : ℕ) → ShapesInTurn 0 shapes.units shapes.total → shapes.total ≤ 2 ^ 40 → rate.den < 2 ^ 32 → lead_of shapes rate idle k ≤ 2 ^ 72
 lead_low shapes rate idle k in_turn most narrow =
     let most_end : end_of shapes.units shapes.total k ≤ 2 ^ 40 = omega (arith, end_of-most shapes.units 0 shapes.total k in_turn) in
     let most : end_of shapes.units shapes.total k * rate.den ≤ 2 ^ 40 * rate.den = mul-le-mul_right rate.den most_end in
     omega (arith, most)
 
 -- a slice is in time where the delay makes up for its lead
-pub in_time-lead : (shapes : UnitShapesSeen) (rate : Rate) (idle : ℕ) (delay k : ℕ) → IsRate rate → StandInTurn 0 shapes.units shapes.total → lead_of shapes rate idle k ≤ delay * rate.num
+pub in_time-lead : (shapes : UnitShapesSeen) (rate : Rate) (idle : ℕ) (delay k : ℕ) → IsRate rate → ShapesInTurn 0 shapes.units shapes.total → lead_of shapes rate idle k ≤ delay * rate.num
     → end_of shapes.units shapes.total k ≤ arrived shapes.total rate (delay + slots_to idle shapes.units k)
 in_time-lead shapes rate idle delay k some in_turn low =
     let end = end_of shapes.units shapes.total k in
@@ -53,7 +53,7 @@ ceil_low lead num one =
 -- ---- the delay of a plan
 
 module _ (shapes : UnitShapesSeen) (rate : Rate) (idle : ℕ) (lead delay : ℕ) (some : IsRate rate) (is : delay ≡ lead / rate.num + min 1 (lead % rate.num)) (most : IsGreatest (lead_of shapes rate idle) (count_in shapes) lead) where
-  pub plan_in_time : StandInTurn 0 shapes.units shapes.total → AreInTime (course_of shapes rate idle delay) (count_in shapes)
+  pub plan_in_time : ShapesInTurn 0 shapes.units shapes.total → AreInTime (course_of shapes rate idle delay) (count_in shapes)
   plan_in_time in_turn k low =
       in_time-lead shapes rate idle delay k some in_turn (rw is (omega (arith, most.above k low, (div_ceil_times lead rate.num some.some_bytes).0)))
 

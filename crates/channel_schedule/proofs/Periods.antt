@@ -3,7 +3,7 @@ use Rattle.std.proofs.Common.{◌≡◌, ℕ, zero, suc, ◌+◌, ◌-◌, ◌*�
 use Rattle.std.proofs.Math.Nat.{mul-le-mul_right, add-mul, suc-mul, mul_right_comm, add-mul-div_right, div-lt_iff_lt-mul, mod-lt}
 use Rattle.std.proofs.lemmas.Nat.{div-add-mod'}
 use Rattle.std.proofs.lemmas.Bool.{cases_lt}
-use Rattle.slice_geometry.specs.UnitLengths.{UnitShapesSeen, StandInTurn}
+use Rattle.slice_geometry.specs.UnitLengths.{UnitShapesSeen, ShapesInTurn}
 use Rattle.slice_geometry.proofs.Quotients.{le-div_of_le, div-le_of_lt}
 use Rattle.channel_schedule.specs.declared.schedule.Rate.{Rate}
 use Rattle.channel_schedule.specs.Slices.{slices_in, end_of, gone_by, slots_to, arrived}
@@ -350,7 +350,7 @@ same_plan p one two idle m n delay size delay2 size2 is kind r r2 some some2 pla
 
 -- ---- what is known of streams that repeat a part
 
-module _ (p : Part) (stream : ℕ → UnitShapesSeen) (idle : ℕ) (is : IsPart p) (kind : IsPlanned p) (r : (n : ℕ) → Repeats p (stream n) idle n) (in_turn : (n : ℕ) → StandInTurn 0 (stream n).units (stream n).total) where
+module _ (p : Part) (stream : ℕ → UnitShapesSeen) (idle : ℕ) (is : IsPart p) (kind : IsPlanned p) (r : (n : ℕ) → Repeats p (stream n) idle n) (in_turn : (n : ℕ) → ShapesInTurn 0 (stream n).units (stream n).total) where
   found : (n : ℕ) → IsPlan (stream n) (rate_for p) idle (plan_delay (stream n) (rate_for p) idle) (plan_size (stream n) (rate_for p) idle)
   found n = plan_found (stream n) (rate_for p) idle (record { some_bytes = is.some_bytes; some_slots = is.some_slots }) (in_turn n)
 

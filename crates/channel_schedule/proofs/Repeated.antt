@@ -3,7 +3,7 @@ use Rattle.std.proofs.Common.{◌≡◌, ℕ, zero, suc, ◌+◌, ◌-◌, ◌*�
 use Rattle.std.proofs.Math.Nat.{mul-add, suc-mul, mul_left_comm, mul-le-mul_left}
 use Rattle.std.proofs.lemmas.Bool.{cases_lt}
 use Rattle.slice_geometry.specs.declared.unit_list.UnitShape.{UnitShape}
-use Rattle.slice_geometry.specs.UnitLengths.{IsUnitAllowed, StandInTurn, unit_length}
+use Rattle.slice_geometry.specs.UnitLengths.{IsUnitAllowed, ShapesInTurn, unit_length}
 use Rattle.channel_schedule.specs.Slices.{slices_in, pictures_in, end_of, pictures_before, slots_to}
 use Rattle.channel_schedule.specs.Repeats.{repeated, placed, length_of, stream_of}
 use Rattle.channel_schedule.proofs.Units.{end_of-here, end_of-behind, end_of-last, end_of-most, before-here, before-behind, slots-none}
@@ -56,7 +56,7 @@ allowed-repeated (suc n) units allowed = allowed-append units (repeated n units)
 allowed-at : (unit : UnitShape) (place : ℕ) → IsUnitAllowed unit → IsUnitAllowed (record unit { start = place })
 allowed-at unit place allowed = record { some = allowed.some; byte = allowed.byte; count = allowed.count; share = allowed.share }
 
-pub stand_in_turn : (units : List UnitShape) (place total : ℕ) → total ≡ place + length_of units → AreAllowed units → StandInTurn place (placed place units) total
+pub stand_in_turn : (units : List UnitShape) (place total : ℕ) → total ≡ place + length_of units → AreAllowed units → ShapesInTurn place (placed place units) total
 stand_in_turn [] place total e allowed = omega (arith, e)
 stand_in_turn (unit ∷ units) place total e allowed = (refl, allowed-at unit place allowed.0, stand_in_turn units (place + unit_length unit) total (omega (arith, e)) allowed.1)
 
@@ -236,7 +236,7 @@ module _ (first block last : List UnitShape) (idle slices bytes slots : ℕ) (f 
   abbrev units_of : ℕ → List UnitShape
   units_of n = first ++ (repeated n block ++ last)
 
-  pub in_turn : (n : ℕ) → StandInTurn 0 (stream_of (units_of n)).units (stream_of (units_of n)).total
+  pub in_turn : (n : ℕ) → ShapesInTurn 0 (stream_of (units_of n)).units (stream_of (units_of n)).total
   in_turn n = stand_in_turn (units_of n) 0 (length_of (units_of n)) (omega arith)
       (allowed-append first (repeated n block ++ last) f.allowed (allowed-append (repeated n block) last (allowed-repeated n block b.allowed) l.allowed))
 

@@ -1,7 +1,7 @@
 -- One outcome, and one plan.
 use Rattle.std.proofs.Common.{◌≡◌, ℕ, zero, suc, ◌+◌, ◌<◌, ◌≤◌, max, arith, ap, sym, subst, refl, ◌∙◌, add-one, inl, inr}
 use Rattle.std.proofs.lemmas.Bool.{cases_lt, lt-ltb, le-ltb}
-use Rattle.slice_geometry.specs.UnitLengths.{UnitShapesSeen, StandInTurn}
+use Rattle.slice_geometry.specs.UnitLengths.{UnitShapesSeen, ShapesInTurn}
 use Rattle.channel_schedule.specs.declared.schedule.Rate.{Rate}
 use Rattle.channel_schedule.specs.declared.schedule.Outcome.{Outcome}
 use Rattle.channel_schedule.specs.declared.schedule.Outcome.TheVariants.{Runs, Late, Overfull}
@@ -120,7 +120,7 @@ greatest_alone f n a b one two =
     let down : b ≤ a = two.least a one.above in
     omega arith
 
-pub plan_found : (shapes : UnitShapesSeen) (rate : Rate) (idle : ℕ) → IsRate rate → StandInTurn 0 shapes.units shapes.total → IsPlan shapes rate idle (plan_delay shapes rate idle) (plan_size shapes rate idle)
+pub plan_found : (shapes : UnitShapesSeen) (rate : Rate) (idle : ℕ) → IsRate rate → ShapesInTurn 0 shapes.units shapes.total → IsPlan shapes rate idle (plan_delay shapes rate idle) (plan_size shapes rate idle)
 plan_found shapes rate idle some in_turn =
     let lead = greatest (lead_of shapes rate idle) (count_in shapes) in
     let most : IsGreatest (lead_of shapes rate idle) (count_in shapes) lead = greatest-is (lead_of shapes rate idle) (count_in shapes) in
@@ -138,7 +138,7 @@ plan_alone shapes rate idle delay size delay2 size2 one two =
     let most : IsGreatest (held (course_of shapes rate idle delay2)) (count_in shapes) size = subst (λ (d : ℕ). IsGreatest (held (course_of shapes rate idle d)) (count_in shapes) size) e one.most in
     (e, greatest_alone (held (course_of shapes rate idle delay2)) (count_in shapes) size size2 most two.most)
 
-pub one_plan : (shapes : UnitShapesSeen) (rate : Rate) (idle : ℕ) → IsRate rate → StandInTurn 0 shapes.units shapes.total → OnePlan shapes rate idle
+pub one_plan : (shapes : UnitShapesSeen) (rate : Rate) (idle : ℕ) → IsRate rate → ShapesInTurn 0 shapes.units shapes.total → OnePlan shapes rate idle
 one_plan shapes rate idle some in_turn =
     let found = plan_found shapes rate idle some in_turn in
     record { found = found; only = λ delay size is. plan_alone shapes rate idle delay size (plan_delay shapes rate idle) (plan_size shapes rate idle) is found }

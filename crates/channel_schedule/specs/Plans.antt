@@ -1,6 +1,6 @@
 -- The least schedule at a rate.
 use Rattle.std.specs.Prelude.{◌≡◌, ℕ, zero, suc, ◌+◌, ◌-◌, ◌*◌, ◌/◌, ◌%◌, ◌<◌, ◌≤◌, min, max}
-use Rattle.slice_geometry.specs.UnitLengths.{UnitShapesSeen, StandInTurn}
+use Rattle.slice_geometry.specs.UnitLengths.{UnitShapesSeen, ShapesInTurn}
 use Rattle.slice_geometry.specs.declared.unit_list.UnitShape.{UnitShape}
 use Rattle.slice_geometry.specs.Slicing.{bytes_before}
 use Rattle.channel_schedule.specs.declared.schedule.Rate.{Rate}
@@ -35,14 +35,14 @@ pub record IsPlan (shapes : UnitShapesSeen) (rate : Rate) (idle delay size : ℕ
   pub most : IsGreatest (held (course_of shapes rate idle delay)) (count_in shapes) size
 
 -- A plan runs, with no smaller delay are all slices in time, and with its delay no smaller size runs.
-pub record IsLeast (shapes : UnitShapesSeen) (rate : Rate) (idle delay size : ℕ) : Type 0 where
+pub record IsLeastPlan (shapes : UnitShapesSeen) (rate : Rate) (idle delay size : ℕ) : Type 0 where
   pub runs : Run (course_of shapes rate idle delay) size (count_in shapes)
   pub no_delay : (less : ℕ) → less < delay → AreInTime (course_of shapes rate idle less) (count_in shapes) → ⊥
   pub no_size : (less : ℕ) → less < size → Run (course_of shapes rate idle delay) less (count_in shapes) → ⊥
 
 abbrev pub PlansAreLeast : Type 0
 PlansAreLeast = (shapes : UnitShapesSeen) (rate : Rate) (idle delay size : ℕ) → IsPlan shapes rate idle delay size
-    → IsLeast shapes rate idle delay size
+    → IsLeastPlan shapes rate idle delay size
 
 -- replayed, it comes out as one that runs, and in no other way
 abbrev pub PlansReplay : Type 0
@@ -75,5 +75,5 @@ pub record OnePlan (shapes : UnitShapesSeen) (rate : Rate) (idle : ℕ) : Type 0
       × (size ≡ plan_size shapes rate idle)
 
 abbrev pub EachHasOnePlan : Type 0
-EachHasOnePlan = (shapes : UnitShapesSeen) (rate : Rate) (idle : ℕ) → IsRate rate → StandInTurn 0 shapes.units shapes.total
+EachHasOnePlan = (shapes : UnitShapesSeen) (rate : Rate) (idle : ℕ) → IsRate rate → ShapesInTurn 0 shapes.units shapes.total
     → OnePlan shapes rate idle

@@ -50,7 +50,8 @@ fn unit_fill(unit: UnitShape, total: u64, rate: Rate, slot: u128, gone: u64) -> 
 pub(crate) fn fill(shapes: &UnitShapes, rate: Rate, idle: u32, delay: u128) -> u64
     requires rate { 1 ≤ rate.den }
     requires delay { delay ≤ 2 ^ 72 }
-    ensures { IsGreatest (held (course_of shapes.now rate idle delay)) (count_in shapes.now) result }
+    ensures { IsGreatest (held (course_of shapes.now rate idle delay))
+        (count_in shapes.now) result }
 {
     let total = shapes.total();
     let mut slot = 0u128;

@@ -1,6 +1,6 @@
 // The first pass of a plan: how far the slices are ahead of the channel.
 ghost use Rattle.std.specs.Prelude.{◌+◌, ◌^◌, ◌≤◌};
-ghost use Rattle.slice_geometry.specs.UnitLengths.{IsUnitAllowed, StandInTurn, unit_length};
+ghost use Rattle.slice_geometry.specs.UnitLengths.{IsUnitAllowed, ShapesInTurn, unit_length};
 ghost use Rattle.channel_schedule.specs.Courses.{count_in};
 ghost use Rattle.channel_schedule.specs.Plans.{IsGreatest, lead_of, lead_in, asked_in};
 ghost use Rattle.channel_schedule.specs.Stepping.{IsAt};
@@ -82,7 +82,7 @@ const NO_SLICES: UnitShape = UnitShape {
 pub(crate) fn lead(shapes: &UnitShapes, rate: Rate, idle: u32) -> u128
     ensures most { IsGreatest (lead_of shapes.now rate idle) (count_in shapes.now) result }
     ensures low { result ≤ 2 ^ 72 }
-    ensures in_turn { StandInTurn 0 shapes.now.units shapes.now.total }
+    ensures in_turn { ShapesInTurn 0 shapes.now.units shapes.now.total }
 {
     let total = shapes.total();
     let mut slot = 0u128;

@@ -74,7 +74,8 @@ fn replay_tail(total: u64, rate: Rate, slot: u128, gone: u64, size: u64) -> Outc
 /// arrived is late; else, where more bytes are held than there is room for, the buffer is too full.
 pub fn replay(shapes: &UnitShapes, schedule: &Schedule) -> Outcome
     requires { IsSchedule schedule.now }
-    ensures { IsOutcome (course_of shapes.now schedule.now.rate schedule.now.idle schedule.now.delay) schedule.now.size (count_in shapes.now) result }
+    ensures { IsOutcome (course_of shapes.now schedule.now.rate schedule.now.idle
+        schedule.now.delay) schedule.now.size (count_in shapes.now) result }
 {
     let total = shapes.total();
     let rate = schedule.rate;

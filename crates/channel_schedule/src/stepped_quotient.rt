@@ -33,7 +33,8 @@ impl SteppedQuotient {
     #[inline(always)]
     pub(crate) fn next(self) -> SteppedQuotient
         requires { CanStep self }
-        ensures at { (num den number : ℕ) → IsAt self num den number → IsAt result num den (number + num) }
+        ensures at { (num den number : ℕ) → IsAt self num den number
+            → IsAt result num den (number + num) }
         ensures high { result.quotient ≤ self.quotient + self.step_quotient + 1 }
     {
         let remainder = self.remainder + self.step_remainder;

@@ -64,7 +64,8 @@ pub fn restore_narrow(plane: &mut NarrowPlane, rect: Rect) -> bool
 fn predict_of<T: Predicted>(plane: &Plane<T>, y: u32, x: u32) -> T
     requires y_inside { y < height plane.now }
     requires x_inside { x < plane.now.w }
-    requires small { AllLookedAt (λ j i. Within T.reach (grid_of T.value T.none plane.now j i)) y x }
+    requires small { AllLookedAt (λ j i. Within T.reach (grid_of T.value T.none plane.now j i)) y
+        x }
     ensures { T.value result ≡ prediction (grid_of T.value T.none plane.now) y x }
 {
     if y == 0 {
@@ -89,13 +90,16 @@ fn predict_of<T: Predicted>(plane: &Plane<T>, y: u32, x: u32) -> T
 fn restore_place<T: Predicted>(plane: &mut Plane<T>, y: u32, x: u32) -> bool
     requires y_inside { y < height plane.old }
     requires x_inside { x < plane.old.w }
-    requires may { MayRestore T.most T.reach T.limit (row_rect y x (x + 1)) (grid_of T.value T.none plane.old) }
+    requires may { MayRestore T.most T.reach T.limit (row_rect y x (x + 1))
+        (grid_of T.value T.none plane.old) }
     ensures same_width { plane.new.w ≡ plane.old.w }
     ensures same_height { height plane.new ≡ height plane.old }
     ensures restored { let grid = grid_of T.value T.none in
-        result ≡ true → Restores T.limit (IsInRect (row_rect y x (x + 1))) (grid plane.old) (grid plane.new) }
+        result ≡ true
+        → Restores T.limit (IsInRect (row_rect y x (x + 1))) (grid plane.old) (grid plane.new) }
     ensures stopped { let grid = grid_of T.value T.none in
-        result ≡ false → Stops T.limit T.keeps (row_rect y x (x + 1)) (grid plane.old) (grid plane.new) }
+        result ≡ false
+        → Stops T.limit T.keeps (row_rect y x (x + 1)) (grid plane.old) (grid plane.new) }
 {
     let value = plane.get(y, x) + predict_of(plane, y, x);
     if !T::is_kept(value) {
@@ -110,13 +114,16 @@ fn restore_row<T: Predicted>(plane: &mut Plane<T>, y: u32, x0: u32, x1: u32) -> 
     requires y_inside { y < height plane.old }
     requires x_inside { x1 ≤ plane.old.w }
     requires some { x0 < x1 }
-    requires may { MayRestore T.most T.reach T.limit (row_rect y x0 x1) (grid_of T.value T.none plane.old) }
+    requires may { MayRestore T.most T.reach T.limit (row_rect y x0 x1)
+        (grid_of T.value T.none plane.old) }
     ensures same_width { plane.new.w ≡ plane.old.w }
     ensures same_height { height plane.new ≡ height plane.old }
     ensures restored { let grid = grid_of T.value T.none in
-        result ≡ true → Restores T.limit (IsInRect (row_rect y x0 x1)) (grid plane.old) (grid plane.new) }
+        result ≡ true
+        → Restores T.limit (IsInRect (row_rect y x0 x1)) (grid plane.old) (grid plane.new) }
     ensures stopped { let grid = grid_of T.value T.none in
-        result ≡ false → Stops T.limit T.keeps (row_rect y x0 x1) (grid plane.old) (grid plane.new) }
+        result ≡ false
+        → Stops T.limit T.keeps (row_rect y x0 x1) (grid plane.old) (grid plane.new) }
 {
     for x in x0..x1 {
         if !restore_place(plane, y, x) {

@@ -3,9 +3,9 @@ use Rattle.std.proofs.Common.{◌≡◌, ℕ, Bool, List, Result, Ok, Err, inl, 
 use Rattle.bit_codes.specs.declared.CodeFault.{CodeFault}
 use Rattle.bit_codes.specs.Bits.{Cursor}
 use Rattle.field_rows.specs.Rows.{Value, Rows, Fault, read}
-use Rattle.field_rows.specs.Pieces.{IsWhole, IsSteady}
+use Rattle.field_rows.specs.Pieces.{EndsWithAByte, IsSteady}
 use Rattle.field_rows.specs.Moved.{IsMovable}
-use Rattle.field_rows.specs.RowLaws.{ReadsWhatStands, HasOneAnswer, IgnoresMore, ReadsTheSameMoved, ReadsTheSameRenamed, IsReadAgain, HasFaultWithin}
+use Rattle.field_rows.specs.RowLaws.{ReadsWhatStands, HasOneRowAnswer, IgnoresMore, ReadsTheSameMoved, ReadsTheSameRenamed, IsReadAgain, HasFaultWithin}
 use Rattle.field_rows.proofs.Answers.{Stand-read, IsRefused-read, found_fields, found_refusal, Stand-one}
 use Rattle.field_rows.proofs.Pieces.{read-more, read-more_refused}
 use Rattle.field_rows.proofs.Moves.{read-moved, read-renamed}
@@ -28,10 +28,10 @@ same_fault f g r e h = cc
 not_both : {A E : Type 0} (a : A) (f : E) (r : Result A E) → r ≡ Ok a → r ≡ Err f → ⊥
 not_both a f r e h = cc
 
-pub one_answer : {R A : Type 0} (reason_of : CodeFault → R) (rows : Rows R A) (c : Cursor) → HasOneAnswer reason_of rows c
+pub one_answer : {R A : Type 0} (reason_of : CodeFault → R) (rows : Rows R A) (c : Cursor) → HasOneRowAnswer reason_of rows c
 one_answer {R = R} {A = A} reason_of rows c = go (read reason_of rows c) refl
   where
-    go : (r : Result (A × Cursor) (Fault R)) → read reason_of rows c ≡ r → HasOneAnswer reason_of rows c
+    go : (r : Result (A × Cursor) (Fault R)) → read reason_of rows c ≡ r → HasOneRowAnswer reason_of rows c
     go (Ok x) e =
         let found = found_fields reason_of rows c x.0 x.1 e in
         inl (
@@ -52,7 +52,7 @@ one_answer {R = R} {A = A} reason_of rows c = go (read reason_of rows c) refl
           λ vs a behind f. not_both (a, behind) fault (read reason_of rows c) (Stand-read reason_of rows vs c a behind f) e,
         )
 
-pub ignores_more : {R A : Type 0} (reason_of : CodeFault → R) (rows : Rows R A) (c : Cursor) (bits : List Bool) → IsSteady rows → IsWhole c → IgnoresMore reason_of rows c bits
+pub ignores_more : {R A : Type 0} (reason_of : CodeFault → R) (rows : Rows R A) (c : Cursor) (bits : List Bool) → IsSteady rows → EndsWithAByte c → IgnoresMore reason_of rows c bits
 ignores_more reason_of rows c bits steady whole = record {
   value = λ a behind e. read-more reason_of rows c a behind bits steady.steady whole e;
   fault = λ f other e. read-more_refused reason_of rows c f bits steady.steady whole other e;

@@ -17,8 +17,8 @@ pub record ReadsWhatStands {R A : Type 0} (reason_of : CodeFault → R) (rows : 
 
 -- Either fields stand, and they alone, with one value and one cursor behind them, and nothing is refused;
 -- or there is one refusal, and no fields stand.
-abbrev pub HasOneAnswer : {R A : Type 0} → (CodeFault → R) → Rows R A → Cursor → Type 0
-HasOneAnswer {R = R} {A = A} reason_of rows c =
+abbrev pub HasOneRowAnswer : {R A : Type 0} → (CodeFault → R) → Rows R A → Cursor → Type 0
+HasOneRowAnswer {R = R} {A = A} reason_of rows c =
     ((vs : List Value) × (a : A) × (behind : Cursor) × Stand rows vs c a behind
     × ((vs' : List Value) (a' : A) (behind' : Cursor) → Stand rows vs' c a' behind' → (vs ≡ vs') × (a ≡ a') × (behind ≡ behind'))
     × ((vs' : List Value) (f : Fault R) → IsRefused reason_of rows vs' c f → ⊥))

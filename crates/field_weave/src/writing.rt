@@ -27,10 +27,15 @@ fn write_alternating<K: Sink>(
 ) -> Result<(), Failed>
     requires { lower.now.shape ≡ upper.now.shape }
     ensures wide { OnOk result (writer.new.wide ≡ writer.old.wide) }
-    ensures ok { OnOk result (PassesOn (K.written out.old) (K.written out.new) writer.old.waiting writer.new.waiting
-        (text_of writer.old.wide (alternating_lines (pictures.size_of (frame_of upper.now.shape) c) (shown upper.now c) (shown lower.now c)).cells)) }
-    ensures err { OnErr result (GrewShort (K.written out.old) (K.written out.new) (writer.old.waiting
-        ++ text_of writer.old.wide (alternating_lines (pictures.size_of (frame_of upper.now.shape) c) (shown upper.now c) (shown lower.now c)).cells)) }
+    ensures ok { OnOk result (PassesOn (K.written out.old)
+        (K.written out.new) writer.old.waiting writer.new.waiting
+        (text_of writer.old.wide (alternating_lines (pictures.size_of (frame_of upper.now.shape) c)
+        (shown upper.now c) (shown lower.now c)).cells)) }
+    ensures err { OnErr result (GrewShort (K.written out.old) (K.written out.new)
+        (writer.old.waiting
+        ++ text_of writer.old.wide (alternating_lines
+        (pictures.size_of (frame_of upper.now.shape) c) (shown upper.now c)
+        (shown lower.now c)).cells)) }
     ensures cause { HasCause (K.faults out.old) (K.faults out.new) result }
 {
     let size = size_of(upper.shape(), c);
@@ -56,10 +61,14 @@ fn write_split<K: Sink>(
     requires line { line ≤ 1 }
     requires doubled { frame_of frame.now.shape ≡ doubled (frame_of field.now) }
     ensures wide { OnOk result (writer.new.wide ≡ writer.old.wide) }
-    ensures ok { OnOk result (PassesOn (K.written out.old) (K.written out.new) writer.old.waiting writer.new.waiting
-        (text_of writer.old.wide (split_lines (pictures.size_of (frame_of field.now) c) line (shown frame.now c)).cells)) }
-    ensures err { OnErr result (GrewShort (K.written out.old) (K.written out.new) (writer.old.waiting
-        ++ text_of writer.old.wide (split_lines (pictures.size_of (frame_of field.now) c) line (shown frame.now c)).cells)) }
+    ensures ok { OnOk result (PassesOn (K.written out.old)
+        (K.written out.new) writer.old.waiting writer.new.waiting
+        (text_of writer.old.wide (split_lines (pictures.size_of (frame_of field.now) c) line
+        (shown frame.now c)).cells)) }
+    ensures err { OnErr result (GrewShort (K.written out.old) (K.written out.new)
+        (writer.old.waiting
+        ++ text_of writer.old.wide (split_lines (pictures.size_of (frame_of field.now) c) line
+        (shown frame.now c)).cells)) }
     ensures cause { HasCause (K.faults out.old) (K.faults out.new) result }
 {
     let size = size_of(field, c);
@@ -81,9 +90,11 @@ pub(crate) fn write_frame<K: Sink>(
 ) -> Result<(), Failed>
     requires { second.now.shape ≡ first.now.shape }
     ensures ok { OnOk result (Appends (K.written out.old) (K.written out.new)
-        (raw_text (doubled (frame_of first.now.shape)) (woven order (frame_of first.now.shape) first.now.samples second.now.samples))) }
+        (raw_text (doubled (frame_of first.now.shape))
+        (woven order (frame_of first.now.shape) first.now.samples second.now.samples))) }
     ensures err { OnErr result (GrewShort (K.written out.old) (K.written out.new)
-        (raw_text (doubled (frame_of first.now.shape)) (woven order (frame_of first.now.shape) first.now.samples second.now.samples))) }
+        (raw_text (doubled (frame_of first.now.shape))
+        (woven order (frame_of first.now.shape) first.now.samples second.now.samples))) }
     ensures cause { HasCause (K.faults out.old) (K.faults out.new) result }
 {
     match order {
@@ -96,9 +107,11 @@ pub(crate) fn write_frame<K: Sink>(
 fn write_rows_of<K: Sink>(upper: &Picture, lower: &Picture, out: &mut K) -> Result<(), Failed>
     requires { lower.now.shape ≡ upper.now.shape }
     ensures ok { OnOk result (Appends (K.written out.old) (K.written out.new)
-        (raw_text (doubled (frame_of upper.now.shape)) (alternating (frame_of upper.now.shape) upper.now.samples lower.now.samples))) }
+        (raw_text (doubled (frame_of upper.now.shape))
+        (alternating (frame_of upper.now.shape) upper.now.samples lower.now.samples))) }
     ensures err { OnErr result (GrewShort (K.written out.old) (K.written out.new)
-        (raw_text (doubled (frame_of upper.now.shape)) (alternating (frame_of upper.now.shape) upper.now.samples lower.now.samples))) }
+        (raw_text (doubled (frame_of upper.now.shape))
+        (alternating (frame_of upper.now.shape) upper.now.samples lower.now.samples))) }
     ensures cause { HasCause (K.faults out.old) (K.faults out.new) result }
 {
     let mut writer = RawWriter::new(upper.shape());
@@ -120,10 +133,14 @@ fn write_field<K: Sink>(
     requires doubled { frame_of frame.now.shape ≡ doubled (frame_of field.now) }
     requires wide { writer.old.wide ≡ is_wide (frame_of field.now) }
     ensures wide { OnOk result (writer.new.wide ≡ writer.old.wide) }
-    ensures ok { OnOk result (PassesOn (K.written out.old) (K.written out.new) writer.old.waiting writer.new.waiting
-        (raw_text (frame_of field.now) (split order (frame_of field.now) second frame.now.samples))) }
-    ensures err { OnErr result (GrewShort (K.written out.old) (K.written out.new) (writer.old.waiting
-        ++ raw_text (frame_of field.now) (split order (frame_of field.now) second frame.now.samples))) }
+    ensures ok { OnOk result (PassesOn (K.written out.old)
+        (K.written out.new) writer.old.waiting writer.new.waiting
+        (raw_text (frame_of field.now) (split order
+        (frame_of field.now) second frame.now.samples))) }
+    ensures err { OnErr result (GrewShort (K.written out.old) (K.written out.new)
+        (writer.old.waiting
+        ++ raw_text (frame_of field.now)
+        (split order (frame_of field.now) second frame.now.samples))) }
     ensures cause { HasCause (K.faults out.old) (K.faults out.new) result }
 {
     let line = line_of(order, second);
@@ -140,10 +157,14 @@ pub(crate) fn write_fields<K: Sink>(
     out: &mut K,
 ) -> Result<(), Failed>
     requires { frame_of frame.now.shape ≡ doubled (frame_of field.now) }
-    ensures ok { let f = frame_of field.now in OnOk result (Appends (K.written out.old) (K.written out.new)
-        (raw_text f (split order f false frame.now.samples) ++ raw_text f (split order f true frame.now.samples))) }
-    ensures err { let f = frame_of field.now in OnErr result (GrewShort (K.written out.old) (K.written out.new)
-        (raw_text f (split order f false frame.now.samples) ++ raw_text f (split order f true frame.now.samples))) }
+    ensures ok { let f = frame_of field.now in
+        OnOk result (Appends (K.written out.old) (K.written out.new)
+        (raw_text f (split order f false frame.now.samples)
+        ++ raw_text f (split order f true frame.now.samples))) }
+    ensures err { let f = frame_of field.now in
+        OnErr result (GrewShort (K.written out.old) (K.written out.new)
+        (raw_text f (split order f false frame.now.samples)
+        ++ raw_text f (split order f true frame.now.samples))) }
     ensures cause { HasCause (K.faults out.old) (K.faults out.new) result }
 {
     let mut writer = RawWriter::new(field);

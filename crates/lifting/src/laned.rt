@@ -23,18 +23,23 @@ pub trait Laned: Number {
     /// The 8 numbers of a row from `at` on.
     fn load(row: &[Self], at: usize) -> Self::Block
         requires inside { at + 8 ≤ length row.now }
-        requires small { (i : ℕ) → i < 8 → Within Self.reach (valued Self.value Self.none row.now (at + i)) }
+        requires small { (i : ℕ) → i < 8
+            → Within Self.reach (valued Self.value Self.none row.now (at + i)) }
         ensures len { length (lanes result) ≡ 8 }
-        ensures each { (i : ℕ) → i < 8 → place (lanes result) i ≡ valued Self.value Self.none row.now (at + i) };
+        ensures each { (i : ℕ) → i < 8
+            → place (lanes result) i ≡ valued Self.value Self.none row.now (at + i) };
 
     /// Puts 8 numbers into a row from `at` on.
     fn store(block: Self::Block, row: &mut [Self], at: usize)
         requires inside { at + 8 ≤ length row.old }
         requires len { length (lanes block) ≡ 8 }
         requires small { Each1 (Within (Self.reach + Self.reach)) (lanes block) }
-        ensures each { (i : ℕ) → i < 8 → valued Self.value Self.none row.new (at + i) ≡ place (lanes block) i }
-        ensures below { (j : ℕ) → j < at → valued Self.value Self.none row.new j ≡ valued Self.value Self.none row.old j }
-        ensures above { (j : ℕ) → at + 8 ≤ j → valued Self.value Self.none row.new j ≡ valued Self.value Self.none row.old j };
+        ensures each { (i : ℕ) → i < 8
+            → valued Self.value Self.none row.new (at + i) ≡ place (lanes block) i }
+        ensures below { (j : ℕ) → j < at
+            → valued Self.value Self.none row.new j ≡ valued Self.value Self.none row.old j }
+        ensures above { (j : ℕ) → at + 8 ≤ j
+            → valued Self.value Self.none row.new j ≡ valued Self.value Self.none row.old j };
 
     /// A step on each lane, between two neighbours.
     fn pair_block(d: Self::Block, a: Self::Block, b: Self::Block, step: PairStep) -> Self::Block
@@ -138,9 +143,12 @@ pub(crate) fn pair_at<T: Laned>(dst: &mut [T], a: &[T], b: &[T], at: usize, step
     requires b_small { (i : ℕ) → i < 8 → Within T.reach (valued T.value T.none b.now (at + i)) }
     ensures block { (j : ℕ) → at ≤ j → j < at + 8
         → valued T.value T.none dst.new j
-        ≡ pair_step step (valued T.value T.none dst.old j) (valued T.value T.none a.now j) (valued T.value T.none b.now j) }
-    ensures below { (j : ℕ) → j < at → valued T.value T.none dst.new j ≡ valued T.value T.none dst.old j }
-    ensures above { (j : ℕ) → at + 8 ≤ j → valued T.value T.none dst.new j ≡ valued T.value T.none dst.old j }
+        ≡ pair_step step (valued T.value T.none dst.old j) (valued T.value T.none a.now j)
+        (valued T.value T.none b.now j) }
+    ensures below { (j : ℕ) → j < at
+        → valued T.value T.none dst.new j ≡ valued T.value T.none dst.old j }
+    ensures above { (j : ℕ) → at + 8 ≤ j
+        → valued T.value T.none dst.new j ≡ valued T.value T.none dst.old j }
 {
     let d = T::load(dst, at);
     let x = T::load(a, at);
@@ -159,8 +167,10 @@ pub(crate) fn one_at<T: Laned>(dst: &mut [T], a: &[T], at: usize, step: OneStep)
     ensures block { (j : ℕ) → at ≤ j → j < at + 8
         → valued T.value T.none dst.new j
         ≡ one_step step (valued T.value T.none dst.old j) (valued T.value T.none a.now j) }
-    ensures below { (j : ℕ) → j < at → valued T.value T.none dst.new j ≡ valued T.value T.none dst.old j }
-    ensures above { (j : ℕ) → at + 8 ≤ j → valued T.value T.none dst.new j ≡ valued T.value T.none dst.old j }
+    ensures below { (j : ℕ) → j < at
+        → valued T.value T.none dst.new j ≡ valued T.value T.none dst.old j }
+    ensures above { (j : ℕ) → at + 8 ≤ j
+        → valued T.value T.none dst.new j ≡ valued T.value T.none dst.old j }
 {
     let d = T::load(dst, at);
     let x = T::load(a, at);

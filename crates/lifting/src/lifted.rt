@@ -21,7 +21,8 @@ pub trait Lifted: Number {
         requires a_small { EachValued Self.value Self.none Self.reach a.now }
         requires b_small { EachValued Self.value Self.none Self.reach b.now }
         ensures { let at = valued Self.value Self.none in
-            (i : ℕ) → i < length dst.old → at dst.new i ≡ step wavelet kind (at dst.old i) (at a.now i) (at b.now i) };
+            (i : ℕ) → i < length dst.old
+            → at dst.new i ≡ step wavelet kind (at dst.old i) (at a.now i) (at b.now i) };
 }
 
 /// Numbers with room for a level of analysis, which takes those within 2^25.
@@ -67,7 +68,8 @@ fn lift_each<T: Number>(dst: &mut [T], a: &[T], b: &[T], wavelet: Wavelet, kind:
     requires a_small { EachValued T.value T.none T.reach a.now }
     requires b_small { EachValued T.value T.none T.reach b.now }
     ensures { let at = valued T.value T.none in
-        (i : ℕ) → i < length dst.old → at dst.new i ≡ step wavelet kind (at dst.old i) (at a.now i) (at b.now i) }
+        (i : ℕ) → i < length dst.old
+        → at dst.new i ≡ step wavelet kind (at dst.old i) (at a.now i) (at b.now i) }
 {
     for i in 0..dst.len() {
         dst[i] = stepped(wavelet, kind, dst[i], a[i], b[i]);
@@ -83,7 +85,8 @@ fn lift_places<T: Number>(dst: &mut [T], a: &[T], b: &[T], wavelet: Wavelet, kin
     requires a_small { EachValued T.value T.none T.reach a.now }
     requires b_small { EachValued T.value T.none T.reach b.now }
     ensures { let at = valued T.value T.none in
-        (i : ℕ) → i < length dst.old → at dst.new i ≡ step wavelet kind (at dst.old i) (at a.now i) (at b.now i) }
+        (i : ℕ) → i < length dst.old
+        → at dst.new i ≡ step wavelet kind (at dst.old i) (at a.now i) (at b.now i) }
 {
     match wavelet {
         Wavelet::LeGall => lift_each(dst, a, b, Wavelet::LeGall, kind),
@@ -107,7 +110,8 @@ pub(crate) fn copy_corner<T: Number>(dst: &mut Plane<T>, src: &Plane<T>, w: u32,
     requires high { (h ≤ height dst.old) × (h ≤ height src.now) }
     ensures same_width { dst.new.w ≡ dst.old.w }
     ensures same_height { height dst.new ≡ height dst.old }
-    ensures copied { SameInside h w (grid_of T.value T.none dst.new) (grid_of T.value T.none src.now) }
+    ensures copied { SameInside h w (grid_of T.value T.none dst.new)
+        (grid_of T.value T.none src.now) }
 {
     for y in 0..h {
         copy_front(dst.row_mut(y), src.row(y), w as usize);

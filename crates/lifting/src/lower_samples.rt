@@ -37,11 +37,13 @@ fn round_row<T: Sampled>(row: &mut [T], shift: u32)
 // The same of a plane.
 fn round_plane<T: Sampled>(plane: &mut Plane<T>, shift: u32)
     requires few { shift ≤ 4 }
-    requires small { GridWithin (height plane.old) plane.old.w T.reach (grid_of T.value T.none plane.old) }
+    requires small { GridWithin (height plane.old) plane.old.w T.reach
+        (grid_of T.value T.none plane.old) }
     ensures same_width { plane.new.w ≡ plane.old.w }
     ensures same_height { height plane.new ≡ height plane.old }
     ensures rounded { let grid = grid_of T.value T.none in
-        (y x : ℕ) → y < height plane.old → x < plane.old.w → grid plane.new y x ≡ rounded shift (grid plane.old y x) }
+        (y x : ℕ) → y < height plane.old → x < plane.old.w
+        → grid plane.new y x ≡ rounded shift (grid plane.old y x) }
 {
     for y in 0..plane.h() {
         round_row(plane.row_mut(y), shift);
@@ -69,7 +71,8 @@ pub fn synth_lower_samples(
     requires columns { plane.old.w ≡ lowest bands.now.depth w * 2 ^ level.levels }
     requires rows { height plane.old ≡ lowest bands.now.depth h * 2 ^ level.levels }
     requires small { AreSmallIn bands.now w h }
-    requires shown { IsShownArea area (lowest bands.now.depth w * 2 ^ level.levels) (lowest bands.now.depth h * 2 ^ level.levels) samples.old }
+    requires shown { IsShownArea area (lowest bands.now.depth w * 2 ^ level.levels)
+        (lowest bands.now.depth h * 2 ^ level.levels) samples.old }
     ensures same_width { plane.new.w ≡ plane.old.w }
     ensures same_height { height plane.new ≡ height plane.old }
     ensures same_width_scratch { scratch.new.w ≡ scratch.old.w }
@@ -77,7 +80,8 @@ pub fn synth_lower_samples(
     ensures count { length samples.new ≡ length samples.old }
     ensures samples { let depth = bands.now.depth in
         AreSamplesOf area.w area.h area.depth samples.new
-        (λ y x. rounded level.shift (synthesis wavelet (lowest depth h) (lowest depth w) (coefficients_of bands.now) level.levels y x)) }
+        (λ y x. rounded level.shift (synthesis wavelet (lowest depth h) (lowest depth w)
+        (coefficients_of bands.now) level.levels y x)) }
 {
     // A depth is at most 4.
     let _ = bands.depth();
@@ -102,7 +106,8 @@ pub fn synth_lower_samples_narrow(
     requires columns { plane.old.w ≡ lowest bands.now.depth w * 2 ^ level.levels }
     requires rows { height plane.old ≡ lowest bands.now.depth h * 2 ^ level.levels }
     requires small { AreNarrowIn bands.now w h }
-    requires shown { IsShownArea area (lowest bands.now.depth w * 2 ^ level.levels) (lowest bands.now.depth h * 2 ^ level.levels) samples.old }
+    requires shown { IsShownArea area (lowest bands.now.depth w * 2 ^ level.levels)
+        (lowest bands.now.depth h * 2 ^ level.levels) samples.old }
     ensures same_width { plane.new.w ≡ plane.old.w }
     ensures same_height { height plane.new ≡ height plane.old }
     ensures same_width_scratch { scratch.new.w ≡ scratch.old.w }
@@ -110,7 +115,8 @@ pub fn synth_lower_samples_narrow(
     ensures count { length samples.new ≡ length samples.old }
     ensures samples { let depth = bands.now.depth in
         AreSamplesOf area.w area.h area.depth samples.new
-        (λ y x. rounded level.shift (synthesis wavelet (lowest depth h) (lowest depth w) (coefficients_of bands.now) level.levels y x)) }
+        (λ y x. rounded level.shift (synthesis wavelet (lowest depth h) (lowest depth w)
+        (coefficients_of bands.now) level.levels y x)) }
 {
     // A depth is at most 4.
     let _ = bands.depth();
@@ -137,9 +143,11 @@ fn synth_lower_samples_of<T: Sampled>(
     requires has_room { FitIn T.value T.none wavelet T.reach bands.now w h }
     requires made { let depth = bands.now.depth in
         GridWithin (lowest depth h * 2 ^ level.levels) (lowest depth w * 2 ^ level.levels) T.reach
-        (synthesis wavelet (lowest depth h) (lowest depth w) (coefficients_in T.value T.none bands.now) level.levels) }
+        (synthesis wavelet (lowest depth h) (lowest depth w)
+        (coefficients_in T.value T.none bands.now) level.levels) }
     requires bits { area.depth ≤ T.depths }
-    requires shown { IsShownArea area (lowest bands.now.depth w * 2 ^ level.levels) (lowest bands.now.depth h * 2 ^ level.levels) samples.old }
+    requires shown { IsShownArea area (lowest bands.now.depth w * 2 ^ level.levels)
+        (lowest bands.now.depth h * 2 ^ level.levels) samples.old }
     ensures same_width { plane.new.w ≡ plane.old.w }
     ensures same_height { height plane.new ≡ height plane.old }
     ensures same_width_scratch { scratch.new.w ≡ scratch.old.w }
@@ -147,7 +155,8 @@ fn synth_lower_samples_of<T: Sampled>(
     ensures count { length samples.new ≡ length samples.old }
     ensures samples { let depth = bands.now.depth in
         AreSamplesOf area.w area.h area.depth samples.new
-        (λ y x. rounded level.shift (synthesis wavelet (lowest depth h) (lowest depth w) (coefficients_in T.value T.none bands.now) level.levels y x)) }
+        (λ y x. rounded level.shift (synthesis wavelet (lowest depth h) (lowest depth w)
+        (coefficients_in T.value T.none bands.now) level.levels y x)) }
 {
     // A plane's width and height are at most 8208.
     let _ = plane.h();

@@ -39,7 +39,8 @@ fn put_sides<T: Analysed>(
     ensures same_height { height scratch.new ≡ height scratch.old }
     ensures row { let grid = grid_of T.value T.none in
         (x : ℕ) → x < 2 * w → grid scratch.new r x
-        ≡ analysis_line wavelet (2 * w) (λ i. doubled wavelet (grid plane.now j i)) (side_place w x) }
+        ≡ analysis_line wavelet (2 * w) (λ i. doubled wavelet (grid plane.now j i))
+        (side_place w x) }
     ensures others { let grid = grid_of T.value T.none in
         (k x : ℕ) → k ≢ r → grid scratch.new k x ≡ grid scratch.old k x }
 {
@@ -69,12 +70,15 @@ fn put_two<T: Analysed>(
     ensures same_height { height scratch.new ≡ height scratch.old }
     ensures odd { let grid = grid_of T.value T.none in
         (x : ℕ) → x < 2 * w → grid scratch.new ((2 * y + 1) % 4) x
-        ≡ analysis_line wavelet (2 * w) (λ i. doubled wavelet (grid plane.now (2 * y + 1) i)) (side_place w x) }
+        ≡ analysis_line wavelet (2 * w) (λ i. doubled wavelet (grid plane.now (2 * y + 1) i))
+        (side_place w x) }
     ensures even { let grid = grid_of T.value T.none in
         y + 1 < h → (x : ℕ) → x < 2 * w → grid scratch.new ((2 * y + 2) % 4) x
-        ≡ analysis_line wavelet (2 * w) (λ i. doubled wavelet (grid plane.now (2 * y + 2) i)) (side_place w x) }
+        ≡ analysis_line wavelet (2 * w) (λ i. doubled wavelet (grid plane.now (2 * y + 2) i))
+        (side_place w x) }
     ensures others { let grid = grid_of T.value T.none in
-        (k x : ℕ) → k ≢ (2 * y + 1) % 4 → k ≢ (2 * y + 2) % 4 → grid scratch.new k x ≡ grid scratch.old k x }
+        (k x : ℕ) → k ≢ (2 * y + 1) % 4 → k ≢ (2 * y + 2) % 4
+        → grid scratch.new k x ≡ grid scratch.old k x }
 {
     put_sides(scratch, (2 * y + 1) % 4, plane, 2 * y + 1, w, wavelet);
     if y + 1 < h {
@@ -95,14 +99,17 @@ fn finish_two<T: Analysed>(scratch: &mut Plane<T>, y: u32, w: u32, h: u32, wavel
     ensures same_height { height scratch.new ≡ height scratch.old }
     ensures odd { let grid = grid_of T.value T.none in
         (x : ℕ) → x < 2 * w → grid scratch.new ((2 * y + 1) % 4) x
-        ≡ step wavelet OddDown (grid scratch.old ((2 * y + 1) % 4) x) (grid scratch.old (2 * y % 4) x)
+        ≡ step wavelet OddDown (grid scratch.old ((2 * y + 1) % 4) x)
+        (grid scratch.old (2 * y % 4) x)
         (grid scratch.old (after (2 * h) (2 * y + 1) % 4) x) }
     ensures even { let grid = grid_of T.value T.none in
         (x : ℕ) → x < 2 * w → grid scratch.new (2 * y % 4) x
-        ≡ step wavelet EvenUp (grid scratch.old (2 * y % 4) x) (grid scratch.new (before (2 * y) % 4) x)
+        ≡ step wavelet EvenUp (grid scratch.old (2 * y % 4) x)
+        (grid scratch.new (before (2 * y) % 4) x)
         (grid scratch.new ((2 * y + 1) % 4) x) }
     ensures others { let grid = grid_of T.value T.none in
-        (k x : ℕ) → k ≢ (2 * y + 1) % 4 → k ≢ 2 * y % 4 → grid scratch.new k x ≡ grid scratch.old k x }
+        (k x : ℕ) → k ≢ (2 * y + 1) % 4 → k ≢ 2 * y % 4
+        → grid scratch.new k x ≡ grid scratch.old k x }
 {
     let (even, odd) = (2 * y % 4, (2 * y + 1) % 4);
     let below = row_after(2 * h, 2 * y + 1) % 4;
@@ -117,7 +124,8 @@ fn copy_from<T: Analysed>(dst: &mut [T], row: &[T], x0: usize, w: usize)
     requires left { x0 ≤ w }
     requires room { w ≤ length dst.old }
     requires inside { x0 + w ≤ length row.now }
-    ensures { (x : ℕ) → x < w → valued T.value T.none dst.new x ≡ valued T.value T.none row.now (x0 + x) }
+    ensures { (x : ℕ) → x < w
+        → valued T.value T.none dst.new x ≡ valued T.value T.none row.now (x0 + x) }
 {
     dst[..w].copy_from_slice(&row[x0..x0 + w]);
 }
@@ -134,7 +142,8 @@ fn put_row<T: Analysed>(band: &mut Plane<T>, y: u32, scratch: &Plane<T>, r: u32,
     ensures same_height { height band.new ≡ height band.old }
     ensures row { let grid = grid_of T.value T.none in
         (x : ℕ) → x < w → grid band.new y x ≡ grid scratch.now r (x0 + x) }
-    ensures others { (j x : ℕ) → j ≢ y → grid_of T.value T.none band.new j x ≡ grid_of T.value T.none band.old j x }
+    ensures others { (j x : ℕ) → j ≢ y
+        → grid_of T.value T.none band.new j x ≡ grid_of T.value T.none band.old j x }
 {
     copy_from(band.row_mut(y), scratch.row(r), x0 as usize, w as usize);
 }
@@ -160,8 +169,10 @@ fn deal_row<T: Analysed>(
     ensures row { let grid = grid_of T.value T.none in
         (x : ℕ) → x < w → grid (band_of bands.new level orient) y x ≡ grid scratch.now r (x0 + x) }
     ensures rows { let grid = grid_of T.value T.none in
-        (j x : ℕ) → j ≢ y → grid (band_of bands.new level orient) j x ≡ grid (band_of bands.old level orient) j x }
-    ensures others { (l o : ℕ) → band_index l o ≢ band_index level orient → band_of bands.new l o ≡ band_of bands.old l o }
+        (j x : ℕ) → j ≢ y
+        → grid (band_of bands.new level orient) j x ≡ grid (band_of bands.old level orient) j x }
+    ensures others { (l o : ℕ) → band_index l o ≢ band_index level orient
+        → band_of bands.new l o ≡ band_of bands.old l o }
 {
     put_row(bands.band_mut(level, orient), y, scratch, r, x0, w);
 }
@@ -191,18 +202,25 @@ fn deal_two<T: Analysed>(
     ensures left { let grid = grid_of T.value T.none in
         (x : ℕ) → x < w → grid plane.new y x ≡ grid scratch.now (2 * y % 4) (0 + x) }
     ensures hl { let grid = grid_of T.value T.none in
-        (x : ℕ) → x < w → grid (band_of bands.new level 1) y x ≡ grid scratch.now (2 * y % 4) (w + x) }
+        (x : ℕ) → x < w
+        → grid (band_of bands.new level 1) y x ≡ grid scratch.now (2 * y % 4) (w + x) }
     ensures lh { let grid = grid_of T.value T.none in
-        (x : ℕ) → x < w → grid (band_of bands.new level 2) y x ≡ grid scratch.now ((2 * y + 1) % 4) (0 + x) }
+        (x : ℕ) → x < w
+        → grid (band_of bands.new level 2) y x ≡ grid scratch.now ((2 * y + 1) % 4) (0 + x) }
     ensures hh { let grid = grid_of T.value T.none in
-        (x : ℕ) → x < w → grid (band_of bands.new level 3) y x ≡ grid scratch.now ((2 * y + 1) % 4) (w + x) }
-    ensures rows { (j x : ℕ) → j ≢ y → grid_of T.value T.none plane.new j x ≡ grid_of T.value T.none plane.old j x }
+        (x : ℕ) → x < w
+        → grid (band_of bands.new level 3) y x ≡ grid scratch.now ((2 * y + 1) % 4) (w + x) }
+    ensures rows { (j x : ℕ) → j ≢ y
+        → grid_of T.value T.none plane.new j x ≡ grid_of T.value T.none plane.old j x }
     ensures hl_rows { let grid = grid_of T.value T.none in
-        (j x : ℕ) → j ≢ y → grid (band_of bands.new level 1) j x ≡ grid (band_of bands.old level 1) j x }
+        (j x : ℕ) → j ≢ y
+        → grid (band_of bands.new level 1) j x ≡ grid (band_of bands.old level 1) j x }
     ensures lh_rows { let grid = grid_of T.value T.none in
-        (j x : ℕ) → j ≢ y → grid (band_of bands.new level 2) j x ≡ grid (band_of bands.old level 2) j x }
+        (j x : ℕ) → j ≢ y
+        → grid (band_of bands.new level 2) j x ≡ grid (band_of bands.old level 2) j x }
     ensures hh_rows { let grid = grid_of T.value T.none in
-        (j x : ℕ) → j ≢ y → grid (band_of bands.new level 3) j x ≡ grid (band_of bands.old level 3) j x }
+        (j x : ℕ) → j ≢ y
+        → grid (band_of bands.new level 3) j x ≡ grid (band_of bands.old level 3) j x }
     ensures others { OtherLevelsStay level bands.old bands.new }
 {
     let (even, odd) = (2 * y % 4, (2 * y + 1) % 4);
@@ -241,9 +259,11 @@ pub(crate) fn roll_back<T: Analysed>(
     ensures same_height_scratch { height scratch.new ≡ height scratch.old }
     ensures same_sizes { SameSizes bands.old bands.new }
     ensures left { let grid = grid_of T.value T.none in
-        SameInside h w (grid plane.new) (every_other 0 0 (analysis_level wavelet (2 * h) (2 * w) (grid plane.old))) }
+        SameInside h w (grid plane.new) (every_other 0 0
+        (analysis_level wavelet (2 * h) (2 * w) (grid plane.old))) }
     ensures dealt { HoldLevel T.value T.none h w
-        (analysis_level wavelet (2 * h) (2 * w) (grid_of T.value T.none plane.old)) level bands.new }
+        (analysis_level wavelet (2 * h) (2 * w) (grid_of T.value T.none plane.old)) level
+        bands.new }
     ensures others { OtherLevelsStay level bands.old bands.new }
 {
     put_sides(scratch, 0, plane, 0, w, wavelet);

@@ -37,7 +37,8 @@ fn sample_row<T: Sampled>(
     requires fits { area.w ≤ 2 * w }
     requires fits_scratch { 2 * w ≤ scratch.old.w }
     requires has_room { let grid = grid_of T.value T.none in
-        LineFits wavelet (2 * w) T.reach (woven (grid scratch.old r) (λ j. grid scratch.old r (w + j))) }
+        LineFits wavelet (2 * w) T.reach
+        (woven (grid scratch.old r) (λ j. grid scratch.old r (w + j))) }
     ensures same_width_scratch { scratch.new.w ≡ scratch.old.w }
     ensures same_height_scratch { height scratch.new ≡ height scratch.old }
     ensures count { length samples.new ≡ length samples.old }
@@ -46,8 +47,10 @@ fn sample_row<T: Sampled>(
         ≡ sample_of area.depth
         (halved wavelet (synthesis_line wavelet (2 * w)
         (woven (grid scratch.old r) (λ j. grid scratch.old r (w + j))) x)) }
-    ensures before { (k : ℕ) → k < y * area.w → slice_index_or samples.new k 0 ≡ slice_index_or samples.old k 0 }
-    ensures behind { (k : ℕ) → y * area.w + area.w ≤ k → slice_index_or samples.new k 0 ≡ slice_index_or samples.old k 0 }
+    ensures before { (k : ℕ) → k < y * area.w
+        → slice_index_or samples.new k 0 ≡ slice_index_or samples.old k 0 }
+    ensures behind { (k : ℕ) → y * area.w + area.w ≤ k
+        → slice_index_or samples.new k 0 ≡ slice_index_or samples.old k 0 }
     ensures others_scratch { let grid = grid_of T.value T.none in
         (j x : ℕ) → j ≢ r → grid scratch.new j x ≡ grid scratch.old j x }
 {
@@ -86,12 +89,14 @@ fn put_even<T: Sampled>(
     requires widths { (w ≤ hl.now.w) × (w ≤ lh.now.w) × (w ≤ hh.now.w) }
     requires heights { (h ≤ height hl.now) × (h ≤ height lh.now) × (h ≤ height hh.now) }
     requires has_room { let grid = grid_of T.value T.none in
-        LevelFits wavelet (2 * h) (2 * w) T.reach (interleaved (grid plane.now) (grid hl.now) (grid lh.now) (grid hh.now)) }
+        LevelFits wavelet (2 * h) (2 * w) T.reach
+        (interleaved (grid plane.now) (grid hl.now) (grid lh.now) (grid hh.now)) }
     ensures same_width { scratch.new.w ≡ scratch.old.w }
     ensures same_height { height scratch.new ≡ height scratch.old }
     ensures row { let grid = grid_of T.value T.none in
         (x : ℕ) → x < 2 * w → grid scratch.new (y % 2) x
-        ≡ beside w (λ i. step wavelet EvenDown (grid plane.now y i) (grid lh.now (y - 1) i) (grid lh.now y i))
+        ≡ beside w (λ i. step wavelet EvenDown (grid plane.now y i) (grid lh.now (y - 1) i)
+        (grid lh.now y i))
         (λ i. step wavelet EvenDown (grid hl.now y i) (grid hh.now (y - 1) i) (grid hh.now y i)) x }
     ensures others { let grid = grid_of T.value T.none in
         (j x : ℕ) → j ≢ y % 2 → grid scratch.new j x ≡ grid scratch.old j x }
@@ -122,7 +127,8 @@ fn put_below<T: Sampled>(
     requires widths { (w ≤ hl.now.w) × (w ≤ lh.now.w) × (w ≤ hh.now.w) }
     requires heights { (h ≤ height hl.now) × (h ≤ height lh.now) × (h ≤ height hh.now) }
     requires has_room { let grid = grid_of T.value T.none in
-        LevelFits wavelet (2 * h) (2 * w) T.reach (interleaved (grid plane.now) (grid hl.now) (grid lh.now) (grid hh.now)) }
+        LevelFits wavelet (2 * h) (2 * w) T.reach
+        (interleaved (grid plane.now) (grid hl.now) (grid lh.now) (grid hh.now)) }
     ensures same_width { scratch.new.w ≡ scratch.old.w }
     ensures same_height { height scratch.new ≡ height scratch.old }
     ensures few { result < 2 }
@@ -130,9 +136,11 @@ fn put_below<T: Sampled>(
     ensures inner { y + 1 < h → result ≡ (y + 1) % 2 }
     ensures row { let grid = grid_of T.value T.none in
         y + 1 < h → (x : ℕ) → x < 2 * w → grid scratch.new ((y + 1) % 2) x
-        ≡ beside w (λ i. step wavelet EvenDown (grid plane.now (y + 1) i) (grid lh.now (y + 1 - 1) i)
+        ≡ beside w (λ i. step wavelet EvenDown (grid plane.now (y + 1) i)
+        (grid lh.now (y + 1 - 1) i)
         (grid lh.now (y + 1) i))
-        (λ i. step wavelet EvenDown (grid hl.now (y + 1) i) (grid hh.now (y + 1 - 1) i) (grid hh.now (y + 1) i)) x }
+        (λ i. step wavelet EvenDown (grid hl.now (y + 1) i) (grid hh.now (y + 1 - 1) i)
+        (grid hh.now (y + 1) i)) x }
     ensures others { let grid = grid_of T.value T.none in
         (j x : ℕ) → j ≢ (y + 1) % 2 → grid scratch.new j x ≡ grid scratch.old j x }
 {
@@ -175,7 +183,8 @@ pub(crate) fn roll_samples<T: Sampled>(
     requires widths { (w ≤ hl.now.w) × (w ≤ lh.now.w) × (w ≤ hh.now.w) }
     requires heights { (h ≤ height hl.now) × (h ≤ height lh.now) × (h ≤ height hh.now) }
     requires has_room { let grid = grid_of T.value T.none in
-        LevelFits wavelet (2 * h) (2 * w) T.reach (interleaved (grid plane.now) (grid hl.now) (grid lh.now) (grid hh.now)) }
+        LevelFits wavelet (2 * h) (2 * w) T.reach
+        (interleaved (grid plane.now) (grid hl.now) (grid lh.now) (grid hh.now)) }
     ensures same_width_scratch { scratch.new.w ≡ scratch.old.w }
     ensures same_height_scratch { height scratch.new ≡ height scratch.old }
     ensures count { length samples.new ≡ length samples.old }

@@ -36,7 +36,8 @@ pub trait Sampled: Lifted {
         requires some { pos 1 ≤ℤ Self.value half }
         requires most { Self.value half ≤ℤ pos (2 ^ (depths - 1)) }
         ensures { Self.value result
-            ≡ int_max (neg_ℤ (Self.value half)) (int_min (Self.value half -ℤ pos 1) (Self.value v)) };
+            ≡ int_max (neg_ℤ (Self.value half))
+            (int_min (Self.value half -ℤ pos 1) (Self.value v)) };
 
     /// The same, counted from the lowest of them.
     fn offset(v: Self, half: Self) -> u16
@@ -180,7 +181,8 @@ fn odd_sample<T: Sampled>(odd: T, a: T, b: T, wavelet: Wavelet, half: T) -> u16
     requires some { pos 1 ≤ℤ T.value half }
     requires most { T.value half ≤ℤ pos (2 ^ (T.depths - 1)) }
     ensures { pos result
-        ≡ clipped_up (T.value half) (halved wavelet (step wavelet OddUp (T.value odd) (T.value a) (T.value b))) }
+        ≡ clipped_up (T.value half) (halved wavelet
+        (step wavelet OddUp (T.value odd) (T.value a) (T.value b))) }
 {
     sample(stepped(wavelet, PairStep::OddUp, odd, a, b), wavelet, half)
 }
@@ -259,7 +261,8 @@ fn weave_samples<T: Sampled>(dst: &mut [u16], even: &[T], odd: &[T], wavelet: Wa
     ensures { let at = valued T.value T.none in
         (i : ℕ) → i < length dst.old → slice_index_or dst.new i 0
         ≡ sample_of depth (halved wavelet
-        (woven (at even.now) (odd_stepped (step wavelet OddUp) (length odd.now) (at even.now) (at odd.now)) i)) }
+        (woven (at even.now) (odd_stepped (step wavelet OddUp) (length odd.now) (at even.now)
+        (at odd.now)) i)) }
 {
     let half = T::half_range(depth);
     let (n, last) = (dst.len(), even.len() - 1);

@@ -33,7 +33,8 @@ fn synth_last<T: Sampled>(
     requires room { HaveRoom bands.now w h plane.now scratch.old }
     requires has_room { FitIn T.value T.none wavelet T.reach bands.now w h }
     requires below { let n = bands.now.depth - 1 in
-        SameInside (lowest bands.now.depth h * 2 ^ n) (lowest bands.now.depth w * 2 ^ n) (grid_of T.value T.none plane.now)
+        SameInside (lowest bands.now.depth h * 2 ^ n) (lowest bands.now.depth w * 2 ^ n)
+        (grid_of T.value T.none plane.now)
         (synthesis wavelet (lowest bands.now.depth h) (lowest bands.now.depth w)
         (coefficients_in T.value T.none bands.now) n) }
     requires bits { area.depth ≤ T.depths }
@@ -41,7 +42,8 @@ fn synth_last<T: Sampled>(
     ensures same_width_scratch { scratch.new.w ≡ scratch.old.w }
     ensures same_height_scratch { height scratch.new ≡ height scratch.old }
     ensures count { length samples.new ≡ length samples.old }
-    ensures samples { AreSamplesOf area.w area.h area.depth samples.new (synthesis_in T.value T.none wavelet bands.now w h) }
+    ensures samples { AreSamplesOf area.w area.h area.depth samples.new
+        (synthesis_in T.value T.none wavelet bands.now w h) }
 {
     // A plane's width and height are at most 8208, a depth at most 4.
     let (_, _, depth) = (scratch.w(), plane.h(), bands.depth());
@@ -76,7 +78,8 @@ fn sample_row_of<T: Sampled>(samples: &mut [u16], area: SampleArea, y: u32, band
     ensures count { length samples.new ≡ length samples.old }
     ensures row { (x : ℕ) → x < area.w → slice_index_or samples.new (y * area.w + x) 0
         ≡ sample_of area.depth (grid_of T.value T.none band.now y x) }
-    ensures before { (k : ℕ) → k < y * area.w → slice_index_or samples.new k 0 ≡ slice_index_or samples.old k 0 }
+    ensures before { (k : ℕ) → k < y * area.w
+        → slice_index_or samples.new k 0 ≡ slice_index_or samples.old k 0 }
 {
     let start = (y * area.w) as usize;
     let end = start + area.w as usize;
@@ -92,7 +95,8 @@ pub(crate) fn sample_lowest<T: Sampled>(samples: &mut [u16], area: SampleArea, b
     requires high { area.h ≤ height band.now }
     requires fits { area.w ≤ band.now.w }
     ensures count { length samples.new ≡ length samples.old }
-    ensures samples { AreSamplesOf area.w area.h area.depth samples.new (grid_of T.value T.none band.now) }
+    ensures samples { AreSamplesOf area.w area.h area.depth samples.new
+        (grid_of T.value T.none band.now) }
 {
     for y in 0..area.h {
         sample_row_of(samples, area, y, band);
@@ -124,7 +128,8 @@ pub fn synth_samples(
     ensures same_width_scratch { scratch.new.w ≡ scratch.old.w }
     ensures same_height_scratch { height scratch.new ≡ height scratch.old }
     ensures count { length samples.new ≡ length samples.old }
-    ensures samples { AreSamplesOf area.w area.h area.depth samples.new (synthesis_of wavelet bands.now w h) }
+    ensures samples { AreSamplesOf area.w area.h area.depth samples.new
+        (synthesis_of wavelet bands.now w h) }
 {
     // A depth is at most 4.
     let _ = bands.depth();
@@ -152,7 +157,8 @@ pub fn synth_samples_narrow(
     ensures same_width_scratch { scratch.new.w ≡ scratch.old.w }
     ensures same_height_scratch { height scratch.new ≡ height scratch.old }
     ensures count { length samples.new ≡ length samples.old }
-    ensures samples { AreSamplesOf area.w area.h area.depth samples.new (synthesis_of wavelet bands.now w h) }
+    ensures samples { AreSamplesOf area.w area.h area.depth samples.new
+        (synthesis_of wavelet bands.now w h) }
 {
     // A depth is at most 4.
     let _ = bands.depth();
@@ -182,7 +188,8 @@ pub fn synth_samples_short(
     ensures same_width_scratch { scratch.new.w ≡ scratch.old.w }
     ensures same_height_scratch { height scratch.new ≡ height scratch.old }
     ensures count { length samples.new ≡ length samples.old }
-    ensures samples { AreSamplesOf area.w area.h area.depth samples.new (synthesis_of wavelet bands.now w h) }
+    ensures samples { AreSamplesOf area.w area.h area.depth samples.new
+        (synthesis_of wavelet bands.now w h) }
 {
     synth_samples_of(wavelet, bands, w, h, plane, scratch, samples, area);
 }
@@ -207,7 +214,8 @@ pub(crate) fn synth_samples_of<T: Sampled>(
     ensures same_width_scratch { scratch.new.w ≡ scratch.old.w }
     ensures same_height_scratch { height scratch.new ≡ height scratch.old }
     ensures count { length samples.new ≡ length samples.old }
-    ensures samples { AreSamplesOf area.w area.h area.depth samples.new (synthesis_in T.value T.none wavelet bands.now w h) }
+    ensures samples { AreSamplesOf area.w area.h area.depth samples.new
+        (synthesis_in T.value T.none wavelet bands.now w h) }
 {
     if bands.depth() == 0 {
         sample_lowest(samples, area, bands.band(0, 0));

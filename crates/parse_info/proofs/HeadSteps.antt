@@ -14,7 +14,7 @@ use Rattle.parse_info.specs.declared.Code.{Code}
 use Rattle.parse_info.specs.declared.ParseInfo.{ParseInfo}
 use Rattle.parse_info.specs.declared.InfoFault.{InfoFault}
 use Rattle.parse_info.specs.Code.{is_supported, code_in}
-use Rattle.parse_info.specs.Head.{head_rows, plain_rows, info_at, answer_of, FieldShort, WrongPrefix, OtherCode}
+use Rattle.parse_info.specs.Head.{head_rows, plain_rows, info_at, head_answer, FieldShort, WrongPrefix, OtherCode}
 
 -- a reader at the first of these bytes
 abbrev pub bytes_at : ℕ → List ℕ → Cursor
@@ -140,8 +140,8 @@ read-head reason_of bad_prefix unsupported code_rules next_rules previous_rules 
 
 -- a head alone
 abbrev pub plain_steps : List ℕ → Result ParseInfo InfoFault
-plain_steps bytes = answer_of bytes (head_steps (λ fault. FieldShort) WrongPrefix OtherCode (λ code. []) (λ code next. []) (λ code next previous. []) 0 bytes)
+plain_steps bytes = head_answer bytes (head_steps (λ fault. FieldShort) WrongPrefix OtherCode (λ code. []) (λ code next. []) (λ code next previous. []) 0 bytes)
 
 pub info_at-steps : (bytes : List ℕ) → IsBytes bytes → info_at bytes ≡ plain_steps bytes
 unfolding info_at plain_rows
-info_at-steps bytes fits = ap (answer_of bytes) (read-head (λ fault. FieldShort) WrongPrefix OtherCode (λ code. []) (λ code next. []) (λ code next previous. []) 0 bytes fits)
+info_at-steps bytes fits = ap (head_answer bytes) (read-head (λ fault. FieldShort) WrongPrefix OtherCode (λ code. []) (λ code next. []) (λ code next previous. []) 0 bytes fits)

@@ -12,7 +12,7 @@ use Rattle.parse_info.specs.declared.ParseInfo.{ParseInfo}
 use Rattle.parse_info.specs.declared.InfoFault.{InfoFault}
 use Rattle.parse_info.specs.declared.InfoFault.TheVariants.{PrefixShort, BadPrefix, CodeShort, UnsupportedCode, NextShort, PreviousShort}
 use Rattle.parse_info.specs.Code.{code_of}
-use Rattle.parse_info.specs.Head.{head_rows, info_at, answer_of, FieldShort, WrongPrefix, OtherCode}
+use Rattle.parse_info.specs.Head.{head_rows, info_at, head_answer, FieldShort, WrongPrefix, OtherCode}
 use Rattle.parse_info.proofs.HeadSteps.{bytes_at, short_at, read-head, info_at-steps}
 
 -- A reader's names for a bad prefix and for a code outside the profile, and its further rules.
@@ -71,7 +71,7 @@ same r place behind false true false byte (Some code) false next false previous 
 alone : (bytes : List ℕ) (no_prefix is_prefix no_code : Bool) (found : Option Code) (no_next no_previous : Bool) → code_of (slice_index (drop 4 bytes) 0) ≡ found
     → (let next = from_be_bytes w32 (take 4 (drop 1 (drop 4 bytes))) in
     let previous = from_be_bytes w32 (take 4 (drop 4 (drop 1 (drop 4 bytes)))) in
-    answer_of bytes (by_tests (record { reason_of = λ fault. FieldShort; bad_prefix = WrongPrefix; unsupported = OtherCode; code_rules = λ code. []; next_rules = λ code next. []; previous_rules = λ code next previous. [] })
+    head_answer bytes (by_tests (record { reason_of = λ fault. FieldShort; bad_prefix = WrongPrefix; unsupported = OtherCode; code_rules = λ code. []; next_rules = λ code next. []; previous_rules = λ code next previous. [] })
     0 (bytes_at (0 + 32 + 8 + 32 + 32) (drop 4 (drop 4 (drop 1 (drop 4 bytes))))) no_prefix is_prefix no_code (slice_index (drop 4 bytes) 0) found no_next next no_previous previous)
     ≡ plain_by_tests no_prefix is_prefix no_code (slice_index (drop 4 bytes) 0) found no_next next no_previous previous)
 alone bytes true is_prefix no_code found no_next no_previous e = refl

@@ -12,7 +12,7 @@ use Rattle.parse_info.specs.declared.Code.{Code}
 use Rattle.parse_info.specs.declared.Code.TheVariants.{SequenceHeader, EndOfSequence, Auxiliary, Padding, LowDelayPicture}
 use Rattle.parse_info.specs.declared.ParseInfo.{ParseInfo}
 use Rattle.parse_info.specs.Code.{code_byte}
-use Rattle.parse_info.specs.Head.{head_rows, plain_rows, info_at, answer_of, head_bytes, FieldShort}
+use Rattle.parse_info.specs.Head.{head_rows, plain_rows, info_at, head_answer, head_bytes, FieldShort}
 
 abbrev prefix : List ℕ
 prefix = 0x42 ∷ 0x42 ∷ 0x43 ∷ 0x44 ∷ []
@@ -60,5 +60,5 @@ head_written info =
 pub read-written_head : (info : ParseInfo) (more : List ℕ) → info.next < 2 ^ 32 → info.previous < 2 ^ 32 → info_at (head_bytes info ++ more) ≡ Ok info
 unfolding info_at
 read-written_head info more n p =
-    ap (λ t. answer_of (head_bytes info ++ more) (read (λ fault. FieldShort) plain_rows (record { place = 0; rest = t }))) (bits_of-append (head_bytes info) more ∙ ap (λ t. t ++ bits_of more) (head_written info))
-    ∙ ap (answer_of (head_bytes info ++ more)) (Pass-read (λ fault. FieldShort) plain_rows (head_fields info) info (bits_of more) (head_pass info.code info.next info.previous n p) (head_kinds info))
+    ap (λ t. head_answer (head_bytes info ++ more) (read (λ fault. FieldShort) plain_rows (record { place = 0; rest = t }))) (bits_of-append (head_bytes info) more ∙ ap (λ t. t ++ bits_of more) (head_written info))
+    ∙ ap (head_answer (head_bytes info ++ more)) (Pass-read (λ fault. FieldShort) plain_rows (head_fields info) info (bits_of more) (head_pass info.code info.next info.previous n p) (head_kinds info))

@@ -45,19 +45,19 @@ short_fault bytes place =
     else PreviousShort code next))
 
 -- the fault of a head's rows
-abbrev pub fault_of : List ℕ → ℕ → HeadReason → InfoFault
-fault_of bytes place FieldShort = short_fault bytes place
-fault_of bytes place WrongPrefix = BadPrefix
-fault_of bytes place (OtherCode code) = UnsupportedCode code
+abbrev pub info_fault : List ℕ → ℕ → HeadReason → InfoFault
+info_fault bytes place FieldShort = short_fault bytes place
+info_fault bytes place WrongPrefix = BadPrefix
+info_fault bytes place (OtherCode code) = UnsupportedCode code
 
 -- a head, or its fault
-abbrev pub answer_of : List ℕ → Result (ParseInfo × Cursor) (Fault HeadReason) → Result ParseInfo InfoFault
-answer_of bytes (Ok read) = Ok read.0
-answer_of bytes (Err fault) = Err (fault_of bytes fault.place fault.reason)
+abbrev pub head_answer : List ℕ → Result (ParseInfo × Cursor) (Fault HeadReason) → Result ParseInfo InfoFault
+head_answer bytes (Ok read) = Ok read.0
+head_answer bytes (Err fault) = Err (info_fault bytes fault.place fault.reason)
 
 -- the head in front of the bytes, or its first fault
 unfoldable pub info_at : List ℕ → Result ParseInfo InfoFault
-info_at bytes = answer_of bytes (read (λ fault. FieldShort) plain_rows (cursor_at bytes 0))
+info_at bytes = head_answer bytes (read (λ fault. FieldShort) plain_rows (cursor_at bytes 0))
 
 -- the bytes end inside the head
 abbrev pub is_short : InfoFault → Bool

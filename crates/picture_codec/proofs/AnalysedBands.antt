@@ -23,7 +23,7 @@ use Rattle.lifting.proofs.GivenBack.{held_bounded}
 use Rattle.transform_params.specs.Params.{Params}
 use Rattle.picture_codec.specs.Samples.{SamplesSeen}
 use Rattle.picture_codec.specs.Encoding.{centred, raster_from, level_bands, bands_from, analysed_bands}
-use Rattle.picture_codec.specs.EncoderInside.{IsWhole, AreWhole, HaveBandSizes, HoldComponent}
+use Rattle.picture_codec.specs.EncoderInside.{AreRowsWhole, AreWhole, HaveBandSizes, HoldAnalysed}
 use Rattle.slice_encoder.proofs.Made.{zero_within}
 use Rattle.picture_codec.proofs.Sizes.{padded_whole}
 
@@ -95,7 +95,7 @@ module _ (depth : ℕ) (size : Size) (c : Coefficients) (b : BandStack) (same : 
 -- ---- the range
 
 -- nothing lies outside a whole plane
-outside_within : (m : ℕ) (p : Raster ℤ) → IsWhole p → ((y x : ℕ) → y < height p → x < p.w → Within m (at p y x)) → (y x : ℕ) → Within m (at p y x)
+outside_within : (m : ℕ) (p : Raster ℤ) → AreRowsWhole p → ((y x : ℕ) → y < height p → x < p.w → Within m (at p y x)) → (y x : ℕ) → Within m (at p y x)
 outside_within m p whole inside y x = elim (cases_lt y (height p)) as (λ _. Within m (at p y x)) [
   | inr below ↦
       let none : row_of p y ≡ [] = get_or_past p.rows y [] (omega arith) in
@@ -221,7 +221,7 @@ sizes_stay s size old new have same = record {
 
 pub holds_component : (p : Params) (size : Size) (d : ℕ) (s : SamplesSeen) (b : BandStack) (plane : Raster ℤ) → p.slicing.depth ≤ 4 → 1 ≤ d → HaveBandSizes p.slicing size b
     → plane.w ≡ padded_length p.slicing.depth size.w → height plane ≡ padded_length p.slicing.depth size.h → HoldAnalysis p.wavelet b plane
-    → SameInside (height plane) plane.w (at plane) (centred d size s) → GridWithin (height plane) plane.w (2 ^ (d - 1)) (at plane) → AreWhole b → HoldComponent p size d s b
+    → SameInside (height plane) plane.w (at plane) (centred d size s) → GridWithin (height plane) plane.w (2 ^ (d - 1)) (at plane) → AreWhole b → HoldAnalysed p size d s b
 holds_component p size d s b plane low some have columns rows held values small whole =
     let depth : b.depth ≡ p.slicing.depth = have.depth in
     let few : b.depth ≤ 4 = omega (arith, depth, low) in

@@ -15,11 +15,11 @@ use Rattle.slice_geometry.specs.declared.PictureShape.{PictureShape}
 use Rattle.slice_geometry.specs.declared.SliceHead.{SliceHead}
 use Rattle.slice_geometry.specs.Slicing.{Slicing, AreSlicesAllowed, slice_count}
 use Rattle.quant_factors.specs.Weights.{Weights}
-use Rattle.slice_encoder.specs.Choice.{fits, IsLeast, slice_bits}
+use Rattle.slice_encoder.specs.Choice.{fits, IsLeastIndex, slice_bits}
 use Rattle.slice_encoder.specs.Chosen.{first_fit, least_index, lists_of_slice, share_of_slice, chosen, written_slice, written_slices}
 use Rattle.slice_encoder.specs.Encoded.{IsEncodedAfter}
 use Rattle.slice_encoder.specs.TrialLaws.{IsIndex}
-use Rattle.slice_encoder.specs.Ready.{coded_picture, AreGiven, AreReady}
+use Rattle.slice_encoder.specs.Ready.{coded_picture, AreGiven, AreReadyToWrite}
 use Rattle.slice_encoder.specs.Trials.{CodedPicture, Lists, AreKept}
 use Rattle.slice_encoder.specs.Tries.{AreTried, KeptHaveSizes, IsNext}
 use Rattle.slice_encoder.proofs.Coarsest.{last_index}
@@ -39,7 +39,7 @@ first_most bytes lists_at zero i = omega arith
 first_most bytes lists_at (suc n) i = either (fits bytes (lists_at i)) i (first_fit bytes lists_at n (i + 1)) (i + suc n) (omega arith) (omega (arith, first_most bytes lists_at n (i + 1)))
 
 -- from a place on at and below which nothing fits, it is the least
-first_is : (bytes : ℕ) (lists_at : ℕ → Lists) (n i index : ℕ) → IsLeast bytes lists_at index → i ≤ index → index ≤ i + n → first_fit bytes lists_at n i ≡ index
+first_is : (bytes : ℕ) (lists_at : ℕ → Lists) (n i index : ℕ) → IsLeastIndex bytes lists_at index → i ≤ index → index ≤ i + n → first_fit bytes lists_at n i ≡ index
 first_is bytes lists_at zero i index least low high = omega arith
 first_is bytes lists_at (suc n) i index least low high = elim (cases_eq i index) as (λ _. first_fit bytes lists_at (suc n) i ≡ index) [
   | inl e ↦
@@ -49,7 +49,7 @@ first_is bytes lists_at (suc n) i index least low high = elim (cases_eq i index)
       ap (λ b. cond b i (first_fit bytes lists_at n (i + 1))) (least.least i (omega arith)) ∙ first_is bytes lists_at n (i + 1) index least (omega arith) (omega arith)
 ]
 
-pub least_is : (bytes : ℕ) (lists_at : ℕ → Lists) (index : ℕ) → IsLeast bytes lists_at index → least_index bytes lists_at ≡ index
+pub least_is : (bytes : ℕ) (lists_at : ℕ → Lists) (index : ℕ) → IsLeastIndex bytes lists_at index → least_index bytes lists_at ≡ index
 least_is bytes lists_at index least = first_is bytes lists_at 127 0 index least (omega arith) (omega (arith, least.most))
 
 -- ---- the indices so far
@@ -143,13 +143,13 @@ module _ (j : CodedPicture) (n : ℕ) (lt : n < slice_count j.slicing) (allowed 
     number = length-chosen j n ∙ sym (place_again n j.slicing.slices_x j.slicing.slices_y inside);
   }
 
-  pub slice_ready : (kept : ThreePlanes) → AreGiven j → KeptHaveSizes j kept → AreKept j (chosen j n) kept → AreReady j column row kept
+  pub slice_ready : (kept : ThreePlanes) → AreGiven j → KeptHaveSizes j kept → AreKept j (chosen j n) kept → AreReadyToWrite j column row kept
   slice_ready kept given sizes values = next_ready j (chosen j n) column row kept given is_next sizes values (chosen_indices j n)
 
   module _ (bytes : List ℕ) (head : SliceHead) (kept : ThreePlanes) (many : length bytes ≡ share_of_slice j n) (fit : (i : ℕ) → get_or bytes i 0 < 256) (e : IsEncodedAfter j (chosen j n) column row bytes head kept) where
     index_is : least_index (share_of_slice j n) (λ i. lists_of_slice j n (chosen j n ++ i ∷ [])) ≡ head.qindex
     index_is = least_is (share_of_slice j n) (λ i. lists_of_slice j n (chosen j n ++ i ∷ [])) head.qindex
-        (subst (λ (m : ℕ). IsLeast m (λ i. lists_of_slice j n (chosen j n ++ i ∷ [])) head.qindex) many e.slice.least)
+        (subst (λ (m : ℕ). IsLeastIndex m (λ i. lists_of_slice j n (chosen j n ++ i ∷ [])) head.qindex) many e.slice.least)
 
     longer : chosen j (suc n) ≡ chosen j n ++ head.qindex ∷ []
     longer = chosen_next j n ∙ ap (λ i. chosen j n ++ i ∷ []) index_is

@@ -16,12 +16,12 @@ use Rattle.lifting.specs.Bands.{coefficients_of, HoldAnalysis}
 use Rattle.lifting.proofs.Levels as levels
 use Rattle.lifting.proofs.Inside.{analysis_same}
 use Rattle.transform_params.specs.Params.{Params}
-use Rattle.transform_params.specs.ParameterFields.{IsLawful}
+use Rattle.transform_params.specs.ParameterFields.{AreLawfulParams}
 use Rattle.slice_encoder.specs.Ready.{AreGiven}
 use Rattle.slice_encoder.specs.TrialLaws.{most_coefficient}
 use Rattle.picture_codec.specs.Samples.{SamplesSeen, PictureSamples, HaveShape}
 use Rattle.picture_codec.specs.Encoding.{centred, raster_from, bands_from, analysed_bands, coded_from}
-use Rattle.picture_codec.specs.EncoderInside.{IsWhole, AreWhole}
+use Rattle.picture_codec.specs.EncoderInside.{AreRowsWhole, AreWhole}
 use Rattle.picture_codec.proofs.Sizes.{padded_whole}
 use Rattle.picture_codec.proofs.AnalysedBands.{raster_at, upper_band, lowest_at, hl_at, lh_at, hh_at, bands_joined, centred_within, each_small}
 
@@ -30,7 +30,7 @@ use Rattle.picture_codec.proofs.AnalysedBands.{raster_at, upper_band, lowest_at,
 raster_height : (w h : ℕ) (g : Grid) → height (raster_from w h g) ≡ h
 raster_height w h g = length-map-range_with_len (λ y. map (g y) (range_with_len 0 w)) 0 h
 
-raster_whole : (w h : ℕ) (g : Grid) → IsWhole (raster_from w h g)
+raster_whole : (w h : ℕ) (g : Grid) → AreRowsWhole (raster_from w h g)
 raster_whole w h g y below =
     ap length (get_or-map-range_with_len (λ j. map (g j) (range_with_len 0 w)) 0 h y y [] (omega (arith, below, raster_height w h g)) (omega arith))
     ∙ length-map-range_with_len (g y) 0 w
@@ -115,7 +115,7 @@ module _ (wavelet : Wavelet) (depth : ℕ) (size : Size) (d : ℕ) (s : SamplesS
   whole : AreWhole bands
   whole level orient exists =
       let t = is_table depth size found level orient exists in
-      subst (λ (r : Raster ℤ). IsWhole r) (sym t.same) (raster_whole (band_size depth level size).w (band_size depth level size).h t.grid)
+      subst (λ (r : Raster ℤ). AreRowsWhole r) (sym t.same) (raster_whole (band_size depth level size).w (band_size depth level size).h t.grid)
 
   inside : (y x : ℕ) → y < height plane → x < padded_length depth size.w → at plane y x ≡ centred d size s y x
   inside y x ly lx = raster_at (padded_length depth size.w) (padded_length depth size.h) (centred d size s) y x (omega (arith, ly, tall)) lx
@@ -131,7 +131,7 @@ module _ (wavelet : Wavelet) (depth : ℕ) (size : Size) (d : ℕ) (s : SamplesS
 
 -- ---- a picture
 
-pub coded_is_given : (shape : PictureShape) (p : Params) (s : PictureSamples) → IsLawful p → HaveShape shape s → AreGiven (coded_from (frame_of shape) p s)
+pub coded_is_given : (shape : PictureShape) (p : Params) (s : PictureSamples) → AreLawfulParams p → HaveShape shape s → AreGiven (coded_from (frame_of shape) p s)
 coded_is_given shape p s f have =
     let low = f.allowed.depth in
     let luma_bits = shape.luma_depth_fits in

@@ -5,7 +5,7 @@ use Rattle.std.proofs.Math.Seq.{take-suc, take-length}
 use Rattle.std.proofs.lemmas.List.{take-append-le, take-take, get_or-take}
 use Rattle.slice_geometry.specs.Frames.{frame_of}
 use Rattle.slice_geometry.specs.Slicing.{slice_count}
-use Rattle.slice_encoder.specs.Choice.{fits, IsLeast}
+use Rattle.slice_encoder.specs.Choice.{fits, IsLeastIndex}
 use Rattle.slice_encoder.specs.Chosen.{least_index, lists_of_slice, share_of_slice, chosen}
 use Rattle.slice_encoder.specs.TrialLaws.{IsSteepOk}
 use Rattle.slice_encoder.specs.Trials.{CodedPicture, Lists}
@@ -20,10 +20,10 @@ use Rattle.picture_codec.proofs.CodedBands.{coded_is_given}
 use Rattle.picture_codec.proofs.Steps.{number_is}
 
 -- where the coarsest index fits, the first that fits is the least
-first-least : (bytes : ℕ) (lists_at : ℕ → Lists) → fits bytes (lists_at 127) ≡ true → IsLeast bytes lists_at (least_index bytes lists_at)
+first-least : (bytes : ℕ) (lists_at : ℕ → Lists) → fits bytes (lists_at 127) ≡ true → IsLeastIndex bytes lists_at (least_index bytes lists_at)
 first-least bytes lists_at enough =
     let some = (one_least bytes lists_at).some enough in
-    subst (λ (i : ℕ). IsLeast bytes lists_at i) (sym (least_is bytes lists_at some.0 some.1)) some.1
+    subst (λ (i : ℕ). IsLeastIndex bytes lists_at i) (sym (least_is bytes lists_at some.0 some.1)) some.1
 
 module _ (j : CodedPicture) (given : AreGiven j) (steep : IsSteepOk j.slicing.depth (max j.frame.luma_depth j.frame.colour_depth) j.matrix) where
   abbrev count : ℕ
@@ -33,7 +33,7 @@ module _ (j : CodedPicture) (given : AreGiven j) (steep : IsSteepOk j.slicing.de
   abbrev lists_behind : ℕ → List ℕ → ℕ → Lists
   lists_behind n indices i = lists_of_slice j n (indices ++ i ∷ [])
 
-  next-least : (n : ℕ) → n < count → IsLeast (share_of_slice j n) (lists_behind n (chosen j n)) (least_index (share_of_slice j n) (lists_behind n (chosen j n)))
+  next-least : (n : ℕ) → n < count → IsLeastIndex (share_of_slice j n) (lists_behind n (chosen j n)) (least_index (share_of_slice j n) (lists_behind n (chosen j n)))
   next-least n lt = first-least (share_of_slice j n) (lists_behind n (chosen j n))
       (coarsest j (chosen j n) (share_of_slice j n) (n % j.slicing.slices_x) (n / j.slicing.slices_x)
       (record { luma_bits = given.luma_bits; colour_bits = given.colour_bits; luma = given.luma.small; c1 = given.c1.small; c2 = given.c2.small })
@@ -58,8 +58,8 @@ module _ (j : CodedPicture) (given : AreGiven j) (steep : IsSteepOk j.slicing.de
   found = record {
     count = length-chosen j count;
     each = λ n lt.
-        subst (λ (l : List ℕ). IsLeast (share_of_slice j n) (lists_behind n l) (get_or (chosen j count) n 0)) (sym (before-is n lt))
-        (subst (λ (i : ℕ). IsLeast (share_of_slice j n) (lists_behind n (chosen j n)) i) (sym (own-is n lt)) (next-least n lt));
+        subst (λ (l : List ℕ). IsLeastIndex (share_of_slice j n) (lists_behind n l) (get_or (chosen j count) n 0)) (sym (before-is n lt))
+        (subst (λ (i : ℕ). IsLeastIndex (share_of_slice j n) (lists_behind n (chosen j n)) i) (sym (own-is n lt)) (next-least n lt));
   }
 
   module _ (indices : List ℕ) (least : AreLeast j indices) where

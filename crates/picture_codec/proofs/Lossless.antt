@@ -17,7 +17,7 @@ use Rattle.lifting.specs.Ranges.{SameBands}
 use Rattle.lifting.proofs.Inside.{synthesis_same}
 use Rattle.lifting.proofs.Undone.{synthesis_undoes}
 use Rattle.transform_params.specs.Params.{Params}
-use Rattle.transform_params.specs.ParameterFields.{IsLawful}
+use Rattle.transform_params.specs.ParameterFields.{AreLawfulParams}
 use Rattle.slice_encoder.specs.Chosen.{chosen, written_slices}
 use Rattle.slice_encoder.specs.Trials.{CodedPicture}
 use Rattle.picture_codec.specs.Pictures.{size_of, coefficients, sample_of, sample}
@@ -91,7 +91,7 @@ module _ (p : Params) (size : Size) (d : ℕ) (s : SamplesSeen) (low : p.slicing
 
 -- ---- a picture
 
-module _ (shape : PictureShape) (p : Params) (s : PictureSamples) (f : IsLawful p) (steep : IsSteepFor shape p) (have : HaveShape shape s) (none : IsLossless shape p s) where
+module _ (shape : PictureShape) (p : Params) (s : PictureSamples) (f : AreLawfulParams p) (steep : IsSteepFor shape p) (have : HaveShape shape s) (none : IsLossless shape p s) where
   abbrev j : CodedPicture
   j = coded_from (frame_of shape) p s
 

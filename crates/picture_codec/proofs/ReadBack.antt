@@ -14,7 +14,7 @@ use Rattle.bounded_blocks.proofs.OneText.{filled-spells}
 use Rattle.bounded_blocks.proofs.Needs.{need-most}
 use Rattle.slice_geometry.specs.Slicing.{length_bits}
 use Rattle.slice_decoder.specs.Slice.{Slice}
-use Rattle.slice_encoder.specs.TrialLaws.{AreSmall}
+use Rattle.slice_encoder.specs.TrialLaws.{AreSmallValues}
 use Rattle.picture_codec.specs.Written.{WrittenIsRead}
 use Rattle.slice_encoder.proofs.SliceBits.{filled_beyond, fit_from, two_least}
 
@@ -25,7 +25,7 @@ front_of n a b e = ap (λ (k : ℕ). take k (a ++ b)) (sym e) ∙ take-append_se
 back_of : (n : ℕ) (a b : List Bool) → length a ≡ n → drop n (a ++ b) ≡ b
 back_of n a b e = ap (λ (k : ℕ). drop k (a ++ b)) (sym e) ∙ drop-append_seam a b
 
-block_values : (vs : List ℤ) (n : ℕ) → AreSmall vs → need vs ≤ n → values (length vs) (filled n (codes_of vs)) ≡ vs
+block_values : (vs : List ℤ) (n : ℕ) → AreSmallValues vs → need vs ≤ n → values (length vs) (filled n (codes_of vs)) ≡ vs
 block_values vs n small le = Spells-values vs (filled n (codes_of vs)) (filled-spells vs n small le)
 
 -- a slice from the bits of its parts

@@ -20,7 +20,7 @@ use Rattle.slice_decoder.specs.Slice.{Slice, slice_of, slice_at, quantisers, deq
 use Rattle.slice_encoder.specs.Order.{Place, places_of}
 use Rattle.slice_encoder.specs.Trials as trials
 use Rattle.slice_encoder.specs.Trials.{CodedComponent, CodedPicture, luma_of, c1_of, c2_of, Lists, lists, restored_after, value_of}
-use Rattle.slice_encoder.specs.TrialLaws.{IsIndex, AreSmall, AreCoefficients, most_coefficient}
+use Rattle.slice_encoder.specs.TrialLaws.{IsIndex, AreSmallValues, AreCoefficients, most_coefficient}
 use Rattle.slice_encoder.specs.Ready.{AreGiven}
 use Rattle.slice_encoder.proofs.Near.{stays_near, within_abs, index_most}
 use Rattle.slice_encoder.proofs.Coarsest.{places_exist}
@@ -28,7 +28,7 @@ use Rattle.slice_encoder.proofs.PlaceByPlace.{forward_small}
 use Rattle.slice_encoder.proofs.Tried.{coefficient_most}
 use Rattle.slice_encoder.proofs.WholeTrial.{length_luma, length_colour, colour_small}
 use Rattle.picture_codec.specs.Pictures.{slice_value, coefficient}
-use Rattle.picture_codec.specs.Written.{IsWritten, AreWritten, params_of, WrittenIsRestored}
+use Rattle.picture_codec.specs.Written.{IsWritten, AreWritten, coded_params, WrittenIsRestored}
 use Rattle.picture_codec.proofs.ReadBack.{written_is_read}
 use Rattle.picture_codec.proofs.WrittenValues.{place, value_once, value_first, value_second}
 use Rattle.picture_codec.proofs.WrittenBands.{AreDequantised, higher_is, higher_lossless, lowest_is, lowest_lossless}
@@ -87,12 +87,12 @@ module _ (j : CodedPicture) (indices : List ℕ) (slices : List (List ℕ)) (all
     pub front_all : All IsIndex front
     front_all = All-take IsIndex (n + 1) indices all
 
-    luma_small : AreSmall l.luma
+    luma_small : AreSmallValues l.luma
     luma_small =
         All-map (λ v. unsigned_abs v ≤ 2 ^ 36) (value_of (luma_of j) (restored_after (luma_of j) front) index) (places_of j.slicing j.frame.luma sx sy j.slicing.depth)
         (all_small (luma_of j) j.frame.luma_depth front index most front_all allowed.depth given.luma_bits.most given.luma.small sx sy)
 
-    both_small : AreSmall l.colour
+    both_small : AreSmallValues l.colour
     both_small =
         colour_small (c1_of j) (c2_of j) (restored_after (c1_of j) front) (restored_after (c2_of j) front) index sx sy
         (all_small (c1_of j) j.frame.colour_depth front index most front_all allowed.depth given.colour_bits.most given.c1.small sx sy)
@@ -110,21 +110,21 @@ module _ (j : CodedPicture) (indices : List ℕ) (slices : List (List ℕ)) (all
 
     module _ (wavelet : Wavelet) (level orient y x : ℕ) (exists : BandExists j.slicing.depth level orient) where
       luma_is : IsInRect (level_rect j.slicing j.frame.luma sx sy level) y x
-          → slice_value j.frame (params_of wavelet j) Luma sx sy bytes level orient y x
+          → slice_value j.frame (coded_params wavelet j) Luma sx sy bytes level orient y x
           ≡ inverse_of (value_of (luma_of j) (restored_after (luma_of j) front) index (place level orient y x)) (band_quantiser j.matrix index level orient)
       luma_is inside =
           ap (λ (s : Slice). get_or (dequantised s.luma (quantisers 1 j.slicing j.frame.luma sx sy j.matrix s.qindex j.slicing.depth)) (place_number j.slicing j.frame.luma sx sy level orient y x) (pos 0)) slice_is
           ∙ value_once j.slicing j.frame.luma sx sy level orient y x exists inside j.matrix index (value_of (luma_of j) (restored_after (luma_of j) front) index)
 
       c1_is : IsInRect (level_rect j.slicing j.frame.colour sx sy level) y x
-          → slice_value j.frame (params_of wavelet j) C1 sx sy bytes level orient y x
+          → slice_value j.frame (coded_params wavelet j) C1 sx sy bytes level orient y x
           ≡ inverse_of (value_of (c1_of j) (restored_after (c1_of j) front) index (place level orient y x)) (band_quantiser j.matrix index level orient)
       c1_is inside =
           ap (λ (s : Slice). get_or (dequantised s.colour (quantisers 2 j.slicing j.frame.colour sx sy j.matrix s.qindex j.slicing.depth)) (2 * place_number j.slicing j.frame.colour sx sy level orient y x) (pos 0)) slice_is
           ∙ value_first j.slicing j.frame.colour sx sy level orient y x exists inside j.matrix index (value_of (c1_of j) (restored_after (c1_of j) front) index) (value_of (c2_of j) (restored_after (c2_of j) front) index)
 
       c2_is : IsInRect (level_rect j.slicing j.frame.colour sx sy level) y x
-          → slice_value j.frame (params_of wavelet j) C2 sx sy bytes level orient y x
+          → slice_value j.frame (coded_params wavelet j) C2 sx sy bytes level orient y x
           ≡ inverse_of (value_of (c2_of j) (restored_after (c2_of j) front) index (place level orient y x)) (band_quantiser j.matrix index level orient)
       c2_is inside =
           ap (λ (s : Slice). get_or (dequantised s.colour (quantisers 2 j.slicing j.frame.colour sx sy j.matrix s.qindex j.slicing.depth)) (2 * place_number j.slicing j.frame.colour sx sy level orient y x + 1) (pos 0)) slice_is
@@ -133,19 +133,19 @@ module _ (j : CodedPicture) (indices : List ℕ) (slices : List (List ℕ)) (all
   -- ---- all slices
 
   module _ (wavelet : Wavelet) where
-    luma_values : AreDequantised (luma_of j) indices (coefficient j.frame (params_of wavelet j) slices Luma)
+    luma_values : AreDequantised (luma_of j) indices (coefficient j.frame (coded_params wavelet j) slices Luma)
     unfolding coefficient
     luma_values level orient y x exists hy hx =
         let place = held j.slicing (band_size j.slicing.depth level j.frame.luma) y x allowed.slices hx hy in
         luma_is _ _ place.across place.down wavelet level orient y x exists place.inside
 
-    c1_values : AreDequantised (c1_of j) indices (coefficient j.frame (params_of wavelet j) slices C1)
+    c1_values : AreDequantised (c1_of j) indices (coefficient j.frame (coded_params wavelet j) slices C1)
     unfolding coefficient
     c1_values level orient y x exists hy hx =
         let place = held j.slicing (band_size j.slicing.depth level j.frame.colour) y x allowed.slices hx hy in
         c1_is _ _ place.across place.down wavelet level orient y x exists place.inside
 
-    c2_values : AreDequantised (c2_of j) indices (coefficient j.frame (params_of wavelet j) slices C2)
+    c2_values : AreDequantised (c2_of j) indices (coefficient j.frame (coded_params wavelet j) slices C2)
     unfolding coefficient
     c2_values level orient y x exists hy hx =
         let place = held j.slicing (band_size j.slicing.depth level j.frame.colour) y x allowed.slices hx hy in
@@ -153,7 +153,7 @@ module _ (j : CodedPicture) (indices : List ℕ) (slices : List (List ℕ)) (all
 
 pub written_is_restored : WrittenIsRestored
 written_is_restored j indices slices wavelet Luma allowed given all written =
-    let values = coefficient j.frame (params_of wavelet j) slices Luma in
+    let values = coefficient j.frame (coded_params wavelet j) slices Luma in
     let are = luma_values j indices slices allowed given all written wavelet in
     record {
       lowest = lowest_is (luma_of j) indices values are;
@@ -162,7 +162,7 @@ written_is_restored j indices slices wavelet Luma allowed given all written =
       others_lossless = higher_lossless (luma_of j) indices values are;
     }
 written_is_restored j indices slices wavelet C1 allowed given all written =
-    let values = coefficient j.frame (params_of wavelet j) slices C1 in
+    let values = coefficient j.frame (coded_params wavelet j) slices C1 in
     let are = c1_values j indices slices allowed given all written wavelet in
     record {
       lowest = lowest_is (c1_of j) indices values are;
@@ -171,7 +171,7 @@ written_is_restored j indices slices wavelet C1 allowed given all written =
       others_lossless = higher_lossless (c1_of j) indices values are;
     }
 written_is_restored j indices slices wavelet C2 allowed given all written =
-    let values = coefficient j.frame (params_of wavelet j) slices C2 in
+    let values = coefficient j.frame (coded_params wavelet j) slices C2 in
     let are = c2_values j indices slices allowed given all written wavelet in
     record {
       lowest = lowest_is (c2_of j) indices values are;

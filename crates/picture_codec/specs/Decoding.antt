@@ -183,7 +183,7 @@ pub record IsSliceRefused (bytes : List ℕ) (fault : SliceFault) (old new : Pic
   pub others : AllKeepOthers old.params.slicing old.shape (column_of old) (row_of_slices old) old.bands new.bands
 
 -- what a decoder keeps: the room for synthesis, and bands that the slices so far were taken into
-pub record IsSound (s : Slicing) (shape : PictureShape) (next : ℕ) (bands : Trio) (rooms : SynthesisRooms) : Type 0 where
+pub record IsDecoderSound (s : Slicing) (shape : PictureShape) (next : ℕ) (bands : Trio) (rooms : SynthesisRooms) : Type 0 where
   pub taken : AllTaken s shape next bands
   pub luma : HasSynthesisRoom s shape.luma rooms.luma
   pub colour : HasSynthesisRoom s shape.colour rooms.colour

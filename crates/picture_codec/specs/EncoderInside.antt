@@ -16,11 +16,11 @@ use Rattle.picture_codec.specs.Decoding.{ArePadded}
 use Rattle.picture_codec.specs.Encoding.{analysed_bands}
 
 -- each row is as long as the plane is wide
-abbrev pub IsWhole : {X : Type 0} → Raster X → Type 0
-IsWhole p = (y : ℕ) → y < height p → length (row_of p y) ≡ p.w
+abbrev pub AreRowsWhole : {X : Type 0} → Raster X → Type 0
+AreRowsWhole p = (y : ℕ) → y < height p → length (row_of p y) ≡ p.w
 
 abbrev pub AreWhole : BandStack → Type 0
-AreWhole b = (level orient : ℕ) → BandExists b.depth level orient → IsWhole (band_of b level orient)
+AreWhole b = (level orient : ℕ) → BandExists b.depth level orient → AreRowsWhole (band_of b level orient)
 
 -- the bands have the sizes of a component's
 pub record HaveBandSizes (s : Slicing) (size : Size) (b : BandStack) : Type 0 where
@@ -44,7 +44,7 @@ pub record IsReadyToEncode (s : Slicing) (shape : PictureShape) (bands : NarrowT
   pub colour_room : ArePadded s shape.colour colour_plane colour_scratch
 
 -- The bands hold the analysis of a component's samples of d bits, at each place of each band.
-pub record HoldComponent (p : Params) (size : Size) (d : ℕ) (s : SamplesSeen) (b : BandStack) : Type 0 where
+pub record HoldAnalysed (p : Params) (size : Size) (d : ℕ) (s : SamplesSeen) (b : BandStack) : Type 0 where
   pub sizes : HaveBandSizes p.slicing size b
   pub values : (level orient y x : ℕ) → BandExists p.slicing.depth level orient
       → y < (band_size p.slicing.depth level size).h → x < (band_size p.slicing.depth level size).w

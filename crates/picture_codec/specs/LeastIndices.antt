@@ -3,12 +3,12 @@ use Rattle.std.specs.Prelude.{◌≡◌, ℕ, ◌<◌, List, [], ◌∷◌, ◌+
 use Rattle.slice_geometry.specs.declared.PictureShape.{PictureShape}
 use Rattle.slice_geometry.specs.Frames.{frame_of}
 use Rattle.slice_geometry.specs.Slicing.{slice_count}
-use Rattle.slice_encoder.specs.Choice.{IsLeast}
+use Rattle.slice_encoder.specs.Choice.{IsLeastIndex}
 use Rattle.slice_encoder.specs.Chosen.{chosen, lists_of_slice, share_of_slice}
 use Rattle.slice_encoder.specs.Trials.{CodedPicture}
 use Rattle.slice_encoder.specs.Ready.{AreGiven}
 use Rattle.transform_params.specs.Params.{Params}
-use Rattle.transform_params.specs.ParameterFields.{IsLawful}
+use Rattle.transform_params.specs.ParameterFields.{AreLawfulParams}
 use Rattle.picture_codec.specs.Samples.{PictureSamples, HaveShape}
 use Rattle.picture_codec.specs.Encoding.{coded_from, IsSteepFor}
 
@@ -16,7 +16,7 @@ use Rattle.picture_codec.specs.Encoding.{coded_from, IsSteepFor}
 pub record AreLeast (j : CodedPicture) (indices : List ℕ) : Type 0 where
   pub count : length indices ≡ slice_count j.slicing
   pub each : (n : ℕ) → n < slice_count j.slicing
-      → IsLeast (share_of_slice j n) (λ i. lists_of_slice j n (take n indices ++ i ∷ [])) (slice_index indices n)
+      → IsLeastIndex (share_of_slice j n) (λ i. lists_of_slice j n (take n indices ++ i ∷ [])) (slice_index indices n)
 
 -- the indices that a picture's slices take are so, and no others are
 pub record OneChoice (j : CodedPicture) : Type 0 where
@@ -24,10 +24,10 @@ pub record OneChoice (j : CodedPicture) : Type 0 where
   pub only : (indices : List ℕ) → AreLeast j indices → indices ≡ chosen j (slice_count j.slicing)
 
 abbrev pub EachHasOneChoice : Type 0
-EachHasOneChoice = (shape : PictureShape) (p : Params) (s : PictureSamples) → IsLawful p → IsSteepFor shape p
+EachHasOneChoice = (shape : PictureShape) (p : Params) (s : PictureSamples) → AreLawfulParams p → IsSteepFor shape p
     → HaveShape shape s → OneChoice (coded_from (frame_of shape) p s)
 
 -- the coefficients of a picture are those that slices can be written of
 abbrev pub EachIsGiven : Type 0
-EachIsGiven = (shape : PictureShape) (p : Params) (s : PictureSamples) → IsLawful p → HaveShape shape s
+EachIsGiven = (shape : PictureShape) (p : Params) (s : PictureSamples) → AreLawfulParams p → HaveShape shape s
     → AreGiven (coded_from (frame_of shape) p s)

@@ -16,7 +16,7 @@ use Rattle.slice_decoder.specs.Slice.{slice_of}
 use Rattle.slice_encoder.specs.Trials as trials
 use Rattle.slice_encoder.specs.Trials.{CodedComponent, CodedPicture, luma_of, c1_of, c2_of, Lists, last_lists, restored_after}
 use Rattle.slice_encoder.specs.Choice.{fits, slice_bits}
-use Rattle.slice_encoder.specs.TrialLaws.{IsIndex, AreSmall}
+use Rattle.slice_encoder.specs.TrialLaws.{IsIndex, AreSmallValues}
 use Rattle.slice_encoder.specs.Ready.{AreGiven}
 use Rattle.transform_params.specs.Params.{Params}
 use Rattle.picture_codec.specs.Pictures.{size_of, coefficient}
@@ -26,8 +26,8 @@ use Rattle.picture_codec.specs.Pictures.{size_of, coefficient}
 -- The reader of slices gives back what was written: the index, the need of the luma list as the length of its block, and
 -- the two lists.
 abbrev pub WrittenIsRead : Type 0
-WrittenIsRead = (bytes : List ℕ) (index n : ℕ) (l : Lists) → 1 ≤ length bytes → index ≤ 127 → AreSmall l.luma
-    → AreSmall l.colour → length l.colour ≡ 2 * n
+WrittenIsRead = (bytes : List ℕ) (index n : ℕ) (l : Lists) → 1 ≤ length bytes → index ≤ 127 → AreSmallValues l.luma
+    → AreSmallValues l.colour → length l.colour ≡ 2 * n
     → fits (length bytes) l ≡ true → bits_of bytes ≡ slice_bits (length bytes) index l
     → slice_of bytes (length l.luma) n ≡ record {
       qindex = index;
@@ -51,8 +51,8 @@ AreWritten j indices slices = (sx sy : ℕ) → sx < j.slicing.slices_x → sy <
     → (let n = slice_number j.slicing sx sy in
     IsWritten (slice_index_or slices n []) (slice_index indices n) (last_lists j (take (n + 1) indices) sx sy))
 
-abbrev pub params_of : Wavelet → CodedPicture → Params
-params_of wavelet j = record { wavelet = wavelet; slicing = j.slicing; matrix = j.matrix }
+abbrev pub coded_params : Wavelet → CodedPicture → Params
+coded_params wavelet j = record { wavelet = wavelet; slicing = j.slicing; matrix = j.matrix }
 
 abbrev pub component_of : CodedPicture → Component → CodedComponent
 component_of j Luma = luma_of j
@@ -72,20 +72,20 @@ pub record RestoresWhatWasWritten (j : CodedPicture) (indices : List ℕ) (slice
     (c : Component) : Type 0 where
   pub lowest : (y x : ℕ) → y < (band_size j.slicing.depth 0 (size_of j.frame c)).h
       → x < (band_size j.slicing.depth 0 (size_of j.frame c)).w
-      → restored (coefficient j.frame (params_of wavelet j) slices c 0 0) y x ≡ restored_after (component_of j c) indices y x
+      → restored (coefficient j.frame (coded_params wavelet j) slices c 0 0) y x ≡ restored_after (component_of j c) indices y x
   pub others : (level orient y x : ℕ) → BandExists j.slicing.depth level orient → 1 ≤ level
       → y < (band_size j.slicing.depth level (size_of j.frame c)).h → x < (band_size j.slicing.depth level (size_of j.frame c)).w
       → (let q = quantiser_at j indices c level orient y x in
-      coefficient j.frame (params_of wavelet j) slices c level orient y x
+      coefficient j.frame (coded_params wavelet j) slices c level orient y x
       ≡ inverse_of (forward_of (trials.coefficient (component_of j c) level orient y x) q) q)
   pub lowest_lossless : (y x : ℕ)
       → y < (band_size j.slicing.depth 0 (size_of j.frame c)).h → x < (band_size j.slicing.depth 0 (size_of j.frame c)).w
       → quantiser_at j indices c 0 0 y x ≡ 0
-      → restored (coefficient j.frame (params_of wavelet j) slices c 0 0) y x ≡ trials.coefficient (component_of j c) 0 0 y x
+      → restored (coefficient j.frame (coded_params wavelet j) slices c 0 0) y x ≡ trials.coefficient (component_of j c) 0 0 y x
   pub others_lossless : (level orient y x : ℕ) → BandExists j.slicing.depth level orient → 1 ≤ level
       → y < (band_size j.slicing.depth level (size_of j.frame c)).h → x < (band_size j.slicing.depth level (size_of j.frame c)).w
       → quantiser_at j indices c level orient y x ≡ 0
-      → coefficient j.frame (params_of wavelet j) slices c level orient y x
+      → coefficient j.frame (coded_params wavelet j) slices c level orient y x
       ≡ trials.coefficient (component_of j c) level orient y x
 
 abbrev pub WrittenIsRestored : Type 0

@@ -25,7 +25,8 @@ fn put_row(row: &mut [i32], samples: &[u16], half: i32)
     requires some { pos 1 ≤ℤ half }
     requires most { half ≤ℤ pos 32768 }
     ensures same_length { length row.new ≡ length row.old }
-    ensures row { (x : ℕ) → x < length samples.now → slice_index_or row.new x (pos 0) ≡ pos (slice_index_or samples.now x 0) -ℤ half }
+    ensures row { (x : ℕ) → x < length samples.now
+        → slice_index_or row.new x (pos 0) ≡ pos (slice_index_or samples.now x 0) -ℤ half }
 {
     for x in 0..samples.len() {
         row[x] = i32::from(samples[x]) - half;
@@ -36,7 +37,8 @@ fn put_row(row: &mut [i32], samples: &[u16], half: i32)
 fn fill_right(row: &mut [i32], w: usize)
     requires some { 1 ≤ w }
     requires inside { w ≤ length row.old }
-    ensures { (x : ℕ) → x < length row.old → slice_index_or row.new x (pos 0) ≡ slice_index_or row.old (min x (w - 1)) (pos 0) }
+    ensures { (x : ℕ) → x < length row.old
+        → slice_index_or row.new x (pos 0) ≡ slice_index_or row.old (min x (w - 1)) (pos 0) }
 {
     let last = row[w - 1];
     for x in w..row.len() {
@@ -51,7 +53,8 @@ fn fill_columns(plane: &mut NarrowPlane, w: u32, h: u32)
     requires h_fits { h ≤ height plane.old }
     ensures same_width { plane.new.w ≡ plane.old.w }
     ensures same_height { height plane.new ≡ height plane.old }
-    ensures filled { (y x : ℕ) → y < h → x < plane.old.w → at plane.new y x ≡ at plane.old y (min x (w - 1)) }
+    ensures filled { (y x : ℕ) → y < h → x < plane.old.w
+        → at plane.new y x ≡ at plane.old y (min x (w - 1)) }
 {
     for y in 0..h {
         fill_right(plane.row_mut(y), w as usize);
@@ -64,7 +67,8 @@ fn fill_rows(plane: &mut NarrowPlane, h: u32)
     requires h_fits { h ≤ height plane.old }
     ensures same_width { plane.new.w ≡ plane.old.w }
     ensures same_height { height plane.new ≡ height plane.old }
-    ensures filled { (y : ℕ) → y < height plane.old → row_of plane.new y ≡ row_of plane.old (min y (h - 1)) }
+    ensures filled { (y : ℕ) → y < height plane.old
+        → row_of plane.new y ≡ row_of plane.old (min y (h - 1)) }
 {
     for y in h..plane.h() {
         let Three { dst, a, .. } = plane.rows_three(y, h - 1, h - 1);
@@ -93,7 +97,9 @@ pub(crate) fn centre(samples: &[u16], size: Size, depth: u32, plane: &mut Narrow
     requires down { size.h ≤ height plane.old }
     ensures same_width { plane.new.w ≡ plane.old.w }
     ensures same_height { height plane.new ≡ height plane.old }
-    ensures values { (y x : ℕ) → y < height plane.new → x < plane.new.w → at plane.new y x ≡ centred depth size (record { w = size.w; h = size.h; cells = samples.now }) y x }
+    ensures values { (y x : ℕ) → y < height plane.new → x < plane.new.w
+        → at plane.new y x
+        ≡ centred depth size (record { w = size.w; h = size.h; cells = samples.now }) y x }
 {
     let half = half_range(depth);
     for y in 0..size.h {

@@ -37,10 +37,13 @@ fn show_in_64_bits(
     c: Component,
     picture: &mut Picture,
 )
-    requires taken { AreTaken params.now.layout (pictures.size_of (frame_of picture.old.shape) c) (slice_count params.now.layout) bands.now }
-    requires room { HasLateRoom params.now.layout (pictures.size_of (frame_of picture.old.shape) c) late.old }
+    requires taken { AreTaken params.now.layout (pictures.size_of (frame_of picture.old.shape) c)
+        (slice_count params.now.layout) bands.now }
+    requires room { HasLateRoom params.now.layout
+        (pictures.size_of (frame_of picture.old.shape) c) late.old }
     ensures picture { picture.new ≡ with_synthesised params.now.wavelet picture.old c bands.now }
-    ensures room { HasLateRoom params.now.layout (pictures.size_of (frame_of picture.old.shape) c) late.new }
+    ensures room { HasLateRoom params.now.layout
+        (pictures.size_of (frame_of picture.old.shape) c) late.new }
     ensures allowed { IsAllowed params.now.layout }
 {
     // The rules of a layout.
@@ -58,11 +61,14 @@ fn show_in_32_bits(
     c: Component,
     picture: &mut Picture,
 )
-    requires taken { AreTaken params.now.layout (pictures.size_of (frame_of picture.old.shape) c) (slice_count params.now.layout) bands.now }
+    requires taken { AreTaken params.now.layout (pictures.size_of (frame_of picture.old.shape) c)
+        (slice_count params.now.layout) bands.now }
     requires narrow { AreBandsWithin (pos (2 ^ 18)) bands.now }
-    requires room { HaveHalfRoom params.now.layout (pictures.size_of (frame_of picture.old.shape) c) room.old.plane room.old.scratch }
+    requires room { HaveHalfRoom params.now.layout
+        (pictures.size_of (frame_of picture.old.shape) c) room.old.plane room.old.scratch }
     ensures picture { picture.new ≡ with_synthesised params.now.wavelet picture.old c bands.now }
-    ensures room { HaveHalfRoom params.now.layout (pictures.size_of (frame_of picture.old.shape) c) room.new.plane room.new.scratch }
+    ensures room { HaveHalfRoom params.now.layout
+        (pictures.size_of (frame_of picture.old.shape) c) room.new.plane room.new.scratch }
     ensures allowed { IsAllowed params.now.layout }
 {
     // The rules of a layout.
@@ -162,7 +168,9 @@ impl DecodedBands {
         layout: &Layout,
         shape: &PictureShape,
     ) -> Result<DecodedBands, NoMemory>
-        ensures { IfOk result (λ b. AreNewBands layout.now shape.now.luma b.luma × AreNewBands layout.now shape.now.colour b.c1 × AreNewBands layout.now shape.now.colour b.c2) }
+        ensures { IfOk result (λ b. AreNewBands layout.now shape.now.luma b.luma
+            × AreNewBands layout.now shape.now.colour b.c1
+            × AreNewBands layout.now shape.now.colour b.c2) }
     {
         Ok(DecodedBands {
             narrow: narrow_zero_trio(alloc, layout, shape)?,
@@ -200,7 +208,8 @@ impl DecodedBands {
         requires most { length bytes.now ≤ 2 ^ 28 }
         requires entries { matrix.now.depth ≡ layout.now.depth }
         requires ready { AreReady layout.now shape.now sx sy self.old }
-        ensures decoded { let slice = slice_at layout.now shape.now.luma shape.now.colour sx sy bytes.now in
+        ensures decoded { let slice = slice_at layout.now shape.now.luma shape.now.colour sx sy
+            bytes.now in
             MatchResult result
             (λ head. IsDecoded layout.now shape.now sx sy matrix.now slice head self.new)
             (IsRefused layout.now shape.now sx sy matrix.now slice) }
@@ -249,12 +258,21 @@ impl DecodedBands {
         narrow_room: &mut NarrowWorkspace,
         picture: &mut Picture,
     )
-        requires taken { AreTaken params.now.layout (pictures.size_of (frame_of picture.old.shape) c) (slice_count params.now.layout) (stack_of self.now c) }
-        requires room { HasLateRoom params.now.layout (pictures.size_of (frame_of picture.old.shape) c) room.old }
-        requires narrow_room { HaveHalfRoom params.now.layout (pictures.size_of (frame_of picture.old.shape) c) narrow_room.old.plane narrow_room.old.scratch }
-        ensures picture { picture.new ≡ with_synthesised params.now.wavelet picture.old c (stack_of self.now c) }
-        ensures room { HasLateRoom params.now.layout (pictures.size_of (frame_of picture.old.shape) c) room.new }
-        ensures narrow_room { HaveHalfRoom params.now.layout (pictures.size_of (frame_of picture.old.shape) c) narrow_room.new.plane narrow_room.new.scratch }
+        requires taken { AreTaken params.now.layout
+            (pictures.size_of (frame_of picture.old.shape) c) (slice_count params.now.layout)
+            (stack_of self.now c) }
+        requires room { HasLateRoom params.now.layout
+            (pictures.size_of (frame_of picture.old.shape) c) room.old }
+        requires narrow_room { HaveHalfRoom params.now.layout
+            (pictures.size_of (frame_of picture.old.shape) c) narrow_room.old.plane
+            narrow_room.old.scratch }
+        ensures picture { picture.new
+            ≡ with_synthesised params.now.wavelet picture.old c (stack_of self.now c) }
+        ensures room { HasLateRoom params.now.layout
+            (pictures.size_of (frame_of picture.old.shape) c) room.new }
+        ensures narrow_room { HaveHalfRoom params.now.layout
+            (pictures.size_of (frame_of picture.old.shape) c) narrow_room.new.plane
+            narrow_room.new.scratch }
         ensures allowed { IsAllowed params.now.layout }
     {
         if self.is_wide {

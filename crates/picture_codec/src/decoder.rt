@@ -36,7 +36,7 @@ pub struct PictureDecoder {
 impl Model for PictureDecoder {
     ghost use Rattle.std.specs.Prelude.{if◌then◌else◌, None, Some};
     ghost use Rattle.transform_params.specs.Views.{params_of};
-    ghost use Rattle.picture_codec.specs.Decoding.{PictureDecoderSeen, IsSound};
+    ghost use Rattle.picture_codec.specs.Decoding.{PictureDecoderSeen, IsDecoderSound};
 
     ghost Value = { PictureDecoderSeen };
 
@@ -49,7 +49,7 @@ impl Model for PictureDecoder {
       picture = if d.finished then Some d.picture.samples else None;
     } };
 
-    ghost invariant = { λ d. IsSound d.params.layout d.picture.shape d.next d.bands d.rooms };
+    ghost invariant = { λ d. IsDecoderSound d.params.layout d.picture.shape d.next d.bands d.rooms };
 }
 
 impl PictureDecoder {
@@ -109,7 +109,8 @@ impl PictureDecoder {
     pub fn slice(&mut self, bytes: &[u8]) -> Result<(), SliceFault>
         requires unrefused { self.old.refused ≡ false }
         requires wanted { Some (length bytes.now) ≡ wanted_of self.old }
-        ensures { MatchResult result (λ _. IsTaken bytes.now self.old self.new) (λ fault. IsSliceRefused bytes.now fault self.old self.new) }
+        ensures { MatchResult result (λ _. IsTaken bytes.now self.old self.new)
+            (λ fault. IsSliceRefused bytes.now fault self.old self.new) }
     {
         let (params, shape) = (self.params, *self.picture.shape());
         let across = params.layout.slices_x();
@@ -135,7 +136,8 @@ impl PictureDecoder {
         requires whole { wanted_of self.now ≡ None }
         ensures value { result.now ≡ self.now.bands }
         ensures ready { AllCanSynthesise self.now.params.slicing self.now.shape result.now }
-        ensures unit { (slices : List (List ℕ)) → HasTaken slices self.now → HoldUnit (frame_of self.now.shape) self.now.params slices result.now }
+        ensures unit { (slices : List (List ℕ)) → HasTaken slices self.now
+            → HoldUnit (frame_of self.now.shape) self.now.params slices result.now }
     {
         // The rules of a layout.
         let _ = self.params.layout.depth();
@@ -146,8 +148,11 @@ impl PictureDecoder {
     fn synthesise(&mut self)
         requires unrefused { self.old.refused ≡ false }
         requires whole { wanted_of self.old ≡ None }
-        ensures state { self.new ≡ record self.old { picture = Some (synthesised_picture self.old) } }
-        ensures unit { (slices : List (List ℕ)) → HasTaken slices self.old → synthesised_picture self.old ≡ picture_of (frame_of self.old.shape) self.old.params slices }
+        ensures state { self.new ≡ record self.old
+            { picture = Some (synthesised_picture self.old) } }
+        ensures unit { (slices : List (List ℕ)) → HasTaken slices self.old
+            → synthesised_picture self.old
+            ≡ picture_of (frame_of self.old.shape) self.old.params slices }
     {
         let params = self.params;
         self.bands.show(
@@ -180,8 +185,11 @@ impl PictureDecoder {
         requires whole { wanted_of self.old ≡ None }
         ensures shape { result.now.shape ≡ self.old.shape }
         ensures samples { result.now.samples ≡ synthesised_picture self.old }
-        ensures* after { sem 𝓛 (follows_so the_row the_row self.entry.ghost_name none (λ _ _. ⊤) (λ v. v ≡ record self.old { picture = Some result.now.samples })) }
-        ensures unit { (slices : List (List ℕ)) → HasTaken slices self.old → synthesised_picture self.old ≡ picture_of (frame_of self.old.shape) self.old.params slices }
+        ensures* after { sem 𝓛 (follows_so the_row the_row self.entry.ghost_name none (λ _ _. ⊤)
+            (λ v. v ≡ record self.old { picture = Some result.now.samples })) }
+        ensures unit { (slices : List (List ℕ)) → HasTaken slices self.old
+            → synthesised_picture self.old
+            ≡ picture_of (frame_of self.old.shape) self.old.params slices }
     {
         self.synthesise();
         &self.picture

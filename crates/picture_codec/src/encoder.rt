@@ -15,7 +15,7 @@ ghost use Rattle.picture_codec.specs.Samples.{shown};
 ghost use Rattle.picture_codec.specs.Decoding.{ArePadded};
 ghost use Rattle.picture_codec.specs.Pictures as pictures;
 ghost use Rattle.picture_codec.specs.Encoding.{slices_of, picture_bytes, IsSteepFor};
-ghost use Rattle.picture_codec.specs.EncoderInside.{IsWhole, AreWhole, HaveBandSizes, IsLowest, IsReadyToEncode, HoldComponent};
+ghost use Rattle.picture_codec.specs.EncoderInside.{AreRowsWhole, AreWhole, HaveBandSizes, IsLowest, IsReadyToEncode, HoldAnalysed};
 
 use crate::centring::centre;
 use crate::picture::Picture;
@@ -40,7 +40,7 @@ pub enum EncoderFault {
 
 // Says of a plane that its rows are as long as it is wide.
 fn is_whole(plane: &NarrowPlane)
-    ensures { IsWhole plane.now }
+    ensures { AreRowsWhole plane.now }
 {
     for y in 0..plane.h() {
         prove_eq!(plane.row(y).len(), plane.w() as usize);
@@ -66,10 +66,15 @@ fn analyse_component(
     room: &mut AnalysisWorkspace,
     bands: &mut NarrowBands,
 )
-    requires room { ArePadded params.now.layout (pictures.size_of (frame_of picture.now.shape) c) room.old.plane room.old.scratch }
-    requires bands { HaveBandSizes params.now.layout (pictures.size_of (frame_of picture.now.shape) c) bands.old }
-    ensures room { ArePadded params.now.layout (pictures.size_of (frame_of picture.now.shape) c) room.new.plane room.new.scratch }
-    ensures bands { HoldComponent (params_of params.now) (pictures.size_of (frame_of picture.now.shape) c) (pictures.depth_of (frame_of picture.now.shape) c) (shown picture.now c) bands.new }
+    requires room { ArePadded params.now.layout
+        (pictures.size_of (frame_of picture.now.shape) c) room.old.plane room.old.scratch }
+    requires bands { HaveBandSizes params.now.layout
+        (pictures.size_of (frame_of picture.now.shape) c) bands.old }
+    ensures room { ArePadded params.now.layout (pictures.size_of (frame_of picture.now.shape) c)
+        room.new.plane room.new.scratch }
+    ensures bands { HoldAnalysed (params_of params.now)
+        (pictures.size_of (frame_of picture.now.shape) c)
+        (pictures.depth_of (frame_of picture.now.shape) c) (shown picture.now c) bands.new }
 {
     // The rules of a layout.
     let _ = params.layout.depth();
@@ -107,12 +112,16 @@ fn encode_slices(
 )
     requires layout { slices.old.slicing ≡ params.now.layout }
     requires steep { IsSteepFor slices.old.shape (params_of params.now) }
-    requires given { AreGiven (narrow_picture params.now.layout slices.old.shape params.now.matrix bands.now) }
-    requires kept { KeptHaveSizes (narrow_picture params.now.layout slices.old.shape params.now.matrix bands.now) kept.old }
+    requires given { AreGiven (narrow_picture params.now.layout slices.old.shape params.now.matrix
+        bands.now) }
+    requires kept { KeptHaveSizes (narrow_picture params.now.layout slices.old.shape
+        params.now.matrix bands.now) kept.old }
     requires room { length bytes.old ≡ total_bytes params.now.layout }
     ensures same { slices.new ≡ slices.old }
-    ensures kept { KeptHaveSizes (narrow_picture params.now.layout slices.old.shape params.now.matrix bands.now) kept.new }
-    ensures slices { bytes.new ≡ concat (written_slices (narrow_picture params.now.layout slices.old.shape params.now.matrix bands.now)) }
+    ensures kept { KeptHaveSizes (narrow_picture params.now.layout slices.old.shape
+        params.now.matrix bands.now) kept.new }
+    ensures slices { bytes.new ≡ concat (written_slices
+        (narrow_picture params.now.layout slices.old.shape params.now.matrix bands.now)) }
 {
     let layout = &params.layout;
     let across = layout.slices_x();
@@ -163,7 +172,9 @@ fn kept_planes(
     layout: &Layout,
     shape: &PictureShape,
 ) -> Result<ThreePlanes, NoMemory>
-    ensures { IfOk result (λ kept. IsLowest layout.now shape.now.luma kept.luma × IsLowest layout.now shape.now.colour kept.c1 × IsLowest layout.now shape.now.colour kept.c2) }
+    ensures { IfOk result (λ kept. IsLowest layout.now shape.now.luma kept.luma
+        × IsLowest layout.now shape.now.colour kept.c1
+        × IsLowest layout.now shape.now.colour kept.c2) }
 {
     Ok(ThreePlanes {
         luma: kept_plane(alloc, layout, shape.luma)?,
@@ -178,7 +189,8 @@ fn workspaces(
     layout: &Layout,
     shape: &PictureShape,
 ) -> Result<(AnalysisWorkspace, AnalysisWorkspace), NoMemory>
-    ensures { IfOk result (λ rooms. ArePadded layout.now shape.now.luma rooms.0.plane rooms.0.scratch × ArePadded layout.now shape.now.colour rooms.1.plane rooms.1.scratch) }
+    ensures { IfOk result (λ rooms. ArePadded layout.now shape.now.luma rooms.0.plane
+        rooms.0.scratch × ArePadded layout.now shape.now.colour rooms.1.plane rooms.1.scratch) }
 {
     Ok((
         AnalysisWorkspace::new(alloc, layout, shape.luma)?,
@@ -212,7 +224,8 @@ impl PictureEncoder {
         params: &TransformParams,
     ) -> Result<PictureEncoder, NoMemory>
         requires { IsSteepFor shape.now (params_of params.now) }
-        ensures { IfOk result (λ e. e ≡ record { shape = shape.now; params = params_of params.now }) }
+        ensures { IfOk result (λ e. e
+            ≡ record { shape = shape.now; params = params_of params.now }) }
     {
         let layout = &params.layout;
         let (luma_room, colour_room) = workspaces(alloc, layout, shape)?;
@@ -235,9 +248,13 @@ impl PictureEncoder {
         shape: &PictureShape,
         params: &TransformParams,
     ) -> Result<PictureEncoder, EncoderFault>
-        ensures new { IfOk result (λ e. (e ≡ record { shape = shape.now; params = params_of params.now }) × IsSteepFor shape.now (params_of params.now)) }
-        ensures steep { result ≡ Err EncoderFault.MatrixTooSteep → IsSteepFor shape.now (params_of params.now) → ⊥ }
-        ensures memory { result ≡ Err EncoderFault.NoMemory → IsSteepFor shape.now (params_of params.now) }
+        ensures new { IfOk result (λ e. (e
+            ≡ record { shape = shape.now; params = params_of params.now })
+            × IsSteepFor shape.now (params_of params.now)) }
+        ensures steep { result ≡ Err EncoderFault.MatrixTooSteep
+            → IsSteepFor shape.now (params_of params.now) → ⊥ }
+        ensures memory { result ≡ Err EncoderFault.NoMemory
+            → IsSteepFor shape.now (params_of params.now) }
     {
         if !is_steep_ok(shape, params) {
             return Err(EncoderFault::MatrixTooSteep);
@@ -254,7 +271,8 @@ impl PictureEncoder {
         requires shape { picture.now.shape ≡ self.old.shape }
         requires room { 13 + length bytes.old ≡ unit_length self.old.params }
         ensures same { self.new ≡ self.old }
-        ensures payload { bytes.new ≡ picture_bytes self.old.params number (slices_of (frame_of self.old.shape) self.old.params picture.now.samples) }
+        ensures payload { bytes.new ≡ picture_bytes self.old.params number
+            (slices_of (frame_of self.old.shape) self.old.params picture.now.samples) }
     {
         let params = self.params;
         analyse_component(

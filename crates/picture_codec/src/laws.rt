@@ -10,7 +10,8 @@ ghost use Rattle.picture_codec.specs.LeastIndices.{EachHasOneChoice, EachIsGiven
 /// picture of the unit.
 pub fn slices_in_order()
     ensures start { (d : PictureDecoderSeen) → d.next ≡ 0 → HasTaken [] d }
-    ensures step { (slices : List (List ℕ)) (bytes : List ℕ) (old new : PictureDecoderSeen) → IsAllowed old.params.slicing
+    ensures step { (slices : List (List ℕ)) (bytes : List ℕ) (old new : PictureDecoderSeen)
+        → IsAllowed old.params.slicing
         → old.next < slice_count old.params.slicing → HasTaken slices old → IsTaken bytes old new
         → HasTaken (slices ++ bytes ∷ []) new }
 {}

@@ -37,7 +37,8 @@ impl Model for Picture {
 impl Picture {
     /// A picture of this shape, all samples 0.
     pub fn new(alloc: Global, shape: &PictureShape) -> Result<Picture, NoMemory>
-        ensures { IfOk result (λ p. p ≡ record { shape = shape.now; samples = blank_picture shape.now }) }
+        ensures { IfOk result (λ p. p
+            ≡ record { shape = shape.now; samples = blank_picture shape.now }) }
     {
         Ok(Picture {
             shape: *shape,
@@ -95,7 +96,10 @@ impl Picture {
         requires down { y < height_of self.old c }
         requires across { x < width_of self.old c }
         requires small { v < 2 ^ bits_of self.old c }
-        ensures { self.new ≡ record self.old { samples = with_component self.old.samples c (with_sample (shown self.old c) y x v) } }
+        ensures { self.new ≡ record self.old {
+          samples = with_component self.old.samples c
+              (with_sample (shown self.old c) y x v);
+        } }
     {
         match c {
             Component::Luma => self.luma.set(y, x, v as u16),
@@ -108,7 +112,10 @@ impl Picture {
     pub fn put_samples(&mut self, c: Component, from: usize, samples: &[u16])
         requires inside { from + length samples.now ≤ height_of self.old c * width_of self.old c }
         requires small { All (λ v. v < 2 ^ bits_of self.old c) samples.now }
-        ensures { self.new ≡ record self.old { samples = with_component self.old.samples c (with_run (shown self.old c) from samples.now) } }
+        ensures { self.new ≡ record self.old {
+          samples = with_component self.old.samples c
+              (with_run (shown self.old c) from samples.now);
+        } }
     {
         match c {
             Component::Luma => self.luma.put(from, samples),
@@ -130,7 +137,8 @@ impl Picture {
         requires high { height_of self.old c ≤ padded.h }
         requires room { HaveRoom bands.now padded.w padded.h room.old.plane room.old.scratch }
         requires small { AreSmallIn bands.now padded.w padded.h }
-        ensures samples { self.new ≡ with_shown self.old c (synthesis_of wavelet bands.now padded.w padded.h) }
+        ensures samples { self.new ≡ with_shown self.old c
+            (synthesis_of wavelet bands.now padded.w padded.h) }
         ensures same_width { room.new.plane.w ≡ room.old.plane.w }
         ensures same_height { height room.new.plane ≡ height room.old.plane }
         ensures same_width_scratch { room.new.scratch.w ≡ room.old.scratch.w }
@@ -163,7 +171,8 @@ impl Picture {
         requires high { height_of self.old c ≤ padded.h }
         requires room { HaveRoom bands.now padded.w padded.h room.old.plane room.old.scratch }
         requires small { AreNarrowIn bands.now padded.w padded.h }
-        ensures samples { self.new ≡ with_shown self.old c (synthesis_of wavelet bands.now padded.w padded.h) }
+        ensures samples { self.new ≡ with_shown self.old c
+            (synthesis_of wavelet bands.now padded.w padded.h) }
         ensures same_width { room.new.plane.w ≡ room.old.plane.w }
         ensures same_height { height room.new.plane ≡ height room.old.plane }
         ensures same_width_scratch { room.new.scratch.w ≡ room.old.scratch.w }

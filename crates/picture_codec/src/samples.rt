@@ -98,7 +98,8 @@ impl Samples {
         requires high { self.old.h ≤ padded.h }
         requires room { HaveRoom bands.now padded.w padded.h room.old.plane room.old.scratch }
         requires small { AreSmallIn bands.now padded.w padded.h }
-        ensures samples { self.new ≡ tabulated (record { w = self.old.w; h = self.old.h }) (λ y x. sample_of depth (synthesis_of wavelet bands.now padded.w padded.h y x)) }
+        ensures samples { self.new ≡ tabulated (record { w = self.old.w; h = self.old.h })
+            (λ y x. sample_of depth (synthesis_of wavelet bands.now padded.w padded.h y x)) }
         ensures same_width { room.new.plane.w ≡ room.old.plane.w }
         ensures same_height { height room.new.plane ≡ height room.old.plane }
         ensures same_width_scratch { room.new.scratch.w ≡ room.old.scratch.w }
@@ -135,7 +136,8 @@ impl Samples {
         requires high { self.old.h ≤ padded.h }
         requires room { HaveRoom bands.now padded.w padded.h room.old.plane room.old.scratch }
         requires small { AreNarrowIn bands.now padded.w padded.h }
-        ensures samples { self.new ≡ tabulated (record { w = self.old.w; h = self.old.h }) (λ y x. sample_of depth (synthesis_of wavelet bands.now padded.w padded.h y x)) }
+        ensures samples { self.new ≡ tabulated (record { w = self.old.w; h = self.old.h })
+            (λ y x. sample_of depth (synthesis_of wavelet bands.now padded.w padded.h y x)) }
         ensures same_width { room.new.plane.w ≡ room.old.plane.w }
         ensures same_height { height room.new.plane ≡ height room.old.plane }
         ensures same_width_scratch { room.new.scratch.w ≡ room.old.scratch.w }

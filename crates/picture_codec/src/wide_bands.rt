@@ -42,7 +42,9 @@ impl WideBands {
         layout: &Layout,
         shape: &PictureShape,
     ) -> Result<WideBands, NoMemory>
-        ensures zero { IfOk result (λ b. AreNewBands layout.now shape.now.luma b.bands.luma × AreNewBands layout.now shape.now.colour b.bands.c1 × AreNewBands layout.now shape.now.colour b.bands.c2) }
+        ensures zero { IfOk result (λ b. AreNewBands layout.now shape.now.luma b.bands.luma
+            × AreNewBands layout.now shape.now.colour b.bands.c1
+            × AreNewBands layout.now shape.now.colour b.bands.c2) }
         ensures late { IfOk result (λ b. b.is_made ≡ false) }
     {
         Ok(WideBands {
@@ -102,7 +104,8 @@ impl WideBands {
         requires entries { matrix.now.depth ≡ layout.now.depth }
         requires ready { AreReady layout.now shape.now sx sy self.old.bands }
         ensures made { self.new.is_made ≡ true }
-        ensures decoded { let slice = slice_at layout.now shape.now.luma shape.now.colour sx sy bytes.now in
+        ensures decoded { let slice = slice_at layout.now shape.now.luma shape.now.colour sx sy
+            bytes.now in
             MatchResult result
             (λ head. IsDecoded layout.now shape.now sx sy matrix.now slice head self.new.bands)
             (IsRefused layout.now shape.now sx sy matrix.now slice) }

@@ -55,7 +55,9 @@ impl LateWorkspace {
     /// The room, made if it wasn't.
     pub(crate) fn make(&mut self)
         requires { IsRowless self.old }
-        ensures { (s : Slicing) (size : Size) → HasLateRoom s size self.old → HaveHalfRoom s size self.new.room.plane self.new.room.scratch × (self.new.is_made ≡ true) }
+        ensures { (s : Slicing) (size : Size) → HasLateRoom s size self.old
+            → HaveHalfRoom s size self.new.room.plane self.new.room.scratch
+            × (self.new.is_made ≡ true) }
     {
         if self.is_made {
             return;
@@ -150,7 +152,8 @@ impl SynthesisRooms {
         layout: &Layout,
         shape: &PictureShape,
     ) -> Result<SynthesisRooms, NoMemory>
-        ensures { IfOk result (λ r. HasSynthesisRoom layout.now shape.now.luma r.luma × HasSynthesisRoom layout.now shape.now.colour r.colour) }
+        ensures { IfOk result (λ r. HasSynthesisRoom layout.now shape.now.luma r.luma
+            × HasSynthesisRoom layout.now shape.now.colour r.colour) }
     {
         Ok(SynthesisRooms {
             luma: SynthesisRoom::new(alloc, layout, shape.luma)?,
@@ -174,7 +177,9 @@ pub(crate) fn late_zero_trio(
     layout: &Layout,
     shape: &PictureShape,
 ) -> Result<LateTrio, NoMemory>
-    ensures { IfOk result (λ bands. AreNewBands layout.now shape.now.luma bands.luma × AreNewBands layout.now shape.now.colour bands.c1 × AreNewBands layout.now shape.now.colour bands.c2) }
+    ensures { IfOk result (λ bands. AreNewBands layout.now shape.now.luma bands.luma
+        × AreNewBands layout.now shape.now.colour bands.c1
+        × AreNewBands layout.now shape.now.colour bands.c2) }
 {
     Ok(LateTrio {
         luma: late_zero_bands(alloc, layout, shape.luma)?,
@@ -186,7 +191,8 @@ pub(crate) fn late_zero_trio(
 /// Bands of no rows and no columns, in whose place others are made.
 pub(crate) fn rowless_trio(alloc: Global, depth: u32) -> Result<Trio, NoMemory>
     requires { depth ≤ 4 }
-    ensures { IfOk result (λ bands. AreZeroBands bands.luma depth 0 0 × AreZeroBands bands.c1 depth 0 0 × AreZeroBands bands.c2 depth 0 0) }
+    ensures { IfOk result (λ bands. AreZeroBands bands.luma depth 0 0
+        × AreZeroBands bands.c1 depth 0 0 × AreZeroBands bands.c2 depth 0 0) }
 {
     Ok(Trio {
         luma: Bands::new(alloc, depth, 0, 0)?,
@@ -210,7 +216,9 @@ pub(crate) fn narrow_zero_trio(
     layout: &Layout,
     shape: &PictureShape,
 ) -> Result<NarrowTrio, NoMemory>
-    ensures { IfOk result (λ bands. AreNewBands layout.now shape.now.luma bands.luma × AreNewBands layout.now shape.now.colour bands.c1 × AreNewBands layout.now shape.now.colour bands.c2) }
+    ensures { IfOk result (λ bands. AreNewBands layout.now shape.now.luma bands.luma
+        × AreNewBands layout.now shape.now.colour bands.c1
+        × AreNewBands layout.now shape.now.colour bands.c2) }
 {
     Ok(NarrowTrio {
         luma: narrow_zero_bands(alloc, layout, shape.luma)?,

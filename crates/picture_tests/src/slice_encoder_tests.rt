@@ -9,7 +9,7 @@ ghost use Rattle.quant_factors.specs.Weights.{Weights};
 ghost use Rattle.slice_geometry.specs.Shape.{IsSize};
 ghost use Rattle.slice_geometry.specs.SliceOrder.{level_of, orient_of};
 ghost use Rattle.slice_encoder.specs.TrialLaws.{IsSteepOk};
-ghost use Rattle.slice_encoder.specs.Ready.{coded_picture, IsReady, AreReady, AreGiven};
+ghost use Rattle.slice_encoder.specs.Ready.{coded_picture, IsReadyToWrite, AreReadyToWrite, AreGiven};
 ghost use Rattle.slice_encoder.specs.Buffers.{coded_component};
 
 use crate::slice_decoder_tests::slices::{exists, layout, shape_at, zeros};
@@ -46,7 +46,8 @@ fn is_within(plane: &Plane, most: u32) -> bool
 
 // Whether a plane has a size and is small.
 fn is_plane(plane: &Plane, size: Size, most: u32) -> bool
-    ensures { result ≡ true → (plane.now.w ≡ size.w) × (height plane.now ≡ size.h) × ((y x : ℕ) → Within most (at plane.now y x)) }
+    ensures { result ≡ true → (plane.now.w ≡ size.w) × (height plane.now ≡ size.h)
+        × ((y x : ℕ) → Within most (at plane.now y x)) }
 {
     plane.w() == size.w && plane.h() == size.h && is_within(plane, most)
 }
@@ -72,7 +73,8 @@ fn band_numbered(k: u32) -> (u32, u32)
 // Whether the subbands of a component of 8 bits and its kept values are ready for every slice.
 fn is_ready(layout: &Layout, size: Size, bands: &Bands, kept: &Plane) -> bool
     requires { IsSize size.w size.h }
-    ensures { result ≡ true → (matrix : Weights) (sx sy : ℕ) → IsReady (coded_component layout.now size matrix bands.now) 8 sx sy kept.now }
+    ensures { result ≡ true → (matrix : Weights) (sx sy : ℕ)
+        → IsReadyToWrite (coded_component layout.now size matrix bands.now) 8 sx sy kept.now }
 {
     let depth = layout.depth();
     if bands.depth() != depth {
@@ -99,8 +101,11 @@ fn can_try(
     coefficients: &Trio,
     kept: &ThreePlanes,
 ) -> bool
-    ensures ready { result ≡ true → AreReady (coded_picture layout.now shape.now matrix.now coefficients.now) sx sy kept.now }
-    ensures given { result ≡ true → AreGiven (coded_picture layout.now shape.now matrix.now coefficients.now) }
+    ensures ready { result ≡ true
+        → AreReadyToWrite (coded_picture layout.now shape.now matrix.now coefficients.now) sx sy
+        kept.now }
+    ensures given { result ≡ true
+        → AreGiven (coded_picture layout.now shape.now matrix.now coefficients.now) }
 {
     if shape.luma_depth != 8 || shape.colour_depth != 8 {
         return false;
@@ -129,9 +134,15 @@ struct Picture {
 
 // Whether a slice may be tried and written.
 fn can_write(picture: &Picture, sx: u32) -> bool
-    ensures ready { result ≡ true → AreReady (coded_picture picture.now.layout picture.now.shape picture.now.matrix picture.now.coefficients) sx 0 picture.now.kept }
-    ensures given { result ≡ true → AreGiven (coded_picture picture.now.layout picture.now.shape picture.now.matrix picture.now.coefficients) }
-    ensures steep { result ≡ true → IsSteepOk picture.now.layout.depth (max picture.now.shape.luma_depth picture.now.shape.colour_depth) picture.now.matrix }
+    ensures ready { result ≡ true
+        → AreReadyToWrite (coded_picture picture.now.layout picture.now.shape picture.now.matrix
+        picture.now.coefficients) sx 0 picture.now.kept }
+    ensures given { result ≡ true
+        → AreGiven (coded_picture picture.now.layout picture.now.shape picture.now.matrix
+        picture.now.coefficients) }
+    ensures steep { result ≡ true
+        → IsSteepOk picture.now.layout.depth
+        (max picture.now.shape.luma_depth picture.now.shape.colour_depth) picture.now.matrix }
 {
     let bits = picture.shape.luma_depth.max(picture.shape.colour_depth);
     picture.matrix.depth() == picture.layout.depth()

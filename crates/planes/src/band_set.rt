@@ -66,7 +66,10 @@ fn zero_bands<T: Number>(
     requires w_fits { w ≤ 8208 }
     requires h_fits { h ≤ 8208 }
     ensures count { IfOk result (λ planes. length planes.items ≡ 3 * depth + 1) }
-    ensures zero { IfOk result (λ planes. (k : ℕ) → k < 3 * depth + 1 → slice_index_or planes.items k no_band ≡ filled_with T.none (subband_length depth ((k + 2) / 3) w) (subband_length depth ((k + 2) / 3) h)) }
+    ensures zero { IfOk result (λ planes. (k : ℕ) → k < 3 * depth + 1
+        → slice_index_or planes.items k no_band
+        ≡ filled_with T.none (subband_length depth ((k + 2) / 3) w)
+        (subband_length depth ((k + 2) / 3) h)) }
 {
     let mut planes = Vec::with_capacity(alloc, (3 * depth + 1) as usize)?;
     for k in 0..3 * depth + 1 {

@@ -4,7 +4,7 @@ ghost use Rattle.std.specs.Prelude.{◌≡◌, ℕ, ◌+◌, ◌*◌, ◌/◌, �
 ghost use Rattle.std.specs.List.{All};
 ghost use Rattle.planes.specs.Raster.{height, zeros};
 ghost use Rattle.planes.specs.Subbands.{no_band, band_of, subband_length, AreZeroBands};
-ghost use Rattle.planes.specs.Late.{IsUntouched};
+ghost use Rattle.planes.specs.Late.{HasRoomAlone};
 
 use crate::band_set::band_length;
 use crate::{Bands, NoMemory, Plane};
@@ -21,18 +21,19 @@ pub struct LatePlane {
 impl Model for LatePlane {
     ghost use Rattle.std.specs.Prelude.{ℤ, length};
     ghost use Rattle.planes.specs.Raster.{Raster, zeros};
-    ghost use Rattle.planes.specs.Late.{IsUntouched};
+    ghost use Rattle.planes.specs.Late.{HasRoomAlone};
 
     ghost Value = { Raster ℤ };
 
     ghost view = { λ p. zeros p.w (length p.rows.items) };
 
-    ghost invariant = { λ p. IsUntouched p.w p.rows.items };
+    ghost invariant = { λ p. HasRoomAlone p.w p.rows.items };
 }
 
 // Rows with room for w numbers each, and none in them.
 fn roomy_rows(alloc: Global, w: usize, h: usize) -> Result<Vec<Vec<i64>>, NoMemory>
-    ensures every { IfOk result (λ rows. All (λ r. (r.items ≡ []) × (w ≤ vec_capacity r)) rows.items) }
+    ensures every { IfOk result (λ rows. All (λ r. (r.items ≡ []) × (w ≤ vec_capacity r))
+        rows.items) }
     ensures count { IfOk result (λ rows. length rows.items ≡ h) }
 {
     let mut rows = Vec::with_capacity(alloc, h)?;
@@ -57,7 +58,8 @@ fn touch(row: &mut Vec<i64>, w: usize)
 // Does so in each row.
 fn touch_all(rows: &mut Vec<Vec<i64>>, w: usize)
     requires { All (λ r. (r.items ≡ []) × (w ≤ vec_capacity r)) rows.old.items }
-    ensures zero { map (λ r. r.items) rows.new.items ≡ replicate (length rows.old.items) (replicate w (pos 0)) }
+    ensures zero { map (λ r. r.items) rows.new.items
+        ≡ replicate (length rows.old.items) (replicate w (pos 0)) }
     ensures every { All (λ r. length r.items ≡ w) rows.new.items }
     ensures count { length rows.new.items ≡ length rows.old.items }
 {
@@ -112,7 +114,9 @@ fn late_planes(alloc: Global, depth: u32, w: u32, h: u32) -> Result<Vec<LatePlan
     requires w_fits { w ≤ 8208 }
     requires h_fits { h ≤ 8208 }
     ensures count { IfOk result (λ planes. length planes.items ≡ 3 * depth + 1) }
-    ensures zero { IfOk result (λ planes. (k : ℕ) → k < 3 * depth + 1 → slice_index_or planes.items k no_band ≡ zeros (subband_length depth ((k + 2) / 3) w) (subband_length depth ((k + 2) / 3) h)) }
+    ensures zero { IfOk result (λ planes. (k : ℕ) → k < 3 * depth + 1
+        → slice_index_or planes.items k no_band
+        ≡ zeros (subband_length depth ((k + 2) / 3) w) (subband_length depth ((k + 2) / 3) h)) }
 {
     let mut planes = Vec::with_capacity(alloc, (3 * depth + 1) as usize)?;
     for k in 0..3 * depth + 1 {

@@ -118,7 +118,8 @@ pub struct ThreePlanes {
 }
 
 fn zero_rows<T: Number>(alloc: Global, w: usize, h: usize) -> Result<Vec<Vec<T>>, NoMemory>
-    ensures zero { IfOk result (λ rows. map (λ r. r.items) rows.items ≡ replicate h (replicate w T.none)) }
+    ensures zero { IfOk result (λ rows. map (λ r. r.items) rows.items
+        ≡ replicate h (replicate w T.none)) }
     ensures every { IfOk result (λ rows. All (λ r. length r.items ≡ w) rows.items) }
     ensures count { IfOk result (λ rows. length rows.items ≡ h) }
 {
@@ -133,7 +134,8 @@ fn zero_rows<T: Number>(alloc: Global, w: usize, h: usize) -> Result<Vec<Vec<T>>
 fn fill_right(row: &mut [i64], w: usize)
     requires some { 1 ≤ w }
     requires inside { w ≤ length row.old }
-    ensures { (x : ℕ) → x < length row.old → slice_index_or row.new x (pos 0) ≡ slice_index_or row.old (min x (w - 1)) (pos 0) }
+    ensures { (x : ℕ) → x < length row.old
+        → slice_index_or row.new x (pos 0) ≡ slice_index_or row.old (min x (w - 1)) (pos 0) }
 {
     let last = row[w - 1];
     for x in w..row.len() {
@@ -153,7 +155,8 @@ fn is_within(v: &i64, bound: i64) -> bool
 
 // Whether each number of a row has a magnitude of at most `bound`. All are looked at, with no branch for each.
 fn is_row_within(row: &[i64], bound: i64) -> bool
-    ensures { (result ≡ true) ↔ ((x : ℕ) → x < length row.now → IsWithin bound (slice_index_or row.now x (pos 0))) }
+    ensures { (result ≡ true)
+        ↔ ((x : ℕ) → x < length row.now → IsWithin bound (slice_index_or row.now x (pos 0))) }
 {
     let mut all = true;
     for value in row {
@@ -293,7 +296,8 @@ impl Plane<i64> {
         requires h_fits { h ≤ height self.old }
         ensures same_width { self.new.w ≡ self.old.w }
         ensures same_height { height self.new ≡ height self.old }
-        ensures filled { (y x : ℕ) → y < h → x < self.old.w → at self.new y x ≡ at self.old y (min x (w - 1)) }
+        ensures filled { (y x : ℕ) → y < h → x < self.old.w
+            → at self.new y x ≡ at self.old y (min x (w - 1)) }
     {
         for y in 0..h {
             fill_right(self.row_mut(y), w as usize);
@@ -306,7 +310,8 @@ impl Plane<i64> {
         requires h_fits { h ≤ height self.old }
         ensures same_width { self.new.w ≡ self.old.w }
         ensures same_height { height self.new ≡ height self.old }
-        ensures filled { (y : ℕ) → y < height self.old → row_of self.new y ≡ row_of self.old (min y (h - 1)) }
+        ensures filled { (y : ℕ) → y < height self.old
+            → row_of self.new y ≡ row_of self.old (min y (h - 1)) }
     {
         for y in h..self.h() {
             let Three { dst, a, .. } = self.rows_three(y, h - 1, h - 1);

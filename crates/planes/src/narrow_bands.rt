@@ -31,7 +31,8 @@ fn widen_plane(wide: &mut Plane, narrow: &NarrowPlane)
 // Gives a row of 32 bits the numbers of a row, which fit.
 fn narrow_row(narrow: &mut [i32], wide: &[i64])
     requires same_length { length wide.now ≡ length narrow.old }
-    requires small { (x : ℕ) → x < length wide.now → IsWithin (pos (2 ^ 18)) (slice_index_or wide.now x (pos 0)) }
+    requires small { (x : ℕ) → x < length wide.now
+        → IsWithin (pos (2 ^ 18)) (slice_index_or wide.now x (pos 0)) }
     ensures { narrow.new ≡ wide.now }
 {
     for x in 0..narrow.len() {

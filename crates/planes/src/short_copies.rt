@@ -11,7 +11,8 @@ use crate::{Bands, NarrowBands, NarrowPlane, Plane};
 fn widen_row(wide: &mut [i32], short: &[i16])
     requires { length short.now ≡ length wide.old }
     ensures value { wide.new ≡ short.now }
-    ensures within { (x : ℕ) → x < length wide.new → IsWithin (pos (2 ^ 18)) (slice_index_or wide.new x (pos 0)) }
+    ensures within { (x : ℕ) → x < length wide.new
+        → IsWithin (pos (2 ^ 18)) (slice_index_or wide.new x (pos 0)) }
 {
     for x in 0..wide.len() {
         wide[x] = i32::from(short[x]);

@@ -43,7 +43,8 @@ fn make_cells(
     requires ready { CanSynthesise params.now.layout size (stack_of bands.now c) }
     requires room { IsRoomFor params.now.layout level size room.old }
     ensures room { IsRoomFor params.now.layout level size room.new }
-    ensures cells { room.new.cells.items ≡ (reduced params.now.wavelet level size bits (stack_of bands.now c)).cells }
+    ensures cells { room.new.cells.items
+        ≡ (reduced params.now.wavelet level size bits (stack_of bands.now c)).cells }
 {
     let depth = params.layout.depth();
     let levels = levels_made(level, depth);
@@ -112,11 +113,16 @@ pub(crate) fn make_component(
     requires bits { IsDepth bits }
     requires ready { CanSynthesise params.now.layout size (stack_of bands.now c) }
     requires room { IsRoomFor params.now.layout level size room.old }
-    requires width { width_of proxy.old c ≡ reduced_length (levels_left level params.now.layout.depth) size.w }
-    requires height { height_of proxy.old c ≡ reduced_length (levels_left level params.now.layout.depth) size.h }
+    requires width { width_of proxy.old c
+        ≡ reduced_length (levels_left level params.now.layout.depth) size.w }
+    requires height { height_of proxy.old c
+        ≡ reduced_length (levels_left level params.now.layout.depth) size.h }
     requires bits_of { bits_of proxy.old c ≡ bits }
     ensures room { IsRoomFor params.now.layout level size room.new }
-    ensures proxy { proxy.new ≡ record proxy.old { samples = with_component proxy.old.samples c (reduced params.now.wavelet level size bits (stack_of bands.now c)) } }
+    ensures proxy { proxy.new ≡ record proxy.old {
+      samples = with_component proxy.old.samples c
+          (reduced params.now.wavelet level size bits (stack_of bands.now c));
+    } }
 {
     make_cells(params, level, bands, c, size, bits, room);
     show(proxy, c, room.cells.as_slice());

@@ -11,12 +11,12 @@ weights_of m = record { depth = m.depth; entries = take (1 + 3 * m.depth) m.entr
 abbrev pub matrix_of : Weights → Inside
 matrix_of w = record { depth = w.depth; entries = w.entries ++ replicate (12 - 3 * w.depth) 0 }
 
-pub record IsSound (m : Inside) : Type 0 where
+pub record IsMatrixSound (m : Inside) : Type 0 where
   pub depth : m.depth ≤ 4
   pub count : length m.entries ≡ 13
   pub rest : drop (1 + 3 * m.depth) m.entries ≡ replicate (12 - 3 * m.depth) 0
 
-pub matrix_of-weights_of : (m : Inside) → IsSound m → matrix_of (weights_of m) ≡ m
+pub matrix_of-weights_of : (m : Inside) → IsMatrixSound m → matrix_of (weights_of m) ≡ m
 matrix_of-weights_of m sound =
     ap (λ entries. record { depth = m.depth; entries = entries })
     (ap (λ rest. take (1 + 3 * m.depth) m.entries ++ rest) (sym sound.rest) ∙ take-append-drop (1 + 3 * m.depth) m.entries)

@@ -131,7 +131,8 @@ fn with_sign(z: i64, m: u64) -> i64
 fn restored(magnitude: u64, i: u32) -> Option<u64>
     requires index { i ≤ 127 }
     requires small { magnitude ≤ MAX_MAGNITUDE }
-    ensures { MatchOption result (MAX_MAGNITUDE < restored_of magnitude i) (λ m. (m ≡ restored_of magnitude i) × (m ≤ MAX_MAGNITUDE)) }
+    ensures { MatchOption result (MAX_MAGNITUDE < restored_of magnitude i)
+        (λ m. (m ≡ restored_of magnitude i) × (m ≤ MAX_MAGNITUDE)) }
 {
     let step = factor(i);
     if magnitude == 0 {

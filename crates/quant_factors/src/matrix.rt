@@ -18,11 +18,11 @@ impl Model for Matrix {
 
     ghost Value = { Weights };
 
-    ghost use Rattle.quant_factors.specs.MatrixInside.{weights_of, matrix_of, IsSound, matrix_of-weights_of};
+    ghost use Rattle.quant_factors.specs.MatrixInside.{weights_of, matrix_of, IsMatrixSound, matrix_of-weights_of};
 
     ghost view = { weights_of };
 
-    ghost invariant = { IsSound };
+    ghost invariant = { IsMatrixSound };
 
     ghost inverse = { matrix_of };
 

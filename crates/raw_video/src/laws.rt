@@ -11,15 +11,20 @@ ghost use Rattle.raw_video.specs.RawParse.{raw_length, IsOfFrame, Shown, Over, r
 /// What `write_picture` writes is read back: a picture in front of any bytes, and any number of pictures, of samples of
 /// at most 16 bits.
 pub fn written_is_read_back()
-    ensures length { (f : Frame) (s : PictureSamples) → IsOfFrame f s → length (raw_text f s) ≡ raw_length f }
-    ensures picture { (f : Frame) (place : ℕ) (s : PictureSamples) (more : List ℕ) → f.luma_depth ≤ 16 → f.colour_depth ≤ 16
-        → IsOfFrame f s → place + raw_length f ≤ INPUT_LIMIT → raw_front f place (raw_text f s ++ more) ≡ Shown s }
-    ensures pictures { (f : Frame) (pictures : List PictureSamples) → f.luma_depth ≤ 16 → f.colour_depth ≤ 16 → 0 < raw_length f
+    ensures length { (f : Frame) (s : PictureSamples) → IsOfFrame f s
+        → length (raw_text f s) ≡ raw_length f }
+    ensures picture { (f : Frame) (place : ℕ) (s : PictureSamples) (more : List ℕ)
+        → f.luma_depth ≤ 16 → f.colour_depth ≤ 16
+        → IsOfFrame f s → place + raw_length f ≤ INPUT_LIMIT
+        → raw_front f place (raw_text f s ++ more) ≡ Shown s }
+    ensures pictures { (f : Frame) (pictures : List PictureSamples) → f.luma_depth ≤ 16
+        → f.colour_depth ≤ 16 → 0 < raw_length f
         → AllByRecursion (IsOfFrame f) pictures → length (raw_texts f pictures) ≤ INPUT_LIMIT
         → raw_parse f (raw_texts f pictures) ≡ record { pictures = pictures; ending = Over } }
 {}
 
 /// A picture that is read has its components' sizes, and samples of their bits.
 pub fn read_is_of_its_shape()
-    ensures { (f : Frame) (place : ℕ) (bytes : List ℕ) (s : PictureSamples) → raw_front f place bytes ≡ Shown s → IsOfFrame f s }
+    ensures { (f : Frame) (place : ℕ) (bytes : List ℕ) (s : PictureSamples)
+        → raw_front f place bytes ≡ Shown s → IsOfFrame f s }
 {}

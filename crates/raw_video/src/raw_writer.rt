@@ -48,8 +48,10 @@ impl RawWriter {
 
     /// The sink takes all that waits. Where a write fails, only `drop` may follow.
     pub fn finish<K: Sink>(&mut self, sink: &mut K) -> Result<(), Failed>
-        ensures ok { OnOk result (Appends (K.written sink.old) (K.written sink.new) self.old.waiting) }
-        ensures err { OnErr result (GrewShort (K.written sink.old) (K.written sink.new) self.old.waiting) }
+        ensures ok { OnOk result (Appends (K.written sink.old)
+            (K.written sink.new) self.old.waiting) }
+        ensures err { OnErr result (GrewShort (K.written sink.old)
+            (K.written sink.new) self.old.waiting) }
         ensures after { OnOk result (self.new ≡ record self.old { waiting = [] }) }
         ensures cause { HasCause (K.faults sink.old) (K.faults sink.new) result }
     {
@@ -63,8 +65,10 @@ impl RawWriter {
         requires { more ≤ PIECE }
         ensures wide { OnOk result (self.new.wide ≡ self.old.wide) }
         ensures room { OnOk result (length self.new.waiting + more ≤ PIECE) }
-        ensures ok { OnOk result (PassesOn (K.written sink.old) (K.written sink.new) self.old.waiting self.new.waiting []) }
-        ensures err { OnErr result (GrewShort (K.written sink.old) (K.written sink.new) self.old.waiting) }
+        ensures ok { OnOk result (PassesOn (K.written sink.old)
+            (K.written sink.new) self.old.waiting self.new.waiting []) }
+        ensures err { OnErr result (GrewShort (K.written sink.old)
+            (K.written sink.new) self.old.waiting) }
         ensures cause { HasCause (K.faults sink.old) (K.faults sink.new) result }
     {
         if more <= PIECE - self.len {
@@ -78,7 +82,8 @@ impl RawWriter {
     pub fn put<K: Sink>(&mut self, sink: &mut K, row: &[u16]) -> Result<(), Failed>
         requires { length row.now ≤ 8192 }
         ensures wide { OnOk result (self.new.wide ≡ self.old.wide) }
-        ensures ok { OnOk result (PassesOn (K.written sink.old) (K.written sink.new) self.old.waiting self.new.waiting
+        ensures ok { OnOk result (PassesOn (K.written sink.old)
+            (K.written sink.new) self.old.waiting self.new.waiting
             (text_of self.old.wide row.now)) }
         ensures err { OnErr result (GrewShort (K.written sink.old) (K.written sink.new)
             (self.old.waiting ++ text_of self.old.wide row.now)) }

@@ -73,7 +73,8 @@ fn has_byte<S: Source>(src: &mut S) -> Result<bool, Failed>
 fn without_picture<S: Source>(src: &mut S, place: u64, came: u64) -> Result<RawStep, RawFault>
     requires inside { place + came ≤ INPUT_LIMIT }
     ensures front { (f : Frame) (rest : Option (List ℕ)) (cells : List ℕ) (samples : PictureSamples)
-        → ReadsSamples (is_wide f) 0 (INPUT_LIMIT - place) (sample_bounds f) rest (S.rest src.old) cells (Err (Ended came))
+        → ReadsSamples (is_wide f) 0 (INPUT_LIMIT - place) (sample_bounds f) rest
+        (S.rest src.old) cells (Err (Ended came))
         → ReadsFront f place rest (S.rest src.new) samples result }
     ensures cause { RawCause (S.faults src.old) (S.faults src.new) result }
 {
@@ -99,7 +100,8 @@ fn read_front<S: Source>(
 ) -> Result<RawStep, RawFault>
     requires { place ≤ INPUT_LIMIT }
     ensures same_shape { picture.new.shape ≡ picture.old.shape }
-    ensures front { ReadsFront (frame_of picture.old.shape) place (S.rest src.old) (S.rest src.new) picture.new.samples result }
+    ensures front { ReadsFront (frame_of picture.old.shape) place (S.rest src.old)
+        (S.rest src.new) picture.new.samples result }
     ensures cause { RawCause (S.faults src.old) (S.faults src.new) result }
 {
     match read_samples(src, picture, INPUT_LIMIT - place) {
@@ -161,7 +163,8 @@ impl RawReader {
         requires open { self.old.refused ≡ false }
         requires shape { picture.old.shape ≡ self.old.shape }
         ensures same_shape { picture.new.shape ≡ picture.old.shape }
-        ensures front { ReadsFront (frame_of self.old.shape) self.old.place (S.rest src.old) (S.rest src.new) picture.new.samples result }
+        ensures front { ReadsFront (frame_of self.old.shape) self.old.place (S.rest src.old)
+            (S.rest src.new) picture.new.samples result }
         ensures after { self.new ≡ reader_after self.old result }
         ensures cause { RawCause (S.faults src.old) (S.faults src.new) result }
     {

@@ -81,7 +81,8 @@ fn read_piece<S: Source>(
     requires inside { sample_size wide * start ≤ room }
     requires bytes_long { length bytes.old ≡ READ_SIZE }
     requires long { length samples.old ≡ READ_SIZE }
-    ensures piece { ReadsSamples wide start room (replicate n bound) (S.rest src.old) (S.rest src.new) (take n samples.new) result }
+    ensures piece { ReadsSamples wide start room (replicate n bound) (S.rest src.old)
+        (S.rest src.new) (take n samples.new) result }
     ensures bytes_len { length bytes.new ≡ READ_SIZE }
     ensures len { length samples.new ≡ READ_SIZE }
     ensures cause { HaltCause (S.faults src.old) (S.faults src.new) result }
@@ -117,7 +118,8 @@ fn read_component<S: Source>(
     ensures read { ReadsSamples (is_wide (frame_of picture.old.shape)) start room
         (replicate (height_of picture.old c * width_of picture.old c) (2 ^ bits_of picture.old c))
         (S.rest src.old) (S.rest src.new) (shown picture.new c).cells result }
-    ensures others { (other : Component) → other ≢ c → shown picture.new other ≡ shown picture.old other }
+    ensures others { (other : Component) → other ≢ c
+        → shown picture.new other ≡ shown picture.old other }
     ensures cause { HaltCause (S.faults src.old) (S.faults src.new) result }
 {
     let wide = are_wide(picture.shape());
@@ -151,9 +153,11 @@ pub(crate) fn read_samples<S: Source>(
     room: u64,
 ) -> Result<(), Halt>
     ensures same_shape { picture.new.shape ≡ picture.old.shape }
-    ensures read { ReadsSamples (is_wide (frame_of picture.old.shape)) 0 room (sample_bounds (frame_of picture.old.shape))
+    ensures read { ReadsSamples (is_wide (frame_of picture.old.shape)) 0 room
+        (sample_bounds (frame_of picture.old.shape))
         (S.rest src.old) (S.rest src.new)
-        (picture.new.samples.luma.cells ++ (picture.new.samples.c1.cells ++ picture.new.samples.c2.cells)) result }
+        (picture.new.samples.luma.cells ++ (picture.new.samples.c1.cells
+        ++ picture.new.samples.c2.cells)) result }
     ensures cause { HaltCause (S.faults src.old) (S.faults src.new) result }
 {
     let luma = picture.samples(Component::Luma).len();

@@ -15,8 +15,10 @@ const PIECE: usize = 32768;
 
 // Writes the samples, a piece at a time.
 fn write_samples<K: Sink>(sink: &mut K, samples: &[u16], wide: bool) -> Result<(), Failed>
-    ensures ok { OnOk result (Appends (K.written sink.old) (K.written sink.new) (text_of wide samples.now)) }
-    ensures err { OnErr result (GrewShort (K.written sink.old) (K.written sink.new) (text_of wide samples.now)) }
+    ensures ok { OnOk result (Appends (K.written sink.old) (K.written sink.new)
+        (text_of wide samples.now)) }
+    ensures err { OnErr result (GrewShort (K.written sink.old) (K.written sink.new)
+        (text_of wide samples.now)) }
     ensures cause { HasCause (K.faults sink.old) (K.faults sink.new) result }
 {
     let mut buffer = [0; 2 * PIECE];
@@ -33,8 +35,10 @@ fn write_samples<K: Sink>(sink: &mut K, samples: &[u16], wide: bool) -> Result<(
 /// Writes the raw text of the picture, and takes no memory. Where a write fails, what went out before it is a front of
 /// the raw text and not the whole.
 pub fn write_picture<K: Sink>(sink: &mut K, picture: &Picture) -> Result<(), Failed>
-    ensures ok { OnOk result (Appends (K.written sink.old) (K.written sink.new) (raw_text (frame_of picture.now.shape) picture.now.samples)) }
-    ensures err { OnErr result (GrewShort (K.written sink.old) (K.written sink.new) (raw_text (frame_of picture.now.shape) picture.now.samples)) }
+    ensures ok { OnOk result (Appends (K.written sink.old) (K.written sink.new)
+        (raw_text (frame_of picture.now.shape) picture.now.samples)) }
+    ensures err { OnErr result (GrewShort (K.written sink.old) (K.written sink.new)
+        (raw_text (frame_of picture.now.shape) picture.now.samples)) }
     ensures cause { HasCause (K.faults sink.old) (K.faults sink.new) result }
 {
     let wide = are_wide(picture.shape());

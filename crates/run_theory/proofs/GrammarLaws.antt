@@ -4,7 +4,7 @@ use Rattle.bit_codes.specs.declared.CodeFault.TheVariants as codes
 use Rattle.bit_codes.specs.Bits.{Cursor, bits_of}
 use Rattle.bit_codes.proofs.BitLemmas.{length-bits}
 use Rattle.field_rows.specs.Rows.{Fault, read, is_nil}
-use Rattle.field_rows.specs.Pieces.{with_more, IsWhole}
+use Rattle.field_rows.specs.Pieces.{with_more, EndsWithAByte}
 use Rattle.field_rows.proofs.Pieces.{read-more, read-more_refused}
 use Rattle.field_rows.proofs.Answers.{found_fields}
 use Rattle.field_rows.proofs.Shorter.{Stand-shorter}
@@ -15,7 +15,7 @@ use Rattle.bit_codes.proofs.Numbers.{bits_of-append}
 pub bytes_at-append : (place : ℕ) (a b : List ℕ) → bytes_at place (a ++ b) ≡ with_more (bytes_at place a) (bits_of b)
 bytes_at-append place a b = ap (λ (t : List Bool). let c : Cursor = record { place = 8 * place; rest = t } in c) (bits_of-append a b)
 
-bytes_at-whole : (place : ℕ) (bytes : List ℕ) → IsWhole (bytes_at place bytes)
+bytes_at-whole : (place : ℕ) (bytes : List ℕ) → EndsWithAByte (bytes_at place bytes)
 bytes_at-whole place bytes = record { whole = omega (arith, length-bits bytes) }
 
 -- a unit is the same one whatever follows

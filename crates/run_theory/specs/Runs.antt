@@ -20,8 +20,8 @@ abbrev pub change : {T : Type 0} → (T → Option (List ℕ)) → (T → ℕ) �
 change told faults old new = record { was = told old; is = told new; faults_were = faults old; faults_are = faults new }
 
 -- the count of faults stands still
-abbrev pub IsSteady : Change → Type 0
-IsSteady object = object.faults_are ≡ object.faults_were
+abbrev pub HasNoNewFault : Change → Type 0
+HasNoNewFault object = object.faults_are ≡ object.faults_were
 
 -- the count of faults rose
 abbrev pub HasFailed : Change → Type 0
@@ -29,7 +29,7 @@ HasFailed object = (object.faults_were ≤ object.faults_are) × Rose object.fau
 
 -- nothing was read or written, and nothing failed
 abbrev pub IsUntouched : Change → Type 0
-IsUntouched object = (object.is ≡ object.was) × IsSteady object
+IsUntouched object = (object.is ≡ object.was) × HasNoNewFault object
 
 -- What a run leaves: it ran, took at most the limit and one byte more, each halt has its cause, and where all is done the
 -- input is over.

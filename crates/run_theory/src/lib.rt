@@ -11,8 +11,10 @@
 mod laws;
 mod refusal;
 
-pub use laws::{commands_are_machines, due_is_never_taken_back, each_input_is_one_run};
-pub use laws::{settled_stays_settled, units_stand_whatever_follows};
+pub use laws::{
+    commands_are_machines, due_is_never_taken_back, each_input_is_one_run, settled_stays_settled,
+    units_stand_whatever_follows,
+};
 pub use refusal::Refusal;
 
 /// Why a command stopped before its input was over.

@@ -16,7 +16,7 @@ use Rattle.sequence_header.specs.declared.parts.ColourField.TheVariants as colou
 use Rattle.sequence_header.specs.Header.{header_fields}
 use Rattle.sequence_header.specs.HeaderFields.{version_fields, size_fields, sampling_fields, scan_fields, rate_fields, aspect_fields, clean_fields, signal_fields, index_fields, colour_fields, coding_fields, version_of, frame_size, fields_of}
 use Rattle.sequence_header.specs.Bytes.{header_bits, header_len}
-use Rattle.sequence_header.specs.Checking.{IsLawful}
+use Rattle.sequence_header.specs.Checking.{IsLawfulHeader}
 
 few_version : (v : Version) → AreFew 5 (version_fields v)
 few_version v = record { each = (tt, (tt, (tt, (tt, (tt, tt))))); count = omega arith }
@@ -79,6 +79,6 @@ few_fields p =
     (AreFew-append 8 1 _ _ (few_colour p.colour) (few_coding p.coding)))))))))
 
 -- forty fields of at most 65 bits
-pub header_short : (p : HeaderParts) → IsLawful p → header_len p ≤ 325
+pub header_short : (p : HeaderParts) → IsLawfulHeader p → header_len p ≤ 325
 unfolding header_bits
 header_short p f = omega (arith, few_short 40 header_fields (fields_of p) (few_fields p) f.kinds)

@@ -14,7 +14,7 @@ use Rattle.sequence_header.specs.declared.parts.SignalField.{SignalField}
 use Rattle.sequence_header.specs.declared.parts.SignalField.TheVariants as signals
 use Rattle.sequence_header.specs.Header.{height_rules, size_rows, sampling_rules, sampling_rows, signal_rows, coding_rules, coding_rows}
 use Rattle.sequence_header.specs.HeaderFields.{size_fields, sampling_fields, signal_fields, coding_fields, frame_size}
-use Rattle.sequence_header.specs.Checking.{Passes}
+use Rattle.sequence_header.specs.Checking.{PassesRules}
 use Rattle.sequence_header.specs.Coding.{signal_range, picture_height, luma_size, colour_size}
 use Rattle.sequence_header.proofs.Failing.{width_fail, height_fail, sampling_fail, signal_fail, luma_fail, colour_fail, coding_fail}
 use Rattle.field_rows.proofs.Passing.{above_range, below_range}
@@ -141,7 +141,7 @@ record IsHalved (p : HeaderParts) : Type 0 where
   most : picture_height p ≤ p.height
   even : p.sampling ≡ 2 → picture_height p % 2 ≡ 0
 
-halved : (p : HeaderParts) → Passes p → IsHalved p
+halved : (p : HeaderParts) → PassesRules p → IsHalved p
 halved p q = go (eqb p.coding 1) refl
   where
     size : IsSize p.width p.height
@@ -168,13 +168,13 @@ halved p q = go (eqb p.coding 1) refl
           even = λ two. ap (λ (n : ℕ). n % 2) height ∙ even_rows (frame_size p) p.sampling (sampling_kept (frame_size p) p.sampling q.sampling) two;
         }
 
-pub luma_fits : (p : HeaderParts) → Passes p → IsSize (luma_size p).w (luma_size p).h
+pub luma_fits : (p : HeaderParts) → PassesRules p → IsSize (luma_size p).w (luma_size p).h
 luma_fits p q =
     let size = size_fits (frame_size p) q.size in
     let h = halved p q in
     smaller p.width p.height p.width (picture_height p) size size.some_columns (omega arith) h.some h.most
 
-columns : (p : HeaderParts) → Passes p → (1 ≤ (colour_size p).w) × ((colour_size p).w ≤ p.width)
+columns : (p : HeaderParts) → PassesRules p → (1 ≤ (colour_size p).w) × ((colour_size p).w ≤ p.width)
 columns p q = go (eqb p.sampling 0) refl
   where
     size : IsSize p.width p.height
@@ -188,7 +188,7 @@ columns p q = go (eqb p.sampling 0) refl
         let even : p.width % 2 ≡ 0 = even_columns (frame_size p) p.sampling (sampling_kept (frame_size p) p.sampling q.sampling) some in
         (omega (arith, w, even, size.some_columns), omega (arith, w))
 
-rows : (p : HeaderParts) → Passes p → (1 ≤ (colour_size p).h) × ((colour_size p).h ≤ p.height)
+rows : (p : HeaderParts) → PassesRules p → (1 ≤ (colour_size p).h) × ((colour_size p).h ≤ p.height)
 rows p q = go (eqb p.sampling 2) refl
   where
     half : IsHalved p
@@ -203,7 +203,7 @@ rows p q = go (eqb p.sampling 2) refl
         (halved_some (picture_height p) (colour_size p).h h even some, halved_most (picture_height p) (colour_size p).h p.height h most)
     go false e = let h : (colour_size p).h ≡ picture_height p = rw e refl in (subst (λ (n : ℕ). 1 ≤ n) (sym h) half.some, subst (λ (n : ℕ). n ≤ p.height) (sym h) half.most)
 
-pub colour_fits : (p : HeaderParts) → Passes p → IsSize (colour_size p).w (colour_size p).h
+pub colour_fits : (p : HeaderParts) → PassesRules p → IsSize (colour_size p).w (colour_size p).h
 colour_fits p q =
     let size = size_fits (frame_size p) q.size in
     let w = columns p q in

@@ -6,15 +6,15 @@ use Rattle.sequence_header.specs.declared.parts.HeaderParts.{HeaderParts}
 use Rattle.sequence_header.specs.declared.parts.HeaderReason.{HeaderReason}
 use Rattle.sequence_header.specs.Header.{version_rows, size_rows, sampling_rows, scan_rows, rate_rows, aspect_rows, clean_rows, signal_rows, colour_rows, coding_rows, header_fields}
 use Rattle.sequence_header.specs.HeaderFields.{version_fields, size_fields, sampling_fields, scan_fields, rate_fields, aspect_fields, clean_fields, signal_fields, colour_fields, coding_fields, version_of, frame_size, fields_of}
-use Rattle.sequence_header.specs.Checking.{Passes}
+use Rattle.sequence_header.specs.Checking.{PassesRules}
 
-pub header_pass : (p : HeaderParts) → Passes p → Pass header_fields (fields_of p) p
+pub header_pass : (p : HeaderParts) → PassesRules p → Pass header_fields (fields_of p) p
 unfolding header_fields fields_of
 header_pass p q =
     Pass-bind _ _ _ _ _ _ q.version (Pass-bind _ _ _ _ _ _ q.size (Pass-bind _ _ _ _ _ _ q.sampling (Pass-bind _ _ _ _ _ _ q.scan (Pass-bind _ _ _ _ _ _ q.rate
     (Pass-bind _ _ _ _ _ _ q.aspect (Pass-bind _ _ _ _ _ _ q.clean (Pass-bind _ _ _ _ _ _ q.signal (Pass-bind _ _ _ _ _ _ q.colour (Pass-then _ _ _ _ _ _ q.coding (Pass-done _))))))))))
 
-pub passed_whole : (p : HeaderParts) → Passes p → checked header_fields (fields_of p) ≡ Ok (p, [])
+pub passed_whole : (p : HeaderParts) → PassesRules p → checked header_fields (fields_of p) ≡ Ok (p, [])
 passed_whole p q = passed_alone header_fields (fields_of p) p (header_pass p q)
 
 -- ---- the first group that fails

@@ -9,8 +9,8 @@ use Rattle.field_rows.proofs.Filled.{bits_of-filled}
 use Rattle.sequence_header.specs.declared.parts.HeaderParts.{HeaderParts}
 use Rattle.sequence_header.specs.Header.{reason_of, version_rows, size_rows, sampling_rows, scan_rows, rate_rows, aspect_rows, clean_rows, signal_rows, colour_rows, coding_rows, header_fields, header_rows}
 use Rattle.sequence_header.specs.HeaderFields.{version_fields, size_fields, sampling_fields, scan_fields, rate_fields, aspect_fields, clean_fields, signal_fields, colour_fields, coding_fields, version_of, frame_size, fields_of}
-use Rattle.sequence_header.specs.Checking.{Passes, IsLawful}
-use Rattle.sequence_header.specs.Bytes.{header_bits, header_bytes, IsReadBack}
+use Rattle.sequence_header.specs.Checking.{PassesRules, IsLawfulHeader}
+use Rattle.sequence_header.specs.Bytes.{header_bits, header_bytes, IsHeaderReadBack}
 use Rattle.sequence_header.proofs.Whole.{header_pass}
 
 -- the fields of all groups are of their rows' kinds
@@ -26,14 +26,14 @@ pub record HaveKinds (p : HeaderParts) : Type 0 where
   pub colour : AreOfKind colour_rows (colour_fields p.colour)
   pub coding : AreOfKind (coding_rows (frame_size p) p.sampling) (coding_fields p.coding)
 
-pub header_kinds : (p : HeaderParts) → Passes p → HaveKinds p → AreOfKind header_fields (fields_of p)
+pub header_kinds : (p : HeaderParts) → PassesRules p → HaveKinds p → AreOfKind header_fields (fields_of p)
 unfolding header_fields fields_of
 header_kinds p q k =
     kinds-bind _ _ _ _ _ q.version k.version (kinds-bind _ _ _ _ _ q.size k.size (kinds-bind _ _ _ _ _ q.sampling k.sampling (kinds-bind _ _ _ _ _ q.scan k.scan (kinds-bind _ _ _ _ _ q.rate k.rate
     (kinds-bind _ _ _ _ _ q.aspect k.aspect (kinds-bind _ _ _ _ _ q.clean k.clean (kinds-bind _ _ _ _ _ q.signal k.signal (kinds-bind _ _ _ _ _ q.colour k.colour (kinds-bind _ _ _ [] _ q.coding k.coding refl)))))))))
 
 -- a header that is written is read back
-pub header_back : (p : HeaderParts) → IsLawful p → IsReadBack (header_bytes p) p
+pub header_back : (p : HeaderParts) → IsLawfulHeader p → IsHeaderReadBack (header_bytes p) p
 unfolding header_rows header_bits
 header_back p f = λ more. Pass-read_bytes reason_of header_fields (fields_of p) p (header_bytes p) more (header_pass p f.passes) f.kinds (bits_of-filled (header_bits p))
 

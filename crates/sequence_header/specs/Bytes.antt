@@ -24,6 +24,6 @@ abbrev pub header_bytes : HeaderParts → List ℕ
 header_bytes p = bytes_of (header_text p)
 
 -- The bytes are read whole, as this header, whatever bytes follow.
-abbrev pub IsReadBack : List ℕ → HeaderParts → Type 0
-IsReadBack bytes p = (more : List ℕ) → read reason_of header_rows (cursor_at (bytes ++ more) 0)
+abbrev pub IsHeaderReadBack : List ℕ → HeaderParts → Type 0
+IsHeaderReadBack bytes p = (more : List ℕ) → read reason_of header_rows (cursor_at (bytes ++ more) 0)
     ≡ Ok (p, cursor_at (bytes ++ more) (8 * length bytes))

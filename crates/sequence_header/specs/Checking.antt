@@ -16,7 +16,7 @@ use Rattle.sequence_header.specs.Header.{version_rows, size_rows, sampling_rows,
 use Rattle.sequence_header.specs.HeaderFields.{version_fields, size_fields, sampling_fields, scan_fields, rate_fields, aspect_fields, clean_fields, signal_fields, colour_fields, coding_fields, version_of, frame_size, fields_of}
 
 -- Each group of the parts passes its rows. These are all rules of the header.
-pub record Passes (p : HeaderParts) : Type 0 where
+pub record PassesRules (p : HeaderParts) : Type 0 where
   pub version : Pass version_rows (version_fields (version_of p)) (version_of p)
   pub size : Pass size_rows (size_fields (frame_size p)) (frame_size p)
   pub sampling : Pass (sampling_rows (frame_size p)) (sampling_fields p.sampling) p.sampling
@@ -29,8 +29,8 @@ pub record Passes (p : HeaderParts) : Type 0 where
   pub coding : Pass (coding_rows (frame_size p) p.sampling) (coding_fields p.coding) p.coding
 
 -- Parts that are written as they are read: they pass every rule, and each number is one that a field holds.
-pub record IsLawful (p : HeaderParts) : Type 0 where
-  pub passes : Passes p
+pub record IsLawfulHeader (p : HeaderParts) : Type 0 where
+  pub passes : PassesRules p
   pub kinds : AreOfKind header_fields (fields_of p)
 
 -- an index of aspect or colour announces no numbers

@@ -28,8 +28,8 @@ reason_of codes.Short = Truncated
 reason_of codes.TooLarge = NumberTooLarge
 
 -- a fault as rows have it
-abbrev pub fault_of : HeaderFault → Fault HeaderReason
-fault_of f = record { place = f.bit; reason = f.reason }
+abbrev pub header_fault : HeaderFault → Fault HeaderReason
+header_fault f = record { place = f.bit; reason = f.reason }
 
 -- parse_parameters (11.2), and the base video format (11.3)
 unfoldable pub version_rows : Rows HeaderReason Version

@@ -22,7 +22,9 @@ fn check_within(value: u32, low: u32, high: u32, reason: HeaderReason) -> Result
 }
 
 pub fn check_version(major: u32, minor: u32, level: u32) -> Result<(), HeaderReason>
-    ensures { Checks result version_rows (version_fields (record { major = major; minor = minor; level = level })) (record { major = major; minor = minor; level = level }) }
+    ensures { Checks result version_rows (version_fields
+        (record { major = major; minor = minor; level = level }))
+        (record { major = major; minor = minor; level = level }) }
 {
     check_within(major, 1, 2, HeaderReason::VersionRefused)
 }

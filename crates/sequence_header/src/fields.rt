@@ -2,7 +2,7 @@
 
 ghost use Rattle.std.specs.Prelude.{◌≡◌, ◌<◌, ◌≤◌, IfOk};
 ghost use Rattle.field_rows.specs.Rows.{Gives, read, number, within, flag, flag_set};
-ghost use Rattle.sequence_header.specs.Header.{reason_of, fault_of};
+ghost use Rattle.sequence_header.specs.Header.{reason_of, header_fault};
 
 use crate::parts::{HeaderFault, HeaderReason};
 use bit_codes::{BitReader, CodeFault};
@@ -21,7 +21,7 @@ fn fault_at(bit: u64, fault: CodeFault) -> HeaderFault
 /// Any number.
 #[tactic(auto, using(field_rows::proofs::Reading::asking))]
 pub fn number(r: &mut BitReader<'_>) -> Result<u32, HeaderFault>
-    ensures { Gives (λ v. v) fault_of result r.new (read reason_of number r.old) }
+    ensures { Gives (λ v. v) header_fault result r.new (read reason_of number r.old) }
 {
     let bit = r.place();
     match r.uint() {
@@ -38,7 +38,8 @@ pub fn number_within(
     high: u32,
     reason: HeaderReason,
 ) -> Result<u32, HeaderFault>
-    ensures read { Gives (λ v. v) fault_of result r.new (read reason_of (within low high reason) r.old) }
+    ensures read { Gives (λ v. v) header_fault result r.new
+        (read reason_of (within low high reason) r.old) }
     ensures range { IfOk result (λ v. (low ≤ v) × (v ≤ high)) }
 {
     let bit = r.place();
@@ -52,7 +53,7 @@ pub fn number_within(
 /// Any flag.
 #[tactic(auto, using(field_rows::proofs::Reading::asking))]
 pub fn flag(r: &mut BitReader<'_>) -> Result<bool, HeaderFault>
-    ensures { Gives (λ b. b) fault_of result r.new (read reason_of flag r.old) }
+    ensures { Gives (λ b. b) header_fault result r.new (read reason_of flag r.old) }
 {
     let bit = r.place();
     match r.flag() {
@@ -67,7 +68,7 @@ pub fn flag(r: &mut BitReader<'_>) -> Result<bool, HeaderFault>
 /// A flag that is 1.
 #[tactic(auto, using(field_rows::proofs::Reading::asking))]
 pub fn flag_set(r: &mut BitReader<'_>, reason: HeaderReason) -> Result<bool, HeaderFault>
-    ensures { Gives (λ b. b) fault_of result r.new (read reason_of (flag_set reason) r.old) }
+    ensures { Gives (λ b. b) header_fault result r.new (read reason_of (flag_set reason) r.old) }
 {
     let bit = r.place();
     match r.flag() {

@@ -27,13 +27,13 @@ pub struct SequenceHeader {
 
 impl Model for SequenceHeader {
     ghost use Rattle.sequence_header.specs.declared.parts.HeaderParts.{HeaderParts};
-    ghost use Rattle.sequence_header.specs.Checking.{Passes};
+    ghost use Rattle.sequence_header.specs.Checking.{PassesRules};
 
     ghost Value = { HeaderParts };
 
     ghost view = { λ h. h.parts };
 
-    ghost invariant = { λ h. Passes h.parts };
+    ghost invariant = { λ h. PassesRules h.parts };
 
     ghost inverse = { λ p. record { parts = p } };
 }
@@ -44,10 +44,10 @@ impl SequenceHeader {
     ghost use Rattle.field_rows.specs.Rows.{GivesOf, read};
     ghost use Rattle.field_rows.specs.Given.{checked};
     ghost use Rattle.sequence_header.specs.HeaderFields.{fields_of};
-    ghost use Rattle.sequence_header.specs.Header.{reason_of, fault_of, header_fields, header_rows};
+    ghost use Rattle.sequence_header.specs.Header.{reason_of, header_fault, header_fields, header_rows};
     ghost use Rattle.sequence_header.specs.Coding.{IsShapeOf};
-    ghost use Rattle.sequence_header.specs.Bytes.{header_len, header_text, header_bytes, IsReadBack};
-    ghost use Rattle.sequence_header.specs.Checking.{IsCheckOf, IsLawful, HasAspectIndex, HasColourIndex};
+    ghost use Rattle.sequence_header.specs.Bytes.{header_len, header_text, header_bytes, IsHeaderReadBack};
+    ghost use Rattle.sequence_header.specs.Checking.{IsCheckOf, IsLawfulHeader, HasAspectIndex, HasColourIndex};
 
     /// The header of these parts, or the first rule that they break, in field order.
     ///
@@ -75,7 +75,8 @@ impl SequenceHeader {
     /// the last byte's end are skipped, and what follows isn't looked at.
     pub fn read(bytes: &[u8]) -> Result<(SequenceHeader, usize), HeaderFault>
         requires { length bytes.now ≤ 2 ^ 40 }
-        ensures exact { GivesOf (λ h. h) fault_of result bytes.now (read reason_of header_rows (cursor_at bytes.now 0)) }
+        ensures exact { GivesOf (λ h. h) header_fault result bytes.now
+            (read reason_of header_rows (cursor_at bytes.now 0)) }
         ensures within { IfErr result (λ f. f.bit ≤ 8 * length bytes.now) }
     {
         let (parts, length) = read_parts(bytes)?;
@@ -86,7 +87,7 @@ impl SequenceHeader {
     pub fn parts(&self) -> &HeaderParts
         ensures value { result.now ≡ self.now }
         ensures passes { checked header_fields (fields_of self.now) ≡ Ok (self.now, []) }
-        ensures lawful { IsLawful self.now }
+        ensures lawful { IsLawfulHeader self.now }
     {
         prove!(self.byte_len() <= 237);
         &self.parts
@@ -110,7 +111,7 @@ impl SequenceHeader {
     pub fn byte_len(&self) -> usize
         ensures length { result ≡ header_len self.now }
         ensures most { result ≤ 237 }
-        ensures lawful { IsLawful self.now }
+        ensures lawful { IsLawfulHeader self.now }
     {
         let parts = &self.parts;
         let bits = version_bits(parts.major, parts.minor, parts.level)
@@ -131,7 +132,7 @@ impl SequenceHeader {
     pub fn write(&self, bytes: &mut [u8])
         requires { length bytes.old ≡ header_len self.now }
         ensures bytes { bytes.new ≡ header_bytes self.now }
-        ensures read_back { IsReadBack bytes.new self.now }
+        ensures read_back { IsHeaderReadBack bytes.new self.now }
     {
         let length = self.byte_len();
         prove!(bytes.len() == length);

@@ -12,9 +12,11 @@ use slice_geometry::Size;
 
 #[tactic(auto, using(field_rows::proofs::Written::writing, crate::proofs::Sums::zero_bits))]
 pub fn version_bits(major: u32, minor: u32, level: u32) -> u32
-    ensures length { result ≡ length (written (version_fields (record { major = major; minor = minor; level = level }))) }
+    ensures length { result ≡ length (written (version_fields
+        (record { major = major; minor = minor; level = level }))) }
     ensures most { result ≤ 197 }
-    ensures kinds { AreOfKind version_rows (version_fields (record { major = major; minor = minor; level = level })) }
+    ensures kinds { AreOfKind version_rows (version_fields
+        (record { major = major; minor = minor; level = level })) }
 {
     uint_len(major) + uint_len(minor) + uint_len(level) + 2
 }
@@ -146,7 +148,8 @@ pub fn colour_bits(colour: ColourField) -> u32
 pub fn coding_bits(coding: u32) -> u32
     ensures length { result ≡ length (written (coding_fields coding)) }
     ensures most { result ≤ 65 }
-    ensures kinds { (size : Size) (sampling : ℕ) → AreOfKind (coding_rows size sampling) (coding_fields coding) }
+    ensures kinds { (size : Size) (sampling : ℕ)
+        → AreOfKind (coding_rows size sampling) (coding_fields coding) }
 {
     uint_len(coding)
 }

@@ -5,8 +5,8 @@ ghost use Rattle.bit_codes.specs.Bits.{cursor_at};
 ghost use Rattle.field_rows.specs.Rows.{Gives, GivesOf, read, number_under, first_broken};
 ghost use Rattle.field_rows.specs.Given.{Pass};
 ghost use Rattle.sequence_header.specs.HeaderFields.{version_fields, size_fields, sampling_fields, scan_fields, rate_fields, aspect_fields, clean_fields, signal_fields, index_fields, colour_fields, coding_fields};
-ghost use Rattle.sequence_header.specs.Checking.{Passes};
-ghost use Rattle.sequence_header.specs.Header.{reason_of, fault_of, version_rows, height_rules, size_rows, sampling_rules, sampling_rows, scan_rows, rate_rows, aspect_rows, clean_rows, excursion, signal_rows, flagged_index, colour_rows, coding_rows, header_fields, header_rows};
+ghost use Rattle.sequence_header.specs.Checking.{PassesRules};
+ghost use Rattle.sequence_header.specs.Header.{reason_of, header_fault, version_rows, height_rules, size_rows, sampling_rules, sampling_rows, scan_rows, rate_rows, aspect_rows, clean_rows, excursion, signal_rows, flagged_index, colour_rows, coding_rows, header_fields, header_rows};
 
 use crate::fields::{flag, flag_set, number, number_within};
 use crate::parts::*;
@@ -16,7 +16,7 @@ use slice_geometry::Size;
 
 #[tactic(auto, using(field_rows::proofs::Reading::reading, crate::proofs::Groups::version_pass), unfolding(crate::specs::Header::version_rows))]
 fn version(r: &mut BitReader<'_>) -> Result<Version, HeaderFault>
-    ensures read { Gives (λ v. v) fault_of result r.new (read reason_of version_rows r.old) }
+    ensures read { Gives (λ v. v) header_fault result r.new (read reason_of version_rows r.old) }
     ensures passes { IfOk result (λ v. Pass version_rows (version_fields v) v) }
 {
     let major = number_within(r, 1, 2, HeaderReason::VersionRefused)?;
@@ -33,7 +33,8 @@ fn version(r: &mut BitReader<'_>) -> Result<Version, HeaderFault>
 
 #[tactic(auto, using(field_rows::proofs::Reading::asking))]
 fn height(r: &mut BitReader<'_>, width: u32) -> Result<u32, HeaderFault>
-    ensures read { Gives (λ v. v) fault_of result r.new (read reason_of (number_under (height_rules width)) r.old) }
+    ensures read { Gives (λ v. v) header_fault result r.new
+        (read reason_of (number_under (height_rules width)) r.old) }
     ensures passed { IfOk result (λ v. first_broken (height_rules width v) ≡ None) }
 {
     let bit = r.place();
@@ -46,7 +47,7 @@ fn height(r: &mut BitReader<'_>, width: u32) -> Result<u32, HeaderFault>
 
 #[tactic(auto, using(field_rows::proofs::Reading::reading, crate::proofs::Groups::size_pass), unfolding(crate::specs::Header::size_rows))]
 fn size(r: &mut BitReader<'_>) -> Result<Size, HeaderFault>
-    ensures read { Gives (λ v. v) fault_of result r.new (read reason_of size_rows r.old) }
+    ensures read { Gives (λ v. v) header_fault result r.new (read reason_of size_rows r.old) }
     ensures passes { IfOk result (λ v. Pass size_rows (size_fields v) v) }
 {
     flag_set(r, HeaderReason::DefaultTaken(FieldName::Size))?;
@@ -60,7 +61,8 @@ fn size(r: &mut BitReader<'_>) -> Result<Size, HeaderFault>
 
 #[tactic(auto, using(field_rows::proofs::Reading::asking))]
 fn sampling_index(r: &mut BitReader<'_>, size: Size) -> Result<u32, HeaderFault>
-    ensures read { Gives (λ v. v) fault_of result r.new (read reason_of (number_under (sampling_rules size)) r.old) }
+    ensures read { Gives (λ v. v) header_fault result r.new
+        (read reason_of (number_under (sampling_rules size)) r.old) }
     ensures passed { IfOk result (λ v. first_broken (sampling_rules size v) ≡ None) }
 {
     let bit = r.place();
@@ -73,7 +75,8 @@ fn sampling_index(r: &mut BitReader<'_>, size: Size) -> Result<u32, HeaderFault>
 
 #[tactic(auto, using(field_rows::proofs::Reading::reading, crate::proofs::Groups::sampling_pass), unfolding(crate::specs::Header::sampling_rows))]
 fn sampling(r: &mut BitReader<'_>, size: Size) -> Result<u32, HeaderFault>
-    ensures read { Gives (λ v. v) fault_of result r.new (read reason_of (sampling_rows size) r.old) }
+    ensures read { Gives (λ v. v) header_fault result r.new
+        (read reason_of (sampling_rows size) r.old) }
     ensures passes { IfOk result (λ v. Pass (sampling_rows size) (sampling_fields v) v) }
 {
     flag_set(r, HeaderReason::DefaultTaken(FieldName::Sampling))?;
@@ -83,7 +86,7 @@ fn sampling(r: &mut BitReader<'_>, size: Size) -> Result<u32, HeaderFault>
 
 #[tactic(auto, using(field_rows::proofs::Reading::reading, crate::proofs::Groups::scan_passes), unfolding(crate::specs::Header::scan_rows))]
 fn scan(r: &mut BitReader<'_>) -> Result<Option<u32>, HeaderFault>
-    ensures read { Gives (λ v. v) fault_of result r.new (read reason_of scan_rows r.old) }
+    ensures read { Gives (λ v. v) header_fault result r.new (read reason_of scan_rows r.old) }
     ensures passes { IfOk result (λ v. Pass scan_rows (scan_fields v) v) }
 {
     if !flag(r)? {
@@ -95,7 +98,7 @@ fn scan(r: &mut BitReader<'_>) -> Result<Option<u32>, HeaderFault>
 
 #[tactic(auto, using(field_rows::proofs::Reading::reading, crate::proofs::Groups::rate_passes), unfolding(crate::specs::Header::rate_rows))]
 fn rate(r: &mut BitReader<'_>) -> Result<RateField, HeaderFault>
-    ensures read { Gives (λ v. v) fault_of result r.new (read reason_of rate_rows r.old) }
+    ensures read { Gives (λ v. v) header_fault result r.new (read reason_of rate_rows r.old) }
     ensures passes { IfOk result (λ v. Pass rate_rows (rate_fields v) v) }
 {
     flag_set(r, HeaderReason::DefaultTaken(FieldName::Rate))?;
@@ -110,7 +113,7 @@ fn rate(r: &mut BitReader<'_>) -> Result<RateField, HeaderFault>
 
 #[tactic(auto, using(field_rows::proofs::Reading::reading, crate::proofs::Groups::aspect_passes), unfolding(crate::specs::Header::aspect_rows))]
 fn aspect(r: &mut BitReader<'_>) -> Result<AspectField, HeaderFault>
-    ensures read { Gives (λ v. v) fault_of result r.new (read reason_of aspect_rows r.old) }
+    ensures read { Gives (λ v. v) header_fault result r.new (read reason_of aspect_rows r.old) }
     ensures passes { IfOk result (λ v. Pass aspect_rows (aspect_fields v) v) }
 {
     if !flag(r)? {
@@ -127,7 +130,7 @@ fn aspect(r: &mut BitReader<'_>) -> Result<AspectField, HeaderFault>
 
 #[tactic(auto, using(field_rows::proofs::Reading::reading, crate::proofs::Groups::clean_passes), unfolding(crate::specs::Header::clean_rows))]
 fn clean(r: &mut BitReader<'_>) -> Result<Option<CleanArea>, HeaderFault>
-    ensures read { Gives (λ v. v) fault_of result r.new (read reason_of clean_rows r.old) }
+    ensures read { Gives (λ v. v) header_fault result r.new (read reason_of clean_rows r.old) }
     ensures passes { IfOk result (λ v. Pass clean_rows (clean_fields v) v) }
 {
     if !flag(r)? {
@@ -147,7 +150,7 @@ fn clean(r: &mut BitReader<'_>) -> Result<Option<CleanArea>, HeaderFault>
 
 #[tactic(auto, using(field_rows::proofs::Reading::reading, crate::proofs::Groups::signal_passes), unfolding(crate::specs::Header::signal_rows, crate::specs::Header::excursion))]
 fn signal(r: &mut BitReader<'_>) -> Result<SignalField, HeaderFault>
-    ensures read { Gives (λ v. v) fault_of result r.new (read reason_of signal_rows r.old) }
+    ensures read { Gives (λ v. v) header_fault result r.new (read reason_of signal_rows r.old) }
     ensures passes { IfOk result (λ v. Pass signal_rows (signal_fields v) v) }
 {
     flag_set(r, HeaderReason::DefaultTaken(FieldName::Signal))?;
@@ -169,7 +172,7 @@ fn signal(r: &mut BitReader<'_>) -> Result<SignalField, HeaderFault>
 
 #[tactic(auto, using(field_rows::proofs::Reading::reading, crate::proofs::Groups::index_passes), unfolding(crate::specs::Header::flagged_index))]
 fn index_behind_flag(r: &mut BitReader<'_>) -> Result<Option<u32>, HeaderFault>
-    ensures read { Gives (λ v. v) fault_of result r.new (read reason_of flagged_index r.old) }
+    ensures read { Gives (λ v. v) header_fault result r.new (read reason_of flagged_index r.old) }
     ensures passes { IfOk result (λ v. Pass flagged_index (index_fields v) v) }
 {
     if !flag(r)? {
@@ -181,7 +184,7 @@ fn index_behind_flag(r: &mut BitReader<'_>) -> Result<Option<u32>, HeaderFault>
 
 #[tactic(auto, using(field_rows::proofs::Reading::reading, crate::proofs::Groups::colour_passes), unfolding(crate::specs::Header::colour_rows))]
 fn colour(r: &mut BitReader<'_>) -> Result<ColourField, HeaderFault>
-    ensures read { Gives (λ v. v) fault_of result r.new (read reason_of colour_rows r.old) }
+    ensures read { Gives (λ v. v) header_fault result r.new (read reason_of colour_rows r.old) }
     ensures passes { IfOk result (λ v. Pass colour_rows (colour_fields v) v) }
 {
     if !flag(r)? {
@@ -203,7 +206,8 @@ fn colour(r: &mut BitReader<'_>) -> Result<ColourField, HeaderFault>
 
 #[tactic(auto, using(field_rows::proofs::Reading::asking, crate::proofs::Groups::coding_pass), unfolding(crate::specs::Header::coding_rows))]
 fn coding(r: &mut BitReader<'_>, size: Size, sampling: u32) -> Result<u32, HeaderFault>
-    ensures read { Gives (λ v. v) fault_of result r.new (read reason_of (coding_rows size sampling) r.old) }
+    ensures read { Gives (λ v. v) header_fault result r.new
+        (read reason_of (coding_rows size sampling) r.old) }
     ensures passes { IfOk result (λ v. Pass (coding_rows size sampling) (coding_fields v) v) }
 {
     let bit = r.place();
@@ -216,8 +220,8 @@ fn coding(r: &mut BitReader<'_>, size: Size, sampling: u32) -> Result<u32, Heade
 
 #[tactic(auto, using(field_rows::proofs::Reading::reading), unfolding(crate::specs::Header::header_fields))]
 fn header(r: &mut BitReader<'_>) -> Result<HeaderParts, HeaderFault>
-    ensures read { Gives (λ v. v) fault_of result r.new (read reason_of header_fields r.old) }
-    ensures passes { IfOk result (λ p. Passes p) }
+    ensures read { Gives (λ v. v) header_fault result r.new (read reason_of header_fields r.old) }
+    ensures passes { IfOk result (λ p. PassesRules p) }
 {
     let version = version(r)?;
     let size = size(r)?;
@@ -249,8 +253,9 @@ fn header(r: &mut BitReader<'_>) -> Result<HeaderParts, HeaderFault>
 /// The parts of the header at the front of bytes, and its length in bytes. They pass every rule.
 pub fn read_parts(bytes: &[u8]) -> Result<(HeaderParts, usize), HeaderFault>
     requires { length bytes.now ≤ 2 ^ 40 }
-    ensures passes { IfOk result (λ x. Passes x.0) }
-    ensures exact { GivesOf (λ x. x) fault_of result bytes.now (read reason_of header_rows (cursor_at bytes.now 0)) }
+    ensures passes { IfOk result (λ x. PassesRules x.0) }
+    ensures exact { GivesOf (λ x. x) header_fault result bytes.now
+        (read reason_of header_rows (cursor_at bytes.now 0)) }
     ensures within { IfErr result (λ f. f.bit ≤ 8 * length bytes.now) }
 {
     let mut r = BitReader::new(bytes);

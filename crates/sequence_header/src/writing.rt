@@ -13,10 +13,16 @@ use slice_geometry::Size;
 /// Versions, profile 0, the level and base video format 0.
 #[tactic(auto, using(field_rows::proofs::Written::writing))]
 pub fn put_version(w: &mut BitWriter<'_>, major: u32, minor: u32, level: u32)
-    requires { w.old.place + length (written (version_fields (record { major = major; minor = minor; level = level }))) ≤ 8 * length w.old.bytes.now }
+    requires { w.old.place + length (written
+        (version_fields (record { major = major; minor = minor; level = level })))
+        ≤ 8 * length w.old.bytes.now }
     ensures same_reference { w.new.bytes.ghost_name ≡ w.old.bytes.ghost_name }
-    ensures place { w.new.place ≡ w.old.place + length (written (version_fields (record { major = major; minor = minor; level = level }))) }
-    ensures written { bits_before w.new.place w.new.bytes.now ≡ bits_before w.old.place w.old.bytes.now ++ written (version_fields (record { major = major; minor = minor; level = level })) }
+    ensures place { w.new.place
+        ≡ w.old.place + length (written (version_fields
+        (record { major = major; minor = minor; level = level }))) }
+    ensures written { bits_before w.new.place w.new.bytes.now
+        ≡ bits_before w.old.place w.old.bytes.now
+        ++ written (version_fields (record { major = major; minor = minor; level = level })) }
     ensures room { length w.new.bytes.now ≡ length w.old.bytes.now }
 {
     w.put_uint(major);
@@ -29,10 +35,14 @@ pub fn put_version(w: &mut BitWriter<'_>, major: u32, minor: u32, level: u32)
 /// A frame's size.
 #[tactic(auto, using(field_rows::proofs::Written::writing))]
 pub fn put_size(w: &mut BitWriter<'_>, width: u32, height: u32)
-    requires { w.old.place + length (written (size_fields (record { w = width; h = height }))) ≤ 8 * length w.old.bytes.now }
+    requires { w.old.place + length (written (size_fields (record { w = width; h = height })))
+        ≤ 8 * length w.old.bytes.now }
     ensures same_reference { w.new.bytes.ghost_name ≡ w.old.bytes.ghost_name }
-    ensures place { w.new.place ≡ w.old.place + length (written (size_fields (record { w = width; h = height }))) }
-    ensures written { bits_before w.new.place w.new.bytes.now ≡ bits_before w.old.place w.old.bytes.now ++ written (size_fields (record { w = width; h = height })) }
+    ensures place { w.new.place
+        ≡ w.old.place + length (written (size_fields (record { w = width; h = height }))) }
+    ensures written { bits_before w.new.place w.new.bytes.now
+        ≡ bits_before w.old.place w.old.bytes.now
+        ++ written (size_fields (record { w = width; h = height })) }
     ensures room { length w.new.bytes.now ≡ length w.old.bytes.now }
 {
     w.put_flag(true);
@@ -46,7 +56,8 @@ pub fn put_sampling(w: &mut BitWriter<'_>, index: u32)
     requires { w.old.place + length (written (sampling_fields index)) ≤ 8 * length w.old.bytes.now }
     ensures same_reference { w.new.bytes.ghost_name ≡ w.old.bytes.ghost_name }
     ensures place { w.new.place ≡ w.old.place + length (written (sampling_fields index)) }
-    ensures written { bits_before w.new.place w.new.bytes.now ≡ bits_before w.old.place w.old.bytes.now ++ written (sampling_fields index) }
+    ensures written { bits_before w.new.place w.new.bytes.now
+        ≡ bits_before w.old.place w.old.bytes.now ++ written (sampling_fields index) }
     ensures room { length w.new.bytes.now ≡ length w.old.bytes.now }
 {
     w.put_flag(true);
@@ -59,7 +70,8 @@ pub fn put_scan(w: &mut BitWriter<'_>, scan: Option<u32>)
     requires { w.old.place + length (written (scan_fields scan)) ≤ 8 * length w.old.bytes.now }
     ensures same_reference { w.new.bytes.ghost_name ≡ w.old.bytes.ghost_name }
     ensures place { w.new.place ≡ w.old.place + length (written (scan_fields scan)) }
-    ensures written { bits_before w.new.place w.new.bytes.now ≡ bits_before w.old.place w.old.bytes.now ++ written (scan_fields scan) }
+    ensures written { bits_before w.new.place w.new.bytes.now
+        ≡ bits_before w.old.place w.old.bytes.now ++ written (scan_fields scan) }
     ensures room { length w.new.bytes.now ≡ length w.old.bytes.now }
 {
     let Some(index) = scan else {
@@ -74,10 +86,12 @@ pub fn put_scan(w: &mut BitWriter<'_>, scan: Option<u32>)
 #[tactic(auto, using(field_rows::proofs::Written::writing))]
 pub fn put_rate(w: &mut BitWriter<'_>, rate: RateField)
     requires index { HasRateIndex rate }
-    requires inside { w.old.place + length (written (rate_fields rate)) ≤ 8 * length w.old.bytes.now }
+    requires inside { w.old.place + length (written (rate_fields rate))
+        ≤ 8 * length w.old.bytes.now }
     ensures same_reference { w.new.bytes.ghost_name ≡ w.old.bytes.ghost_name }
     ensures place { w.new.place ≡ w.old.place + length (written (rate_fields rate)) }
-    ensures written { bits_before w.new.place w.new.bytes.now ≡ bits_before w.old.place w.old.bytes.now ++ written (rate_fields rate) }
+    ensures written { bits_before w.new.place w.new.bytes.now
+        ≡ bits_before w.old.place w.old.bytes.now ++ written (rate_fields rate) }
     ensures room { length w.new.bytes.now ≡ length w.old.bytes.now }
 {
     w.put_flag(true);
@@ -97,7 +111,8 @@ pub fn put_aspect(w: &mut BitWriter<'_>, aspect: AspectField)
     requires { w.old.place + length (written (aspect_fields aspect)) ≤ 8 * length w.old.bytes.now }
     ensures same_reference { w.new.bytes.ghost_name ≡ w.old.bytes.ghost_name }
     ensures place { w.new.place ≡ w.old.place + length (written (aspect_fields aspect)) }
-    ensures written { bits_before w.new.place w.new.bytes.now ≡ bits_before w.old.place w.old.bytes.now ++ written (aspect_fields aspect) }
+    ensures written { bits_before w.new.place w.new.bytes.now
+        ≡ bits_before w.old.place w.old.bytes.now ++ written (aspect_fields aspect) }
     ensures room { length w.new.bytes.now ≡ length w.old.bytes.now }
 {
     match aspect {
@@ -121,7 +136,8 @@ pub fn put_clean(w: &mut BitWriter<'_>, clean: Option<CleanArea>)
     requires { w.old.place + length (written (clean_fields clean)) ≤ 8 * length w.old.bytes.now }
     ensures same_reference { w.new.bytes.ghost_name ≡ w.old.bytes.ghost_name }
     ensures place { w.new.place ≡ w.old.place + length (written (clean_fields clean)) }
-    ensures written { bits_before w.new.place w.new.bytes.now ≡ bits_before w.old.place w.old.bytes.now ++ written (clean_fields clean) }
+    ensures written { bits_before w.new.place w.new.bytes.now
+        ≡ bits_before w.old.place w.old.bytes.now ++ written (clean_fields clean) }
     ensures room { length w.new.bytes.now ≡ length w.old.bytes.now }
 {
     let Some(area) = clean else {
@@ -139,10 +155,12 @@ pub fn put_clean(w: &mut BitWriter<'_>, clean: Option<CleanArea>)
 #[tactic(auto, using(field_rows::proofs::Written::writing))]
 pub fn put_signal(w: &mut BitWriter<'_>, signal: SignalField)
     requires index { HasSignalIndex signal }
-    requires inside { w.old.place + length (written (signal_fields signal)) ≤ 8 * length w.old.bytes.now }
+    requires inside { w.old.place + length (written (signal_fields signal))
+        ≤ 8 * length w.old.bytes.now }
     ensures same_reference { w.new.bytes.ghost_name ≡ w.old.bytes.ghost_name }
     ensures place { w.new.place ≡ w.old.place + length (written (signal_fields signal)) }
-    ensures written { bits_before w.new.place w.new.bytes.now ≡ bits_before w.old.place w.old.bytes.now ++ written (signal_fields signal) }
+    ensures written { bits_before w.new.place w.new.bytes.now
+        ≡ bits_before w.old.place w.old.bytes.now ++ written (signal_fields signal) }
     ensures room { length w.new.bytes.now ≡ length w.old.bytes.now }
 {
     w.put_flag(true);
@@ -164,7 +182,8 @@ fn put_index(w: &mut BitWriter<'_>, index: Option<u32>)
     requires { w.old.place + length (written (index_fields index)) ≤ 8 * length w.old.bytes.now }
     ensures same_reference { w.new.bytes.ghost_name ≡ w.old.bytes.ghost_name }
     ensures place { w.new.place ≡ w.old.place + length (written (index_fields index)) }
-    ensures written { bits_before w.new.place w.new.bytes.now ≡ bits_before w.old.place w.old.bytes.now ++ written (index_fields index) }
+    ensures written { bits_before w.new.place w.new.bytes.now
+        ≡ bits_before w.old.place w.old.bytes.now ++ written (index_fields index) }
     ensures room { length w.new.bytes.now ≡ length w.old.bytes.now }
 {
     let Some(index) = index else {
@@ -181,7 +200,8 @@ pub fn put_colour(w: &mut BitWriter<'_>, colour: ColourField)
     requires { w.old.place + length (written (colour_fields colour)) ≤ 8 * length w.old.bytes.now }
     ensures same_reference { w.new.bytes.ghost_name ≡ w.old.bytes.ghost_name }
     ensures place { w.new.place ≡ w.old.place + length (written (colour_fields colour)) }
-    ensures written { bits_before w.new.place w.new.bytes.now ≡ bits_before w.old.place w.old.bytes.now ++ written (colour_fields colour) }
+    ensures written { bits_before w.new.place w.new.bytes.now
+        ≡ bits_before w.old.place w.old.bytes.now ++ written (colour_fields colour) }
     ensures room { length w.new.bytes.now ≡ length w.old.bytes.now }
 {
     match colour {
@@ -210,7 +230,8 @@ pub fn put_coding(w: &mut BitWriter<'_>, coding: u32)
     requires { w.old.place + length (written (coding_fields coding)) ≤ 8 * length w.old.bytes.now }
     ensures same_reference { w.new.bytes.ghost_name ≡ w.old.bytes.ghost_name }
     ensures place { w.new.place ≡ w.old.place + length (written (coding_fields coding)) }
-    ensures written { bits_before w.new.place w.new.bytes.now ≡ bits_before w.old.place w.old.bytes.now ++ written (coding_fields coding) }
+    ensures written { bits_before w.new.place w.new.bytes.now
+        ≡ bits_before w.old.place w.old.bytes.now ++ written (coding_fields coding) }
     ensures room { length w.new.bytes.now ≡ length w.old.bytes.now }
 {
     w.put_uint(coding);

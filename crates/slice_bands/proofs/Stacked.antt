@@ -10,7 +10,7 @@ use Rattle.planes.specs.Raster.{Raster, height, at, zeros}
 use Rattle.planes.specs.Subbands.{BandExists, band_index, band_of, no_band, subband_length, HaveSizes, AreZeroBands}
 use Rattle.slice_bands.specs.Slices.{Slices, slice_size}
 use Rattle.slice_bands.specs.Places.{place_in, slice_at, place_of, part_w, part_h}
-use Rattle.slice_bands.specs.Stack.{number_at, tabulated, band_at, level_at, orient_at, stack_of, IsSound}
+use Rattle.slice_bands.specs.Stack.{number_at, tabulated, band_at, level_at, orient_at, stack_of, AreSlicesSound}
 use Rattle.slice_bands.specs.Lending.{with_run}
 use Rattle.slice_bands.proofs.Parts.{if_not, parts_inside, row_inside, some_rows}
 
@@ -161,7 +161,7 @@ module _ {X : Type 0} (value : X → ℤ) (none : X) where
 
   -- ---- sizes
 
-  pub HaveSizes-shown : (s : Slices X) → IsSound s → HaveSizes (stack_of value none s) (s.across * s.sw) (s.down * s.sh)
+  pub HaveSizes-shown : (s : Slices X) → AreSlicesSound s → HaveSizes (stack_of value none s) (s.across * s.sw) (s.down * s.sh)
   HaveSizes-shown s sound = record {
     widths = λ level orient exists. ap (λ (p : Raster ℤ). p.w) (band_shown s level orient exists) ∙ parts_long s.depth level orient s.across s.sw exists sound.whole_w;
     heights = λ level orient exists. ap (λ (p : Raster ℤ). height p) (band_shown s level orient exists) ∙ length-counted _ 0 (s.down * part_h s level) ∙ parts_long s.depth level orient s.down s.sh exists sound.whole_h;
@@ -179,7 +179,7 @@ module _ {X : Type 0} (value : X → ℤ) (none : X) where
       ap (λ rows. record { w = w; rows = rows })
       (counted_same (λ y. map (λ x. f y x) (range_with_len 0 w)) (replicate w (pos 0)) 0 h (λ y ly. counted_same (λ x. f (0 + y) x) (pos 0) 0 w (λ x lx. each (0 + y) (0 + x))))
 
-  pub AreZeroBands-shown : (s : Slices X) (c : ℕ) → IsSound s → value none ≡ pos 0 → s.numbers ≡ replicate c none → AreZeroBands (stack_of value none s) s.depth (s.across * s.sw) (s.down * s.sh)
+  pub AreZeroBands-shown : (s : Slices X) (c : ℕ) → AreSlicesSound s → value none ≡ pos 0 → s.numbers ≡ replicate c none → AreZeroBands (stack_of value none s) s.depth (s.across * s.sw) (s.down * s.sh)
   AreZeroBands-shown s c sound zero_value same = record {
     same_depth = refl;
     each = λ level orient exists.

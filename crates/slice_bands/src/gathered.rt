@@ -17,8 +17,10 @@ use planes::{Bands, NarrowPlane, Plane};
 #[inline(always)]
 fn take_row(to: &mut [i16], row: &[i16])
     requires { length row.now ≡ length to.old }
-    ensures value { (x : ℕ) → x < length to.old → slice_index_or to.new x (pos 0) ≡ slice_index_or row.now x (pos 0) }
-    ensures within { (x : ℕ) → x < length to.old → IsWithin (pos (2 ^ 18)) (slice_index_or to.new x (pos 0)) }
+    ensures value { (x : ℕ) → x < length to.old
+        → slice_index_or to.new x (pos 0) ≡ slice_index_or row.now x (pos 0) }
+    ensures within { (x : ℕ) → x < length to.old
+        → IsWithin (pos (2 ^ 18)) (slice_index_or to.new x (pos 0)) }
 {
     for x in 0..to.len() {
         to[x] = row[x];
@@ -28,7 +30,8 @@ fn take_row(to: &mut [i16], row: &[i16])
 // Gives a row of 16 bits the numbers of a row of 32, which fit.
 fn narrow_row(to: &mut [i16], row: &[i32])
     requires len { length row.now ≡ length to.old }
-    requires short { (k : ℕ) → k < length row.now → IsWithin MAX_SHORT (slice_index_or row.now k (pos 0)) }
+    requires short { (k : ℕ) → k < length row.now
+        → IsWithin MAX_SHORT (slice_index_or row.now k (pos 0)) }
     ensures { to.new ≡ row.now }
 {
     for x in 0..to.len() {
@@ -47,7 +50,8 @@ fn is_short(v: i32) -> bool
 // Whether no magnitude passes `MAX_SHORT`. All are looked at, with no branch for each.
 fn are_short(values: &[i32]) -> bool
     ensures { (result ≡ true)
-        ↔ ((k : ℕ) → k < length values.now → IsWithin MAX_SHORT (slice_index_or values.now k (pos 0))) }
+        ↔ ((k : ℕ) → k < length values.now
+        → IsWithin MAX_SHORT (slice_index_or values.now k (pos 0))) }
 {
     let mut all = true;
     for k in 0..values.len() {
@@ -86,8 +90,10 @@ impl SliceBands<i16> {
         requires exists { BandExists self.now.depth level orient }
         requires strip { sy < self.now.down }
         requires room { length row.old ≡ plane.old.w }
-        requires before { HaveRows (band_of (shorts_of self.now) level orient) plane.old (sy * part_h self.now level) }
-        ensures { HaveRows (band_of (shorts_of self.now) level orient) plane.new ((sy + 1) * part_h self.now level) }
+        requires before { HaveRows (band_of (shorts_of self.now) level orient) plane.old
+            (sy * part_h self.now level) }
+        ensures { HaveRows (band_of (shorts_of self.now) level orient) plane.new
+            ((sy + 1) * part_h self.now level) }
     {
         self.shows();
         let h = self.part_h(level) as u32;

@@ -7,7 +7,7 @@ ghost use Rattle.slice_bands.specs.Slices.{slice_size, run_of};
 ghost use Rattle.planes.specs.Subbands.{subband_length, BandExists, band_of, HaveSizes, AreZeroBands};
 ghost use Rattle.planes.specs.Raster.{at};
 ghost use Rattle.slice_bands.specs.Places.{place_in, slice_at, part_w, part_h};
-ghost use Rattle.slice_bands.specs.Stack.{number_at, stack_of, IsSound};
+ghost use Rattle.slice_bands.specs.Stack.{number_at, stack_of, AreSlicesSound};
 ghost use Rattle.slice_bands.specs.Lending.{LendsNumbers, with_run};
 
 mod gathered;
@@ -42,7 +42,7 @@ pub struct SliceBands<T> {
 
 impl<T> Model for SliceBands<T> {
     ghost use Rattle.slice_bands.specs.Slices.{Slices};
-    ghost use Rattle.slice_bands.specs.Stack.{IsSound};
+    ghost use Rattle.slice_bands.specs.Stack.{AreSlicesSound};
 
     ghost Value = { Slices T };
 
@@ -55,7 +55,7 @@ impl<T> Model for SliceBands<T> {
       numbers = b.numbers.items;
     } };
 
-    ghost invariant = { λ b. IsSound (record {
+    ghost invariant = { λ b. AreSlicesSound (record {
       depth = b.depth;
       across = b.across;
       down = b.down;
@@ -84,8 +84,17 @@ impl<T: Number> SliceBands<T> {
         requires whole_h { sh % 2 ^ depth ≡ 0 }
         requires short_w { across * sw ≤ 8208 }
         requires short_h { down * sh ≤ 8208 }
-        ensures zero { IfOk result (λ b. AreZeroBands (stack_of T.value T.none b) depth (across * sw) (down * sh)) }
-        ensures value { IfOk result (λ b. b ≡ record { depth = depth; across = across; down = down; sw = sw; sh = sh; numbers = replicate (across * down * (sw * sh)) T.none }) }
+        ensures zero { IfOk result (λ b. AreZeroBands (stack_of T.value T.none b) depth
+            (across * sw) (down * sh)) }
+        ensures value { IfOk result (λ b. b
+            ≡ record {
+              depth = depth;
+              across = across;
+              down = down;
+              sw = sw;
+              sh = sh;
+              numbers = replicate (across * down * (sw * sh)) T.none;
+            }) }
     {
         let count = count_of(across, down, sw, sh);
         let numbers = T::zeros(alloc, count)?;
@@ -102,17 +111,21 @@ impl<T: Number> SliceBands<T> {
     /// All numbers, slice behind slice.
     pub fn numbers(&self) -> &[T]
         ensures value { result.now ≡ self.now.numbers }
-        ensures sound { IsSound self.now }
+        ensures sound { AreSlicesSound self.now }
     {
         &self.numbers
     }
 
     /// The bands have the sizes of a component's of this padded size, and their numbers stand at their places.
     pub fn shows(&self)
-        ensures sound { IsSound self.now }
-        ensures sizes { HaveSizes (stack_of T.value T.none self.now) (self.now.across * self.now.sw) (self.now.down * self.now.sh) }
-        ensures places { (level orient y x : ℕ) → BandExists self.now.depth level orient → y < self.now.down * part_h self.now level → x < self.now.across * part_w self.now level
-            → at (band_of (stack_of T.value T.none self.now) level orient) y x ≡ number_at T.value T.none self.now level orient y x }
+        ensures sound { AreSlicesSound self.now }
+        ensures sizes { HaveSizes (stack_of T.value T.none self.now)
+            (self.now.across * self.now.sw) (self.now.down * self.now.sh) }
+        ensures places { (level orient y x : ℕ) → BandExists self.now.depth level orient
+            → y < self.now.down * part_h self.now level
+            → x < self.now.across * part_w self.now level
+            → at (band_of (stack_of T.value T.none self.now) level orient) y x
+            ≡ number_at T.value T.none self.now level orient y x }
     {
         let _ = self.numbers();
     }
@@ -182,13 +195,20 @@ impl<T: Number> SliceBands<T> {
         requires inside { n < self.old.across * self.old.down }
         requires whole { length values.now ≡ slice_size self.old }
         ensures value { self.new ≡ with_run self.old n values.now }
-        ensures here { (level orient y x : ℕ) → BandExists self.old.depth level orient → y < self.old.down * part_h self.old level → x < self.old.across * part_w self.old level
+        ensures here { (level orient y x : ℕ) → BandExists self.old.depth level orient
+            → y < self.old.down * part_h self.old level
+            → x < self.old.across * part_w self.old level
             → slice_at self.old.across (part_w self.old level) (part_h self.old level) y x ≡ n
             → at (band_of (stack_of T.value T.none self.new) level orient) y x
-            ≡ T.value (slice_index_or values.now (place_in orient (part_w self.old level) (part_h self.old level) (y % part_h self.old level) (x % part_w self.old level)) T.none) }
-        ensures elsewhere { (level orient y x : ℕ) → BandExists self.old.depth level orient → y < self.old.down * part_h self.old level → x < self.old.across * part_w self.old level
+            ≡ T.value (slice_index_or values.now
+            (place_in orient (part_w self.old level) (part_h self.old level)
+            (y % part_h self.old level) (x % part_w self.old level)) T.none) }
+        ensures elsewhere { (level orient y x : ℕ) → BandExists self.old.depth level orient
+            → y < self.old.down * part_h self.old level
+            → x < self.old.across * part_w self.old level
             → slice_at self.old.across (part_w self.old level) (part_h self.old level) y x ≢ n
-            → at (band_of (stack_of T.value T.none self.new) level orient) y x ≡ at (band_of (stack_of T.value T.none self.old) level orient) y x }
+            → at (band_of (stack_of T.value T.none self.new) level orient) y x
+            ≡ at (band_of (stack_of T.value T.none self.old) level orient) y x }
     {
         self.write_run(n, values);
     }
@@ -209,7 +229,8 @@ impl<T: Number> SliceBands<T> {
 #[inline(always)]
 fn read_fixed<T: Number, const N: usize>(from: &[T], at: usize) -> [T; N]
     requires there { at + N ≤ length from.now }
-    ensures { (i : ℕ) → i < N → slice_index_or result i T.none ≡ slice_index_or from.now (at + i) T.none }
+    ensures { (i : ℕ) → i < N
+        → slice_index_or result i T.none ≡ slice_index_or from.now (at + i) T.none }
 {
     let mut block = [T::one(); N];
     for i in 0..N {
@@ -222,9 +243,12 @@ fn read_fixed<T: Number, const N: usize>(from: &[T], at: usize) -> [T; N]
 #[inline(always)]
 fn put_fixed<T: Number, const N: usize>(out: &mut [T], to: usize, block: [T; N])
     requires room { to + N ≤ length out.old }
-    ensures done { (i : ℕ) → i < N → slice_index_or out.new (to + i) T.none ≡ slice_index_or block i T.none }
-    ensures before { (j : ℕ) → j < to → slice_index_or out.new j T.none ≡ slice_index_or out.old j T.none }
-    ensures behind { (j : ℕ) → to + N ≤ j → slice_index_or out.new j T.none ≡ slice_index_or out.old j T.none }
+    ensures done { (i : ℕ) → i < N
+        → slice_index_or out.new (to + i) T.none ≡ slice_index_or block i T.none }
+    ensures before { (j : ℕ) → j < to
+        → slice_index_or out.new j T.none ≡ slice_index_or out.old j T.none }
+    ensures behind { (j : ℕ) → to + N ≤ j
+        → slice_index_or out.new j T.none ≡ slice_index_or out.old j T.none }
 {
     for i in 0..N {
         out[to + i] = block[i];
@@ -236,9 +260,12 @@ fn put_fixed<T: Number, const N: usize>(out: &mut [T], to: usize, block: [T; N])
 fn copy_fixed<T: Number, const N: usize>(out: &mut [T], to: usize, from: &[T], at: usize)
     requires room { to + N ≤ length out.old }
     requires there { at + N ≤ length from.now }
-    ensures done { (i : ℕ) → i < N → slice_index_or out.new (to + i) T.none ≡ slice_index_or from.now (at + i) T.none }
-    ensures before { (j : ℕ) → j < to → slice_index_or out.new j T.none ≡ slice_index_or out.old j T.none }
-    ensures behind { (j : ℕ) → to + N ≤ j → slice_index_or out.new j T.none ≡ slice_index_or out.old j T.none }
+    ensures done { (i : ℕ) → i < N
+        → slice_index_or out.new (to + i) T.none ≡ slice_index_or from.now (at + i) T.none }
+    ensures before { (j : ℕ) → j < to
+        → slice_index_or out.new j T.none ≡ slice_index_or out.old j T.none }
+    ensures behind { (j : ℕ) → to + N ≤ j
+        → slice_index_or out.new j T.none ≡ slice_index_or out.old j T.none }
 {
     put_fixed::<T, N>(out, to, read_fixed::<T, N>(from, at));
 }
@@ -248,9 +275,12 @@ fn copy_fixed<T: Number, const N: usize>(out: &mut [T], to: usize, from: &[T], a
 fn copy_part<T: Number>(out: &mut [T], to: usize, from: &[T], at: usize, count: usize)
     requires room { to + count ≤ length out.old }
     requires there { at + count ≤ length from.now }
-    ensures done { (i : ℕ) → i < count → slice_index_or out.new (to + i) T.none ≡ slice_index_or from.now (at + i) T.none }
-    ensures before { (j : ℕ) → j < to → slice_index_or out.new j T.none ≡ slice_index_or out.old j T.none }
-    ensures behind { (j : ℕ) → to + count ≤ j → slice_index_or out.new j T.none ≡ slice_index_or out.old j T.none }
+    ensures done { (i : ℕ) → i < count
+        → slice_index_or out.new (to + i) T.none ≡ slice_index_or from.now (at + i) T.none }
+    ensures before { (j : ℕ) → j < to
+        → slice_index_or out.new j T.none ≡ slice_index_or out.old j T.none }
+    ensures behind { (j : ℕ) → to + count ≤ j
+        → slice_index_or out.new j T.none ≡ slice_index_or out.old j T.none }
 {
     if count == 8 {
         copy_fixed::<T, 8>(out, to, from, at);
@@ -300,7 +330,9 @@ fn collect_fixed<T: Number, const N: usize>(
     requires room { length out.old ≡ across * N }
     requires inside { first + N ≤ size }
     requires there { start + across * size ≤ length numbers.now }
-    ensures { (sx i : ℕ) → sx < across → i < N → slice_index_or out.new (sx * N + i) T.none ≡ slice_index_or numbers.now (start + sx * size + first + i) T.none }
+    ensures { (sx i : ℕ) → sx < across → i < N
+        → slice_index_or out.new (sx * N + i) T.none
+        ≡ slice_index_or numbers.now (start + sx * size + first + i) T.none }
 {
     for sx in 0..across {
         copy_fixed::<T, N>(out, sx * N, numbers, start + sx * size + first);
@@ -320,7 +352,9 @@ fn collect<T: Number>(
     requires room { length out.old ≡ across * count }
     requires inside { first + count ≤ size }
     requires there { start + across * size ≤ length numbers.now }
-    ensures { (sx i : ℕ) → sx < across → i < count → slice_index_or out.new (sx * count + i) T.none ≡ slice_index_or numbers.now (start + sx * size + first + i) T.none }
+    ensures { (sx i : ℕ) → sx < across → i < count
+        → slice_index_or out.new (sx * count + i) T.none
+        ≡ slice_index_or numbers.now (start + sx * size + first + i) T.none }
 {
     if count == 8 {
         collect_fixed::<T, 8>(out, numbers, start, first, size, across);
@@ -344,9 +378,11 @@ impl<T: Number> SliceBands<T> {
         requires inside { y < self.now.down * part_h self.now level }
         requires room { length out.old ≡ self.now.across * part_w self.now level }
         ensures value { (x : ℕ) → x < self.now.across * part_w self.now level
-            → T.value (slice_index_or out.new x T.none) ≡ number_at T.value T.none self.now level orient y x }
+            → T.value (slice_index_or out.new x T.none)
+            ≡ number_at T.value T.none self.now level orient y x }
         ensures shown { (x : ℕ) → x < self.now.across * part_w self.now level
-            → T.value (slice_index_or out.new x T.none) ≡ at (band_of (stack_of T.value T.none self.now) level orient) y x }
+            → T.value (slice_index_or out.new x T.none)
+            ≡ at (band_of (stack_of T.value T.none self.now) level orient) y x }
     {
         self.shows();
         let pw = self.part_w(level);
@@ -384,8 +420,12 @@ fn deal_row<T: Number>(
     requires inside { first + pw ≤ size }
     requires there { (strip + across) * size ≤ length numbers.old }
     requires short { strip + across < 2 ^ 64 }
-    ensures put { (sx i : ℕ) → sx < across → i < pw → slice_index_or numbers.new ((strip + sx) * size + first + i) T.none ≡ slice_index_or row.now (sx * pw + i) T.none }
-    ensures others { (p : ℕ) → ((sx i : ℕ) → sx < across → i < pw → (strip + sx) * size + first + i ≢ p) → slice_index_or numbers.new p T.none ≡ slice_index_or numbers.old p T.none }
+    ensures put { (sx i : ℕ) → sx < across → i < pw
+        → slice_index_or numbers.new ((strip + sx) * size + first + i) T.none
+        ≡ slice_index_or row.now (sx * pw + i) T.none }
+    ensures others { (p : ℕ) → ((sx i : ℕ) → sx < across → i < pw
+        → (strip + sx) * size + first + i ≢ p)
+        → slice_index_or numbers.new p T.none ≡ slice_index_or numbers.old p T.none }
 {
     for sx in 0..across {
         let start = start_in(strip + sx, size, first, pw, numbers.len());
@@ -406,7 +446,8 @@ fn start_in(n: usize, size: usize, first: usize, pw: usize, count: usize) -> usi
 /// Parts of different bands of a slice lie apart.
 pub fn parts_apart()
     ensures { (depth l m o q sw sh : ℕ) → BandExists depth l o → BandExists depth m q → l < m
-        → place_in o (subband_length depth l sw) (subband_length depth l sh) (subband_length depth l sh) 0
+        → place_in o (subband_length depth l sw) (subband_length depth l sh)
+        (subband_length depth l sh) 0
         ≤ place_in q (subband_length depth m sw) (subband_length depth m sh) 0 0 }
 {}
 
@@ -418,7 +459,10 @@ impl<T: Number> SliceBands<T> {
         requires whole { length row.now ≡ self.old.across * part_w self.old level }
         ensures same { self.new ≡ record self.old { numbers = self.new.numbers } }
         ensures put { (sx i : ℕ) → sx < self.old.across → i < part_w self.old level
-            → slice_index_or self.new.numbers ((y / part_h self.old level * self.old.across + sx) * slice_size self.old + place_in orient (part_w self.old level) (part_h self.old level) (y % part_h self.old level) 0 + i) T.none
+            → slice_index_or self.new.numbers
+            ((y / part_h self.old level * self.old.across + sx) * slice_size self.old
+            + place_in orient (part_w self.old level) (part_h self.old level)
+            (y % part_h self.old level) 0 + i) T.none
             ≡ slice_index_or row.now (sx * part_w self.old level + i) T.none }
     {
         self.shows();

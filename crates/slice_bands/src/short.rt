@@ -6,7 +6,7 @@ ghost use Rattle.planes.specs.Raster.{at, height};
 ghost use Rattle.planes.specs.Subbands.{BandExists, band_of, AgreeInSizes};
 ghost use Rattle.slice_bands.specs.Slices.{slice_size};
 ghost use Rattle.slice_bands.specs.Places.{part_w, part_h};
-ghost use Rattle.slice_bands.specs.Stack.{IsSound, level_at, orient_at};
+ghost use Rattle.slice_bands.specs.Stack.{AreSlicesSound, level_at, orient_at};
 ghost use Rattle.slice_bands.specs.Lending.{with_run};
 ghost use Rattle.slice_bands.specs.Short.{every, shorts_of, ShowTheSame, HaveRows, HaveStrips};
 
@@ -32,8 +32,10 @@ fn take_every<const EACH: usize>(run: &mut [i16], values: &[i16], from: usize)
 #[inline(always)]
 fn widen_row(wide: &mut [i32], short: &[i16])
     requires { length short.now ≡ length wide.old }
-    ensures value { (x : ℕ) → x < length wide.old → slice_index_or wide.new x (pos 0) ≡ slice_index_or short.now x (pos 0) }
-    ensures within { (x : ℕ) → x < length wide.old → IsWithin (pos (2 ^ 18)) (slice_index_or wide.new x (pos 0)) }
+    ensures value { (x : ℕ) → x < length wide.old
+        → slice_index_or wide.new x (pos 0) ≡ slice_index_or short.now x (pos 0) }
+    ensures within { (x : ℕ) → x < length wide.old
+        → IsWithin (pos (2 ^ 18)) (slice_index_or wide.new x (pos 0)) }
 {
     for x in 0..wide.len() {
         wide[x] = i32::from(short[x]);
@@ -56,9 +58,10 @@ impl SliceBands<i16> {
         requires inside { n < self.old.across * self.old.down }
         requires few { from < EACH }
         requires whole { length values.now ≡ EACH * slice_size self.old }
-        ensures value { self.new ≡ with_run self.old n (every EACH from (slice_size self.old) values.now) }
+        ensures value { self.new ≡ with_run self.old n
+            (every EACH from (slice_size self.old) values.now) }
         ensures there { n * slice_size self.old + slice_size self.old ≤ length self.old.numbers }
-        ensures sound { IsSound self.old }
+        ensures sound { AreSlicesSound self.old }
     {
         let _ = self.numbers();
         let start = self.start_of(n);
@@ -71,8 +74,10 @@ impl SliceBands<i16> {
         requires exists { BandExists self.now.depth level orient }
         requires strip { sy < self.now.down }
         requires room { length row.old ≡ plane.old.w }
-        requires before { HaveRows (band_of (shorts_of self.now) level orient) plane.old (sy * part_h self.now level) }
-        ensures { HaveRows (band_of (shorts_of self.now) level orient) plane.new ((sy + 1) * part_h self.now level) }
+        requires before { HaveRows (band_of (shorts_of self.now) level orient) plane.old
+            (sy * part_h self.now level) }
+        ensures { HaveRows (band_of (shorts_of self.now) level orient) plane.new
+            ((sy + 1) * part_h self.now level) }
     {
         self.shows();
         let h = self.part_h(level) as u32;

@@ -57,8 +57,17 @@ impl ShortBands {
         requires whole_h { sh % 2 ^ depth ≡ 0 }
         requires short_w { across * sw ≤ 8208 }
         requires short_h { down * sh ≤ 8208 }
-        ensures zero { IfOk result (λ b. AreZeroBands (short_stack b) depth (across * sw) (down * sh)) }
-        ensures slices { IfOk result (λ b. b.slices ≡ record { depth = depth; across = across; down = down; sw = sw; sh = sh; numbers = replicate (across * down * (sw * sh)) (pos 0) }) }
+        ensures zero { IfOk result (λ b. AreZeroBands (short_stack b) depth (across * sw)
+            (down * sh)) }
+        ensures slices { IfOk result (λ b. b.slices
+            ≡ record {
+              depth = depth;
+              across = across;
+              down = down;
+              sw = sw;
+              sh = sh;
+              numbers = replicate (across * down * (sw * sh)) (pos 0);
+            }) }
         ensures sound { IfOk result IsShortSound }
     {
         let slices = SliceBands::new(alloc, depth, across, down, sw, sh)?;

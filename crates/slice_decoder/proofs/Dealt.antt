@@ -6,7 +6,7 @@ use Rattle.std.proofs.lemmas.Bool.{cases_lt}
 use Rattle.std.proofs.lemmas.List.{get_or-map, length-map, length-replicate, get_or_append_left, get_or-append-add}
 use Rattle.std.proofs.lemmas.Bool.Decides.{nat_tests}
 use Rattle.bounded_blocks.specs.Reading.{value_at, values, left_after}
-use Rattle.bounded_blocks.specs.Parts.{IsSmall, HasHuge, Reads}
+use Rattle.bounded_blocks.specs.Parts.{IsSmall, HasHuge, ReadsValues}
 use Rattle.quant_factors.specs.Factors.{inverse_of}
 use Rattle.quant_factors.proofs.QuantLemmas.{magnitude_kept}
 use Rattle.slice_decoder.specs.Slice.{are_small, dequantised}
@@ -102,16 +102,16 @@ huge-not_small (v ∷ vs) q le huge = elim (cases_lt (2 ^ 36) (unsigned_abs v)) 
 pub row-false : (block : List Bool) (n q : ℕ) → q ≤ 127 → HasHuge n block → are_small (dealt block (replicate n q)) ≡ false
 row-false block n q le huge = rw dealt-replicate (huge-not_small (values n block) q le huge)
 
-pub row-small : (block left : List Bool) (n q : ℕ) (vs : List ℤ) → Reads n block vs left → are_small (map (λ v. inverse_of v q) vs) ≡ are_small (dealt block (replicate n q))
+pub row-small : (block left : List Bool) (n q : ℕ) (vs : List ℤ) → ReadsValues n block vs left → are_small (map (λ v. inverse_of v q) vs) ≡ are_small (dealt block (replicate n q))
 row-small block left n q vs reads = ap (λ vs. are_small (map (λ v. inverse_of v q) vs)) (sym reads.same) ∙ ap are_small (sym (dealt-replicate block n q))
 
-pub row-at : (block left : List Bool) (n q k : ℕ) (vs : List ℤ) → Reads n block vs left → k < length vs → inverse_of (get_or vs k (pos 0)) q ≡ get_or (dealt block (replicate n q)) k (pos 0)
+pub row-at : (block left : List Bool) (n q k : ℕ) (vs : List ℤ) → ReadsValues n block vs left → k < length vs → inverse_of (get_or vs k (pos 0)) q ≡ get_or (dealt block (replicate n q)) k (pos 0)
 row-at block left n q k vs reads lt =
     sym (get_or-map (λ v. inverse_of v q) vs k (pos 0) (pos 0) lt)
     ∙ ap (λ vs. get_or (map (λ v. inverse_of v q) vs) k (pos 0)) (sym reads.same)
     ∙ ap (λ vs. get_or vs k (pos 0)) (sym (dealt-replicate block n q))
 
-pub row-behind : (block left : List Bool) (n q : ℕ) (vs : List ℤ) → Reads n block vs left → left ≡ behind block (replicate n q)
+pub row-behind : (block left : List Bool) (n q : ℕ) (vs : List ℤ) → ReadsValues n block vs left → left ≡ behind block (replicate n q)
 row-behind block left n q vs reads = sym (behind-replicate block n q ∙ reads.behind)
 
 pub large_there : (vs : List ℤ) (q k : ℕ) → k < length vs → 2 ^ 36 < unsigned_abs (inverse_of (get_or vs k (pos 0)) q) → are_small (map (λ v. inverse_of v q) vs) ≡ false

@@ -9,7 +9,7 @@ use Rattle.planes.specs.Rect.{IsInRect}
 use Rattle.planes.specs.Subbands.{BandExists, band_index, subband_length}
 use Rattle.slice_bands.specs.Slices.{Slices, slice_size}
 use Rattle.slice_bands.specs.Places.{place_in, slice_at, part_w, part_h}
-use Rattle.slice_bands.specs.Stack.{IsSound}
+use Rattle.slice_bands.specs.Stack.{AreSlicesSound}
 use Rattle.slice_bands.proofs.Parts.{if_not, strip_inside, some_rows}
 use Rattle.slice_bands.proofs.Stacked.{parts_long}
 use Rattle.slice_geometry.specs.declared.Size.{Size}
@@ -36,7 +36,7 @@ pub record IsLaid (s : Slicing) (size : Size) (b : Slices ℤ) : Type 0 where
   pub down : b.down ≡ s.slices_y
   pub width : b.across * b.sw ≡ padded_length s.depth size.w
   pub height : b.down * b.sh ≡ padded_length s.depth size.h
-  pub sound : IsSound b
+  pub sound : AreSlicesSound b
 
 -- ---- parts of the bands
 

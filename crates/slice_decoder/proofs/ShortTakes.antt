@@ -14,7 +14,7 @@ use Rattle.slice_bands.specs.declared.short_bands.ShortBands.{ShortBands}
 use Rattle.slice_bands.specs.declared.short.TheConstants.{MAX_SHORT}
 use Rattle.slice_bands.specs.Slices.{Slices, slice_size}
 use Rattle.slice_bands.specs.Places.{place_in, slice_at, part_w, part_h}
-use Rattle.slice_bands.specs.Stack.{IsSound}
+use Rattle.slice_bands.specs.Stack.{AreSlicesSound}
 use Rattle.slice_bands.specs.Lending.{with_run}
 use Rattle.slice_bands.specs.Short.{every, shorts_of}
 use Rattle.slice_bands.specs.ShortBands.{short_stack}
@@ -155,10 +155,10 @@ bands_take each from s size old sx sy values lowest slices across down laid ther
 
 -- ---- what a slice that is put needs and leaves
 
-pub laid-of : (s : Slicing) (size : Size) (b : ShortBands) → IsCut s size b → IsSound b.slices → IsLaid s size b.slices
+pub laid-of : (s : Slicing) (size : Size) (b : ShortBands) → IsCut s size b → AreSlicesSound b.slices → IsLaid s size b.slices
 laid-of s size b cut sound = record { depth = cut.depth; across = cut.across; down = cut.down; width = cut.width; height = cut.height; sound = sound }
 
-pub whole-values : (each : ℕ) (s : Slicing) (size : Size) (b : ShortBands) (sx sy n : ℕ) → IsCut s size b → IsSound b.slices → n ≡ each * place_count s size sx sy → n ≡ each * slice_size b.slices
+pub whole-values : (each : ℕ) (s : Slicing) (size : Size) (b : ShortBands) (sx sy n : ℕ) → IsCut s size b → AreSlicesSound b.slices → n ≡ each * place_count s size sx sy → n ≡ each * slice_size b.slices
 whole-values each s size b sx sy n cut sound is = is ∙ ap (λ (c : ℕ). each * c) (count_is_size s size b.slices (laid-of s size b cut sound) sx sy)
 
 pub number-inside : (s : Slicing) (size : Size) (b : ShortBands) (n : ℕ) → IsCut s size b → n < s.slices_x * s.slices_y → n < b.slices.across * b.slices.down

@@ -81,6 +81,7 @@ high-step i s high most factor_is add_is limit_is =
   where
     zero_same : (m factor add : ℕ) → m ≡ 0 → restored_by factor add m ≡ restored_of m i
     zero_same m factor add is = ap (restored_by factor add) is ∙ sym (restored-zero i) ∙ ap (λ (n : ℕ). restored_of n i) (sym is)
+
     zero_low : (m : ℕ) → m ≡ 0 → restored_of m i ≤ 2 ^ 14 - 1
     zero_low m is = omega (arith, ap (λ (n : ℕ). restored_of n i) is, restored-zero i)
 

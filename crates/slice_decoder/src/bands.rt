@@ -18,7 +18,8 @@ fn fill_part(block: &mut Block<'_>, row: &mut [i64], x0: u32, x1: u32, index: u3
     ensures small { result ≡ are_small (next_values block.old (x1 - x0) index) }
     ensures left { result ≡ true → block.new ≡ behind_next block.old (x1 - x0) index }
     ensures inside { result ≡ true → (x : ℕ) → x0 ≤ x → x < x1 →
-        slice_index_or row.new x (pos 0) ≡ slice_index_or (next_values block.old (x1 - x0) index) (x - x0) (pos 0) }
+        slice_index_or row.new x (pos 0)
+        ≡ slice_index_or (next_values block.old (x1 - x0) index) (x - x0) (pos 0) }
     ensures outside { StaysBeside x0 x1 row.old row.new }
 {
     fill_row(block, &mut row[x0 as usize..x1 as usize], index)
@@ -67,9 +68,11 @@ fn fill_chunk(
     ensures small { result ≡ are_small (next_values block.old (2 * (x1 - x0)) index) }
     ensures left { result ≡ true → block.new ≡ behind_next block.old (2 * (x1 - x0)) index }
     ensures first { result ≡ true → (x : ℕ) → x0 ≤ x → x < x1 →
-        slice_index_or first.new x (pos 0) ≡ slice_index_or (next_values block.old (2 * (x1 - x0)) index) (2 * (x - x0)) (pos 0) }
+        slice_index_or first.new x (pos 0)
+        ≡ slice_index_or (next_values block.old (2 * (x1 - x0)) index) (2 * (x - x0)) (pos 0) }
     ensures second { result ≡ true → (x : ℕ) → x0 ≤ x → x < x1 →
-        slice_index_or second.new x (pos 0) ≡ slice_index_or (next_values block.old (2 * (x1 - x0)) index) (2 * (x - x0) + 1) (pos 0) }
+        slice_index_or second.new x (pos 0)
+        ≡ slice_index_or (next_values block.old (2 * (x1 - x0)) index) (2 * (x - x0) + 1) (pos 0) }
     ensures first_stays { StaysBeside x0 x1 first.old first.new }
     ensures second_stays { StaysBeside x0 x1 second.old second.new }
 {
@@ -101,9 +104,11 @@ fn fill_parts(
     ensures small { result ≡ are_small (next_values block.old (2 * (x1 - x0)) index) }
     ensures left { result ≡ true → block.new ≡ behind_next block.old (2 * (x1 - x0)) index }
     ensures first { result ≡ true → (x : ℕ) → x0 ≤ x → x < x1 →
-        slice_index_or first.new x (pos 0) ≡ slice_index_or (next_values block.old (2 * (x1 - x0)) index) (2 * (x - x0) + 0) (pos 0) }
+        slice_index_or first.new x (pos 0)
+        ≡ slice_index_or (next_values block.old (2 * (x1 - x0)) index) (2 * (x - x0) + 0) (pos 0) }
     ensures second { result ≡ true → (x : ℕ) → x0 ≤ x → x < x1 →
-        slice_index_or second.new x (pos 0) ≡ slice_index_or (next_values block.old (2 * (x1 - x0)) index) (2 * (x - x0) + 1) (pos 0) }
+        slice_index_or second.new x (pos 0)
+        ≡ slice_index_or (next_values block.old (2 * (x1 - x0)) index) (2 * (x - x0) + 1) (pos 0) }
     ensures first_stays { StaysBeside x0 x1 first.old first.new }
     ensures second_stays { StaysBeside x0 x1 second.old second.new }
 {

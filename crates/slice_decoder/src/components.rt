@@ -64,11 +64,13 @@ fn luma_by_rows(
     requires qindex { place.qindex ≤ 127 }
     requires depth { bands.old.depth ≡ layout.now.depth }
     requires entries { matrix.now.depth ≡ layout.now.depth }
-    requires sizes { HaveSizes bands.old (padded_length layout.now.depth size.w) (padded_length layout.now.depth size.h) }
+    requires sizes { HaveSizes bands.old (padded_length layout.now.depth size.w)
+        (padded_length layout.now.depth size.h) }
     ensures small { let part = part_of layout.now size place.sx place.sy matrix.now place.qindex in
         result ≡ are_small (dealt block.old (quantisers_before 1 part (3 * layout.now.depth + 1))) }
     ensures holds { let part = part_of layout.now size place.sx place.sy matrix.now place.qindex in
-        result ≡ true → BandsHold 1 0 part (3 * layout.now.depth + 1) block.old bands.old bands.new }
+        result ≡ true
+        → BandsHold 1 0 part (3 * layout.now.depth + 1) block.old bands.old bands.new }
     ensures keeps { let part = part_of layout.now size place.sx place.sy matrix.now place.qindex in
         BandsKeep part bands.old bands.new }
 {
@@ -101,17 +103,23 @@ fn colour_by_rows(
     requires first_depth { first.old.depth ≡ layout.now.depth }
     requires second_depth { second.old.depth ≡ layout.now.depth }
     requires entries { matrix.now.depth ≡ layout.now.depth }
-    requires first_sizes { HaveSizes first.old (padded_length layout.now.depth size.w) (padded_length layout.now.depth size.h) }
-    requires second_sizes { HaveSizes second.old (padded_length layout.now.depth size.w) (padded_length layout.now.depth size.h) }
+    requires first_sizes { HaveSizes first.old (padded_length layout.now.depth size.w)
+        (padded_length layout.now.depth size.h) }
+    requires second_sizes { HaveSizes second.old (padded_length layout.now.depth size.w)
+        (padded_length layout.now.depth size.h) }
     ensures small { let part = part_of layout.now size place.sx place.sy matrix.now place.qindex in
         result ≡ are_small (dealt block.old (quantisers_before 2 part (3 * layout.now.depth + 1))) }
     ensures first { let part = part_of layout.now size place.sx place.sy matrix.now place.qindex in
-        result ≡ true → BandsHold 2 0 part (3 * layout.now.depth + 1) block.old first.old first.new }
+        result ≡ true
+        → BandsHold 2 0 part (3 * layout.now.depth + 1) block.old first.old first.new }
     ensures second { let part = part_of layout.now size place.sx place.sy matrix.now place.qindex in
-        result ≡ true → BandsHold 2 1 part (3 * layout.now.depth + 1) block.old second.old second.new }
-    ensures first_keeps { let part = part_of layout.now size place.sx place.sy matrix.now place.qindex in
+        result ≡ true
+        → BandsHold 2 1 part (3 * layout.now.depth + 1) block.old second.old second.new }
+    ensures first_keeps { let part = part_of layout.now size place.sx place.sy matrix.now
+        place.qindex in
         BandsKeep part first.old first.new }
-    ensures second_keeps { let part = part_of layout.now size place.sx place.sy matrix.now place.qindex in
+    ensures second_keeps { let part = part_of layout.now size place.sx place.sy matrix.now
+        place.qindex in
         BandsKeep part second.old second.new }
 {
     let mut buffer = [0; 128];
@@ -145,11 +153,13 @@ pub fn read_luma(
     requires qindex { place.qindex ≤ 127 }
     requires depth { bands.old.depth ≡ layout.now.depth }
     requires entries { matrix.now.depth ≡ layout.now.depth }
-    requires sizes { HaveSizes bands.old (padded_length layout.now.depth size.w) (padded_length layout.now.depth size.h) }
+    requires sizes { HaveSizes bands.old (padded_length layout.now.depth size.w)
+        (padded_length layout.now.depth size.h) }
     ensures small { let part = part_of layout.now size place.sx place.sy matrix.now place.qindex in
         result ≡ are_small (dealt block.old (quantisers_before 1 part (3 * layout.now.depth + 1))) }
     ensures holds { let part = part_of layout.now size place.sx place.sy matrix.now place.qindex in
-        result ≡ true → BandsHold 1 0 part (3 * layout.now.depth + 1) block.old bands.old bands.new }
+        result ≡ true
+        → BandsHold 1 0 part (3 * layout.now.depth + 1) block.old bands.old bands.new }
     ensures keeps { let part = part_of layout.now size place.sx place.sy matrix.now place.qindex in
         BandsKeep part bands.old bands.new }
 {
@@ -185,17 +195,23 @@ pub fn read_colour(
     requires first_depth { first.old.depth ≡ layout.now.depth }
     requires second_depth { second.old.depth ≡ layout.now.depth }
     requires entries { matrix.now.depth ≡ layout.now.depth }
-    requires first_sizes { HaveSizes first.old (padded_length layout.now.depth size.w) (padded_length layout.now.depth size.h) }
-    requires second_sizes { HaveSizes second.old (padded_length layout.now.depth size.w) (padded_length layout.now.depth size.h) }
+    requires first_sizes { HaveSizes first.old (padded_length layout.now.depth size.w)
+        (padded_length layout.now.depth size.h) }
+    requires second_sizes { HaveSizes second.old (padded_length layout.now.depth size.w)
+        (padded_length layout.now.depth size.h) }
     ensures small { let part = part_of layout.now size place.sx place.sy matrix.now place.qindex in
         result ≡ are_small (dealt block.old (quantisers_before 2 part (3 * layout.now.depth + 1))) }
     ensures first { let part = part_of layout.now size place.sx place.sy matrix.now place.qindex in
-        result ≡ true → BandsHold 2 0 part (3 * layout.now.depth + 1) block.old first.old first.new }
+        result ≡ true
+        → BandsHold 2 0 part (3 * layout.now.depth + 1) block.old first.old first.new }
     ensures second { let part = part_of layout.now size place.sx place.sy matrix.now place.qindex in
-        result ≡ true → BandsHold 2 1 part (3 * layout.now.depth + 1) block.old second.old second.new }
-    ensures first_keeps { let part = part_of layout.now size place.sx place.sy matrix.now place.qindex in
+        result ≡ true
+        → BandsHold 2 1 part (3 * layout.now.depth + 1) block.old second.old second.new }
+    ensures first_keeps { let part = part_of layout.now size place.sx place.sy matrix.now
+        place.qindex in
         BandsKeep part first.old first.new }
-    ensures second_keeps { let part = part_of layout.now size place.sx place.sy matrix.now place.qindex in
+    ensures second_keeps { let part = part_of layout.now size place.sx place.sy matrix.now
+        place.qindex in
         BandsKeep part second.old second.new }
 {
     let rects = level_rects(layout, size, place);

@@ -15,7 +15,8 @@ pub fn dequantise(values: &mut [i64], index: u32) -> bool
     requires small { (k : ℕ) → unsigned_abs (slice_index_or values.old k (pos 0)) ≤ MAX_MAGNITUDE }
     ensures small { result ≡ are_small (map (λ v. inverse_of v index) values.old) }
     ensures values { result ≡ true → (k : ℕ) → k < length values.old →
-        slice_index_or values.new k (pos 0) ≡ inverse_of (slice_index_or values.old k (pos 0)) index }
+        slice_index_or values.new k (pos 0)
+        ≡ inverse_of (slice_index_or values.old k (pos 0)) index }
 {
     for value in values.iter_mut() {
         match inverse(*value, index) {
@@ -32,7 +33,8 @@ pub fn fill_row(block: &mut Block<'_>, row: &mut [i64], index: u32) -> bool
     ensures small { result ≡ are_small (next_values block.old (length row.old) index) }
     ensures left { result ≡ true → block.new ≡ behind_next block.old (length row.old) index }
     ensures values { result ≡ true → (k : ℕ) → k < length row.old →
-        slice_index_or row.new k (pos 0) ≡ slice_index_or (next_values block.old (length row.old) index) k (pos 0) }
+        slice_index_or row.new k (pos 0)
+        ≡ slice_index_or (next_values block.old (length row.old) index) k (pos 0) }
 {
     if !block.fill(row) {
         return false;
@@ -54,9 +56,11 @@ pub fn fill_pair(
     ensures small { result ≡ are_small (next_values block.old (2 * length first.old) index) }
     ensures left { result ≡ true → block.new ≡ behind_next block.old (2 * length first.old) index }
     ensures first { result ≡ true → (k : ℕ) → k < length first.old →
-        slice_index_or first.new k (pos 0) ≡ slice_index_or (next_values block.old (2 * length first.old) index) (2 * k) (pos 0) }
+        slice_index_or first.new k (pos 0)
+        ≡ slice_index_or (next_values block.old (2 * length first.old) index) (2 * k) (pos 0) }
     ensures second { result ≡ true → (k : ℕ) → k < length first.old →
-        slice_index_or second.new k (pos 0) ≡ slice_index_or (next_values block.old (2 * length first.old) index) (2 * k + 1) (pos 0) }
+        slice_index_or second.new k (pos 0)
+        ≡ slice_index_or (next_values block.old (2 * length first.old) index) (2 * k + 1) (pos 0) }
 {
     let values = &mut buffer[..2 * first.len()];
     if !fill_row(block, values, index) {

@@ -22,7 +22,12 @@ pub fn area_of(rect: Rect) -> usize
 
 // The same places where each way there are half as many.
 fn halved(rect: Rect) -> Rect
-    ensures { result ≡ record { x0 = rect.x0 / 2; x1 = rect.x1 / 2; y0 = rect.y0 / 2; y1 = rect.y1 / 2 } }
+    ensures { result ≡ record {
+      x0 = rect.x0 / 2;
+      x1 = rect.x1 / 2;
+      y0 = rect.y0 / 2;
+      y1 = rect.y1 / 2;
+    } }
 {
     Rect {
         x0: rect.x0 / 2,
@@ -53,7 +58,8 @@ pub fn level_rects(layout: &Layout, size: Size, place: Place) -> [Rect; 5]
 
 // The slice's rectangle in the lowest subband.
 pub fn lowest_of(rects: &[Rect; 5]) -> Rect
-    ensures { (s : Slicing) (size : Size) (sx sy : ℕ) → AreRects s size sx sy rects.now → result ≡ level_rect s size sx sy 0 }
+    ensures { (s : Slicing) (size : Size) (sx sy : ℕ) → AreRects s size sx sy rects.now
+        → result ≡ level_rect s size sx sy 0 }
 {
     rects[0]
 }

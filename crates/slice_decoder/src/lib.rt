@@ -68,7 +68,9 @@ fn head_of(bytes: &[u8]) -> SliceHead
     requires most { length bytes.now ≤ 2 ^ 28 }
     ensures qindex { result.qindex ≡ binary_after 0 (take 7 (bits_of bytes.now)) }
     ensures small { result.qindex ≤ 127 }
-    ensures luma_bits { result.luma_bits ≡ binary_after 0 (take (slicing.length_bits (length bytes.now)) (drop 7 (bits_of bytes.now))) }
+    ensures luma_bits { result.luma_bits
+        ≡ binary_after 0 (take (slicing.length_bits (length bytes.now))
+        (drop 7 (bits_of bytes.now))) }
 {
     let mut reader = BitReader::new(bytes);
     let qindex = next_bits(&mut reader, 7);
@@ -108,8 +110,10 @@ fn read_blocks(
     requires entries { matrix.now.depth ≡ layout.now.depth }
     requires ready { AreReady layout.now shape.now place.sx place.sy bands.old }
     ensures { let start = 7 + slicing.length_bits (length bytes.now) in
-        let luma_part = part_of layout.now shape.now.luma place.sx place.sy matrix.now place.qindex in
-        let colour_part = part_of layout.now shape.now.colour place.sx place.sy matrix.now place.qindex in
+        let luma_part = part_of layout.now shape.now.luma place.sx place.sy matrix.now place.qindex
+        in
+        let colour_part = part_of layout.now shape.now.colour place.sx place.sy matrix.now
+        place.qindex in
         IsRead luma_part colour_part
         (block_of bytes.now start (start + luma_bits))
         (block_of bytes.now (start + luma_bits) (8 * length bytes.now))
@@ -161,7 +165,8 @@ pub fn decode_slice(
     requires most { length bytes.now ≤ 2 ^ 28 }
     requires entries { matrix.now.depth ≡ layout.now.depth }
     requires ready { AreReady layout.now shape.now sx sy bands.old }
-    ensures decoded { let slice = slice_at layout.now shape.now.luma shape.now.colour sx sy bytes.now in
+    ensures decoded { let slice = slice_at layout.now shape.now.luma shape.now.colour sx sy
+        bytes.now in
         MatchResult result
         (λ head. IsDecoded layout.now shape.now sx sy matrix.now slice head bands.new)
         (IsRefused layout.now shape.now sx sy matrix.now slice) }

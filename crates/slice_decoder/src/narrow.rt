@@ -36,10 +36,12 @@ pub fn read_luma(
     requires qindex { place.qindex ≤ 127 }
     requires depth { bands.old.depth ≡ layout.now.depth }
     requires entries { matrix.now.depth ≡ layout.now.depth }
-    requires sizes { HaveSizes bands.old (padded_length layout.now.depth size.w) (padded_length layout.now.depth size.h) }
+    requires sizes { HaveSizes bands.old (padded_length layout.now.depth size.w)
+        (padded_length layout.now.depth size.h) }
     requires narrow { AreBandsWithin (pos (2 ^ 18)) bands.old }
     ensures answer { let part = part_of layout.now size place.sx place.sy matrix.now place.qindex in
-        Answers (pos (2 ^ 18)) (length buffer.old) (block_values 1 part block.now) (BandsHold 1 0 part (3 * layout.now.depth + 1) block.now bands.old bands.new) result }
+        Answers (pos (2 ^ 18)) (length buffer.old) (block_values 1 part block.now)
+        (BandsHold 1 0 part (3 * layout.now.depth + 1) block.now bands.old bands.new) result }
     ensures keeps { let part = part_of layout.now size place.sx place.sy matrix.now place.qindex in
         BandsKeep part bands.old bands.new }
     ensures narrow { AreBandsWithin (pos (2 ^ 18)) bands.new }
@@ -78,17 +80,21 @@ pub fn read_colour(
     requires first_depth { first.old.depth ≡ layout.now.depth }
     requires second_depth { second.old.depth ≡ layout.now.depth }
     requires entries { matrix.now.depth ≡ layout.now.depth }
-    requires first_sizes { HaveSizes first.old (padded_length layout.now.depth size.w) (padded_length layout.now.depth size.h) }
-    requires second_sizes { HaveSizes second.old (padded_length layout.now.depth size.w) (padded_length layout.now.depth size.h) }
+    requires first_sizes { HaveSizes first.old (padded_length layout.now.depth size.w)
+        (padded_length layout.now.depth size.h) }
+    requires second_sizes { HaveSizes second.old (padded_length layout.now.depth size.w)
+        (padded_length layout.now.depth size.h) }
     requires first_narrow { AreBandsWithin (pos (2 ^ 18)) first.old }
     requires second_narrow { AreBandsWithin (pos (2 ^ 18)) second.old }
     ensures answer { let part = part_of layout.now size place.sx place.sy matrix.now place.qindex in
         Answers (pos (2 ^ 18)) (length buffer.old) (block_values 2 part block.now)
         (BandsHold 2 0 part (3 * layout.now.depth + 1) block.now first.old first.new
         × BandsHold 2 1 part (3 * layout.now.depth + 1) block.now second.old second.new) result }
-    ensures first_keeps { let part = part_of layout.now size place.sx place.sy matrix.now place.qindex in
+    ensures first_keeps { let part = part_of layout.now size place.sx place.sy matrix.now
+        place.qindex in
         BandsKeep part first.old first.new }
-    ensures second_keeps { let part = part_of layout.now size place.sx place.sy matrix.now place.qindex in
+    ensures second_keeps { let part = part_of layout.now size place.sx place.sy matrix.now
+        place.qindex in
         BandsKeep part second.old second.new }
     ensures first_narrow { AreBandsWithin (pos (2 ^ 18)) first.new }
     ensures second_narrow { AreBandsWithin (pos (2 ^ 18)) second.new }

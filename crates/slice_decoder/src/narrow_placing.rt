@@ -19,7 +19,8 @@ use std::simd::prelude::*;
 #[inline(always)]
 fn put_all(row: &mut [i32], x: usize, four: [i32; 4])
     requires inside { x + 4 ≤ length row.old }
-    ensures inside { (j : ℕ) → x ≤ j → j < x + 4 → slice_index_or row.new j (pos 0) ≡ slice_index_or four (j - x) (pos 0) }
+    ensures inside { (j : ℕ) → x ≤ j → j < x + 4
+        → slice_index_or row.new j (pos 0) ≡ slice_index_or four (j - x) (pos 0) }
     ensures outside { StaysBeside x (x + 4) row.old row.new }
 {
     for i in 0..4 {
@@ -106,9 +107,11 @@ fn put_four_pairs(values: &[i32], from: usize, first: &mut [i32], second: &mut [
     requires room { from + 8 ≤ length values.now }
     requires narrow { (k : ℕ) → IsNarrow (slice_index_or values.now k (pos 0)) }
     ensures first { (j : ℕ) → x ≤ j → j < x + 4 →
-        slice_index_or first.new j (pos 0) ≡ slice_index_or values.now (from + 2 * (j - x)) (pos 0) }
+        slice_index_or first.new j (pos 0)
+        ≡ slice_index_or values.now (from + 2 * (j - x)) (pos 0) }
     ensures second { (j : ℕ) → x ≤ j → j < x + 4 →
-        slice_index_or second.new j (pos 0) ≡ slice_index_or values.now (from + (2 * (j - x) + 1)) (pos 0) }
+        slice_index_or second.new j (pos 0)
+        ≡ slice_index_or values.now (from + (2 * (j - x) + 1)) (pos 0) }
     ensures first_stays { StaysBeside x (x + 4) first.old first.new }
     ensures second_stays { StaysBeside x (x + 4) second.old second.new }
 {
@@ -138,9 +141,11 @@ fn put_pair_fours(
     ensures begun { start ≤ result }
     ensures ended { result ≤ end }
     ensures first { (j : ℕ) → start ≤ j → j < result →
-        slice_index_or first.new j (pos 0) ≡ slice_index_or values.now (from + 2 * (j - start)) (pos 0) }
+        slice_index_or first.new j (pos 0)
+        ≡ slice_index_or values.now (from + 2 * (j - start)) (pos 0) }
     ensures second { (j : ℕ) → start ≤ j → j < result →
-        slice_index_or second.new j (pos 0) ≡ slice_index_or values.now (from + (2 * (j - start) + 1)) (pos 0) }
+        slice_index_or second.new j (pos 0)
+        ≡ slice_index_or values.now (from + (2 * (j - start) + 1)) (pos 0) }
     ensures first_stays { StaysBeside start result first.old first.new }
     ensures second_stays { StaysBeside start result second.old second.new }
 {
@@ -167,9 +172,11 @@ fn put_pair_ones(
     requires second_inside { end ≤ length second.old }
     requires room { from + 2 * (end - start) ≤ length values.now }
     ensures first { (x : ℕ) → start ≤ x → x < end →
-        slice_index_or first.new x (pos 0) ≡ slice_index_or values.now (from + 2 * (x - start)) (pos 0) }
+        slice_index_or first.new x (pos 0)
+        ≡ slice_index_or values.now (from + 2 * (x - start)) (pos 0) }
     ensures second { (x : ℕ) → start ≤ x → x < end →
-        slice_index_or second.new x (pos 0) ≡ slice_index_or values.now (from + (2 * (x - start) + 1)) (pos 0) }
+        slice_index_or second.new x (pos 0)
+        ≡ slice_index_or values.now (from + (2 * (x - start) + 1)) (pos 0) }
     ensures first_stays { StaysBeside start end first.old first.new }
     ensures second_stays { StaysBeside start end second.old second.new }
 {
@@ -195,9 +202,11 @@ fn put_pair(
     requires room { from + 2 * (end - start) ≤ length values.now }
     requires narrow { (k : ℕ) → IsNarrow (slice_index_or values.now k (pos 0)) }
     ensures first { (x : ℕ) → start ≤ x → x < end →
-        slice_index_or first.new x (pos 0) ≡ slice_index_or values.now (from + 2 * (x - start)) (pos 0) }
+        slice_index_or first.new x (pos 0)
+        ≡ slice_index_or values.now (from + 2 * (x - start)) (pos 0) }
     ensures second { (x : ℕ) → start ≤ x → x < end →
-        slice_index_or second.new x (pos 0) ≡ slice_index_or values.now (from + (2 * (x - start) + 1)) (pos 0) }
+        slice_index_or second.new x (pos 0)
+        ≡ slice_index_or values.now (from + (2 * (x - start) + 1)) (pos 0) }
     ensures first_stays { StaysBeside start end first.old first.new }
     ensures second_stays { StaysBeside start end second.old second.new }
 {
@@ -324,11 +333,14 @@ pub fn put_luma(
     requires across { place.sx < layout.now.slices_x }
     requires down { place.sy < layout.now.slices_y }
     requires depth { bands.old.depth ≡ layout.now.depth }
-    requires sizes { HaveSizes bands.old (padded_length layout.now.depth size.w) (padded_length layout.now.depth size.h) }
+    requires sizes { HaveSizes bands.old (padded_length layout.now.depth size.w)
+        (padded_length layout.now.depth size.h) }
     requires count { length values.now ≡ 1 * place_count layout.now size place.sx place.sy }
     requires narrow { (k : ℕ) → IsNarrow (slice_index_or values.now k (pos 0)) }
-    ensures takes { BandsTake 1 0 layout.now size place.sx place.sy (3 * layout.now.depth + 1) values.now bands.old bands.new }
-    ensures rest { (k : ℕ) → 3 * layout.now.depth + 1 ≤ k → numbered bands.new k ≡ numbered bands.old k }
+    ensures takes { BandsTake 1 0 layout.now size place.sx place.sy
+        (3 * layout.now.depth + 1) values.now bands.old bands.new }
+    ensures rest { (k : ℕ) → 3 * layout.now.depth + 1 ≤ k
+        → numbered bands.new k ≡ numbered bands.old k }
 {
     let mut from = 0;
     for k in 0..3 * layout.depth() + 1 {
@@ -355,14 +367,20 @@ pub fn put_colour(
     requires down { place.sy < layout.now.slices_y }
     requires first_depth { first.old.depth ≡ layout.now.depth }
     requires second_depth { second.old.depth ≡ layout.now.depth }
-    requires first_sizes { HaveSizes first.old (padded_length layout.now.depth size.w) (padded_length layout.now.depth size.h) }
-    requires second_sizes { HaveSizes second.old (padded_length layout.now.depth size.w) (padded_length layout.now.depth size.h) }
+    requires first_sizes { HaveSizes first.old (padded_length layout.now.depth size.w)
+        (padded_length layout.now.depth size.h) }
+    requires second_sizes { HaveSizes second.old (padded_length layout.now.depth size.w)
+        (padded_length layout.now.depth size.h) }
     requires count { length values.now ≡ 2 * place_count layout.now size place.sx place.sy }
     requires narrow { (k : ℕ) → IsNarrow (slice_index_or values.now k (pos 0)) }
-    ensures first { BandsTake 2 0 layout.now size place.sx place.sy (3 * layout.now.depth + 1) values.now first.old first.new }
-    ensures second { BandsTake 2 1 layout.now size place.sx place.sy (3 * layout.now.depth + 1) values.now second.old second.new }
-    ensures first_rest { (k : ℕ) → 3 * layout.now.depth + 1 ≤ k → numbered first.new k ≡ numbered first.old k }
-    ensures second_rest { (k : ℕ) → 3 * layout.now.depth + 1 ≤ k → numbered second.new k ≡ numbered second.old k }
+    ensures first { BandsTake 2 0 layout.now size place.sx place.sy
+        (3 * layout.now.depth + 1) values.now first.old first.new }
+    ensures second { BandsTake 2 1 layout.now size place.sx place.sy
+        (3 * layout.now.depth + 1) values.now second.old second.new }
+    ensures first_rest { (k : ℕ) → 3 * layout.now.depth + 1 ≤ k
+        → numbered first.new k ≡ numbered first.old k }
+    ensures second_rest { (k : ℕ) → 3 * layout.now.depth + 1 ≤ k
+        → numbered second.new k ≡ numbered second.old k }
 {
     let mut from = 0;
     for k in 0..3 * layout.depth() + 1 {

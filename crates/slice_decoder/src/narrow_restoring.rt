@@ -88,7 +88,9 @@ fn inverse_low(q: i32, index: u32, factor: u32, offset: u32) -> i32
 fn restore_low(values: &mut [i32], index: u32)
     requires index { index ≤ 127 }
     requires low { AreLow 0 values.old index }
-    ensures { (k : ℕ) → k < length values.old → slice_index_or values.new k (pos 0) ≡ inverse_of (slice_index_or values.old k (pos 0)) index }
+    ensures { (k : ℕ) → k < length values.old
+        → slice_index_or values.new k (pos 0)
+        ≡ inverse_of (slice_index_or values.old k (pos 0)) index }
 {
     let (factor, offset) = (factor(index) as u32, offset(index) as u32);
     for k in 0..values.len() {
@@ -100,7 +102,8 @@ fn restore_low(values: &mut [i32], index: u32)
 fn inverse_any(q: i32, index: u32) -> Option<i32>
     requires index { index ≤ 127 }
     requires narrow { unsigned_abs q ≤ MAX_NARROW }
-    ensures { MatchOption result (MAX_NARROW < unsigned_abs (inverse_of q index)) (λ v. (v ≡ inverse_of q index) × (unsigned_abs v ≤ MAX_NARROW)) }
+    ensures { MatchOption result (MAX_NARROW < unsigned_abs (inverse_of q index))
+        (λ v. (v ≡ inverse_of q index) × (unsigned_abs v ≤ MAX_NARROW)) }
 {
     match inverse(i64::from(q), index) {
         Dequantised::Is(v) if v.unsigned_abs() <= u64::from(MAX_NARROW) => Some(v as i32),
@@ -113,9 +116,11 @@ fn inverse_any(q: i32, index: u32) -> Option<i32>
 fn restore_any(values: &mut [i32], index: u32) -> bool
     requires index { index ≤ 127 }
     requires narrow { (k : ℕ) → unsigned_abs (slice_index_or values.old k (pos 0)) ≤ MAX_NARROW }
-    ensures within { StayWithin MAX_NARROW result (λ k. inverse_of (slice_index_or values.old k (pos 0)) index) 0 (length values.old) }
+    ensures within { StayWithin MAX_NARROW result
+        (λ k. inverse_of (slice_index_or values.old k (pos 0)) index) 0 (length values.old) }
     ensures values { result ≡ true → (k : ℕ) → k < length values.old →
-        slice_index_or values.new k (pos 0) ≡ inverse_of (slice_index_or values.old k (pos 0)) index }
+        slice_index_or values.new k (pos 0)
+        ≡ inverse_of (slice_index_or values.old k (pos 0)) index }
 {
     for k in 0..values.len() {
         let Some(value) = inverse_any(values[k], index) else {
@@ -132,9 +137,11 @@ fn restore_run(values: &mut [i32], index: u32, is_low: bool) -> bool
     requires index { index ≤ 127 }
     requires narrow { (k : ℕ) → unsigned_abs (slice_index_or values.old k (pos 0)) ≤ MAX_NARROW }
     requires low { is_low ≡ true → AreLow 0 values.old index }
-    ensures within { StayWithin MAX_NARROW result (λ k. inverse_of (slice_index_or values.old k (pos 0)) index) 0 (length values.old) }
+    ensures within { StayWithin MAX_NARROW result
+        (λ k. inverse_of (slice_index_or values.old k (pos 0)) index) 0 (length values.old) }
     ensures values { result ≡ true → (k : ℕ) → k < length values.old →
-        slice_index_or values.new k (pos 0) ≡ inverse_of (slice_index_or values.old k (pos 0)) index }
+        slice_index_or values.new k (pos 0)
+        ≡ inverse_of (slice_index_or values.old k (pos 0)) index }
 {
     if !is_low {
         return restore_any(values, index);
@@ -149,11 +156,14 @@ fn restore_part(values: &mut [i32], from: usize, to: usize, index: u32, is_low: 
     requires index { index ≤ 127 }
     requires order { from ≤ to }
     requires inside { to ≤ length values.old }
-    requires narrow { (k : ℕ) → from ≤ k → unsigned_abs (slice_index_or values.old k (pos 0)) ≤ MAX_NARROW }
+    requires narrow { (k : ℕ) → from ≤ k
+        → unsigned_abs (slice_index_or values.old k (pos 0)) ≤ MAX_NARROW }
     requires low { is_low ≡ true → AreLow from values.old index }
-    ensures within { StayWithin MAX_NARROW result (λ k. inverse_of (slice_index_or values.old k (pos 0)) index) from to }
+    ensures within { StayWithin MAX_NARROW result
+        (λ k. inverse_of (slice_index_or values.old k (pos 0)) index) from to }
     ensures inside { result ≡ true → (k : ℕ) → from ≤ k → k < to →
-        slice_index_or values.new k (pos 0) ≡ inverse_of (slice_index_or values.old k (pos 0)) index }
+        slice_index_or values.new k (pos 0)
+        ≡ inverse_of (slice_index_or values.old k (pos 0)) index }
     ensures outside { StaysBeside from to values.old values.new }
 {
     restore_run(&mut values[from..to], index, is_low)
@@ -183,13 +193,17 @@ fn restore_band(
     requires band { k < 3 * matrix.now.depth + 1 }
     requires qindex { qindex ≤ 127 }
     requires inside { from + count ≤ length values.old }
-    requires narrow { (j : ℕ) → from ≤ j → unsigned_abs (slice_index_or values.old j (pos 0)) ≤ MAX_NARROW }
+    requires narrow { (j : ℕ) → from ≤ j
+        → unsigned_abs (slice_index_or values.old j (pos 0)) ≤ MAX_NARROW }
     requires low { is_low ≡ true → (i : ℕ) → i ≤ qindex → AreLow from values.old i }
-    ensures rest { (j : ℕ) → from + count ≤ j → slice_index_or values.new j (pos 0) ≡ slice_index_or values.old j (pos 0) }
-    ensures more { result ≡ true → (each : ℕ) (p : Part) (vs : List ℤ) → IsBand matrix.now qindex each p k count →
+    ensures rest { (j : ℕ) → from + count ≤ j
+        → slice_index_or values.new j (pos 0) ≡ slice_index_or values.old j (pos 0) }
+    ensures more { result ≡ true → (each : ℕ) (p : Part) (vs : List ℤ)
+        → IsBand matrix.now qindex each p k count →
         IsRestoredTo MAX_NARROW each p k from vs values.old →
         IsRestoredTo MAX_NARROW each p (k + 1) (from + count) vs values.new }
-    ensures stopped { result ≡ false → (each : ℕ) (p : Part) (vs : List ℤ) → IsBand matrix.now qindex each p k count →
+    ensures stopped { result ≡ false → (each : ℕ) (p : Part) (vs : List ℤ)
+        → IsBand matrix.now qindex each p k count →
         IsRestoredTo MAX_NARROW each p k from vs values.old → OnePasses MAX_NARROW each p vs }
 {
     let index = index_of_band(matrix, qindex, k);
@@ -211,12 +225,15 @@ fn restore_level(
     requires few { k ≤ 10 }
     requires qindex { qindex ≤ 127 }
     requires inside { from + 3 * count ≤ length values.old }
-    requires narrow { (j : ℕ) → from ≤ j → unsigned_abs (slice_index_or values.old j (pos 0)) ≤ MAX_NARROW }
+    requires narrow { (j : ℕ) → from ≤ j
+        → unsigned_abs (slice_index_or values.old j (pos 0)) ≤ MAX_NARROW }
     requires low { is_low ≡ true → (i : ℕ) → i ≤ qindex → AreLow from values.old i }
-    ensures more { result ≡ true → (each : ℕ) (p : Part) (vs : List ℤ) → AreBands matrix.now qindex each p k count →
+    ensures more { result ≡ true → (each : ℕ) (p : Part) (vs : List ℤ)
+        → AreBands matrix.now qindex each p k count →
         IsRestoredTo MAX_NARROW each p k from vs values.old →
         IsRestoredTo MAX_NARROW each p (k + 3) (from + 3 * count) vs values.new }
-    ensures stopped { result ≡ false → (each : ℕ) (p : Part) (vs : List ℤ) → AreBands matrix.now qindex each p k count →
+    ensures stopped { result ≡ false → (each : ℕ) (p : Part) (vs : List ℤ)
+        → AreBands matrix.now qindex each p k count →
         IsRestoredTo MAX_NARROW each p k from vs values.old → OnePasses MAX_NARROW each p vs }
 {
     if !restore_band(values, from, count, k, matrix, qindex, is_low) {
@@ -246,10 +263,15 @@ fn restore_block(
     requires entries { matrix.now.depth ≡ layout.now.depth }
     requires count { length values.old ≡ each * place_count layout.now size place.sx place.sy }
     requires narrow { (k : ℕ) → unsigned_abs (slice_index_or values.old k (pos 0)) ≤ MAX_NARROW }
-    ensures within { let quantisers = quantisers_before each (part_of layout.now size place.sx place.sy matrix.now place.qindex) (3 * layout.now.depth + 1) in
+    ensures within { let quantisers = quantisers_before each
+        (part_of layout.now size place.sx place.sy matrix.now place.qindex)
+        (3 * layout.now.depth + 1) in
         StayWithin MAX_NARROW result (restored_at values.old quantisers) 0 (length values.old) }
-    ensures values { let quantisers = quantisers_before each (part_of layout.now size place.sx place.sy matrix.now place.qindex) (3 * layout.now.depth + 1) in
-        result ≡ true → (k : ℕ) → k < length values.old → slice_index_or values.new k (pos 0) ≡ restored_at values.old quantisers k }
+    ensures values { let quantisers = quantisers_before each
+        (part_of layout.now size place.sx place.sy matrix.now place.qindex)
+        (3 * layout.now.depth + 1) in
+        result ≡ true → (k : ℕ) → k < length values.old
+        → slice_index_or values.new k (pos 0) ≡ restored_at values.old quantisers k }
 {
     let is_low = are_low(values, place.qindex);
     let mut from = each * area_of(rects[0]);
@@ -287,10 +309,17 @@ pub fn read_values(
     requires entries { matrix.now.depth ≡ layout.now.depth }
     requires count { count ≡ each * place_count layout.now size place.sx place.sy }
     requires room { count + SPARE ≤ length buffer.old }
-    ensures within { let quantisers = quantisers_before each (part_of layout.now size place.sx place.sy matrix.now place.qindex) (3 * layout.now.depth + 1) in
-        StayWithin MAX_NARROW result (λ k. slice_index_or (dealt block.now quantisers) k (pos 0)) 0 count }
-    ensures values { let quantisers = quantisers_before each (part_of layout.now size place.sx place.sy matrix.now place.qindex) (3 * layout.now.depth + 1) in
-        result ≡ true → (k : ℕ) → k < count → slice_index_or buffer.new k (pos 0) ≡ slice_index_or (dealt block.now quantisers) k (pos 0) }
+    ensures within { let quantisers = quantisers_before each
+        (part_of layout.now size place.sx place.sy matrix.now place.qindex)
+        (3 * layout.now.depth + 1) in
+        StayWithin MAX_NARROW result (λ k. slice_index_or (dealt block.now quantisers) k (pos 0)) 0
+        count }
+    ensures values { let quantisers = quantisers_before each
+        (part_of layout.now size place.sx place.sy matrix.now place.qindex)
+        (3 * layout.now.depth + 1) in
+        result ≡ true → (k : ℕ) → k < count
+        → slice_index_or buffer.new k (pos 0)
+        ≡ slice_index_or (dealt block.now quantisers) k (pos 0) }
 {
     if !block.narrow_values(codes, count, buffer) {
         return false;

@@ -46,12 +46,15 @@ fn read_blocks(
     requires qindex { place.qindex ≤ 127 }
     requires entries { matrix.now.depth ≡ layout.now.depth }
     requires luma_rects { AreRects layout.now shape.now.luma place.sx place.sy luma_rects.now }
-    requires colour_rects { AreRects layout.now shape.now.colour place.sx place.sy colour_rects.now }
+    requires colour_rects { AreRects layout.now shape.now.colour place.sx place.sy
+        colour_rects.now }
     requires ready { AreReady layout.now shape.now place.sx place.sy (trio_of bands.old) }
     requires narrow { AreNarrowBands bands.old }
     ensures { let start = 7 + slicing.length_bits (length bytes.now) in
-        let luma_part = part_of layout.now shape.now.luma place.sx place.sy matrix.now place.qindex in
-        let colour_part = part_of layout.now shape.now.colour place.sx place.sy matrix.now place.qindex in
+        let luma_part = part_of layout.now shape.now.luma place.sx place.sy matrix.now place.qindex
+        in
+        let colour_part = part_of layout.now shape.now.colour place.sx place.sy matrix.now
+        place.qindex in
         IsReadNarrow (length buffer.old) luma_part colour_part
         (block_of bytes.now start (start + luma_bits))
         (block_of bytes.now (start + luma_bits) (8 * length bytes.now))
@@ -93,8 +96,10 @@ fn restore(bands: &mut NarrowBands, rect: Rect) -> bool
     requires x_inside { rect.x1 ≤ (numbered bands.old 0).w }
     requires y_inside { rect.y1 ≤ height (numbered bands.old 0) }
     requires narrow { AreBandsWithin (pos (2 ^ 18)) bands.old }
-    ensures restored { result ≡ true → RestoresRect rect (numbered bands.old 0) (numbered bands.new 0) }
-    ensures stopped { result ≡ false → IsStopped rect (numbered bands.old 0) (numbered bands.new 0) }
+    ensures restored { result ≡ true
+        → RestoresRect rect (numbered bands.old 0) (numbered bands.new 0) }
+    ensures stopped { result ≡ false
+        → IsStopped rect (numbered bands.old 0) (numbered bands.new 0) }
     ensures keeps { LowestKeeps rect bands.old bands.new }
     ensures narrow { AreBandsWithin (pos (2 ^ 18)) bands.new }
 {
@@ -147,13 +152,16 @@ pub fn decode_narrow(
     requires entries { matrix.now.depth ≡ layout.now.depth }
     requires ready { AreReady layout.now shape.now sx sy (trio_of bands.old) }
     requires narrow { AreNarrowBands bands.old }
-    ensures decoded { let slice = slice_at layout.now shape.now.luma shape.now.colour sx sy bytes.now in
+    ensures decoded { let slice = slice_at layout.now shape.now.luma shape.now.colour sx sy
+        bytes.now in
         MatchResult result
         (λ answer. MatchOption answer
-        (NeedsWide (pos (2 ^ 18)) (length buffer.old) layout.now shape.now sx sy matrix.now slice (trio_of bands.new))
+        (NeedsWide (pos (2 ^ 18)) (length buffer.old) layout.now shape.now sx sy matrix.now slice
+        (trio_of bands.new))
         (λ head. IsDecoded layout.now shape.now sx sy matrix.now slice head (trio_of bands.new)))
         (IsRefused layout.now shape.now sx sy matrix.now slice) }
-    ensures others { AllKeepOthers layout.now shape.now sx sy (trio_of bands.old) (trio_of bands.new) }
+    ensures others { AllKeepOthers layout.now shape.now sx sy (trio_of bands.old)
+        (trio_of bands.new) }
     ensures narrow { AreNarrowBands bands.new }
 {
     let depth = layout.depth();

@@ -35,9 +35,11 @@ fn put_pair(values: &[i64], from: usize, first: &mut [i64], second: &mut [i64], 
     requires second_inside { x1 ≤ length second.old }
     requires room { from + 2 * (x1 - x0) ≤ length values.now }
     ensures first { (x : ℕ) → x0 ≤ x → x < x1 →
-        slice_index_or first.new x (pos 0) ≡ slice_index_or values.now (from + 2 * (x - x0)) (pos 0) }
+        slice_index_or first.new x (pos 0)
+        ≡ slice_index_or values.now (from + 2 * (x - x0)) (pos 0) }
     ensures second { (x : ℕ) → x0 ≤ x → x < x1 →
-        slice_index_or second.new x (pos 0) ≡ slice_index_or values.now (from + (2 * (x - x0) + 1)) (pos 0) }
+        slice_index_or second.new x (pos 0)
+        ≡ slice_index_or values.now (from + (2 * (x - x0) + 1)) (pos 0) }
     ensures first_stays { StaysBeside x0 x1 first.old first.new }
     ensures second_stays { StaysBeside x0 x1 second.old second.new }
 {
@@ -98,10 +100,13 @@ pub fn put_luma(
     requires across { place.sx < layout.now.slices_x }
     requires down { place.sy < layout.now.slices_y }
     requires depth { bands.old.depth ≡ layout.now.depth }
-    requires sizes { HaveSizes bands.old (padded_length layout.now.depth size.w) (padded_length layout.now.depth size.h) }
+    requires sizes { HaveSizes bands.old (padded_length layout.now.depth size.w)
+        (padded_length layout.now.depth size.h) }
     requires count { length values.now ≡ 1 * place_count layout.now size place.sx place.sy }
-    ensures takes { BandsTake 1 0 layout.now size place.sx place.sy (3 * layout.now.depth + 1) values.now bands.old bands.new }
-    ensures rest { (k : ℕ) → 3 * layout.now.depth + 1 ≤ k → numbered bands.new k ≡ numbered bands.old k }
+    ensures takes { BandsTake 1 0 layout.now size place.sx place.sy
+        (3 * layout.now.depth + 1) values.now bands.old bands.new }
+    ensures rest { (k : ℕ) → 3 * layout.now.depth + 1 ≤ k
+        → numbered bands.new k ≡ numbered bands.old k }
 {
     let mut from = 0;
     for k in 0..3 * layout.depth() + 1 {
@@ -127,13 +132,19 @@ pub fn put_colour(
     requires down { place.sy < layout.now.slices_y }
     requires first_depth { first.old.depth ≡ layout.now.depth }
     requires second_depth { second.old.depth ≡ layout.now.depth }
-    requires first_sizes { HaveSizes first.old (padded_length layout.now.depth size.w) (padded_length layout.now.depth size.h) }
-    requires second_sizes { HaveSizes second.old (padded_length layout.now.depth size.w) (padded_length layout.now.depth size.h) }
+    requires first_sizes { HaveSizes first.old (padded_length layout.now.depth size.w)
+        (padded_length layout.now.depth size.h) }
+    requires second_sizes { HaveSizes second.old (padded_length layout.now.depth size.w)
+        (padded_length layout.now.depth size.h) }
     requires count { length values.now ≡ 2 * place_count layout.now size place.sx place.sy }
-    ensures first { BandsTake 2 0 layout.now size place.sx place.sy (3 * layout.now.depth + 1) values.now first.old first.new }
-    ensures second { BandsTake 2 1 layout.now size place.sx place.sy (3 * layout.now.depth + 1) values.now second.old second.new }
-    ensures first_rest { (k : ℕ) → 3 * layout.now.depth + 1 ≤ k → numbered first.new k ≡ numbered first.old k }
-    ensures second_rest { (k : ℕ) → 3 * layout.now.depth + 1 ≤ k → numbered second.new k ≡ numbered second.old k }
+    ensures first { BandsTake 2 0 layout.now size place.sx place.sy
+        (3 * layout.now.depth + 1) values.now first.old first.new }
+    ensures second { BandsTake 2 1 layout.now size place.sx place.sy
+        (3 * layout.now.depth + 1) values.now second.old second.new }
+    ensures first_rest { (k : ℕ) → 3 * layout.now.depth + 1 ≤ k
+        → numbered first.new k ≡ numbered first.old k }
+    ensures second_rest { (k : ℕ) → 3 * layout.now.depth + 1 ≤ k
+        → numbered second.new k ≡ numbered second.old k }
 {
     let mut from = 0;
     for k in 0..3 * layout.depth() + 1 {

@@ -23,10 +23,13 @@ fn restore_part(values: &mut [i64], from: usize, to: usize, index: u32) -> bool
     requires index { index ≤ 127 }
     requires order { from ≤ to }
     requires inside { to ≤ length values.old }
-    requires small { (k : ℕ) → from ≤ k → unsigned_abs (slice_index_or values.old k (pos 0)) ≤ MAX_MAGNITUDE }
-    ensures small { StayWithin MAX_MAGNITUDE result (λ k. inverse_of (slice_index_or values.old k (pos 0)) index) from to }
+    requires small { (k : ℕ) → from ≤ k
+        → unsigned_abs (slice_index_or values.old k (pos 0)) ≤ MAX_MAGNITUDE }
+    ensures small { StayWithin MAX_MAGNITUDE result
+        (λ k. inverse_of (slice_index_or values.old k (pos 0)) index) from to }
     ensures inside { result ≡ true → (k : ℕ) → from ≤ k → k < to →
-        slice_index_or values.new k (pos 0) ≡ inverse_of (slice_index_or values.old k (pos 0)) index }
+        slice_index_or values.new k (pos 0)
+        ≡ inverse_of (slice_index_or values.old k (pos 0)) index }
     ensures outside { StaysBeside from to values.old values.new }
 {
     dequantise(&mut values[from..to], index)
@@ -49,10 +52,15 @@ pub fn restore_block(
     requires entries { matrix.now.depth ≡ layout.now.depth }
     requires count { length values.old ≡ each * place_count layout.now size place.sx place.sy }
     requires small { (k : ℕ) → unsigned_abs (slice_index_or values.old k (pos 0)) ≤ MAX_MAGNITUDE }
-    ensures small { let quantisers = quantisers_before each (part_of layout.now size place.sx place.sy matrix.now place.qindex) (3 * layout.now.depth + 1) in
+    ensures small { let quantisers = quantisers_before each
+        (part_of layout.now size place.sx place.sy matrix.now place.qindex)
+        (3 * layout.now.depth + 1) in
         StayWithin MAX_MAGNITUDE result (restored_at values.old quantisers) 0 (length values.old) }
-    ensures values { let quantisers = quantisers_before each (part_of layout.now size place.sx place.sy matrix.now place.qindex) (3 * layout.now.depth + 1) in
-        result ≡ true → (k : ℕ) → k < length values.old → slice_index_or values.new k (pos 0) ≡ restored_at values.old quantisers k }
+    ensures values { let quantisers = quantisers_before each
+        (part_of layout.now size place.sx place.sy matrix.now place.qindex)
+        (3 * layout.now.depth + 1) in
+        result ≡ true → (k : ℕ) → k < length values.old
+        → slice_index_or values.new k (pos 0) ≡ restored_at values.old quantisers k }
 {
     let mut from = 0;
     for k in 0..3 * layout.depth() + 1 {
@@ -84,10 +92,16 @@ pub fn read_values(
     requires qindex { place.qindex ≤ 127 }
     requires entries { matrix.now.depth ≡ layout.now.depth }
     requires count { length values.old ≡ each * place_count layout.now size place.sx place.sy }
-    ensures small { let quantisers = quantisers_before each (part_of layout.now size place.sx place.sy matrix.now place.qindex) (3 * layout.now.depth + 1) in
+    ensures small { let quantisers = quantisers_before each
+        (part_of layout.now size place.sx place.sy matrix.now place.qindex)
+        (3 * layout.now.depth + 1) in
         result ≡ are_small (dealt block.old quantisers) }
-    ensures values { let quantisers = quantisers_before each (part_of layout.now size place.sx place.sy matrix.now place.qindex) (3 * layout.now.depth + 1) in
-        result ≡ true → (k : ℕ) → k < length values.old → slice_index_or values.new k (pos 0) ≡ slice_index_or (dealt block.old quantisers) k (pos 0) }
+    ensures values { let quantisers = quantisers_before each
+        (part_of layout.now size place.sx place.sy matrix.now place.qindex)
+        (3 * layout.now.depth + 1) in
+        result ≡ true → (k : ℕ) → k < length values.old
+        → slice_index_or values.new k (pos 0)
+        ≡ slice_index_or (dealt block.old quantisers) k (pos 0) }
 {
     if !block.fill(values) {
         return false;

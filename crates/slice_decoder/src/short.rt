@@ -88,9 +88,12 @@ fn put_luma(
     requires down { place.sy < layout.now.slices_y }
     requires cut { IsCut layout.now size bands.old }
     requires count { length values.now ≡ 1 * place_count layout.now size place.sx place.sy }
-    requires short { (k : ℕ) → k < length values.now → IsWithin MAX_SHORT (slice_index_or values.now k (pos 0)) }
-    ensures takes { BandsTake 1 0 layout.now size place.sx place.sy (3 * layout.now.depth + 1) values.now (short_stack bands.old) (short_stack bands.new) }
-    ensures rest { (k : ℕ) → 3 * layout.now.depth + 1 ≤ k → numbered (short_stack bands.new) k ≡ numbered (short_stack bands.old) k }
+    requires short { (k : ℕ) → k < length values.now
+        → IsWithin MAX_SHORT (slice_index_or values.now k (pos 0)) }
+    ensures takes { BandsTake 1 0 layout.now size place.sx place.sy
+        (3 * layout.now.depth + 1) values.now (short_stack bands.old) (short_stack bands.new) }
+    ensures rest { (k : ℕ) → 3 * layout.now.depth + 1 ≤ k
+        → numbered (short_stack bands.new) k ≡ numbered (short_stack bands.old) k }
     ensures cut { IsCut layout.now size bands.new }
 {
     bands.slices.shows();
@@ -115,11 +118,16 @@ fn put_colour(
     requires first_cut { IsCut layout.now size first.old }
     requires second_cut { IsCut layout.now size second.old }
     requires count { length values.now ≡ 2 * place_count layout.now size place.sx place.sy }
-    requires short { (k : ℕ) → k < length values.now → IsWithin MAX_SHORT (slice_index_or values.now k (pos 0)) }
-    ensures first { BandsTake 2 0 layout.now size place.sx place.sy (3 * layout.now.depth + 1) values.now (short_stack first.old) (short_stack first.new) }
-    ensures second { BandsTake 2 1 layout.now size place.sx place.sy (3 * layout.now.depth + 1) values.now (short_stack second.old) (short_stack second.new) }
-    ensures first_rest { (k : ℕ) → 3 * layout.now.depth + 1 ≤ k → numbered (short_stack first.new) k ≡ numbered (short_stack first.old) k }
-    ensures second_rest { (k : ℕ) → 3 * layout.now.depth + 1 ≤ k → numbered (short_stack second.new) k ≡ numbered (short_stack second.old) k }
+    requires short { (k : ℕ) → k < length values.now
+        → IsWithin MAX_SHORT (slice_index_or values.now k (pos 0)) }
+    ensures first { BandsTake 2 0 layout.now size place.sx place.sy
+        (3 * layout.now.depth + 1) values.now (short_stack first.old) (short_stack first.new) }
+    ensures second { BandsTake 2 1 layout.now size place.sx place.sy
+        (3 * layout.now.depth + 1) values.now (short_stack second.old) (short_stack second.new) }
+    ensures first_rest { (k : ℕ) → 3 * layout.now.depth + 1 ≤ k
+        → numbered (short_stack first.new) k ≡ numbered (short_stack first.old) k }
+    ensures second_rest { (k : ℕ) → 3 * layout.now.depth + 1 ≤ k
+        → numbered (short_stack second.new) k ≡ numbered (short_stack second.old) k }
     ensures first_cut { IsCut layout.now size first.new }
     ensures second_cut { IsCut layout.now size second.new }
 {
@@ -154,7 +162,8 @@ pub fn read_luma(
     requires cut { IsCut layout.now size bands.old }
     ensures answer { let part = part_of layout.now size place.sx place.sy matrix.now place.qindex in
         Answers MAX_SHORT (length buffer.old) (block_values 1 part block.now)
-        (BandsHold 1 0 part (3 * layout.now.depth + 1) block.now (short_stack bands.old) (short_stack bands.new)) result }
+        (BandsHold 1 0 part (3 * layout.now.depth + 1) block.now (short_stack bands.old)
+        (short_stack bands.new)) result }
     ensures keeps { let part = part_of layout.now size place.sx place.sy matrix.now place.qindex in
         BandsKeep part (short_stack bands.old) (short_stack bands.new) }
     ensures cut { IsCut layout.now size bands.new }
@@ -196,11 +205,15 @@ pub fn read_colour(
     requires second_cut { IsCut layout.now size second.old }
     ensures answer { let part = part_of layout.now size place.sx place.sy matrix.now place.qindex in
         Answers MAX_SHORT (length buffer.old) (block_values 2 part block.now)
-        (BandsHold 2 0 part (3 * layout.now.depth + 1) block.now (short_stack first.old) (short_stack first.new)
-        × BandsHold 2 1 part (3 * layout.now.depth + 1) block.now (short_stack second.old) (short_stack second.new)) result }
-    ensures first_keeps { let part = part_of layout.now size place.sx place.sy matrix.now place.qindex in
+        (BandsHold 2 0 part (3 * layout.now.depth + 1) block.now (short_stack first.old)
+        (short_stack first.new)
+        × BandsHold 2 1 part (3 * layout.now.depth + 1) block.now (short_stack second.old)
+        (short_stack second.new)) result }
+    ensures first_keeps { let part = part_of layout.now size place.sx place.sy matrix.now
+        place.qindex in
         BandsKeep part (short_stack first.old) (short_stack first.new) }
-    ensures second_keeps { let part = part_of layout.now size place.sx place.sy matrix.now place.qindex in
+    ensures second_keeps { let part = part_of layout.now size place.sx place.sy matrix.now
+        place.qindex in
         BandsKeep part (short_stack second.old) (short_stack second.new) }
     ensures first_cut { IsCut layout.now size first.new }
     ensures second_cut { IsCut layout.now size second.new }

@@ -169,15 +169,13 @@ fn restore_block(
     requires qindex { place.qindex ≤ 127 }
     requires entries { matrix.now.depth ≡ layout.now.depth }
     requires count { length values.old ≡ each * place_count layout.now size place.sx place.sy }
-    ensures within {
-        let part = part_of layout.now size place.sx place.sy matrix.now place.qindex in
+    ensures within { let part = part_of layout.now size place.sx place.sy matrix.now place.qindex in
         let quantisers = quantisers_before each part (3 * layout.now.depth + 1) in
         StayWithin MAX_SHORT result (restored_at values.old quantisers) 0 (length values.old) }
-    ensures values {
-        let part = part_of layout.now size place.sx place.sy matrix.now place.qindex in
+    ensures values { let part = part_of layout.now size place.sx place.sy matrix.now place.qindex in
         let quantisers = quantisers_before each part (3 * layout.now.depth + 1) in
         result ≡ true → (k : ℕ) → k < length values.old →
-            slice_index_or values.new k (pos 0) ≡ restored_at values.old quantisers k }
+        slice_index_or values.new k (pos 0) ≡ restored_at values.old quantisers k }
 {
     let mut from = 0;
     for k in 0..3 * layout.depth() + 1 {
@@ -211,17 +209,15 @@ pub fn read_values(
     requires entries { matrix.now.depth ≡ layout.now.depth }
     requires count { count ≡ each * place_count layout.now size place.sx place.sy }
     requires room { count + SPARE ≤ length buffer.old }
-    ensures within {
-        let part = part_of layout.now size place.sx place.sy matrix.now place.qindex in
+    ensures within { let part = part_of layout.now size place.sx place.sy matrix.now place.qindex in
         let quantisers = quantisers_before each part (3 * layout.now.depth + 1) in
         StayWithin MAX_SHORT result
-            (λ k. slice_index_or (dealt block.now quantisers) k (pos 0)) 0 count }
-    ensures values {
-        let part = part_of layout.now size place.sx place.sy matrix.now place.qindex in
+        (λ k. slice_index_or (dealt block.now quantisers) k (pos 0)) 0 count }
+    ensures values { let part = part_of layout.now size place.sx place.sy matrix.now place.qindex in
         let quantisers = quantisers_before each part (3 * layout.now.depth + 1) in
         result ≡ true → (k : ℕ) → k < count →
-            slice_index_or buffer.new k (pos 0)
-            ≡ slice_index_or (dealt block.now quantisers) k (pos 0) }
+        slice_index_or buffer.new k (pos 0)
+        ≡ slice_index_or (dealt block.now quantisers) k (pos 0) }
 {
     if !block.short_values(codes, count, buffer) {
         return false;

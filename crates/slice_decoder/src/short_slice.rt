@@ -51,11 +51,14 @@ fn read_blocks(
     requires qindex { place.qindex ≤ 127 }
     requires entries { matrix.now.depth ≡ layout.now.depth }
     requires luma_rects { AreRects layout.now shape.now.luma place.sx place.sy luma_rects.now }
-    requires colour_rects { AreRects layout.now shape.now.colour place.sx place.sy colour_rects.now }
+    requires colour_rects { AreRects layout.now shape.now.colour place.sx place.sy
+        colour_rects.now }
     requires cut { AreCut layout.now shape.now bands.old }
     ensures read { let start = 7 + slicing.length_bits (length bytes.now) in
-        let luma_part = part_of layout.now shape.now.luma place.sx place.sy matrix.now place.qindex in
-        let colour_part = part_of layout.now shape.now.colour place.sx place.sy matrix.now place.qindex in
+        let luma_part = part_of layout.now shape.now.luma place.sx place.sy matrix.now place.qindex
+        in
+        let colour_part = part_of layout.now shape.now.colour place.sx place.sy matrix.now
+        place.qindex in
         AreRead MAX_SHORT (length buffer.old) luma_part colour_part
         (block_of bytes.now start (start + luma_bits))
         (block_of bytes.now (start + luma_bits) (8 * length bytes.now))
@@ -98,8 +101,11 @@ fn restore(bands: &mut ShortBands, rect: Rect) -> bool
     requires x_inside { rect.x1 ≤ (numbered (short_stack bands.old) 0).w }
     requires y_inside { rect.y1 ≤ height (numbered (short_stack bands.old) 0) }
     requires cut { IsShortSound bands.old }
-    ensures restored { result ≡ true → RestoresRect rect (numbered (short_stack bands.old) 0) (numbered (short_stack bands.new) 0) }
-    ensures stopped { result ≡ false → IsStopped rect (numbered (short_stack bands.old) 0) (numbered (short_stack bands.new) 0) }
+    ensures restored { result ≡ true
+        → RestoresRect rect (numbered (short_stack bands.old) 0)
+        (numbered (short_stack bands.new) 0) }
+    ensures stopped { result ≡ false
+        → IsStopped rect (numbered (short_stack bands.old) 0) (numbered (short_stack bands.new) 0) }
     ensures keeps { LowestKeeps rect (short_stack bands.old) (short_stack bands.new) }
     ensures cut { (s : Slicing) (size : Size) → IsCut s size bands.old → IsCut s size bands.new }
 {
@@ -117,10 +123,16 @@ fn restore_all(bands: &mut ShortTrio, luma: Rect, colour: Rect) -> bool
     requires luma_sound { IsShortSound bands.old.luma }
     requires c1_sound { IsShortSound bands.old.c1 }
     requires c2_sound { IsShortSound bands.old.c2 }
-    ensures restored { result ≡ true → AreRestored luma colour (narrow_of (shown_trio bands.old)) (narrow_of (shown_trio bands.new)) }
-    ensures stopped { result ≡ false → OneStops luma colour (narrow_of (shown_trio bands.old)) (narrow_of (shown_trio bands.new)) }
-    ensures keeps { AllKeepLowest luma colour (narrow_of (shown_trio bands.old)) (narrow_of (shown_trio bands.new)) }
-    ensures cut { (s : Slicing) (shape : PictureShape) → AreCut s shape bands.old → AreCut s shape bands.new }
+    ensures restored { result ≡ true
+        → AreRestored luma colour (narrow_of (shown_trio bands.old))
+        (narrow_of (shown_trio bands.new)) }
+    ensures stopped { result ≡ false
+        → OneStops luma colour (narrow_of (shown_trio bands.old))
+        (narrow_of (shown_trio bands.new)) }
+    ensures keeps { AllKeepLowest luma colour (narrow_of (shown_trio bands.old))
+        (narrow_of (shown_trio bands.new)) }
+    ensures cut { (s : Slicing) (shape : PictureShape) → AreCut s shape bands.old
+        → AreCut s shape bands.new }
 {
     if !restore(&mut bands.luma, luma) {
         return false;
@@ -154,13 +166,16 @@ pub fn decode_short(
     requires entries { matrix.now.depth ≡ layout.now.depth }
     requires ready { AreReady layout.now shape.now sx sy (shown_trio bands.old) }
     requires cut { AreCut layout.now shape.now bands.old }
-    ensures decoded { let slice = slice_at layout.now shape.now.luma shape.now.colour sx sy bytes.now in
+    ensures decoded { let slice = slice_at layout.now shape.now.luma shape.now.colour sx sy
+        bytes.now in
         MatchResult result
         (λ answer. MatchOption answer
-        (NeedsWide MAX_SHORT (length buffer.old) layout.now shape.now sx sy matrix.now slice (shown_trio bands.new))
+        (NeedsWide MAX_SHORT (length buffer.old) layout.now shape.now sx sy matrix.now slice
+        (shown_trio bands.new))
         (λ head. IsDecoded layout.now shape.now sx sy matrix.now slice head (shown_trio bands.new)))
         (IsRefused layout.now shape.now sx sy matrix.now slice) }
-    ensures others { AllKeepOthers layout.now shape.now sx sy (shown_trio bands.old) (shown_trio bands.new) }
+    ensures others { AllKeepOthers layout.now shape.now sx sy (shown_trio bands.old)
+        (shown_trio bands.new) }
     ensures cut { AreCut layout.now shape.now bands.new }
 {
     let depth = layout.depth();

@@ -21,7 +21,7 @@ use Rattle.slice_encoder.specs.Tries.{in_rect, tried, IsTried, AreTried, tried_l
 use Rattle.slice_encoder.specs.Order.{Place, places_of}
 use Rattle.slice_encoder.specs.Choice.{fits}
 use Rattle.slice_encoder.specs.TrialLaws.{most_coefficient, IsIndex, IsSteepOk}
-use Rattle.slice_encoder.specs.Ready.{IsReady, AreReady}
+use Rattle.slice_encoder.specs.Ready.{IsReadyToWrite, AreReadyToWrite}
 use Rattle.slice_encoder.proofs.Others.{KeepsOthers, AllKeepOthers}
 use Rattle.slice_encoder.proofs.Near.{restored_value-within, within_abs, difference_within}
 use Rattle.slice_encoder.proofs.Coarsest.{gone, needs_none, need-zeros, two_zeros, all_joined, places_exist}
@@ -91,7 +91,7 @@ lists_again j sx sy index old mid k =
 
 -- ---- how large the tried values are
 
-module _ (c : CodedComponent) (d sx sy index : ℕ) (kept : Raster ℤ) (le : index ≤ 127) (ready : IsReady c d sx sy kept) where
+module _ (c : CodedComponent) (d sx sy index : ℕ) (kept : Raster ℤ) (le : index ≤ 127) (ready : IsReadyToWrite c d sx sy kept) where
   abbrev m : ℕ
   m = most_coefficient c.slicing.depth d
 
@@ -137,7 +137,7 @@ pub all_both : {X : Type 0} (P Q : X → Type 0) → (xs : List X) → All P xs 
 all_both P Q [] p q = All-nil (λ x. P x × Q x)
 all_both P Q (x ∷ xs) p q = All-cons (λ x. P x × Q x) x xs (All-head P x xs p, All-head Q x xs q) (all_both P Q xs (All-tail P x xs p) (All-tail Q x xs q))
 
-module _ (c : CodedComponent) (d dmost sx sy : ℕ) (kept : Raster ℤ) (some : 1 ≤ d) (le : d ≤ dmost) (steep : IsSteepOk c.slicing.depth dmost c.matrix) (ready : IsReady c d sx sy kept) where
+module _ (c : CodedComponent) (d dmost sx sy : ℕ) (kept : Raster ℤ) (some : 1 ≤ d) (le : d ≤ dmost) (steep : IsSteepOk c.slicing.depth dmost c.matrix) (ready : IsReadyToWrite c d sx sy kept) where
   abbrev grid : Grid
   grid = tried c sx sy 127 (at kept)
 
@@ -159,7 +159,7 @@ module _ (c : CodedComponent) (d dmost sx sy : ℕ) (kept : Raster ℤ) (some : 
       All-weaker (λ p. In p × Low p) (λ p. value_of c (tried c sx sy 127 (at kept)) 127 p ≡ pos 0) (λ p h. gone_here p h.0 h.1) places
       (all_both In Low places (places_exist c.slicing c.size sx sy c.slicing.depth c.slicing.depth (omega arith)) (lowest_inside c.slicing c.size sx sy c.slicing.depth))
 
-pub coarsest_tried : (j : CodedPicture) (bytes sx sy : ℕ) (kept : ThreePlanes) → IsDepth j.frame.luma_depth → IsDepth j.frame.colour_depth → AreReady j sx sy kept → IsSteepOk j.slicing.depth (max j.frame.luma_depth j.frame.colour_depth) j.matrix → fits bytes (tried_lists j kept sx sy 127) ≡ true
+pub coarsest_tried : (j : CodedPicture) (bytes sx sy : ℕ) (kept : ThreePlanes) → IsDepth j.frame.luma_depth → IsDepth j.frame.colour_depth → AreReadyToWrite j sx sy kept → IsSteepOk j.slicing.depth (max j.frame.luma_depth j.frame.colour_depth) j.matrix → fits bytes (tried_lists j kept sx sy 127) ≡ true
 coarsest_tried j bytes sx sy kept luma_bits colour_bits ready steep =
     let most = max j.frame.luma_depth j.frame.colour_depth in
     let luma = all_gone (luma_of j) j.frame.luma_depth most sx sy kept.luma luma_bits.some (omega arith) steep ready.luma in

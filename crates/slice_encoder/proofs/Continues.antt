@@ -20,7 +20,7 @@ use Rattle.slice_geometry.proofs.RectsInBands.{end_inside}
 use Rattle.quant_factors.specs.Weights.{band_quantiser}
 use Rattle.slice_geometry.specs.SliceOrder.{level_rect}
 use Rattle.quant_factors.specs.Factors.{forward_of}
-use Rattle.slice_encoder.specs.Loop.{Rule, restored_value, made, residual_of}
+use Rattle.slice_encoder.specs.Loop.{PlaceRule, restored_value, made, residual_of}
 use Rattle.slice_encoder.specs.Order.{Place, row_places, rect_places, places_of}
 use Rattle.slice_encoder.specs.Trials.{CodedComponent, coefficient, slice_holding, restored_after, value_of, luma_list, colour_list, CodedPicture, luma_of, c1_of, c2_of, lists, last_lists, IsKept, AreKept}
 use Rattle.slice_encoder.specs.Tries.{in_rect, tried, IsTried, tried_lists, KeptHasSize, KeptHaveSizes, IsNext, TrialsGoOn}
@@ -55,7 +55,7 @@ pub tried-inside : (c : CodedComponent) (sx sy index : ℕ) (kept : Grid) (y x :
 unfolding tried
 tried-inside c sx sy index kept y x h =
     let r = level_rect c.slicing c.size sx sy 0 in
-    let f : Rule = λ j i p. cond (in_rect r j i) (restored_value (coefficient c 0 0 j i) (band_quantiser c.matrix index 0 0) p) (kept j i) in
+    let f : PlaceRule = λ j i p. cond (in_rect r j i) (restored_value (coefficient c 0 0 j i) (band_quantiser c.matrix index 0 0) p) (kept j i) in
     is_made f y x
     ∙ ap (λ b. cond b (restored_value (coefficient c 0 0 y x) (band_quantiser c.matrix index 0 0) (prediction (made f) y x)) (kept y x)) (in_rect-yes r y x h)
 
@@ -63,7 +63,7 @@ pub tried-outside : (c : CodedComponent) (sx sy index : ℕ) (kept : Grid) (y x 
 unfolding tried
 tried-outside c sx sy index kept y x h =
     let r = level_rect c.slicing c.size sx sy 0 in
-    let f : Rule = λ j i p. cond (in_rect r j i) (restored_value (coefficient c 0 0 j i) (band_quantiser c.matrix index 0 0) p) (kept j i) in
+    let f : PlaceRule = λ j i p. cond (in_rect r j i) (restored_value (coefficient c 0 0 j i) (band_quantiser c.matrix index 0 0) p) (kept j i) in
     is_made f y x
     ∙ ap (λ b. cond b (restored_value (coefficient c 0 0 y x) (band_quantiser c.matrix index 0 0) (prediction (made f) y x)) (kept y x)) (in_rect-no r y x h)
 

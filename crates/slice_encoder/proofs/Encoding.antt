@@ -7,18 +7,18 @@ use Rattle.slice_encoder.specs.Trials.{CodedPicture, Lists, AreKept}
 use Rattle.slice_encoder.specs.Tries.{AreTried, tried_lists, KeptHaveSizes, IsNext}
 use Rattle.slice_encoder.specs.Choice.{fits, slice_bits}
 use Rattle.slice_encoder.specs.declared.search.Trying.{Trying}
-use Rattle.slice_encoder.specs.Buffers.{Holds}
-use Rattle.slice_encoder.specs.Ready.{AreReady}
+use Rattle.slice_encoder.specs.Buffers.{HoldsLists}
+use Rattle.slice_encoder.specs.Ready.{AreReadyToWrite}
 use Rattle.slice_encoder.specs.Encoded.{IsEncoded, IsEncodedAfter, trial_of}
 use Rattle.slice_encoder.proofs.Continues.{lists_go_on, go_on}
 
 pub bits_as : (bytes : List Bool) (n index : ℕ) (l m : Lists) → l ≡ m → bytes ≡ slice_bits n index l → bytes ≡ slice_bits n index m
 bits_as bytes n index l m e is = is ∙ ap (λ (x : Lists). slice_bits n index x) e
 
-pub sizes_of : (j : CodedPicture) (sx sy : ℕ) (kept : ThreePlanes) → AreReady j sx sy kept → KeptHaveSizes j kept
+pub sizes_of : (j : CodedPicture) (sx sy : ℕ) (kept : ThreePlanes) → AreReadyToWrite j sx sy kept → KeptHaveSizes j kept
 sizes_of j sx sy kept r = record { luma = r.luma.kept_size; c1 = r.c1.kept_size; c2 = r.c2.kept_size }
 
-pub encoded_after : (j : CodedPicture) (indices : List ℕ) (sx sy : ℕ) (bytes : List ℕ) (head : SliceHead) (old new : ThreePlanes) → AreReady j sx sy old → IsEncoded (tried_lists j old sx sy) bytes head → AreTried j sx sy head.qindex old new
+pub encoded_after : (j : CodedPicture) (indices : List ℕ) (sx sy : ℕ) (bytes : List ℕ) (head : SliceHead) (old new : ThreePlanes) → AreReadyToWrite j sx sy old → IsEncoded (tried_lists j old sx sy) bytes head → AreTried j sx sy head.qindex old new
     → IsNext j indices sx sy → AreKept j indices old → IsEncodedAfter j indices sx sy bytes head new
 encoded_after j indices sx sy bytes head old new ready slice tries next kept =
     let sizes = sizes_of j sx sy old ready in
@@ -37,7 +37,7 @@ encoded_after j indices sx sy bytes head old new ready slice tries next kept =
     }
 
 -- what a trial answers of the lists that it holds
-pub trial_is : (n bytes : ℕ) (l : Lists) (t : Trying) (lumas colours : List ℤ) → n ≡ bytes → Holds l n t lumas colours
+pub trial_is : (n bytes : ℕ) (l : Lists) (t : Trying) (lumas colours : List ℤ) → n ≡ bytes → HoldsLists l n t lumas colours
     → record { luma_need = t.luma_need; colour_need = t.colour_need; fits = t.fits } ≡ trial_of bytes l
 trial_is n bytes l t lumas colours is holds =
     ap (λ (u : ℕ). record { luma_need = u; colour_need = t.colour_need; fits = t.fits }) holds.luma_need

@@ -20,7 +20,7 @@ use Rattle.slice_encoder.specs.Trials.{CodedComponent}
 use Rattle.slice_encoder.specs.TrialLaws.{most_coefficient}
 use Rattle.slice_encoder.specs.Ready.{IsGiven}
 use Rattle.slice_encoder.specs.Listing.{rect_values}
-use Rattle.slice_encoder.specs.Gathering.{raw_part, raw_before, quantised, in_turn, with_code, reach, CanGather, CanGatherAll, GatheredSeen, IsSound, AreGathered}
+use Rattle.slice_encoder.specs.Gathering.{raw_part, raw_before, quantised, in_turn, with_code, reach, CanGather, CanGatherAll, GatheredSeen, IsGatheredSound, AreGathered}
 use Rattle.slice_encoder.proofs.Tried.{coefficient_most}
 use Rattle.slice_encoder.proofs.Near.{within_abs}
 use Rattle.slice_encoder.proofs.PlaceByPlace.{forward_small}
@@ -198,7 +198,7 @@ module _ (s : Slicing) (size : Size) (bands : BandStack) (sx sy : ℕ) (g : Gath
       let here : k - 1 + 1 ≡ k = omega arith in
       ends_are (k - 1) (omega arith) ∙ ap (λ (n : ℕ). length (raw_before s size bands sx sy n)) here
 
-  pub filled_sound : s.depth ≤ 4 → All (Within (2 ^ 27)) g.values → length g.values ≤ 2 ^ 31 → IsSound g
+  pub filled_sound : s.depth ≤ 4 → All (Within (2 ^ 27)) g.values → length g.values ≤ 2 ^ 31 → IsGatheredSound g
   filled_sound shallow small few = record {
     shallow = omega (arith, depth_is, shallow);
     rise = λ k some le. omega (arith, end_before k some (omega (arith, depth_is, le)), ends_are k (omega (arith, depth_is, le)), raw_within s size bands sx sy k (k + 1) (omega arith));

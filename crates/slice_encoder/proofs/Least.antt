@@ -3,7 +3,7 @@ use Rattle.std.proofs.Common.{◌≡◌, ◌∙◌, sym, ℕ, zero, suc, ◌<◌
 use Rattle.std.specs.Prelude.{◌⊎◌}
 use Rattle.std.proofs.lemmas.Bool.{cases_lt, cases_eq}
 use Rattle.slice_encoder.specs.Trials.{Lists}
-use Rattle.slice_encoder.specs.Choice.{fits, IsLeast}
+use Rattle.slice_encoder.specs.Choice.{fits, IsLeastIndex}
 use Rattle.slice_encoder.specs.TrialLaws.{HasOneLeast}
 
 true_or_false : (b : Bool) → (b ≡ true) ⊎ (b ≡ false)
@@ -13,7 +13,7 @@ true_or_false false = inr (let e : false ≡ false = cc in e)
 module _ (bytes : ℕ) (at_index : ℕ → Lists) where
   -- none of the first n fits, or one of them is the least
   abbrev Found : ℕ → Type 0
-  Found n = ((i : ℕ) → i < n → fits bytes (at_index i) ≡ false) ⊎ ((index : ℕ) × IsLeast bytes at_index index)
+  Found n = ((i : ℕ) → i < n → fits bytes (at_index i) ≡ false) ⊎ ((index : ℕ) × IsLeastIndex bytes at_index index)
 
   found : (n : ℕ) → n ≤ 128 → Found n
   found zero le = inl (λ i lt. absurd (omega arith))
@@ -28,13 +28,13 @@ module _ (bytes : ℕ) (at_index : ℕ → Lists) where
     ]
   ]
 
-  some : fits bytes (at_index 127) ≡ true → (index : ℕ) × IsLeast bytes at_index index
+  some : fits bytes (at_index 127) ≡ true → (index : ℕ) × IsLeastIndex bytes at_index index
   some fit = elim (found 128 (omega arith)) [
     | inl none ↦ absurd (let q : false ≡ true = sym (none 127 (omega arith)) ∙ fit in cc)
     | inr least ↦ least
   ]
 
-  not_below : (i j : ℕ) → IsLeast bytes at_index i → IsLeast bytes at_index j → i ≤ j
+  not_below : (i j : ℕ) → IsLeastIndex bytes at_index i → IsLeastIndex bytes at_index j → i ≤ j
   not_below i j a b = elim (cases_lt j i) [
     | inl lt ↦ absurd (let q : false ≡ true = sym (a.least j lt) ∙ b.fit in cc)
     | inr le ↦ le

@@ -14,7 +14,7 @@ use Rattle.slice_geometry.proofs.RectsInBands.{end_inside}
 use Rattle.slice_encoder.specs.Trials.{CodedComponent, slice_holding, luma_of, c1_of, c2_of, IsKept}
 use Rattle.slice_encoder.specs.Tries.{KeptHasSize}
 use Rattle.slice_encoder.specs.TrialLaws.{IsIndex, most_coefficient}
-use Rattle.slice_encoder.specs.Ready.{IsGiven, IsReady}
+use Rattle.slice_encoder.specs.Ready.{IsGiven, IsReadyToWrite}
 use Rattle.slice_encoder.specs.Ready.{NextIsReady}
 use Rattle.slice_encoder.proofs.Near.{stays_near}
 use Rattle.slice_encoder.proofs.Holders.{holder_rises}
@@ -48,7 +48,7 @@ module _ (c : CodedComponent) (d : ℕ) (indices : List ℕ) (sx sy : ℕ) (p : 
         corner = λ some more not. small_before (y - 1) (x - 1) (omega arith) (omega arith) (omega (arith, own, holder_rises c.slicing c.size (y - 1) (x - 1) y x hy hx (omega arith) (omega arith))) not;
       }
 
-  pub one_ready : IsReady c d sx sy p
+  pub one_ready : IsReadyToWrite c d sx sy p
   one_ready = record { depth = given.depth; sizes = given.sizes; small = given.small; kept_size = size; outside = small_outside }
 
 pub next_ready : NextIsReady

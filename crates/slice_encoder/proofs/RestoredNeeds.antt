@@ -9,7 +9,7 @@ use Rattle.slice_geometry.specs.SliceOrder.{level_rect, area, place_count}
 use Rattle.bounded_blocks.specs.Parts.{IsSmall}
 use Rattle.bounded_blocks.specs.Writing.{codes_of, need}
 use Rattle.slice_encoder.specs.Trials.{CodedComponent, CodedPicture, luma_list, colour_list, c1_of, c2_of}
-use Rattle.slice_encoder.specs.TrialLaws.{AreSmall}
+use Rattle.slice_encoder.specs.TrialLaws.{AreSmallValues}
 use Rattle.slice_encoder.specs.Listing.{band_part, pair_part}
 use Rattle.slice_encoder.specs.Gathering.{behind_lowest, reach, high_part, high_reach, high_pair, high_pairs_reach}
 use Rattle.slice_encoder.proofs.Gathers.{reach_append, first_count, raw_count, raw_within}
@@ -31,9 +31,9 @@ front_needs front high all bits is all_is = elim (cases_eq (reach high 0) 0) as 
       )
 ]
 
-front_small : (front high all : List ℤ) → all ≡ front ++ high → AreSmall all → AreSmall front
+front_small : (front high all : List ℤ) → all ≡ front ++ high → AreSmallValues all → AreSmallValues front
 front_small front high all all_is small =
-    subst AreSmall (take-append_seam front high) (All-take IsSmall (length front) (front ++ high) (subst AreSmall all_is small))
+    subst AreSmallValues (take-append_seam front high) (All-take IsSmall (length front) (front ++ high) (subst AreSmallValues all_is small))
 
 -- ---- of luma
 
@@ -50,7 +50,7 @@ module _ (c : CodedComponent) (index sx sy : ℕ) (kept : Raster ℤ) (restored 
   luma_is : luma_list c restored index sx sy ≡ band_part c kept index sx sy 0 ++ flat_map (high_part c index sx sy) (range_with_len 1 (3 * c.slicing.depth))
   luma_is = sym (ap (λ (g : Grid). luma_list c g index sx sy) is) ∙ luma_parts c kept index sx sy
 
-  pub lowest_luma_small : AreSmall (luma_list c restored index sx sy) → AreSmall (band_part c kept index sx sy 0)
+  pub lowest_luma_small : AreSmallValues (luma_list c restored index sx sy) → AreSmallValues (band_part c kept index sx sy 0)
   lowest_luma_small = front_small (band_part c kept index sx sy 0) (flat_map (high_part c index sx sy) (range_with_len 1 (3 * c.slicing.depth))) (luma_list c restored index sx sy) luma_is
 
   pub luma_needs : (bits : ℕ) → bits ≡ length (codes_of (band_part c kept index sx sy 0)) → behind_lowest bits (high_reach c index sx sy) - 3 ≤ need (luma_list c restored index sx sy)
@@ -73,7 +73,7 @@ module _ (j : CodedPicture) (index sx sy : ℕ) (kept1 kept2 : Raster ℤ) (rest
       sym (ap (λ (g : Grid). colour_list (c1_of j) (c2_of j) g (at kept2) index sx sy) is1 ∙ ap (λ (g : Grid). colour_list (c1_of j) (c2_of j) restored1 g index sx sy) is2)
       ∙ colour_parts j kept1 kept2 index sx sy
 
-  pub lowest_colour_small : AreSmall (colour_list (c1_of j) (c2_of j) restored1 restored2 index sx sy) → AreSmall (pair_part (c1_of j) (c2_of j) kept1 kept2 index sx sy 0)
+  pub lowest_colour_small : AreSmallValues (colour_list (c1_of j) (c2_of j) restored1 restored2 index sx sy) → AreSmallValues (pair_part (c1_of j) (c2_of j) kept1 kept2 index sx sy 0)
   lowest_colour_small = front_small front high all colour_is
 
   pub colour_needs : (bits : ℕ) → bits ≡ length (codes_of (pair_part (c1_of j) (c2_of j) kept1 kept2 index sx sy 0)) → behind_lowest bits (high_pairs_reach j index sx sy) - 3 ≤ need (colour_list (c1_of j) (c2_of j) restored1 restored2 index sx sy)

@@ -9,12 +9,12 @@ use Rattle.slice_encoder.specs.Trials.{CodedComponent, CodedPicture, luma_of, c1
 use Rattle.slice_encoder.specs.Tries.{tried_lists}
 use Rattle.slice_encoder.specs.Choice.{fits}
 use Rattle.slice_encoder.specs.TrialLaws.{most_coefficient}
-use Rattle.slice_encoder.specs.Buffers.{Holds}
-use Rattle.slice_encoder.specs.Ready.{IsReady, AreReady}
+use Rattle.slice_encoder.specs.Buffers.{HoldsLists}
+use Rattle.slice_encoder.specs.Ready.{IsReadyToWrite, AreReadyToWrite}
 use Rattle.slice_encoder.proofs.Others.{KeepsOthers, AllKeepOthers}
 use Rattle.slice_encoder.proofs.Again.{lists_again}
 
-one_ready : (c : CodedComponent) (d sx sy : ℕ) (old mid : Raster ℤ) → IsReady c d sx sy old → KeepsOthers c sx sy old mid → IsReady c d sx sy mid
+one_ready : (c : CodedComponent) (d sx sy : ℕ) (old mid : Raster ℤ) → IsReadyToWrite c d sx sy old → KeepsOthers c sx sy old mid → IsReadyToWrite c d sx sy mid
 one_ready c d sx sy old mid r k = record {
   depth = r.depth;
   sizes = r.sizes;
@@ -30,7 +30,7 @@ one_ready c d sx sy old mid r k = record {
       };
 }
 
-pub ready_again : (j : CodedPicture) (sx sy : ℕ) (old mid : ThreePlanes) → AreReady j sx sy old → AllKeepOthers j sx sy old mid → AreReady j sx sy mid
+pub ready_again : (j : CodedPicture) (sx sy : ℕ) (old mid : ThreePlanes) → AreReadyToWrite j sx sy old → AllKeepOthers j sx sy old mid → AreReadyToWrite j sx sy mid
 ready_again j sx sy old mid r k = record {
   across = r.across;
   down = r.down;
@@ -40,9 +40,9 @@ ready_again j sx sy old mid r k = record {
   c2 = one_ready (c2_of j) j.frame.colour_depth sx sy old.c2 mid.c2 r.c2 k.c2;
 }
 
-module _ (j : CodedPicture) (bytes sx sy index : ℕ) (old mid : ThreePlanes) (t : Trying) (luma colour : List ℤ) (k : AllKeepOthers j sx sy old mid) (h : Holds (tried_lists j mid sx sy index) bytes t luma colour) where
-  pub holds_again : Holds (tried_lists j old sx sy index) bytes t luma colour
-  holds_again = subst (λ (l : Lists). Holds l bytes t luma colour) (lists_again j sx sy index old mid k) h
+module _ (j : CodedPicture) (bytes sx sy index : ℕ) (old mid : ThreePlanes) (t : Trying) (luma colour : List ℤ) (k : AllKeepOthers j sx sy old mid) (h : HoldsLists (tried_lists j mid sx sy index) bytes t luma colour) where
+  pub holds_again : HoldsLists (tried_lists j old sx sy index) bytes t luma colour
+  holds_again = subst (λ (l : Lists). HoldsLists l bytes t luma colour) (lists_again j sx sy index old mid k) h
 
   pub fit_again : (b : Bool) → t.fits ≡ b → fits bytes (tried_lists j old sx sy index) ≡ b
   fit_again b e = sym holds_again.fit ∙ e

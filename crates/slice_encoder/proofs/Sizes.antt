@@ -2,7 +2,7 @@
 use Rattle.std.proofs.Common.{◌≡◌, ◌∙◌, sym, ap, ℕ, zero, suc, ◌+◌, ◌-◌, ◌*◌, ◌<◌, ◌≤◌, List, length, take, drop, get_or, arith, ℤ, pos}
 use Rattle.std.specs.Prelude.{unsigned_abs, slice_index}
 use Rattle.std.proofs.lemmas.List.{length-take, length-drop, get_or-take, get_or-drop}
-use Rattle.slice_encoder.specs.Gathering.{GatheredSeen, IsSound, AreSizes, AreSizesIn}
+use Rattle.slice_encoder.specs.Gathering.{GatheredSeen, IsGatheredSound, AreSizes, AreSizesIn}
 
 -- ---- a part of a list
 
@@ -33,7 +33,7 @@ front_sizes n sizes vs is = record {
 
 -- ---- one band after another
 
-pub rising : (g : GatheredSeen) → IsSound g → (j n : ℕ) → j + n ≤ 3 * g.depth → slice_index g.ends j ≤ slice_index g.ends (j + n)
+pub rising : (g : GatheredSeen) → IsGatheredSound g → (j n : ℕ) → j + n ≤ 3 * g.depth → slice_index g.ends j ≤ slice_index g.ends (j + n)
 rising g sound j zero le =
     let same : j + 0 ≡ j = omega arith in
     omega (arith, ap (λ (k : ℕ). slice_index g.ends k) same)
@@ -48,13 +48,13 @@ rising g sound j (suc n) le =
       ap (λ (k : ℕ). slice_index g.ends k) back,
     )
 
-pub ends_rise : (g : GatheredSeen) → IsSound g → (j k : ℕ) → j ≤ k → k ≤ 3 * g.depth → slice_index g.ends j ≤ slice_index g.ends k
+pub ends_rise : (g : GatheredSeen) → IsGatheredSound g → (j k : ℕ) → j ≤ k → k ≤ 3 * g.depth → slice_index g.ends j ≤ slice_index g.ends k
 ends_rise g sound j k le most =
     let whole : j + (k - j) ≡ k = omega (arith, le) in
     omega (arith, rising g sound j (k - j) (omega (arith, le, most)), ap (λ (n : ℕ). slice_index g.ends n) whole)
 
 -- those in one band
-pub band_sizes : (g : GatheredSeen) → IsSound g → (sizes : List ℕ) (k : ℕ) → 1 ≤ k → k ≤ 3 * g.depth → AreSizesIn (slice_index g.ends 0) (slice_index g.ends (3 * g.depth)) sizes g.values → AreSizesIn (slice_index g.ends (k - 1)) (slice_index g.ends k) sizes g.values
+pub band_sizes : (g : GatheredSeen) → IsGatheredSound g → (sizes : List ℕ) (k : ℕ) → 1 ≤ k → k ≤ 3 * g.depth → AreSizesIn (slice_index g.ends 0) (slice_index g.ends (3 * g.depth)) sizes g.values → AreSizesIn (slice_index g.ends (k - 1)) (slice_index g.ends k) sizes g.values
 band_sizes g sound sizes k some most is =
     let low = ends_rise g sound 0 (k - 1) (omega arith) (omega (arith, most)) in
     let high = ends_rise g sound k (3 * g.depth) most (omega arith) in

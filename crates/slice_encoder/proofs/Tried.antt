@@ -12,12 +12,12 @@ use Rattle.slice_geometry.specs.Geometry.{padded_length, band_size}
 use Rattle.quant_factors.specs.Weights.{band_quantiser}
 use Rattle.slice_geometry.specs.SliceOrder.{level_rect}
 use Rattle.slice_geometry.proofs.RectsInBands.{end_inside}
-use Rattle.slice_encoder.specs.Loop.{Rule, restored_value}
+use Rattle.slice_encoder.specs.Loop.{PlaceRule, restored_value}
 use Rattle.slice_encoder.specs.Trials.{CodedComponent, coefficient}
 use Rattle.slice_encoder.specs.Tries.{in_rect, tried, IsTried}
 use Rattle.slice_encoder.specs.RectTrials.{CanTryRect, TriesRect}
 use Rattle.slice_encoder.specs.TrialLaws.{most_coefficient}
-use Rattle.slice_encoder.specs.Ready.{IsReady}
+use Rattle.slice_encoder.specs.Ready.{IsReadyToWrite}
 use Rattle.slice_encoder.proofs.Made.{made_again}
 use Rattle.slice_encoder.proofs.Continues.{in_rect-yes, in_rect-no}
 
@@ -31,7 +31,7 @@ rect_is_tried c sx sy index q rect old new rect_is q_is n0 =
     let n1 = subst (λ (r : Rect). TriesRect (coefficient c 0 0) q r old new) rect_is n0 in
     let n = subst (λ (k : ℕ). TriesRect (coefficient c 0 0) k (level_rect c.slicing c.size sx sy 0) old new) q_is n1 in
     let r = level_rect c.slicing c.size sx sy 0 in
-    let f : Rule = λ y x p. cond (in_rect r y x) (restored_value (coefficient c 0 0 y x) (band_quantiser c.matrix index 0 0) p) (at old y x) in
+    let f : PlaceRule = λ y x p. cond (in_rect r y x) (restored_value (coefficient c 0 0 y x) (band_quantiser c.matrix index 0 0) p) (at old y x) in
     record {
       same_width = n.same_width;
       same_height = n.same_height;
@@ -44,7 +44,7 @@ rect_is_tried c sx sy index q rect old new rect_is q_is n0 =
     }
 
 pub can_try_rect : (c : CodedComponent) (d sx sy : ℕ) (rect : Rect) (coefficients kept : Raster ℤ) → c.slicing.depth ≤ 4 → d ≤ 16 → sx < c.slicing.slices_x → sy < c.slicing.slices_y
-    → rect ≡ level_rect c.slicing c.size sx sy 0 → coefficients ≡ band_of c.bands 0 0 → IsReady c d sx sy kept → CanTryRect rect coefficients kept
+    → rect ≡ level_rect c.slicing c.size sx sy 0 → coefficients ≡ band_of c.bands 0 0 → IsReadyToWrite c d sx sy kept → CanTryRect rect coefficients kept
 can_try_rect c d sx sy rect coefficients kept shallow few across down rect_is band_is ready =
     let band = band_size c.slicing.depth 0 c.size in
     let r = level_rect c.slicing c.size sx sy 0 in

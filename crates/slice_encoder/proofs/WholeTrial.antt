@@ -24,9 +24,9 @@ use Rattle.slice_geometry.proofs.RectsInBands.{fits, FitsIn, end_inside}
 use Rattle.slice_encoder.specs.Order.{Place, row_places, rect_places, places_of}
 use Rattle.slice_encoder.specs.Trials.{CodedComponent, coefficient, value_of, luma_list, colour_list}
 use Rattle.slice_encoder.specs.Tries.{tried, IsTried}
-use Rattle.slice_encoder.specs.TrialLaws.{most_coefficient, AreSmall}
+use Rattle.slice_encoder.specs.TrialLaws.{most_coefficient, AreSmallValues}
 use Rattle.slice_encoder.specs.Buffers.{CanListAll}
-use Rattle.slice_encoder.specs.Ready.{IsReady}
+use Rattle.slice_encoder.specs.Ready.{IsReadyToWrite}
 use Rattle.slice_encoder.proofs.Near.{within_abs, difference_within}
 use Rattle.slice_encoder.proofs.Coarsest.{places_exist, all_joined}
 use Rattle.slice_encoder.proofs.Continues.{lowest_inside}
@@ -86,7 +86,7 @@ chosen : (P : ℤ → Type 0) (b : Bool) (x y : ℤ) → (b ≡ true → P x) �
 chosen P true x y h k = h refl
 chosen P false x y h k = k refl
 
-module _ (c : CodedComponent) (d sx sy index : ℕ) (kept : Raster ℤ) (le : index ≤ 127) (shallow : c.slicing.depth ≤ 4) (few : d ≤ 16) (ready : IsReady c d sx sy kept) where
+module _ (c : CodedComponent) (d sx sy index : ℕ) (kept : Raster ℤ) (le : index ≤ 127) (shallow : c.slicing.depth ≤ 4) (few : d ≤ 16) (ready : IsReadyToWrite c d sx sy kept) where
   abbrev grid : Grid
   grid = tried c sx sy index (at kept)
 
@@ -113,7 +113,7 @@ module _ (c : CodedComponent) (d sx sy index : ℕ) (kept : Raster ℤ) (le : in
       All-weaker (λ p. In p × Low p) (λ p. unsigned_abs (value_of c (tried c sx sy index (at kept)) index p) ≤ 2 ^ 36) (λ p h. value_small p h.0 h.1) places
       (all_both In Low places (places_exist c.slicing c.size sx sy c.slicing.depth c.slicing.depth (omega arith)) (lowest_inside c.slicing c.size sx sy c.slicing.depth))
 
-  pub luma_small : AreSmall (luma_list c (tried c sx sy index (at kept)) index sx sy)
+  pub luma_small : AreSmallValues (luma_list c (tried c sx sy index (at kept)) index sx sy)
   luma_small = All-map (λ v. unsigned_abs v ≤ 2 ^ 36) (value_of c (tried c sx sy index (at kept)) index) (places_of c.slicing c.size sx sy c.slicing.depth) all_small
 
   -- ---- the bands can be listed, once the lowest one was tried
@@ -147,7 +147,7 @@ module _ (c : CodedComponent) (d sx sy index : ℕ) (kept : Raster ℤ) (le : in
         }
 
 pub colour_small : (c1 c2 : CodedComponent) (g h : Grid) (index sx sy : ℕ) → All (λ p. unsigned_abs (value_of c1 g index p) ≤ 2 ^ 36) (places_of c1.slicing c1.size sx sy c1.slicing.depth)
-    → All (λ p. unsigned_abs (value_of c2 h index p) ≤ 2 ^ 36) (places_of c1.slicing c1.size sx sy c1.slicing.depth) → AreSmall (colour_list c1 c2 g h index sx sy)
+    → All (λ p. unsigned_abs (value_of c2 h index p) ≤ 2 ^ 36) (places_of c1.slicing c1.size sx sy c1.slicing.depth) → AreSmallValues (colour_list c1 c2 g h index sx sy)
 colour_small c1 c2 g h index sx sy one two =
     let places = places_of c1.slicing c1.size sx sy c1.slicing.depth in
     let pair : Place → List ℤ = λ p. value_of c1 g index p ∷ value_of c2 h index p ∷ [] in

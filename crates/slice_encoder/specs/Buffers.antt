@@ -11,23 +11,23 @@ use Rattle.slice_encoder.specs.declared.search.Trying.{Trying}
 use Rattle.slice_encoder.specs.Choice.{fits}
 use Rattle.slice_encoder.specs.Trials.{CodedComponent, CodedPicture, Lists}
 use Rattle.slice_encoder.specs.Listing.{CanList}
-use Rattle.slice_encoder.specs.TrialLaws.{AreSmall}
+use Rattle.slice_encoder.specs.TrialLaws.{AreSmallValues}
 
 -- the buffers for a slice's values have room for them
-pub record HasRoom (j : CodedPicture) (sx sy lumas colours : ℕ) : Type 0 where
+pub record HasListRoom (j : CodedPicture) (sx sy lumas colours : ℕ) : Type 0 where
   pub luma : place_count j.slicing j.frame.luma sx sy ≤ lumas
   pub colour : 2 * place_count j.slicing j.frame.colour sx sy ≤ colours
   pub few_luma : lumas ≤ 2 ^ 32
   pub few_colour : colours ≤ 2 ^ 32
 
 -- The front of two buffers holds the lists of a slice, and these are their needs.
-pub record Holds (l : Lists) (bytes : ℕ) (t : Trying) (lumas colours : List ℤ) : Type 0 where
+pub record HoldsLists (l : Lists) (bytes : ℕ) (t : Trying) (lumas colours : List ℤ) : Type 0 where
   pub luma_count : t.luma ≤ length lumas
   pub colour_count : t.colour ≤ length colours
   pub luma : take t.luma lumas ≡ l.luma
   pub colour : take t.colour colours ≡ l.colour
-  pub luma_small : AreSmall l.luma
-  pub colour_small : AreSmall l.colour
+  pub luma_small : AreSmallValues l.luma
+  pub colour_small : AreSmallValues l.colour
   pub luma_need : t.luma_need ≡ need l.luma
   pub colour_need : t.colour_need ≡ need l.colour
   pub fit : t.fits ≡ fits bytes l

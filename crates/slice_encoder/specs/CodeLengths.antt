@@ -11,7 +11,7 @@ abbrev pub IsRow : ℕ → List ℕ → Type 0
 IsRow index row = (magnitude : ℕ) → magnitude < length row → slice_index_or row magnitude 0 ≡ code_length index (pos magnitude)
 
 -- The whole table is so: 128 rows of 512 entries.
-pub record AreRows (rows : List (List ℕ)) : Type 0 where
+pub record AreLengthRows (rows : List (List ℕ)) : Type 0 where
   pub count : length rows ≡ 128
   pub by_index : (index : ℕ) → index < 128 → IsRow index (slice_index_or rows index [])
   pub entries : (index : ℕ) → index < 128 → length (slice_index_or rows index []) ≡ 512

@@ -8,12 +8,12 @@ use Rattle.slice_geometry.specs.declared.SliceHead.{SliceHead}
 use Rattle.slice_geometry.specs.Slicing.{Slicing, slice_bytes, slice_number}
 use Rattle.slice_encoder.specs.declared.encoder.Trial.{Trial}
 use Rattle.slice_encoder.specs.Trials.{CodedPicture, Lists, last_lists, AreKept}
-use Rattle.slice_encoder.specs.Choice.{fits, IsLeast, slice_bits}
+use Rattle.slice_encoder.specs.Choice.{fits, IsLeastIndex, slice_bits}
 
 -- The slice takes the least index that fits of these lists, its head tells the index and the need of its luma list, and
 -- its bytes are its bits.
 pub record IsEncoded (lists_at : ℕ → Lists) (bytes : List ℕ) (head : SliceHead) : Type 0 where
-  pub least : IsLeast (length bytes) lists_at head.qindex
+  pub least : IsLeastIndex (length bytes) lists_at head.qindex
   pub luma_bits : head.luma_bits ≡ need (lists_at head.qindex).luma
   pub bits : bits_of bytes ≡ slice_bits (length bytes) head.qindex (lists_at head.qindex)
 

@@ -34,7 +34,7 @@ pub record GatheredSeen : Type 0 where
 abbrev pub piece_of : GatheredSeen → ℕ → List ℤ
 piece_of g k = take (slice_index g.ends k - slice_index g.ends (k - 1)) (drop (slice_index g.ends (k - 1)) g.values)
 
-pub record IsSound (g : GatheredSeen) : Type 0 where
+pub record IsGatheredSound (g : GatheredSeen) : Type 0 where
   pub shallow : g.depth ≤ 4
   pub rise : (k : ℕ) → 1 ≤ k → k ≤ 3 * g.depth → slice_index g.ends (k - 1) ≤ slice_index g.ends k
   pub whole : (k : ℕ) → k ≤ 3 * g.depth → slice_index g.ends k ≤ slice_index g.ends (3 * g.depth)

@@ -6,10 +6,10 @@ use Rattle.dc_prediction.specs.Prediction.{mean, prediction}
 use Rattle.quant_factors.specs.Factors.{inverse_of, forward_of}
 
 -- what a place holds, by its row, its column and its prediction
-abbrev pub Rule : Type 0
-Rule = ℕ → ℕ → ℤ → ℤ
+abbrev pub PlaceRule : Type 0
+PlaceRule = ℕ → ℕ → ℤ → ℤ
 
-abbrev pub IsMade : Rule → Grid → Type 0
+abbrev pub IsMade : PlaceRule → Grid → Type 0
 IsMade f g = (y x : ℕ) → g y x ≡ f y x (prediction g y x)
 
 -- ---- the one band that is made, by computing
@@ -22,7 +22,7 @@ abbrev pub made_below : (ℕ → ℤ) → (ℕ → ℤ → ℤ) → ℕ → ℤ
 made_below above f zero = f 0 (above 0)
 made_below above f (suc x) = f (suc x) (mean (made_below above f x) (above x) (above (suc x)))
 
-unfoldable pub made : Rule → Grid
+unfoldable pub made : PlaceRule → Grid
 made f zero = made_first (f 0)
 made f (suc y) = made_below (made f y) (f (suc y))
 

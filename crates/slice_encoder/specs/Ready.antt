@@ -21,7 +21,7 @@ use Rattle.slice_encoder.specs.TrialLaws.{IsIndex, AreCoefficients, most_coeffic
 
 -- A component is ready for slice (sx, sy): bands and kept plane have their sizes, the coefficients are those of d bits,
 -- and what is looked at outside the slice is no greater than a restored value there can be.
-pub record IsReady (c : CodedComponent) (d sx sy : ℕ) (kept : Raster ℤ) : Type 0 where
+pub record IsReadyToWrite (c : CodedComponent) (d sx sy : ℕ) (kept : Raster ℤ) : Type 0 where
   pub depth : c.bands.depth ≡ c.slicing.depth
   pub sizes : HaveSizes c.bands (padded_length c.slicing.depth c.size.w) (padded_length c.slicing.depth c.size.h)
   pub small : AreCoefficients d c
@@ -29,13 +29,13 @@ pub record IsReady (c : CodedComponent) (d sx sy : ℕ) (kept : Raster ℤ) : Ty
   pub outside : AllLookedAtOutside (λ y x. Within (3 * most_coefficient c.slicing.depth d + 2) (at kept y x))
       (level_rect c.slicing c.size sx sy 0)
 
-pub record AreReady (j : CodedPicture) (sx sy : ℕ) (kept : ThreePlanes) : Type 0 where
+pub record AreReadyToWrite (j : CodedPicture) (sx sy : ℕ) (kept : ThreePlanes) : Type 0 where
   pub across : sx < j.slicing.slices_x
   pub down : sy < j.slicing.slices_y
   pub entries : j.matrix.depth ≡ j.slicing.depth
-  pub luma : IsReady (luma_of j) j.frame.luma_depth sx sy kept.luma
-  pub c1 : IsReady (c1_of j) j.frame.colour_depth sx sy kept.c1
-  pub c2 : IsReady (c2_of j) j.frame.colour_depth sx sy kept.c2
+  pub luma : IsReadyToWrite (luma_of j) j.frame.luma_depth sx sy kept.luma
+  pub c1 : IsReadyToWrite (c1_of j) j.frame.colour_depth sx sy kept.c1
+  pub c2 : IsReadyToWrite (c2_of j) j.frame.colour_depth sx sy kept.c2
 
 -- what of this stays from slice to slice
 pub record IsGiven (c : CodedComponent) (d : ℕ) : Type 0 where
@@ -66,4 +66,4 @@ narrow_picture s shape matrix c = coded_picture s shape matrix (record { luma = 
 abbrev pub NextIsReady : Type 0
 NextIsReady = (j : CodedPicture) (indices : List ℕ) (sx sy : ℕ) (kept : ThreePlanes) → AreGiven j → IsNext j indices sx sy
     → KeptHaveSizes j kept → AreKept j indices kept
-    → All IsIndex indices → AreReady j sx sy kept
+    → All IsIndex indices → AreReadyToWrite j sx sy kept

@@ -10,7 +10,7 @@ use Rattle.slice_geometry.specs.Slicing.{AreSlicesAllowed, slice_number}
 use Rattle.slice_geometry.specs.Geometry.{band_size}
 use Rattle.slice_encoder.specs.Trials.{CodedComponent, coefficient, slice_holding, restored_after, CodedPicture, luma_of, c1_of, c2_of, Lists, last_lists}
 use Rattle.bounded_blocks.specs.Parts.{IsSmall}
-use Rattle.slice_encoder.specs.Choice.{fits, IsLeast}
+use Rattle.slice_encoder.specs.Choice.{fits, IsLeastIndex}
 
 -- What is restored in a slice depends on its index and those before it alone.
 abbrev pub EarlierIndicesAlone : Type 0
@@ -56,10 +56,10 @@ CoarsestFits = (j : CodedPicture) (indices : List ℕ) (bytes sx sy : ℕ) → I
     → All IsIndex indices → length indices ≡ slice_number j.slicing sx sy
     → fits bytes (last_lists j (indices ++ 127 ∷ []) sx sy) ≡ true
 
-abbrev pub AreSmall : List ℤ → Type 0
-AreSmall vs = All IsSmall vs
+abbrev pub AreSmallValues : List ℤ → Type 0
+AreSmallValues vs = All IsSmall vs
 
 -- Where index 127 fits, there is a least index, and only one.
 pub record HasOneLeast (bytes : ℕ) (at_index : ℕ → Lists) : Type 0 where
-  pub some : fits bytes (at_index 127) ≡ true → (index : ℕ) × IsLeast bytes at_index index
-  pub no_other : (i j : ℕ) → IsLeast bytes at_index i → IsLeast bytes at_index j → i ≡ j
+  pub some : fits bytes (at_index 127) ≡ true → (index : ℕ) × IsLeastIndex bytes at_index index
+  pub no_other : (i j : ℕ) → IsLeastIndex bytes at_index i → IsLeastIndex bytes at_index j → i ≡ j

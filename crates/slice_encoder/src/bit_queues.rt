@@ -63,7 +63,8 @@ fn waiting(queue: BitQueue, number: u64, n: u32) -> BitQueue
     ensures whole { result.whole ≡ queue.whole }
     ensures count { result.count ≡ queue.count + n }
     ensures number { result.number < 2 ^ result.count }
-    ensures text { digits_below result.count result.number ≡ digits_below queue.count queue.number ++ digits_below n number }
+    ensures text { digits_below result.count result.number
+        ≡ digits_below queue.count queue.number ++ digits_below n number }
 {
     BitQueue {
         whole: queue.whole,
@@ -83,7 +84,8 @@ pub fn put_bits(bytes: &mut [u8], queue: BitQueue, number: u64, n: u32) -> BitQu
     ensures queue { IsQueue (length bytes.old) result }
     ensures waits { result.count < 32 }
     ensures place { 8 * result.whole + result.count ≡ 8 * queue.whole + queue.count + n }
-    ensures text { bits_so_far bytes.new result ≡ bits_so_far bytes.old queue ++ digits_below n number }
+    ensures text { bits_so_far bytes.new result
+        ≡ bits_so_far bytes.old queue ++ digits_below n number }
 {
     let more = waiting(queue, number, n);
     if more.count < 32 {

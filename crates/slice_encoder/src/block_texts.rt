@@ -104,7 +104,8 @@ fn put_apart(bytes: &mut [u8], block: Block, first: i64, second: i64) -> Block
     requires first_small { unsigned_abs first ≤ MAX_MAGNITUDE }
     requires second_small { unsigned_abs second ≤ MAX_MAGNITUDE }
     requires block { IsBlock (length bytes.old) block }
-    ensures { IsPut bytes.old block bytes.new result (signed_code_of first ++ signed_code_of second) }
+    ensures { IsPut bytes.old block bytes.new result
+        (signed_code_of first ++ signed_code_of second) }
 {
     let between = put_value(bytes, block, first);
     put_value(bytes, between, second)
@@ -116,7 +117,8 @@ fn put_pair(bytes: &mut [u8], block: Block, first: i64, second: i64) -> Block
     requires first_small { unsigned_abs first ≤ MAX_MAGNITUDE }
     requires second_small { unsigned_abs second ≤ MAX_MAGNITUDE }
     requires block { IsBlock (length bytes.old) block }
-    ensures { IsPut bytes.old block bytes.new result (signed_code_of first ++ signed_code_of second) }
+    ensures { IsPut bytes.old block bytes.new result
+        (signed_code_of first ++ signed_code_of second) }
 {
     if -32 < first && first < 32 && -32 < second && second < 32 {
         let text = pair_text(first, second);
@@ -129,7 +131,8 @@ fn put_pair(bytes: &mut [u8], block: Block, first: i64, second: i64) -> Block
 fn put_pairs(bytes: &mut [u8], block: Block, values: &[i64]) -> Block
     requires small { All IsSmall values.now }
     requires block { IsBlock (length bytes.old) block }
-    ensures { IsPut bytes.old block bytes.new result (codes_of (take (2 * (length values.now / 2)) values.now)) }
+    ensures { IsPut bytes.old block bytes.new result
+        (codes_of (take (2 * (length values.now / 2)) values.now)) }
 {
     let mut block = block;
     for pair in 0..values.len() / 2 {
@@ -155,8 +158,10 @@ pub fn put_values(bytes: &mut [u8], block: Block, values: &[i64]) -> Block
 pub fn put_ones(bytes: &mut [u8], block: Block) -> BitQueue
     requires { IsBlock (length bytes.old) block }
     ensures block { IsBlock (length bytes.old) (record { queue = result; left = 0 }) }
-    ensures place { 8 * result.whole + result.count ≡ 8 * block.queue.whole + block.queue.count + block.left }
-    ensures text { bits_so_far bytes.new result ≡ bits_so_far bytes.old block.queue ++ replicate block.left true }
+    ensures place { 8 * result.whole + result.count
+        ≡ 8 * block.queue.whole + block.queue.count + block.left }
+    ensures text { bits_so_far bytes.new result
+        ≡ bits_so_far bytes.old block.queue ++ replicate block.left true }
 {
     let mut block = block;
     while block.left > 0 {

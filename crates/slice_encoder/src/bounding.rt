@@ -97,10 +97,12 @@ fn bits_in_level(
     requires across { sx < layout.now.slices_x }
     requires down { sy < layout.now.slices_y }
     requires entries { matrix.now.depth ≡ layout.now.depth }
-    requires given { IsGiven (coded_component layout.now size matrix.now coefficients.now) sample_depth }
+    requires given { IsGiven (coded_component layout.now size matrix.now coefficients.now)
+        sample_depth }
     requires some { 1 ≤ level }
     requires most { level ≤ layout.now.depth }
-    ensures value { result ≡ level_bits (coded_component layout.now size matrix.now coefficients.now) index sx sy level }
+    ensures value { result ≡ level_bits (coded_component layout.now size matrix.now
+        coefficients.now) index sx sy level }
     ensures few { result ≤ 2 ^ 36 }
 {
     let _ = sample_depth;
@@ -135,8 +137,10 @@ fn high_bits(
     requires across { sx < layout.now.slices_x }
     requires down { sy < layout.now.slices_y }
     requires entries { matrix.now.depth ≡ layout.now.depth }
-    requires given { IsGiven (coded_component layout.now size matrix.now coefficients.now) sample_depth }
-    ensures value { result ≡ low.high_bits (coded_component layout.now size matrix.now coefficients.now) index sx sy }
+    requires given { IsGiven (coded_component layout.now size matrix.now coefficients.now)
+        sample_depth }
+    ensures value { result ≡ low.high_bits (coded_component layout.now size matrix.now
+        coefficients.now) index sx sy }
     ensures few { result ≤ 2 ^ 38 }
 {
     let mut bits = 0;
@@ -171,7 +175,8 @@ fn lower_luma(
     requires across { sx < layout.now.slices_x }
     requires down { sy < layout.now.slices_y }
     requires given { AreGiven (coded_picture layout.now shape.now matrix.now coefficients.now) }
-    ensures value { result ≡ low_luma (coded_picture layout.now shape.now matrix.now coefficients.now) index sx sy }
+    ensures value { result ≡ low_luma (coded_picture layout.now shape.now matrix.now
+        coefficients.now) index sx sy }
     ensures few { result ≤ 2 ^ 40 }
 {
     let bits = high_bits(
@@ -201,7 +206,8 @@ fn lower_colour(
     requires across { sx < layout.now.slices_x }
     requires down { sy < layout.now.slices_y }
     requires given { AreGiven (coded_picture layout.now shape.now matrix.now coefficients.now) }
-    ensures value { result ≡ low_colour (coded_picture layout.now shape.now matrix.now coefficients.now) index sx sy }
+    ensures value { result ≡ low_colour (coded_picture layout.now shape.now matrix.now
+        coefficients.now) index sx sy }
     ensures few { result ≤ 2 ^ 40 }
 {
     let first = high_bits(
@@ -241,7 +247,8 @@ pub fn lower_at(
     requires across { sx < layout.now.slices_x }
     requires down { sy < layout.now.slices_y }
     requires given { AreGiven (coded_picture layout.now shape.now matrix.now coefficients.now) }
-    ensures value { result ≡ lower_of (coded_picture layout.now shape.now matrix.now coefficients.now) sx sy index }
+    ensures value { result ≡ lower_of (coded_picture layout.now shape.now matrix.now
+        coefficients.now) sx sy index }
     ensures few_luma { result.luma ≤ 2 ^ 40 }
     ensures few_colour { result.colour ≤ 2 ^ 40 }
 {

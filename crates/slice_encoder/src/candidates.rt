@@ -30,7 +30,8 @@ fn may_fit_at(
     requires across { sx < layout.now.slices_x }
     requires down { sy < layout.now.slices_y }
     requires given { AreGiven (coded_picture layout.now shape.now matrix.now coefficients.now) }
-    ensures { result ≡ may_fit bytes (lower_of (coded_picture layout.now shape.now matrix.now coefficients.now) sx sy index) }
+    ensures { result ≡ may_fit bytes (lower_of
+        (coded_picture layout.now shape.now matrix.now coefficients.now) sx sy index) }
 {
     let low = lower_at(layout, shape, matrix, sx, sy, index, coefficients);
     do_fit(bytes, low.luma, low.colour)
@@ -51,8 +52,10 @@ pub fn find_candidate(
     requires across { sx < layout.now.slices_x }
     requires down { sy < layout.now.slices_y }
     requires given { AreGiven (coded_picture layout.now shape.now matrix.now coefficients.now) }
-    requires steep { IsSteepOk layout.now.depth (max shape.now.luma_depth shape.now.colour_depth) matrix.now }
-    ensures { IsFirstCandidate bytes (lower_of (coded_picture layout.now shape.now matrix.now coefficients.now) sx sy) result }
+    requires steep { IsSteepOk layout.now.depth (max shape.now.luma_depth shape.now.colour_depth)
+        matrix.now }
+    ensures { IsFirstCandidate bytes (lower_of
+        (coded_picture layout.now shape.now matrix.now coefficients.now) sx sy) result }
 {
     let mut start = 0;
     let mut end = 127;
@@ -121,13 +124,15 @@ pub fn find_first(gathered: &GatheredSlice, matrix: &Matrix, bytes: u32, near: u
     requires luma { matrix.now.depth ≡ gathered.now.luma.depth }
     requires c1 { matrix.now.depth ≡ gathered.now.c1.depth }
     requires c2 { matrix.now.depth ≡ gathered.now.c2.depth }
-    requires ends { (k : ℕ) → k ≤ 3 * gathered.now.c1.depth → slice_index gathered.now.c2.ends k ≡ slice_index gathered.now.c1.ends k }
+    requires ends { (k : ℕ) → k ≤ 3 * gathered.now.c1.depth
+        → slice_index gathered.now.c2.ends k ≡ slice_index gathered.now.c1.ends k }
     requires last { may_fit bytes (gathered_low gathered.now matrix.now 127) ≡ true }
     ensures first { IsFirstCandidate bytes (gathered_low gathered.now matrix.now) result.index }
     ensures reaches { result.reaches ≡ gathered_reaches gathered.now matrix.now result.index }
     ensures few_luma { result.reaches.luma ≤ 2 ^ 38 }
     ensures few_colour { result.reaches.colour ≤ 2 ^ 39 }
-    ensures next { result.has_next ≡ true → result.next ≡ gathered_reaches gathered.now matrix.now (result.index + 1) }
+    ensures next { result.has_next ≡ true
+        → result.next ≡ gathered_reaches gathered.now matrix.now (result.index + 1) }
     ensures few_next_luma { result.next.luma ≤ 2 ^ 38 }
     ensures few_next_colour { result.next.colour ≤ 2 ^ 39 }
 {

@@ -2,7 +2,7 @@
 
 ghost use Rattle.std.specs.Prelude.{◌≡◌, ℕ, ◌^◌, ◌<◌, ◌≤◌, length, IfOk};
 ghost use Rattle.planes.specs.Numbers.{Within};
-ghost use Rattle.slice_encoder.specs.CodeLengths.{code_length, IsRow, AreRows};
+ghost use Rattle.slice_encoder.specs.CodeLengths.{code_length, IsRow, AreLengthRows};
 
 use bit_codes::sint_len;
 use planes::NoMemory;
@@ -21,13 +21,13 @@ pub struct CodeLengths {
 
 impl Model for CodeLengths {
     ghost use Rattle.std.specs.Prelude.{ℕ, List};
-    ghost use Rattle.slice_encoder.specs.CodeLengths.{AreRows};
+    ghost use Rattle.slice_encoder.specs.CodeLengths.{AreLengthRows};
 
     ghost Value = { List (List ℕ) };
 
     ghost view = { λ t. t.rows.items };
 
-    ghost invariant = { λ t. AreRows t.rows.items };
+    ghost invariant = { λ t. AreLengthRows t.rows.items };
 }
 
 // How many bits the code of a coefficient takes at an index. It stays out of the loops that look codes up: with it in
@@ -58,7 +58,7 @@ fn row_of(index: u32) -> [u8; ENTRIES]
 impl CodeLengths {
     /// All rows.
     pub fn new(alloc: Global) -> Result<CodeLengths, NoMemory>
-        ensures { IfOk result AreRows }
+        ensures { IfOk result AreLengthRows }
     {
         let mut rows = Vec::with_capacity(alloc, 128)?;
         for index in 0..128 {

@@ -5,7 +5,7 @@ ghost use Rattle.slice_encoder.specs.TrialLaws.{IsSteepOk};
 ghost use Rattle.slice_encoder.specs.Trials.{AreKept};
 ghost use Rattle.slice_encoder.specs.Tries.{AreTried, IsNext, tried_lists};
 ghost use Rattle.slice_encoder.specs.LowNeeds.{lower_of, IsFirstCandidate};
-ghost use Rattle.slice_encoder.specs.Ready.{coded_picture, narrow_picture, AreReady, AreGiven};
+ghost use Rattle.slice_encoder.specs.Ready.{coded_picture, narrow_picture, AreReadyToWrite, AreGiven};
 ghost use Rattle.slice_encoder.specs.Sources.{trio_seen};
 ghost use Rattle.slice_encoder.specs.Encoded as encoded;
 ghost use Rattle.slice_encoder.specs.Encoded.{IsEncoded, IsEncodedAfter, trial_of, IsTriedAfter};
@@ -92,14 +92,21 @@ impl SliceEncoder {
         kept: &mut ThreePlanes,
     ) -> Trial
         requires index { qindex ≤ 127 }
-        requires ready { AreReady (coded_picture self.old.slicing self.old.shape matrix.now coefficients.now) sx sy kept.old }
+        requires ready { AreReadyToWrite (coded_picture self.old.slicing self.old.shape matrix.now
+            coefficients.now) sx sy kept.old }
         ensures same { self.new ≡ self.old }
         ensures answer { result ≡ trial_of (encoded.share_of self.old.slicing sx sy)
-            (tried_lists (coded_picture self.old.slicing self.old.shape matrix.now coefficients.now) kept.old sx sy qindex) }
-        ensures kept { AreTried (coded_picture self.old.slicing self.old.shape matrix.now coefficients.now) sx sy qindex kept.old kept.new }
-        ensures after { (indices : List ℕ) → IsNext (coded_picture self.old.slicing self.old.shape matrix.now coefficients.now) indices sx sy
-            → AreKept (coded_picture self.old.slicing self.old.shape matrix.now coefficients.now) indices kept.old
-            → IsTriedAfter (coded_picture self.old.slicing self.old.shape matrix.now coefficients.now) indices sx sy qindex result kept.new }
+            (tried_lists (coded_picture self.old.slicing self.old.shape matrix.now
+            coefficients.now) kept.old sx sy qindex) }
+        ensures kept { AreTried (coded_picture self.old.slicing self.old.shape matrix.now
+            coefficients.now) sx sy qindex kept.old kept.new }
+        ensures after { (indices : List ℕ)
+            → IsNext (coded_picture self.old.slicing self.old.shape matrix.now coefficients.now)
+            indices sx sy
+            → AreKept (coded_picture self.old.slicing self.old.shape matrix.now coefficients.now)
+            indices kept.old
+            → IsTriedAfter (coded_picture self.old.slicing self.old.shape matrix.now
+            coefficients.now) indices sx sy qindex result kept.new }
     {
         let job = SliceJob {
             layout: &self.layout,
@@ -140,8 +147,10 @@ impl SliceEncoder {
         requires index { qindex ≤ 127 }
         requires across { sx < self.now.slicing.slices_x }
         requires down { sy < self.now.slicing.slices_y }
-        requires given { AreGiven (coded_picture self.now.slicing self.now.shape matrix.now coefficients.now) }
-        ensures { result ≡ lower_of (coded_picture self.now.slicing self.now.shape matrix.now coefficients.now) sx sy qindex }
+        requires given { AreGiven (coded_picture self.now.slicing self.now.shape matrix.now
+            coefficients.now) }
+        ensures { result ≡ lower_of (coded_picture self.now.slicing self.now.shape matrix.now
+            coefficients.now) sx sy qindex }
     {
         lower_at(
             &self.layout,
@@ -159,10 +168,13 @@ impl SliceEncoder {
     pub fn first_candidate(&self, matrix: &Matrix, sx: u32, sy: u32, coefficients: &Trio) -> u32
         requires across { sx < self.now.slicing.slices_x }
         requires down { sy < self.now.slicing.slices_y }
-        requires given { AreGiven (coded_picture self.now.slicing self.now.shape matrix.now coefficients.now) }
-        requires steep { IsSteepOk self.now.slicing.depth (max self.now.shape.luma_depth self.now.shape.colour_depth) matrix.now }
+        requires given { AreGiven (coded_picture self.now.slicing self.now.shape matrix.now
+            coefficients.now) }
+        requires steep { IsSteepOk self.now.slicing.depth
+            (max self.now.shape.luma_depth self.now.shape.colour_depth) matrix.now }
         ensures { IsFirstCandidate (encoded.share_of self.now.slicing sx sy)
-            (lower_of (coded_picture self.now.slicing self.now.shape matrix.now coefficients.now) sx sy) result }
+            (lower_of (coded_picture self.now.slicing self.now.shape matrix.now coefficients.now)
+            sx sy) result }
     {
         let bytes = share_of(&self.layout, sx, sy);
         find_candidate(
@@ -189,14 +201,22 @@ impl SliceEncoder {
     ) -> SliceHead
         requires some { 1 ≤ length bytes.old }
         requires most { length bytes.old ≤ 2 ^ 28 }
-        requires ready { AreReady (coded_picture self.old.slicing self.old.shape matrix.now coefficients.now) sx sy kept.old }
-        requires steep { IsSteepOk self.old.slicing.depth (max self.old.shape.luma_depth self.old.shape.colour_depth) matrix.now }
+        requires ready { AreReadyToWrite (coded_picture self.old.slicing self.old.shape matrix.now
+            coefficients.now) sx sy kept.old }
+        requires steep { IsSteepOk self.old.slicing.depth
+            (max self.old.shape.luma_depth self.old.shape.colour_depth) matrix.now }
         ensures same { self.new ≡ self.old }
-        ensures slice { IsEncoded (tried_lists (coded_picture self.old.slicing self.old.shape matrix.now coefficients.now) kept.old sx sy) bytes.new result }
-        ensures kept { AreTried (coded_picture self.old.slicing self.old.shape matrix.now coefficients.now) sx sy result.qindex kept.old kept.new }
-        ensures after { (indices : List ℕ) → IsNext (coded_picture self.old.slicing self.old.shape matrix.now coefficients.now) indices sx sy
-            → AreKept (coded_picture self.old.slicing self.old.shape matrix.now coefficients.now) indices kept.old
-            → IsEncodedAfter (coded_picture self.old.slicing self.old.shape matrix.now coefficients.now) indices sx sy bytes.new result kept.new }
+        ensures slice { IsEncoded (tried_lists (coded_picture self.old.slicing self.old.shape
+            matrix.now coefficients.now) kept.old sx sy) bytes.new result }
+        ensures kept { AreTried (coded_picture self.old.slicing self.old.shape matrix.now
+            coefficients.now) sx sy result.qindex kept.old kept.new }
+        ensures after { (indices : List ℕ)
+            → IsNext (coded_picture self.old.slicing self.old.shape matrix.now coefficients.now)
+            indices sx sy
+            → AreKept (coded_picture self.old.slicing self.old.shape matrix.now coefficients.now)
+            indices kept.old
+            → IsEncodedAfter (coded_picture self.old.slicing self.old.shape matrix.now
+            coefficients.now) indices sx sy bytes.new result kept.new }
     {
         self.encode_from(matrix, sx, sy, TrioSource::Wide(coefficients), kept, bytes)
     }
@@ -213,14 +233,22 @@ impl SliceEncoder {
     ) -> SliceHead
         requires some { 1 ≤ length bytes.old }
         requires most { length bytes.old ≤ 2 ^ 28 }
-        requires ready { AreReady (narrow_picture self.old.slicing self.old.shape matrix.now coefficients.now) sx sy kept.old }
-        requires steep { IsSteepOk self.old.slicing.depth (max self.old.shape.luma_depth self.old.shape.colour_depth) matrix.now }
+        requires ready { AreReadyToWrite (narrow_picture self.old.slicing self.old.shape matrix.now
+            coefficients.now) sx sy kept.old }
+        requires steep { IsSteepOk self.old.slicing.depth
+            (max self.old.shape.luma_depth self.old.shape.colour_depth) matrix.now }
         ensures same { self.new ≡ self.old }
-        ensures slice { IsEncoded (tried_lists (narrow_picture self.old.slicing self.old.shape matrix.now coefficients.now) kept.old sx sy) bytes.new result }
-        ensures kept { AreTried (narrow_picture self.old.slicing self.old.shape matrix.now coefficients.now) sx sy result.qindex kept.old kept.new }
-        ensures after { (indices : List ℕ) → IsNext (narrow_picture self.old.slicing self.old.shape matrix.now coefficients.now) indices sx sy
-            → AreKept (narrow_picture self.old.slicing self.old.shape matrix.now coefficients.now) indices kept.old
-            → IsEncodedAfter (narrow_picture self.old.slicing self.old.shape matrix.now coefficients.now) indices sx sy bytes.new result kept.new }
+        ensures slice { IsEncoded (tried_lists (narrow_picture self.old.slicing self.old.shape
+            matrix.now coefficients.now) kept.old sx sy) bytes.new result }
+        ensures kept { AreTried (narrow_picture self.old.slicing self.old.shape matrix.now
+            coefficients.now) sx sy result.qindex kept.old kept.new }
+        ensures after { (indices : List ℕ)
+            → IsNext (narrow_picture self.old.slicing self.old.shape matrix.now coefficients.now)
+            indices sx sy
+            → AreKept (narrow_picture self.old.slicing self.old.shape matrix.now coefficients.now)
+            indices kept.old
+            → IsEncodedAfter (narrow_picture self.old.slicing self.old.shape matrix.now
+            coefficients.now) indices sx sy bytes.new result kept.new }
     {
         self.encode_from(
             matrix,
@@ -244,14 +272,22 @@ impl SliceEncoder {
     ) -> SliceHead
         requires some { 1 ≤ length bytes.old }
         requires most { length bytes.old ≤ 2 ^ 28 }
-        requires ready { AreReady (coded_picture self.old.slicing self.old.shape matrix.now (trio_seen coefficients)) sx sy kept.old }
-        requires steep { IsSteepOk self.old.slicing.depth (max self.old.shape.luma_depth self.old.shape.colour_depth) matrix.now }
+        requires ready { AreReadyToWrite (coded_picture self.old.slicing self.old.shape matrix.now
+            (trio_seen coefficients)) sx sy kept.old }
+        requires steep { IsSteepOk self.old.slicing.depth
+            (max self.old.shape.luma_depth self.old.shape.colour_depth) matrix.now }
         ensures same { self.new ≡ self.old }
-        ensures slice { IsEncoded (tried_lists (coded_picture self.old.slicing self.old.shape matrix.now (trio_seen coefficients.entry)) kept.old sx sy) bytes.new result }
-        ensures kept { AreTried (coded_picture self.old.slicing self.old.shape matrix.now (trio_seen coefficients.entry)) sx sy result.qindex kept.old kept.new }
-        ensures after { (indices : List ℕ) → IsNext (coded_picture self.old.slicing self.old.shape matrix.now (trio_seen coefficients.entry)) indices sx sy
-            → AreKept (coded_picture self.old.slicing self.old.shape matrix.now (trio_seen coefficients.entry)) indices kept.old
-            → IsEncodedAfter (coded_picture self.old.slicing self.old.shape matrix.now (trio_seen coefficients.entry)) indices sx sy bytes.new result kept.new }
+        ensures slice { IsEncoded (tried_lists (coded_picture self.old.slicing self.old.shape
+            matrix.now (trio_seen coefficients.entry)) kept.old sx sy) bytes.new result }
+        ensures kept { AreTried (coded_picture self.old.slicing self.old.shape matrix.now
+            (trio_seen coefficients.entry)) sx sy result.qindex kept.old kept.new }
+        ensures after { (indices : List ℕ)
+            → IsNext (coded_picture self.old.slicing self.old.shape matrix.now
+            (trio_seen coefficients.entry)) indices sx sy
+            → AreKept (coded_picture self.old.slicing self.old.shape matrix.now
+            (trio_seen coefficients.entry)) indices kept.old
+            → IsEncodedAfter (coded_picture self.old.slicing self.old.shape matrix.now
+            (trio_seen coefficients.entry)) indices sx sy bytes.new result kept.new }
     {
         let job = SliceJob {
             layout: &self.layout,

@@ -43,13 +43,13 @@ pub struct Gathered {
 }
 
 impl Model for Gathered {
-    ghost use Rattle.slice_encoder.specs.Gathering.{GatheredSeen, IsSound, IsMeasured};
+    ghost use Rattle.slice_encoder.specs.Gathering.{GatheredSeen, IsGatheredSound, IsMeasured};
 
     ghost Value = { GatheredSeen };
 
     ghost view = { λ g. record { depth = g.depth; ends = g.ends; values = g.values.items } };
 
-    ghost invariant = { λ g. IsSound (record { depth = g.depth; ends = g.ends; values = g.values.items })
+    ghost invariant = { λ g. IsGatheredSound (record { depth = g.depth; ends = g.ends; values = g.values.items })
         × IsMeasured (record { depth = g.depth; ends = g.ends; values = g.values.items }) g.short g.sizes.items };
 }
 
@@ -75,7 +75,8 @@ fn gather_rect(coefficients: &Plane, rect: Rect, out: &mut [i64], from: usize)
     requires can { CanGather rect coefficients.now }
     requires room { from + area rect ≤ length out.old }
     requires small { All (Within (2 ^ 27)) out.old }
-    ensures gathered { take (from + area rect) out.new ≡ take from out.old ++ rect_values (at coefficients.now) rect }
+    ensures gathered { take (from + area rect) out.new
+        ≡ take from out.old ++ rect_values (at coefficients.now) rect }
     ensures small { All (Within (2 ^ 27)) out.new }
 {
     let mut place = from;
@@ -93,7 +94,8 @@ fn gather_narrow_rect(coefficients: &NarrowPlane, rect: Rect, out: &mut [i64], f
     requires can { CanGather rect coefficients.now }
     requires room { from + area rect ≤ length out.old }
     requires small { All (Within (2 ^ 27)) out.old }
-    ensures gathered { take (from + area rect) out.new ≡ take from out.old ++ rect_values (at coefficients.now) rect }
+    ensures gathered { take (from + area rect) out.new
+        ≡ take from out.old ++ rect_values (at coefficients.now) rect }
     ensures small { All (Within (2 ^ 27)) out.new }
 {
     let mut place = from;
@@ -110,7 +112,8 @@ fn gather_band(coefficients: BandSource<'_>, rect: Rect, out: &mut [i64], from: 
     requires can { CanGather rect (band_seen coefficients) }
     requires room { from + area rect ≤ length out.old }
     requires small { All (Within (2 ^ 27)) out.old }
-    ensures gathered { take (from + area rect) out.new ≡ take from out.old ++ rect_values (at (band_seen coefficients.entry)) rect }
+    ensures gathered { take (from + area rect) out.new
+        ≡ take from out.old ++ rect_values (at (band_seen coefficients.entry)) rect }
     ensures small { All (Within (2 ^ 27)) out.new }
 {
     match coefficients {
@@ -153,8 +156,12 @@ fn gather_bands(
     requires can { CanGatherAll layout.now size (stack_seen bands) }
     requires room { place_count layout.now size sx sy ≤ length out.old }
     requires small { All (Within (2 ^ 27)) out.old }
-    ensures ends { (k : ℕ) → k < 3 * layout.now.depth + 1 → slice_index result k ≡ length (raw_before layout.now size (stack_seen bands.entry) sx sy (k + 1)) }
-    ensures gathered { take (length (raw_before layout.now size (stack_seen bands.entry) sx sy (3 * layout.now.depth + 1))) out.new ≡ raw_before layout.now size (stack_seen bands.entry) sx sy (3 * layout.now.depth + 1) }
+    ensures ends { (k : ℕ) → k < 3 * layout.now.depth + 1
+        → slice_index result k
+        ≡ length (raw_before layout.now size (stack_seen bands.entry) sx sy (k + 1)) }
+    ensures gathered { take (length (raw_before layout.now size (stack_seen bands.entry) sx sy
+        (3 * layout.now.depth + 1))) out.new
+        ≡ raw_before layout.now size (stack_seen bands.entry) sx sy (3 * layout.now.depth + 1) }
     ensures small { All (Within (2 ^ 27)) out.new }
 {
     let mut ends = [0; 13];
@@ -232,7 +239,8 @@ fn quantise_at(coefficients: &[i64], index: u32, out: &mut [i64], from: usize)
     requires index { index ≤ 127 }
     requires room { from + length coefficients.now ≤ length out.old }
     requires small { All (Within (2 ^ 27)) coefficients.now }
-    ensures { take (from + length coefficients.now) out.new ≡ take from out.old ++ quantised index coefficients.now }
+    ensures { take (from + length coefficients.now) out.new
+        ≡ take from out.old ++ quantised index coefficients.now }
 {
     let end = from + coefficients.len();
     quantise(coefficients, index, &mut out[from..end]);
@@ -245,7 +253,8 @@ fn quantise_pair_at(first: &[i64], second: &[i64], index: u32, out: &mut [i64], 
     requires room { from + 2 * length first.now ≤ length out.old }
     requires first_small { All (Within (2 ^ 27)) first.now }
     requires second_small { All (Within (2 ^ 27)) second.now }
-    ensures { take (from + 2 * length first.now) out.new ≡ take from out.old ++ in_turn (quantised index first.now) (quantised index second.now) }
+    ensures { take (from + 2 * length first.now) out.new
+        ≡ take from out.old ++ in_turn (quantised index first.now) (quantised index second.now) }
 {
     let end = from + 2 * first.len();
     quantise_pair(first, second, index, &mut out[from..end]);
@@ -265,7 +274,8 @@ impl Gathered {
     /// Room for the coefficients of the greatest slice of a component.
     pub fn new(alloc: Global, layout: &Layout, size: Size) -> Result<Gathered, NoMemory>
         requires { IsSize size.w size.h }
-        ensures { IfOk result (λ g. (sx sy : ℕ) → sx < layout.now.slices_x → sy < layout.now.slices_y → place_count layout.now size sx sy ≤ length g.values) }
+        ensures { IfOk result (λ g. (sx sy : ℕ) → sx < layout.now.slices_x
+            → sy < layout.now.slices_y → place_count layout.now size sx sy ≤ length g.values) }
     {
         let places = most_places(layout, size);
         let values = Vec::from_elem(alloc, 0i64, places)?;
@@ -325,7 +335,8 @@ impl Gathered {
         requires most { k ≤ 3 * self.now.depth }
         ensures value { result.now ≡ piece_of self.now k }
         ensures few { length result.now ≤ 2 ^ 31 }
-        ensures count { length result.now ≡ slice_index self.now.ends k - slice_index self.now.ends (k - 1) }
+        ensures count { length result.now
+            ≡ slice_index self.now.ends k - slice_index self.now.ends (k - 1) }
         ensures small { All (Within (2 ^ 27)) result.now }
     {
         let _ = &self.depth;
@@ -383,7 +394,8 @@ impl Gathered {
         requires index { index ≤ 127 }
         requires entries { matrix.now.depth ≡ self.now.depth }
         requires depth { second.now.depth ≡ self.now.depth }
-        requires ends { (k : ℕ) → k ≤ 3 * self.now.depth → slice_index second.now.ends k ≡ slice_index self.now.ends k }
+        requires ends { (k : ℕ) → k ≤ 3 * self.now.depth
+            → slice_index second.now.ends k ≡ slice_index self.now.ends k }
         ensures value { result ≡ gathered_pairs_reach self.now second.now matrix.now index }
         ensures most { result ≤ 2 ^ 39 }
     {
@@ -411,7 +423,10 @@ impl Gathered {
         requires entries { matrix.now.depth ≡ self.now.depth }
         requires room { slice_index self.now.ends (3 * self.now.depth) ≤ length out.old }
         ensures count { result ≡ slice_index self.now.ends (3 * self.now.depth) }
-        ensures listed { take result out.new ≡ take (slice_index self.now.ends 0) out.old ++ flat_map (quantised_piece self.now matrix.now index) (range_with_len 1 (3 * self.now.depth)) }
+        ensures listed { take result out.new
+            ≡ take (slice_index self.now.ends 0) out.old
+            ++ flat_map (quantised_piece self.now matrix.now index)
+            (range_with_len 1 (3 * self.now.depth)) }
     {
         let mut place = self.ends[0];
         for k in 1..3 * self.depth + 1 {
@@ -435,11 +450,14 @@ impl Gathered {
         requires index { index ≤ 127 }
         requires entries { matrix.now.depth ≡ self.now.depth }
         requires depth { second.now.depth ≡ self.now.depth }
-        requires ends { (k : ℕ) → k ≤ 3 * self.now.depth → slice_index second.now.ends k ≡ slice_index self.now.ends k }
+        requires ends { (k : ℕ) → k ≤ 3 * self.now.depth
+            → slice_index second.now.ends k ≡ slice_index self.now.ends k }
         requires room { 2 * slice_index self.now.ends (3 * self.now.depth) ≤ length out.old }
         ensures count { result ≡ 2 * slice_index self.now.ends (3 * self.now.depth) }
         ensures listed { take result out.new ≡ take (2 * slice_index self.now.ends 0) out.old
-            ++ flat_map (λ k. in_turn (quantised_piece self.now matrix.now index k) (quantised_piece second.now matrix.now index k)) (range_with_len 1 (3 * self.now.depth)) }
+            ++ flat_map (λ k. in_turn (quantised_piece self.now matrix.now index k)
+            (quantised_piece second.now matrix.now index k))
+            (range_with_len 1 (3 * self.now.depth)) }
     {
         let _ = &second.depth;
         let mut place = 2 * self.ends[0];
@@ -491,7 +509,8 @@ impl GatheredSlice {
         requires given { AreGiven (picture_of job) }
         requires room { CanHoldAll job.layout.now job.shape.now self.old }
         ensures room { CanHoldAll job.entry.layout.now job.entry.shape.now self.new }
-        ensures gathered { AreAllGathered (picture_of job.entry) job.entry.sx job.entry.sy self.new }
+        ensures gathered { AreAllGathered (picture_of job.entry) job.entry.sx job.entry.sy
+            self.new }
     {
         let layout = job.layout;
         let shape = job.shape;
@@ -514,7 +533,8 @@ impl GatheredSlice {
         requires luma { matrix.now.depth ≡ self.now.luma.depth }
         requires c1 { matrix.now.depth ≡ self.now.c1.depth }
         requires c2 { matrix.now.depth ≡ self.now.c2.depth }
-        requires ends { (k : ℕ) → k ≤ 3 * self.now.c1.depth → slice_index self.now.c2.ends k ≡ slice_index self.now.c1.ends k }
+        requires ends { (k : ℕ) → k ≤ 3 * self.now.c1.depth
+            → slice_index self.now.c2.ends k ≡ slice_index self.now.c1.ends k }
         ensures value { result ≡ gathered_reaches self.now matrix.now index }
         ensures few_luma { result.luma ≤ 2 ^ 38 }
         ensures few_colour { result.colour ≤ 2 ^ 39 }

@@ -2,7 +2,7 @@
 
 ghost use Rattle.std.specs.Prelude.{◌≡◌, ℕ};
 ghost use Rattle.planes.specs.Raster.{Grid};
-ghost use Rattle.slice_encoder.specs.Loop.{Rule, IsMade, made};
+ghost use Rattle.slice_encoder.specs.Loop.{PlaceRule, IsMade, made};
 ghost use Rattle.slice_encoder.specs.Tries.{TrialsGoOn};
 ghost use Rattle.slice_encoder.specs.Ready.{NextIsReady};
 ghost use Rattle.slice_encoder.specs.Trials.{Lists};
@@ -11,8 +11,8 @@ ghost use Rattle.slice_encoder.specs.LowNeeds.{LowerIsNoGreater, LowerFalls, May
 
 /// Each rule makes exactly one band.
 pub fn one_band_is_made()
-    ensures one { (f : Rule) → IsMade f (made f) }
-    ensures no_other { (f : Rule) (g : Grid) → IsMade f g → (y x : ℕ) → g y x ≡ made f y x }
+    ensures one { (f : PlaceRule) → IsMade f (made f) }
+    ensures no_other { (f : PlaceRule) (g : Grid) → IsMade f g → (y x : ℕ) → g y x ≡ made f y x }
 {}
 
 /// What is restored in a slice depends on its index and those before it alone.

@@ -49,7 +49,9 @@ pub fn list_rect(
     requires index { index ≤ 127 }
     requires can { CanList rect level (band_seen coefficients) kept.now }
     requires room { from + area rect ≤ length out.old }
-    ensures listed { take (from + area rect) out.new ≡ take from out.old ++ rect_values (band_value (band_seen coefficients.entry) kept.now level index) rect }
+    ensures listed { take (from + area rect) out.new
+        ≡ take from out.old ++ rect_values
+        (band_value (band_seen coefficients.entry) kept.now level index) rect }
 {
     let mut place = from;
     for y in rect.y0..rect.y1 {
@@ -77,7 +79,8 @@ pub fn list_pair(
     requires second_can { CanList rect level (band_seen second) second_kept.now }
     requires room { from + 2 * area rect ≤ length out.old }
     ensures listed { take (from + 2 * area rect) out.new ≡ take from out.old
-        ++ pair_values (band_value (band_seen first.entry) first_kept.now level index) (band_value (band_seen second.entry) second_kept.now level index) rect }
+        ++ pair_values (band_value (band_seen first.entry) first_kept.now level index)
+        (band_value (band_seen second.entry) second_kept.now level index) rect }
 {
     let mut place = from;
     for y in rect.y0..rect.y1 {

@@ -5,7 +5,7 @@ ghost use Rattle.std.specs.Prelude.{◌≡◌, ◌≢◌, ◌-◌, ◌*◌, ◌^
 ghost use Rattle.bit_codes.specs.Codes.{signed_code_of};
 ghost use Rattle.bounded_blocks.specs.Writing.{codes_of, need};
 ghost use Rattle.slice_encoder.specs.Gathering.{reach};
-ghost use Rattle.slice_encoder.specs.TrialLaws.{AreSmall};
+ghost use Rattle.slice_encoder.specs.TrialLaws.{AreSmallValues};
 
 use crate::short_texts::short_text;
 use bit_codes::sint_len;
@@ -13,7 +13,7 @@ use bounded_blocks::Need;
 
 /// How many values there are up to the last one that isn't 0.
 pub fn count_to_last(values: &[i64]) -> usize
-    requires { AreSmall values.now }
+    requires { AreSmallValues values.now }
     ensures most { result ≤ length values.now }
     ensures need { need (take result values.now) ≡ need values.now }
     ensures reach { reach (take result values.now) 0 ≡ reach values.now 0 }
@@ -53,7 +53,7 @@ fn length_of(v: i64) -> u32
 /// How long the codes of values are.
 pub fn total_length(values: &[i64]) -> u64
     requires few { length values.now ≤ 2 ^ 32 }
-    requires small { AreSmall values.now }
+    requires small { AreSmallValues values.now }
     ensures length { result ≡ length (codes_of values.now) }
     ensures few { result ≤ 75 * 2 ^ 32 }
 {
@@ -67,7 +67,7 @@ pub fn total_length(values: &[i64]) -> u64
 // The need of values.
 pub fn need_of_values(values: &[i64]) -> u64
     requires few { length values.now ≤ 2 ^ 32 }
-    requires small { AreSmall values.now }
+    requires small { AreSmallValues values.now }
     ensures { result ≡ need values.now }
 {
     let count = count_to_last(values);
@@ -81,7 +81,7 @@ pub fn need_of_values(values: &[i64]) -> u64
 // The need of values by how far their codes reach: all of that but what isn't needed of the last code.
 fn need_within(values: &[i64], bits: u64) -> u64
     requires few { length values.now ≤ 2 ^ 32 }
-    requires small { AreSmall values.now }
+    requires small { AreSmallValues values.now }
     requires reach { bits ≡ reach values.now 0 }
     requires some { 1 ≤ bits }
     ensures { result ≡ need values.now }
@@ -97,7 +97,7 @@ fn need_within(values: &[i64], bits: u64) -> u64
 /// The need of values of which it is known how far the codes reach behind the first so many.
 pub fn need_behind(values: &[i64], lowest: usize, behind: u64) -> u64
     requires few { length values.now ≤ 2 ^ 32 }
-    requires small { AreSmall values.now }
+    requires small { AreSmallValues values.now }
     requires inside { lowest ≤ length values.now }
     requires most { behind ≤ 2 ^ 39 }
     requires behind { behind ≡ reach (drop lowest values.now) 0 }

@@ -39,7 +39,8 @@ fn put_block(bytes: &mut [u8], queue: BitQueue, bits: u64, values: &[i64]) -> Bi
     requires small { All (λ v. unsigned_abs v ≤ MAX_MAGNITUDE) values.now }
     ensures block { IsBlock (length bytes.old) (record { queue = result; left = 0 }) }
     ensures place { 8 * result.whole + result.count ≡ 8 * queue.whole + queue.count + bits }
-    ensures text { bits_so_far bytes.new result ≡ bits_so_far bytes.old queue ++ filled bits (codes_of values.now) }
+    ensures text { bits_so_far bytes.new result
+        ≡ bits_so_far bytes.old queue ++ filled bits (codes_of values.now) }
 {
     let count = count_to_last(values);
     let block = put_values(bytes, Block { queue, left: bits }, &values[..count]);
@@ -54,8 +55,10 @@ pub fn put_slice(bytes: &mut [u8], index: u32, luma_need: u64, luma: &[i64], col
     requires luma_small { All (λ v. unsigned_abs v ≤ MAX_MAGNITUDE) luma.now }
     requires colour_small { All (λ v. unsigned_abs v ≤ MAX_MAGNITUDE) colour.now }
     requires need { luma_need ≡ need luma.now }
-    requires fits { fits (length bytes.old) (record { luma = luma.now; colour = colour.now }) ≡ true }
-    ensures { bits_of bytes.new ≡ slice_bits (length bytes.old) index (record { luma = luma.now; colour = colour.now }) }
+    requires fits { fits (length bytes.old) (record { luma = luma.now; colour = colour.now })
+        ≡ true }
+    ensures { bits_of bytes.new
+        ≡ slice_bits (length bytes.old) index (record { luma = luma.now; colour = colour.now }) }
 {
     let m = length_bits(bytes.len() as u32);
     let middle = 7 + u64::from(m) + luma_need;

@@ -90,7 +90,8 @@ fn places_to_last(coefficients: &[i64], index: u32) -> usize
     requires index { index ≤ 127 }
     requires small { All (Within (2 ^ 27)) coefficients.now }
     ensures most { result ≤ length coefficients.now }
-    ensures reach { length (codes_of (quantised index (take result coefficients.now))) ≡ reach (quantised index coefficients.now) 0 }
+    ensures reach { length (codes_of (quantised index (take result coefficients.now)))
+        ≡ reach (quantised index coefficients.now) 0 }
 {
     let least = factor(index).div_ceil(4);
     for passed in 0..coefficients.len() {
@@ -109,7 +110,8 @@ fn counted_places(coefficients: &[i64], index: u32, behind: u64) -> usize
     requires index { index ≤ 127 }
     requires small { All (Within (2 ^ 27)) coefficients.now }
     ensures most { result ≤ length coefficients.now }
-    ensures reach { length (codes_of (quantised index (take result coefficients.now))) + behind ≡ reach (quantised index coefficients.now) behind }
+    ensures reach { length (codes_of (quantised index (take result coefficients.now))) + behind
+        ≡ reach (quantised index coefficients.now) behind }
 {
     if behind == 0 {
         places_to_last(coefficients, index)
@@ -155,7 +157,8 @@ fn pairs_to_last(first: &[i64], second: &[i64], index: u32) -> PairCount
     requires second_small { All (Within (2 ^ 27)) second.now }
     ensures first_most { result.first ≤ length first.now }
     ensures second_most { result.second ≤ length second.now }
-    ensures reach { length (codes_of (quantised index (take result.first first.now))) + length (codes_of (quantised index (take result.second second.now)))
+    ensures reach { length (codes_of (quantised index (take result.first first.now)))
+        + length (codes_of (quantised index (take result.second second.now)))
         ≡ reach (in_turn (quantised index first.now) (quantised index second.now)) 0 }
 {
     let least = factor(index).div_ceil(4);
@@ -191,7 +194,8 @@ fn counted_pairs(first: &[i64], second: &[i64], index: u32, behind: u64) -> Pair
     requires second_small { All (Within (2 ^ 27)) second.now }
     ensures first_most { result.first ≤ length first.now }
     ensures second_most { result.second ≤ length second.now }
-    ensures reach { length (codes_of (quantised index (take result.first first.now))) + length (codes_of (quantised index (take result.second second.now))) + behind
+    ensures reach { length (codes_of (quantised index (take result.first first.now)))
+        + length (codes_of (quantised index (take result.second second.now))) + behind
         ≡ reach (in_turn (quantised index first.now) (quantised index second.now)) behind }
 {
     if behind == 0 {
@@ -257,7 +261,8 @@ pub fn reach_over_pairs(
     requires behind { behind ≤ 2 ^ 39 }
     requires first_small { All (Within (2 ^ 27)) first.now }
     requires second_small { All (Within (2 ^ 27)) second.now }
-    ensures value { result ≡ reach (in_turn (quantised index first.now) (quantised index second.now)) behind }
+    ensures value { result ≡ reach (in_turn (quantised index first.now)
+        (quantised index second.now)) behind }
     ensures most { result ≤ behind + 148 * length first.now }
 {
     if behind > 0 {

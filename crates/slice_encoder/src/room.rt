@@ -10,7 +10,8 @@ use slice_geometry::{Layout, Size};
 fn most_in_band(layout: &Layout, size: Size, level: u32) -> usize
     requires size { IsSize size.w size.h }
     requires level { level ≤ layout.now.depth }
-    ensures most { (sx sy : ℕ) → sx < layout.now.slices_x → sy < layout.now.slices_y → area (level_rect layout.now size sx sy level) ≤ result }
+    ensures most { (sx sy : ℕ) → sx < layout.now.slices_x → sy < layout.now.slices_y
+        → area (level_rect layout.now size sx sy level) ≤ result }
     ensures few { result ≤ 2 ^ 27 }
 {
     let band = layout.band_size(size, level);
@@ -20,7 +21,8 @@ fn most_in_band(layout: &Layout, size: Size, level: u32) -> usize
 // The most places that a slice has in a component.
 pub fn most_places(layout: &Layout, size: Size) -> usize
     requires { IsSize size.w size.h }
-    ensures most { (sx sy : ℕ) → sx < layout.now.slices_x → sy < layout.now.slices_y → place_count layout.now size sx sy ≤ result }
+    ensures most { (sx sy : ℕ) → sx < layout.now.slices_x → sy < layout.now.slices_y
+        → place_count layout.now size sx sy ≤ result }
     ensures few { result ≤ 2 ^ 31 }
 {
     let mut most = most_in_band(layout, size, 0);

@@ -1,16 +1,16 @@
 // The least index at which a slice fits.
 
 ghost use Rattle.std.specs.Prelude.{◌≡◌, ℕ, ◌+◌, ◌*◌, ◌^◌, ◌<◌, ◌≤◌, max, true, false, length, slice_index};
-ghost use Rattle.slice_encoder.specs.Choice.{fits, IsLeast};
+ghost use Rattle.slice_encoder.specs.Choice.{fits, IsLeastIndex};
 ghost use Rattle.slice_geometry.specs.Slicing.{slice_bytes, slice_number};
 ghost use Rattle.slice_encoder.specs.TrialLaws.{IsSteepOk};
 ghost use Rattle.slice_encoder.specs.Tries.{AreTried, tried_lists};
-ghost use Rattle.slice_encoder.specs.Buffers.{HasRoom, Holds};
+ghost use Rattle.slice_encoder.specs.Buffers.{HasListRoom, HoldsLists};
 ghost use Rattle.slice_encoder.specs.Gathering.{high_reach, high_pairs_reach};
 ghost use Rattle.slice_encoder.specs.GatheredSlices.{AreAllGathered, gathered_reaches};
 ghost use Rattle.slice_encoder.specs.RestoredSlice.{WasTried, HoldsWhatWasTried, WasRefused};
 ghost use Rattle.slice_encoder.specs.Jobs.{picture_of};
-ghost use Rattle.slice_encoder.specs.Ready.{AreReady};
+ghost use Rattle.slice_encoder.specs.Ready.{AreReadyToWrite};
 ghost use Rattle.slice_encoder.specs.Trials.{luma_of};
 
 use crate::candidates::{First, find_first};
@@ -55,7 +55,7 @@ pub fn share_of(layout: &Layout, sx: u32, sy: u32) -> u32
 // Restores the slice's places of the lowest subbands at an index.
 fn restore_lowest(job: SliceJob<'_>, index: u32, kept: &mut ThreePlanes)
     requires index { index ≤ 127 }
-    requires ready { AreReady (picture_of job) job.sx job.sy kept.old }
+    requires ready { AreReadyToWrite (picture_of job) job.sx job.sy kept.old }
     ensures { AreTried (picture_of job.entry) job.entry.sx job.entry.sy index kept.old kept.new }
 {
     let shape = job.shape;
@@ -106,8 +106,10 @@ fn list_and_count(
     requires few_colour { reaches.colour ≤ 2 ^ 39 }
     requires restored { WasTried (picture_of job) job.sx job.sy index kept.now }
     requires gathered { AreAllGathered (picture_of job) job.sx job.sy gathered.now }
-    requires room { HasRoom (picture_of job) job.sx job.sy (length luma.old) (length colour.old) }
-    ensures { HoldsWhatWasTried (picture_of job.entry) job.entry.sx job.entry.sy index kept.now bytes result luma.new colour.new }
+    requires room { HasListRoom (picture_of job) job.sx job.sy (length luma.old)
+        (length colour.old) }
+    ensures { HoldsWhatWasTried (picture_of job.entry) job.entry.sx job.entry.sy index kept.now
+        bytes result luma.new colour.new }
 {
     let _depth = job.layout.depth();
     let lumas = list_luma(job, index, &gathered.luma, &kept.luma, luma);
@@ -143,8 +145,10 @@ fn may_fit_restored(
     requires colour_reach { reaches.colour ≡ high_pairs_reach (picture_of job) index job.sx job.sy }
     requires few_luma { reaches.luma ≤ 2 ^ 38 }
     requires few_colour { reaches.colour ≤ 2 ^ 39 }
-    requires room { HasRoom (picture_of job) job.sx job.sy (length luma.old) (length colour.old) }
-    ensures { result ≡ false → WasRefused (picture_of job.entry) job.entry.sx job.entry.sy index kept.now bytes }
+    requires room { HasListRoom (picture_of job) job.sx job.sy (length luma.old)
+        (length colour.old) }
+    ensures { result ≡ false
+        → WasRefused (picture_of job.entry) job.entry.sx job.entry.sy index kept.now bytes }
 {
     let _depth = job.layout.depth();
     let luma_bits = lowest_luma_bits(job, index, &kept.luma, luma);
@@ -172,8 +176,10 @@ fn may_fit(
     requires colour_reach { reaches.colour ≡ high_pairs_reach (picture_of job) index job.sx job.sy }
     requires few_luma { reaches.luma ≤ 2 ^ 38 }
     requires few_colour { reaches.colour ≤ 2 ^ 39 }
-    requires room { HasRoom (picture_of job) job.sx job.sy (length luma.old) (length colour.old) }
-    ensures { result ≡ false → WasRefused (picture_of job.entry) job.entry.sx job.entry.sy index kept.now bytes }
+    requires room { HasListRoom (picture_of job) job.sx job.sy (length luma.old)
+        (length colour.old) }
+    ensures { result ≡ false
+        → WasRefused (picture_of job.entry) job.entry.sx job.entry.sy index kept.now bytes }
 {
     if reaches.luma + reaches.colour < 4 * u64::from(bytes) {
         return true;
@@ -195,15 +201,21 @@ fn try_if_may(
     requires index { index ≤ 127 }
     requires some { 1 ≤ bytes }
     requires most { bytes ≤ 2 ^ 28 }
-    requires ready { AreReady (picture_of job) job.sx job.sy kept.old }
+    requires ready { AreReadyToWrite (picture_of job) job.sx job.sy kept.old }
     requires gathered { AreAllGathered (picture_of job) job.sx job.sy gathered.now }
     requires reaches { reaches ≡ gathered_reaches gathered.now job.matrix.now index }
     requires few_luma { reaches.luma ≤ 2 ^ 38 }
     requires few_colour { reaches.colour ≤ 2 ^ 39 }
-    requires room { HasRoom (picture_of job) job.sx job.sy (length luma.old) (length colour.old) }
-    ensures holds { result.fits ≡ true → Holds (tried_lists (picture_of job.entry) kept.old job.entry.sx job.entry.sy index) bytes result luma.new colour.new }
-    ensures refused { result.fits ≡ false → fits bytes (tried_lists (picture_of job.entry) kept.old job.entry.sx job.entry.sy index) ≡ false }
-    ensures kept { AreTried (picture_of job.entry) job.entry.sx job.entry.sy index kept.old kept.new }
+    requires room { HasListRoom (picture_of job) job.sx job.sy (length luma.old)
+        (length colour.old) }
+    ensures holds { result.fits ≡ true
+        → HoldsLists (tried_lists (picture_of job.entry) kept.old job.entry.sx job.entry.sy index)
+        bytes result luma.new colour.new }
+    ensures refused { result.fits ≡ false
+        → fits bytes (tried_lists (picture_of job.entry) kept.old job.entry.sx job.entry.sy index)
+        ≡ false }
+    ensures kept { AreTried (picture_of job.entry) job.entry.sx job.entry.sy index kept.old
+        kept.new }
 {
     restore_lowest(job, index, kept);
     let may = may_fit(job, index, bytes, reaches, kept, luma, colour);
@@ -232,11 +244,14 @@ pub fn try_at(
     requires index { index ≤ 127 }
     requires some { 1 ≤ bytes }
     requires most { bytes ≤ 2 ^ 28 }
-    requires ready { AreReady (picture_of job) job.sx job.sy kept.old }
+    requires ready { AreReadyToWrite (picture_of job) job.sx job.sy kept.old }
     requires gathered { AreAllGathered (picture_of job) job.sx job.sy gathered.now }
-    requires room { HasRoom (picture_of job) job.sx job.sy (length luma.old) (length colour.old) }
-    ensures holds { Holds (tried_lists (picture_of job.entry) kept.old job.entry.sx job.entry.sy index) bytes result luma.new colour.new }
-    ensures kept { AreTried (picture_of job.entry) job.entry.sx job.entry.sy index kept.old kept.new }
+    requires room { HasListRoom (picture_of job) job.sx job.sy (length luma.old)
+        (length colour.old) }
+    ensures holds { HoldsLists (tried_lists (picture_of job.entry) kept.old job.entry.sx
+        job.entry.sy index) bytes result luma.new colour.new }
+    ensures kept { AreTried (picture_of job.entry) job.entry.sx job.entry.sy index kept.old
+        kept.new }
 {
     restore_lowest(job, index, kept);
     let reaches = gathered.reaches(job.matrix, index);
@@ -249,8 +264,10 @@ fn reaches_behind(gathered: &GatheredSlice, matrix: &Matrix, first: First, index
     requires luma { matrix.now.depth ≡ gathered.now.luma.depth }
     requires c1 { matrix.now.depth ≡ gathered.now.c1.depth }
     requires c2 { matrix.now.depth ≡ gathered.now.c2.depth }
-    requires ends { (k : ℕ) → k ≤ 3 * gathered.now.c1.depth → slice_index gathered.now.c2.ends k ≡ slice_index gathered.now.c1.ends k }
-    requires next { first.has_next ≡ true → first.next ≡ gathered_reaches gathered.now matrix.now (first.index + 1) }
+    requires ends { (k : ℕ) → k ≤ 3 * gathered.now.c1.depth
+        → slice_index gathered.now.c2.ends k ≡ slice_index gathered.now.c1.ends k }
+    requires next { first.has_next ≡ true
+        → first.next ≡ gathered_reaches gathered.now matrix.now (first.index + 1) }
     requires few_luma { first.next.luma ≤ 2 ^ 38 }
     requires few_colour { first.next.colour ≤ 2 ^ 39 }
     ensures value { result ≡ gathered_reaches gathered.now matrix.now (index + 1) }
@@ -275,15 +292,20 @@ pub fn find_least(
 ) -> Found
     requires some { 1 ≤ bytes }
     requires most { bytes ≤ 2 ^ 28 }
-    requires ready { AreReady (picture_of job) job.sx job.sy kept.old }
+    requires ready { AreReadyToWrite (picture_of job) job.sx job.sy kept.old }
     requires gathered { AreAllGathered (picture_of job) job.sx job.sy gathered.now }
     requires near { near ≤ 127 }
-    requires steep { IsSteepOk job.layout.now.depth (max job.shape.now.luma_depth job.shape.now.colour_depth) job.matrix.now }
-    requires room { HasRoom (picture_of job) job.sx job.sy (length luma.old) (length colour.old) }
+    requires steep { IsSteepOk job.layout.now.depth
+        (max job.shape.now.luma_depth job.shape.now.colour_depth) job.matrix.now }
+    requires room { HasListRoom (picture_of job) job.sx job.sy (length luma.old)
+        (length colour.old) }
     ensures near { result.first ≤ 127 }
-    ensures least { IsLeast bytes (tried_lists (picture_of job.entry) kept.old job.entry.sx job.entry.sy) result.index }
-    ensures holds { Holds (tried_lists (picture_of job.entry) kept.old job.entry.sx job.entry.sy result.index) bytes result.trying luma.new colour.new }
-    ensures kept { AreTried (picture_of job.entry) job.entry.sx job.entry.sy result.index kept.old kept.new }
+    ensures least { IsLeastIndex bytes (tried_lists
+        (picture_of job.entry) kept.old job.entry.sx job.entry.sy) result.index }
+    ensures holds { HoldsLists (tried_lists (picture_of job.entry) kept.old job.entry.sx
+        job.entry.sy result.index) bytes result.trying luma.new colour.new }
+    ensures kept { AreTried (picture_of job.entry) job.entry.sx job.entry.sy result.index kept.old
+        kept.new }
 {
     let first = find_first(gathered, job.matrix, bytes, near);
     let mut reaches = first.reaches;

@@ -63,7 +63,8 @@ pub struct PairText {
 pub fn pair_text(first: i64, second: i64) -> PairText
     requires first_small { unsigned_abs first < 32 }
     requires second_small { unsigned_abs second < 32 }
-    ensures text { digits_below result.length result.number ≡ signed_code_of first ++ signed_code_of second }
+    ensures text { digits_below result.length result.number
+        ≡ signed_code_of first ++ signed_code_of second }
     ensures few { result.length ≤ 24 }
     ensures number { result.number < 2 ^ result.length }
 {

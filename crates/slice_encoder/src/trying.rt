@@ -6,7 +6,7 @@ ghost use Rattle.planes.specs.Raster.{at};
 ghost use Rattle.bounded_blocks.specs.Writing.{codes_of};
 ghost use Rattle.slice_geometry.specs.SliceOrder.{level_of, orient_of, level_rect, area};
 ghost use Rattle.slice_encoder.specs.Listing.{band_part, pair_part};
-ghost use Rattle.slice_encoder.specs.TrialLaws.{AreSmall};
+ghost use Rattle.slice_encoder.specs.TrialLaws.{AreSmallValues};
 ghost use Rattle.slice_encoder.specs.Jobs.{picture_of};
 ghost use Rattle.slice_encoder.specs.GatheredSlices.{AreAllGathered};
 ghost use Rattle.slice_encoder.specs.Trials.{luma_of, c1_of, c2_of, luma_list, colour_list};
@@ -14,7 +14,7 @@ ghost use Rattle.slice_encoder.specs.Buffers.{CanListAll};
 ghost use Rattle.slice_geometry.specs.Shape.{IsSize, IsDepth};
 ghost use Rattle.slice_encoder.specs.Tries.{IsTried};
 ghost use Rattle.slice_encoder.specs.Buffers.{coded_component};
-ghost use Rattle.slice_encoder.specs.Ready.{IsReady};
+ghost use Rattle.slice_encoder.specs.Ready.{IsReadyToWrite};
 ghost use Rattle.slice_encoder.specs.Gathering.{AreGathered};
 ghost use Rattle.slice_encoder.specs.Sources.{stack_seen, trio_seen};
 
@@ -44,8 +44,10 @@ pub fn try_lowest(
     requires across { job.sx < job.layout.now.slices_x }
     requires down { job.sy < job.layout.now.slices_y }
     requires entries { job.matrix.now.depth ≡ job.layout.now.depth }
-    requires ready { IsReady (coded_component job.layout.now size job.matrix.now (stack_seen coefficients)) sample_depth job.sx job.sy kept.old }
-    ensures { IsTried (coded_component job.entry.layout.now size job.entry.matrix.now (stack_seen coefficients.entry)) job.entry.sx job.entry.sy index kept.old kept.new }
+    requires ready { IsReadyToWrite (coded_component job.layout.now size job.matrix.now
+        (stack_seen coefficients)) sample_depth job.sx job.sy kept.old }
+    ensures { IsTried (coded_component job.entry.layout.now size job.entry.matrix.now
+        (stack_seen coefficients.entry)) job.entry.sx job.entry.sy index kept.old kept.new }
 {
     let _ = sample_depth;
     let _depth = job.layout.depth();
@@ -82,10 +84,13 @@ pub fn lowest_luma_bits(job: SliceJob<'_>, index: u32, kept: &Plane, out: &mut [
     requires entries { job.matrix.now.depth ≡ job.layout.now.depth }
     requires depth { (trio_seen job.coefficients).luma.depth ≡ job.layout.now.depth }
     requires can { CanListAll (luma_of (picture_of job)) job.sx job.sy kept.now }
-    requires room { area (level_rect job.layout.now job.shape.now.luma job.sx job.sy 0) ≤ length out.old }
+    requires room { area (level_rect job.layout.now job.shape.now.luma job.sx job.sy 0)
+        ≤ length out.old }
     requires few { length out.old ≤ 2 ^ 32 }
-    requires small { AreSmall (band_part (luma_of (picture_of job)) kept.now index job.sx job.sy 0) }
-    ensures value { result ≡ length (codes_of (band_part (luma_of (picture_of job.entry)) kept.now index job.entry.sx job.entry.sy 0)) }
+    requires small { AreSmallValues (band_part (luma_of (picture_of job)) kept.now index job.sx
+        job.sy 0) }
+    ensures value { result ≡ length (codes_of (band_part
+        (luma_of (picture_of job.entry)) kept.now index job.entry.sx job.entry.sy 0)) }
     ensures few { result ≤ 75 * 2 ^ 32 }
 {
     let rect = job.layout.band_rect(job.shape.luma, 0, job.sx, job.sy);
@@ -106,10 +111,13 @@ pub fn lowest_colour_bits(job: SliceJob<'_>, index: u32, kept: &ThreePlanes, out
     requires second_depth { (trio_seen job.coefficients).c2.depth ≡ job.layout.now.depth }
     requires first_can { CanListAll (c1_of (picture_of job)) job.sx job.sy kept.now.c1 }
     requires second_can { CanListAll (c2_of (picture_of job)) job.sx job.sy kept.now.c2 }
-    requires room { 2 * area (level_rect job.layout.now job.shape.now.colour job.sx job.sy 0) ≤ length out.old }
+    requires room { 2 * area (level_rect job.layout.now job.shape.now.colour job.sx job.sy 0)
+        ≤ length out.old }
     requires few { length out.old ≤ 2 ^ 32 }
-    requires small { AreSmall (pair_part (c1_of (picture_of job)) (c2_of (picture_of job)) kept.now.c1 kept.now.c2 index job.sx job.sy 0) }
-    ensures value { result ≡ length (codes_of (pair_part (c1_of (picture_of job.entry)) (c2_of (picture_of job.entry)) kept.now.c1 kept.now.c2 index job.entry.sx job.entry.sy 0)) }
+    requires small { AreSmallValues (pair_part (c1_of (picture_of job))
+        (c2_of (picture_of job)) kept.now.c1 kept.now.c2 index job.sx job.sy 0) }
+    ensures value { result ≡ length (codes_of (pair_part (c1_of (picture_of job.entry))
+        (c2_of (picture_of job.entry)) kept.now.c1 kept.now.c2 index job.entry.sx job.entry.sy 0)) }
     ensures few { result ≤ 75 * 2 ^ 32 }
 {
     let rect = job.layout.band_rect(job.shape.colour, 0, job.sx, job.sy);
@@ -137,10 +145,13 @@ pub fn list_luma(
     requires entries { job.matrix.now.depth ≡ job.layout.now.depth }
     requires depth { (trio_seen job.coefficients).luma.depth ≡ job.layout.now.depth }
     requires can { CanListAll (luma_of (picture_of job)) job.sx job.sy kept.now }
-    requires gathered { AreGathered job.layout.now job.shape.now.luma (trio_seen job.coefficients).luma job.sx job.sy gathered.now }
-    requires room { length (luma_list (luma_of (picture_of job)) (at kept.now) index job.sx job.sy) ≤ length out.old }
+    requires gathered { AreGathered job.layout.now job.shape.now.luma
+        (trio_seen job.coefficients).luma job.sx job.sy gathered.now }
+    requires room { length (luma_list (luma_of (picture_of job)) (at kept.now) index job.sx job.sy)
+        ≤ length out.old }
     ensures most { result ≤ length out.old }
-    ensures listed { take result out.new ≡ luma_list (luma_of (picture_of job.entry)) (at kept.now) index job.entry.sx job.entry.sy }
+    ensures listed { take result out.new
+        ≡ luma_list (luma_of (picture_of job.entry)) (at kept.now) index job.entry.sx job.entry.sy }
 {
     let rect = job.layout.band_rect(job.shape.luma, 0, job.sx, job.sy);
     let quantiser = job.matrix.quantiser(index, 0, Orient::Ll);
@@ -166,9 +177,12 @@ pub fn list_colour(
     requires first_can { CanListAll (c1_of (picture_of job)) job.sx job.sy kept.now.c1 }
     requires second_can { CanListAll (c2_of (picture_of job)) job.sx job.sy kept.now.c2 }
     requires gathered { AreAllGathered (picture_of job) job.sx job.sy gathered.now }
-    requires room { length (colour_list (c1_of (picture_of job)) (c2_of (picture_of job)) (at kept.now.c1) (at kept.now.c2) index job.sx job.sy) ≤ length out.old }
+    requires room { length (colour_list (c1_of (picture_of job)) (c2_of (picture_of job))
+        (at kept.now.c1) (at kept.now.c2) index job.sx job.sy) ≤ length out.old }
     ensures most { result ≤ length out.old }
-    ensures listed { take result out.new ≡ colour_list (c1_of (picture_of job.entry)) (c2_of (picture_of job.entry)) (at kept.now.c1) (at kept.now.c2) index job.entry.sx job.entry.sy }
+    ensures listed { take result out.new
+        ≡ colour_list (c1_of (picture_of job.entry)) (c2_of (picture_of job.entry))
+        (at kept.now.c1) (at kept.now.c2) index job.entry.sx job.entry.sy }
 {
     let rect = job.layout.band_rect(job.shape.colour, 0, job.sx, job.sy);
     let quantiser = job.matrix.quantiser(index, 0, Orient::Ll);

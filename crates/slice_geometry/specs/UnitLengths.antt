@@ -15,9 +15,9 @@ pub record IsUnitAllowed (u : UnitShape) : Type 0 where
   pub share : bytes_before u.a u.b u.slices ≤ 2 ^ 28
 
 -- the units stand one after another from a place on, and end at the total
-abbrev pub StandInTurn : ℕ → List UnitShape → ℕ → Type 0
-StandInTurn place [] total = total ≡ place
-StandInTurn place (u ∷ units) total = (u.start ≡ place) × IsUnitAllowed u × StandInTurn (place + unit_length u) units total
+abbrev pub ShapesInTurn : ℕ → List UnitShape → ℕ → Type 0
+ShapesInTurn place [] total = total ≡ place
+ShapesInTurn place (u ∷ units) total = (u.start ≡ place) × IsUnitAllowed u × ShapesInTurn (place + unit_length u) units total
 
 -- units, the bytes that they have together, and for how many more there is room
 pub record UnitShapesSeen : Type 0 where

@@ -79,7 +79,8 @@ impl Layout {
         a: u32,
         b: u32,
     ) -> Result<Layout, LayoutFault>
-        ensures { let asked : Slicing = record { depth = depth; slices_x = slices_x; slices_y = slices_y; a = a; b = b } in
+        ensures { let asked : Slicing = record
+            { depth = depth; slices_x = slices_x; slices_y = slices_y; a = a; b = b } in
             MatchResult result (λ layout. (layout ≡ asked) × IsAllowed asked) (IsBroken asked) }
     {
         if depth > 4 {
@@ -189,7 +190,8 @@ impl Layout {
         requires level { level ≤ self.now.depth }
         requires across { sx < self.now.slices_x }
         requires down { sy < self.now.slices_y }
-        ensures { result ≡ geometry.slice_rect self.now (geometry.band_size self.now.depth level size) sx sy }
+        ensures { result ≡ geometry.slice_rect self.now
+            (geometry.band_size self.now.depth level size) sx sy }
     {
         let w = band_length(self.depth, level, size.w);
         let h = band_length(self.depth, level, size.h);

@@ -1,5 +1,5 @@
 ghost use Rattle.std.specs.Prelude.{◌≡◌, ◌+◌, ◌^◌, ◌<◌, ◌≤◌, [], ◌∷◌, ◌++◌, length, OnOk, slice_get, Some};
-ghost use Rattle.slice_geometry.specs.UnitLengths.{IsUnitAllowed, StandInTurn, unit_length};
+ghost use Rattle.slice_geometry.specs.UnitLengths.{IsUnitAllowed, ShapesInTurn, unit_length};
 
 use planes::NoMemory;
 use std::alloc::Global;
@@ -30,11 +30,11 @@ impl Model for UnitShapes {
 
     ghost Value = { UnitShapesSeen };
 
-    ghost use Rattle.slice_geometry.specs.UnitsInside.{IsSound};
+    ghost use Rattle.slice_geometry.specs.UnitsInside.{AreShapesSound};
 
     ghost view = { λ u. record { units = u.units.items; total = u.total; spare = u.spare } };
 
-    ghost invariant = { IsSound };
+    ghost invariant = { AreShapesSound };
 }
 
 impl UnitShapes {
@@ -85,7 +85,7 @@ impl UnitShapes {
     pub fn total(&self) -> u64
         ensures value { result ≡ self.now.total }
         ensures most { result ≤ 2 ^ 40 }
-        ensures in_turn { StandInTurn 0 self.now.units self.now.total }
+        ensures in_turn { ShapesInTurn 0 self.now.units self.now.total }
     {
         self.total
     }

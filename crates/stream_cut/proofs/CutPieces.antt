@@ -9,23 +9,23 @@ use Rattle.slice_geometry.specs.declared.unit_list.UnitShape.{UnitShape}
 use Rattle.slice_geometry.specs.Slicing.{slice_count, total_bytes}
 use Rattle.transform_params.specs.Params.{Params}
 use Rattle.stream_rows.specs.Units.{Past, First, DataUnit, Sequence, Repeated, Picture, Skipped, End, after}
-use Rattle.stream_cut.specs.Cut.{Frames, is_in, header_unit, picture_unit, end_unit, Cutting, frame_now, payload_of, header_due, length_before, cut_next, end_due, Piece, left_from, header_shapes, end_shapes, cut_shapes, closing_shapes_by}
+use Rattle.stream_cut.specs.Cut.{Frames, is_in, cut_header_unit, cut_picture_unit, cut_end_unit, Cutting, frame_now, payload_of, header_due, length_before, cut_next, end_due, Piece, left_from, header_shapes, end_shapes, cut_shapes, closing_shapes_by}
 use Rattle.stream_cut.specs.CutLaws.{header_found, end_found, cut_found, closing_found, found_from, shapes_from, shapes_read}
 
-pub length-header : (payload : List ℕ) → length (header_unit payload) ≡ 13 + length payload
+pub length-header : (payload : List ℕ) → length (cut_header_unit payload) ≡ 13 + length payload
 length-header payload = omega arith
 
-pub length-picture : (previous : ℕ) (payload : List ℕ) → length (picture_unit previous payload) ≡ 13 + length payload
+pub length-picture : (previous : ℕ) (payload : List ℕ) → length (cut_picture_unit previous payload) ≡ 13 + length payload
 length-picture previous payload = omega arith
 
 abbrev pub header_piece : HeaderParts → List ℕ → Piece
-header_piece parts payload = record { unit = Sequence parts; bytes = header_unit payload }
+header_piece parts payload = record { unit = Sequence parts; bytes = cut_header_unit payload }
 
 abbrev pub end_piece : ℕ → Piece
-end_piece previous = record { unit = End; bytes = end_unit previous }
+end_piece previous = record { unit = End; bytes = cut_end_unit previous }
 
 abbrev pub picture_piece : DataUnit → ℕ → List ℕ → Piece
-picture_piece unit previous bytes = record { unit = unit; bytes = picture_unit previous (drop HEAD_SIZE bytes) }
+picture_piece unit previous bytes = record { unit = unit; bytes = cut_picture_unit previous (drop HEAD_SIZE bytes) }
 
 abbrev pub header_pieces : HeaderParts → Past → Option ℕ → List Piece
 header_pieces parts z None = header_piece parts (payload_of z.first) ∷ []
@@ -121,9 +121,9 @@ record Counted (v : Past) (written : ℕ) (pieces : List Piece) (shapes : List U
   read : (more : List Piece) → shapes_read v (pieces ++ more) ≡ shapes ++ shapes_read behind more
 
 picture_counted : (z v : Past) (n : ℕ) (parts : HeaderParts) (number : ℕ) (p : Params) (slices : List (List ℕ)) (bytes : List ℕ) → v.place ≡ n → 13 ≤ length bytes → (o : Option ℕ)
-    → (let unit = Picture parts number p slices in Counted v (n + length (header_due z o ++ picture_unit (length_before z o) (drop 13 bytes))) (header_pieces parts z o ++ picture_piece unit (length_before z o) bytes ∷ []) (header_shapes z n o ++ pictured p (n + length (header_due z o)) (length bytes) ∷ []))
+    → (let unit = Picture parts number p slices in Counted v (n + length (header_due z o ++ cut_picture_unit (length_before z o) (drop 13 bytes))) (header_pieces parts z o ++ picture_piece unit (length_before z o) bytes ∷ []) (header_shapes z n o ++ pictured p (n + length (header_due z o)) (length bytes) ∷ []))
 picture_counted z v n parts number p slices bytes at long (Some previous) =
-    let pu = picture_unit previous (drop 13 bytes) in
+    let pu = cut_picture_unit previous (drop 13 bytes) in
     let size : length pu ≡ length bytes = omega (arith, length-picture previous (drop 13 bytes), length-drop 13 bytes, long) in
     record {
       behind = after v (Picture parts number p slices) pu;
@@ -131,8 +131,8 @@ picture_counted z v n parts number p slices bytes at long (Some previous) =
       read = λ more. ap (λ s. s ∷ shapes_read (after v (Picture parts number p slices) pu) more) (same_pictured p v.place (n + 0) (length pu) (length bytes) (omega (arith, at)) size);
     }
 picture_counted z v n parts number p slices bytes at long None =
-    let hu = header_unit (payload_of z.first) in
-    let pu = picture_unit (HEAD_SIZE + length (payload_of z.first)) (drop 13 bytes) in
+    let hu = cut_header_unit (payload_of z.first) in
+    let pu = cut_picture_unit (HEAD_SIZE + length (payload_of z.first)) (drop 13 bytes) in
     let v1 = after v (Sequence parts) hu in
     let v2 = after v1 (Picture parts number p slices) pu in
     let size : length pu ≡ length bytes = omega (arith, length-picture (HEAD_SIZE + length (payload_of z.first)) (drop 13 bytes), length-drop 13 bytes, long) in
@@ -149,9 +149,9 @@ nothing_counted v n at = record { behind = v; place = at; read = λ more. refl }
 end_counted : (v : Past) (n : ℕ) → v.place ≡ n → (o : Option ℕ) → Counted v (n + length (end_due o)) (end_pieces o) (end_shapes n o)
 end_counted v n at None = record { behind = v; place = omega (arith, at); read = λ more. refl }
 end_counted v n at (Some previous) = record {
-  behind = after v End (end_unit previous);
+  behind = after v End (cut_end_unit previous);
   place = omega (arith, at);
-  read = λ more. ap (λ s. s ∷ shapes_read (after v End (end_unit previous)) more) (same_plain v.place n (length (end_unit previous)) HEAD_SIZE at (omega arith));
+  read = λ more. ap (λ s. s ∷ shapes_read (after v End (cut_end_unit previous)) more) (same_plain v.place n (length (cut_end_unit previous)) HEAD_SIZE at (omega arith));
 }
 
 unit_counted : (frames : Frames) (z : Past) (w : Cutting) (v : Past) (unit : DataUnit) (bytes : List ℕ) → v.place ≡ w.written → 13 ≤ length bytes → Counted v (cut_next frames z w unit bytes).written (cut_pieces frames z w unit bytes) (cut_shapes frames z w unit bytes)
@@ -162,7 +162,7 @@ unit_counted frames z w v End bytes at long = end_counted v w.written at w.previ
 unit_counted frames z w v (Picture parts number p slices) bytes at long = by (is_in frames (frame_now z w))
   where
     by : (c : Bool)
-        → (let due = header_due z w.previous ++ picture_unit (length_before z w.previous) (drop HEAD_SIZE bytes) in
+        → (let due = header_due z w.previous ++ cut_picture_unit (length_before z w.previous) (drop HEAD_SIZE bytes) in
         let next : Cutting = cond c (record w { written = w.written + length (cond c due []); previous = Some (HEAD_SIZE + length (drop HEAD_SIZE bytes)) }) w in
         Counted v next.written (cond c (header_pieces parts z w.previous ++ picture_piece (Picture parts number p slices) (length_before z w.previous) bytes ∷ []) [])
         (cond c (header_shapes z w.written w.previous ++ pictured p (w.written + length (header_due z w.previous)) (length bytes) ∷ []) []))
@@ -170,11 +170,11 @@ unit_counted frames z w v (Picture parts number p slices) bytes at long = by (is
     by false = nothing_counted v w.written at
 
 closing_counted : (v : Past) (previous : Option ℕ) (written : ℕ) (first : Option First) → v.place ≡ written → shapes_read v (closing_pieces previous written first) ≡ closing_shapes_by previous written first
-closing_counted v (Some previous) written first at = ap (λ s. s ∷ []) (same_plain v.place written (length (end_unit previous)) HEAD_SIZE at (omega arith))
+closing_counted v (Some previous) written first at = ap (λ s. s ∷ []) (same_plain v.place written (length (cut_end_unit previous)) HEAD_SIZE at (omega arith))
 closing_counted v None zero (Some first) at =
     let size = HEAD_SIZE + length first.payload in
-    ap (λ s. s ∷ plain (v.place + length (header_unit first.payload)) (length (end_unit size)) ∷ []) (same_plain v.place 0 (length (header_unit first.payload)) size at (length-header first.payload))
-    ∙ ap (λ s. plain 0 size ∷ s ∷ []) (same_plain (v.place + length (header_unit first.payload)) size (length (end_unit size)) HEAD_SIZE (omega (arith, at, length-header first.payload)) (omega arith))
+    ap (λ s. s ∷ plain (v.place + length (cut_header_unit first.payload)) (length (cut_end_unit size)) ∷ []) (same_plain v.place 0 (length (cut_header_unit first.payload)) size at (length-header first.payload))
+    ∙ ap (λ s. plain 0 size ∷ s ∷ []) (same_plain (v.place + length (cut_header_unit first.payload)) size (length (cut_end_unit size)) HEAD_SIZE (omega (arith, at, length-header first.payload)) (omega arith))
 closing_counted v None zero None at = refl
 closing_counted v None (suc n) first at = refl
 

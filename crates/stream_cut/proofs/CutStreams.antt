@@ -10,7 +10,7 @@ use Rattle.sequence_header.specs.declared.parts.HeaderParts.{HeaderParts}
 use Rattle.stream_rows.specs.Units.{Past, nothing_yet, First, DataUnit, Sequence, Repeated, Picture, Skipped, End, after}
 use Rattle.stream_rows.specs.Streams.{Entry}
 use Rattle.stream_cut.specs.SkimLaws.{UnitHolds}
-use Rattle.stream_cut.specs.Cut.{Frames, is_in, header_unit, picture_unit, end_unit, Cutting, nothing_cut, frame_now, payload_of, header_due, length_before, end_due, cut_text, cut_next, or_else_some, closing_by, closing, Piece, front_from, left_from, cut_of}
+use Rattle.stream_cut.specs.Cut.{Frames, is_in, cut_header_unit, cut_picture_unit, cut_end_unit, Cutting, nothing_cut, frame_now, payload_of, header_due, length_before, end_due, cut_text, cut_next, or_else_some, closing_by, closing, Piece, front_from, left_from, cut_of}
 use Rattle.stream_cut.specs.CutLaws.{bytes_in, header_found, end_found, cut_found, closing_found, found_from, units_of_cut, frames_behind, chosen_one, chosen_from, pictures_among, CutsToStreams}
 use Rattle.stream_cut.proofs.Fields.{IsBytes, fit_drop}
 use Rattle.stream_cut.proofs.Skimming.{skims}
@@ -28,13 +28,13 @@ fit_front : (a b : List ℕ) → IsBytes (a ++ b) → IsBytes a
 fit_front [] b f = tt
 fit_front (x ∷ a) b f = (f.0, fit_front a b f.1)
 
-header_fits : (payload : List ℕ) → IsBytes payload → IsBytes (header_unit payload)
+header_fits : (payload : List ℕ) → IsBytes payload → IsBytes (cut_header_unit payload)
 header_fits payload f = let info : ParseInfo = record { code = SequenceHeader; next = HEAD_SIZE + length payload; previous = 0 } in fit_append (head_bytes info) payload (head_fits info) f
 
-picture_fits : (previous : ℕ) (payload : List ℕ) → IsBytes payload → IsBytes (picture_unit previous payload)
+picture_fits : (previous : ℕ) (payload : List ℕ) → IsBytes payload → IsBytes (cut_picture_unit previous payload)
 picture_fits previous payload f = let info : ParseInfo = record { code = LowDelayPicture; next = HEAD_SIZE + length payload; previous = previous } in fit_append (head_bytes info) payload (head_fits info) f
 
-end_fits : (previous : ℕ) → IsBytes (end_unit previous)
+end_fits : (previous : ℕ) → IsBytes (cut_end_unit previous)
 end_fits previous = head_fits (record { code = EndOfSequence; next = 0; previous = previous })
 
 abbrev FirstFits : Option First → Type 0
@@ -60,8 +60,8 @@ text_fits frames z w Skipped bytes f g = tt
 text_fits frames z w End bytes f g = end_due_fits w.previous
 text_fits frames z w (Picture parts number p slices) bytes f g = by (is_in frames (frame_now z w))
   where
-    by : (c : Bool) → IsBytes (cond c (header_due z w.previous ++ picture_unit (length_before z w.previous) (drop HEAD_SIZE bytes)) [])
-    by true = fit_append (header_due z w.previous) (picture_unit (length_before z w.previous) (drop 13 bytes)) (header_due_fits z w.previous f) (picture_fits (length_before z w.previous) (drop 13 bytes) (fit_drop 13 bytes g))
+    by : (c : Bool) → IsBytes (cond c (header_due z w.previous ++ cut_picture_unit (length_before z w.previous) (drop HEAD_SIZE bytes)) [])
+    by true = fit_append (header_due z w.previous) (cut_picture_unit (length_before z w.previous) (drop 13 bytes)) (header_due_fits z w.previous f) (picture_fits (length_before z w.previous) (drop 13 bytes) (fit_drop 13 bytes g))
     by false = tt
 
 first_after : (z : Past) (unit : DataUnit) (bytes : List ℕ) → FirstFits z.first → IsBytes bytes → FirstFits (after z unit bytes).first
@@ -91,7 +91,7 @@ closing_fits w f = by w.previous w.written w.first f
   where
     by : (previous : Option ℕ) (written : ℕ) (first : Option First) → FirstFits first → IsBytes (closing_by previous written first)
     by (Some previous) written first f = end_fits previous
-    by None zero (Some first) f = fit_append (header_unit first.payload) (end_unit (13 + length first.payload)) (header_fits first.payload f) (end_fits (13 + length first.payload))
+    by None zero (Some first) f = fit_append (cut_header_unit first.payload) (cut_end_unit (13 + length first.payload)) (header_fits first.payload f) (end_fits (13 + length first.payload))
     by None zero None f = tt
     by None (suc n) first f = tt
 

@@ -10,7 +10,7 @@ use Rattle.parse_info.specs.declared.Code.TheVariants.{LowDelayPicture}
 use Rattle.parse_info.specs.declared.ParseInfo.{ParseInfo}
 use Rattle.parse_info.specs.Head.{head_bytes}
 use Rattle.stream_rows.specs.Units.{First}
-use Rattle.stream_cut.specs.Cut.{Cutting, closing, empty_cut, picture_unit}
+use Rattle.stream_cut.specs.Cut.{Cutting, closing, empty_cut, cut_picture_unit}
 
 pub on_ok : {X E A B : Type 0} (r : Result X E) → (A → B) → OnOk r A → OnOk r B
 on_ok (Ok x) f a = f a
@@ -30,7 +30,7 @@ pub closing_empty : (cut : Cutting) (first : First) → cut.previous ≡ None �
 closing_empty cut first p w f = rw (p, w, f) refl
 
 pub picture_is : (unit payload : List ℕ) (n previous before : ℕ) → payload ≡ drop 13 unit → n ≡ length unit → 13 ≤ length unit → previous ≡ before
-    → (let info : ParseInfo = record { code = LowDelayPicture; next = n; previous = previous } in head_bytes info ++ payload ≡ picture_unit before (drop 13 unit))
+    → (let info : ParseInfo = record { code = LowDelayPicture; next = n; previous = previous } in head_bytes info ++ payload ≡ cut_picture_unit before (drop 13 unit))
 picture_is unit payload n previous before same long some e =
     let info : ℕ → ℕ → ParseInfo = λ n previous. record { code = LowDelayPicture; next = n; previous = previous } in
     ap (λ k. head_bytes (info k previous) ++ payload) (let m : n ≡ 13 + length (drop 13 unit) = omega (arith, length-drop 13 unit, long, some) in m)

@@ -15,9 +15,9 @@ use Rattle.sequence_header.specs.declared.parts.HeaderParts.{HeaderParts}
 use Rattle.transform_params.specs.Params.{Params}
 use Rattle.unit_reader.specs.Running.{Turns}
 use Rattle.stream_rows.specs.Units.{Past, First, DataUnit, Sequence, Repeated, Picture, Skipped, End, after}
-use Rattle.stream_cut.specs.Cut.{Frames, is_in, frames_so_far, frame_now, payload_of, header_due, length_before, header_unit, picture_unit, header_shapes, or_else_some, CutSoFar, cutting}
+use Rattle.stream_cut.specs.Cut.{Frames, is_in, frames_so_far, frame_now, payload_of, header_due, length_before, cut_header_unit, cut_picture_unit, header_shapes, or_else_some, CutSoFar, cutting}
 use Rattle.stream_cut.specs.Cutter.{own_of, pending, KeepsCut}
-use Rattle.stream_cut.specs.SkimTable.{SkimTableSeen, Holds, item_of, kept_behind, shape_behind}
+use Rattle.stream_cut.specs.SkimTable.{SkimTableSeen, IsKnownUnit, item_of, kept_behind, shape_behind}
 use Rattle.stream_cut.specs.declared.table.SkimItem.TheVariants as items
 use Rattle.stream_cut.specs.declared.cutter.CutRun.{CutRun}
 
@@ -61,7 +61,7 @@ sequence_keeps before table End bytes was old new result is at long ok counted k
 -- ---- a picture
 
 abbrev text_of : Past → Option ℕ → List ℕ → List ℕ
-text_of z o unit = header_due z o ++ picture_unit (length_before z o) (drop 13 unit)
+text_of z o unit = header_due z o ++ cut_picture_unit (length_before z o) (drop 13 unit)
 
 same_text : (z : Past) (parts : HeaderParts) (number : ℕ) (p : Params) (slices : List (List ℕ)) (bytes unit : List ℕ) (o : Option ℕ) → text_of (after z (Picture parts number p slices) bytes) o unit ≡ text_of z o unit
 same_text z parts number p slices bytes unit None = refl
@@ -73,11 +73,11 @@ same_shapes z parts number p slices bytes start (Some previous) = refl
 
 due_length : (z : Past) (first : Option First) (o : Option ℕ) → z.first ≡ first → first ≢ None → pending z.first o ≡ length (header_due z o)
 due_length z None o is some = absurd (some refl)
-due_length z (Some first) None is some = ap (λ f. pending f None) is ∙ (let n : 13 + length first.payload ≡ 13 + length (payload_of z.first) = ap (λ f. 13 + length (payload_of f)) (sym is) in n) ∙ (let n : 13 + length (payload_of z.first) ≡ length (header_unit (payload_of z.first)) = omega arith in n)
+due_length z (Some first) None is some = ap (λ f. pending f None) is ∙ (let n : 13 + length first.payload ≡ 13 + length (payload_of z.first) = ap (λ f. 13 + length (payload_of f)) (sym is) in n) ∙ (let n : 13 + length (payload_of z.first) ≡ length (cut_header_unit (payload_of z.first)) = omega arith in n)
 due_length z (Some first) (Some previous) is some = ap (λ f. pending f (Some previous)) is
 
 length_text : (z : Past) (o : Option ℕ) (bytes : List ℕ) → 13 ≤ length bytes → length (text_of z o bytes) ≡ length (header_due z o) + length bytes
-length_text z o bytes long = omega (arith, length-append (header_due z o) (picture_unit (length_before z o) (drop 13 bytes)), (let n : length (picture_unit (length_before z o) (drop 13 bytes)) ≡ 13 + length (drop 13 bytes) = omega arith in n), length-drop 13 bytes, long)
+length_text z o bytes long = omega (arith, length-append (header_due z o) (cut_picture_unit (length_before z o) (drop 13 bytes)), (let n : length (cut_picture_unit (length_before z o) (drop 13 bytes)) ≡ 13 + length (drop 13 bytes) = omega arith in n), length-drop 13 bytes, long)
 
 abbrev shape_at : ℕ → Params → List ℕ → UnitShape
 shape_at start p bytes = record { start = start; head = length bytes - total_bytes p.slicing; slices = slice_count p.slicing; a = p.slicing.a; b = p.slicing.b }
@@ -149,7 +149,7 @@ picture_turn z Repeated bytes kept_before shape_before old new was table out0 ou
 picture_turn z Skipped bytes kept_before shape_before old new was table out0 out1 result is counted chosen at kept shape some long wrote units total others = absurd cc
 picture_turn z End bytes kept_before shape_before old new was table out0 out1 result is counted chosen at kept shape some long wrote units total others = absurd cc
 
-pub stands_under : (z : Past) (unit : DataUnit) (bytes : List ℕ) → items.Picture ≡ item_of unit → Holds z unit bytes → z.first ≢ None
+pub stands_under : (z : Past) (unit : DataUnit) (bytes : List ℕ) → items.Picture ≡ item_of unit → IsKnownUnit z unit bytes → z.first ≢ None
 stands_under z (Picture parts number p slices) bytes is h = h.0
 stands_under z (Sequence parts) bytes is h = absurd cc
 stands_under z Repeated bytes is h = absurd cc

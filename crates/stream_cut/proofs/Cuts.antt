@@ -16,7 +16,7 @@ use Rattle.stream_rows.specs.declared.reason.Reason.{Reason}
 use Rattle.stream_rows.specs.declared.reason.Reason.TheVariants as reasons
 use Rattle.stream_rows.specs.Units.{Past, nothing_yet, First, DataUnit, Sequence, Repeated, Picture, Skipped, End, unit_behind, has_fields, code_rules, previous_rules, number_rules, after}
 use Rattle.stream_cut.specs.Skim.{skim_rows, skimmed}
-use Rattle.stream_cut.specs.Cut.{Frames, is_in, header_unit, picture_unit, end_unit, Cutting, nothing_cut, frame_now, payload_of, header_due, length_before, end_due, cut_text, cut_next, or_else_some, closing_by, closing, Piece, front_from, left_from, cut_of}
+use Rattle.stream_cut.specs.Cut.{Frames, is_in, cut_header_unit, cut_picture_unit, cut_end_unit, Cutting, nothing_cut, frame_now, payload_of, header_due, length_before, end_due, cut_text, cut_next, or_else_some, closing_by, closing, Piece, front_from, left_from, cut_of}
 use Rattle.stream_cut.specs.CutLaws.{bytes_in, StandWith, IsStreamWith, shapes_of_cut, shapes_read, HasShapes, CutsToASkimmedStream}
 use Rattle.stream_cut.proofs.CutPieces.{header_piece, end_piece, picture_piece, header_pieces, end_pieces, cut_pieces, closing_pieces, pieces_from, length-header, length-picture, made_append, from_made, shapes_counted}
 use Rattle.stream_cut.proofs.Fields.{IsBytes}
@@ -154,23 +154,23 @@ ends_whole frames z w z' previous f even = end_code z' f.first' f.there' (λ e. 
     both true e h = e ∙ h
     both false e h = e
 
-header_some : (payload : List ℕ) → 0 < length (header_unit payload)
+header_some : (payload : List ℕ) → 0 < length (cut_header_unit payload)
 header_some payload = omega arith
 
-picture_some : (previous : ℕ) (payload : List ℕ) → 0 < length (picture_unit previous payload)
+picture_some : (previous : ℕ) (payload : List ℕ) → 0 < length (cut_picture_unit previous payload)
 picture_some previous payload = omega arith
 
-end_some : (previous : ℕ) → 0 < length (end_unit previous)
+end_some : (previous : ℕ) → 0 < length (cut_end_unit previous)
 end_some previous = omega arith
 
 -- where no picture was chosen
-empty_found : (frames : Frames) (z : Past) (w : Cutting) (z' : Past) (first : First) → Apart frames z w z' → IsHeader first.parts first.payload → Found z' (header_unit first.payload ++ end_unit (HEAD_SIZE + length first.payload)) (header_piece first.parts first.payload ∷ end_piece (HEAD_SIZE + length first.payload) ∷ [])
+empty_found : (frames : Frames) (z : Past) (w : Cutting) (z' : Past) (first : First) → Apart frames z w z' → IsHeader first.parts first.payload → Found z' (cut_header_unit first.payload ++ cut_end_unit (HEAD_SIZE + length first.payload)) (header_piece first.parts first.payload ∷ end_piece (HEAD_SIZE + length first.payload) ∷ [])
 empty_found frames z w z' first a h =
-    let unit = header_unit first.payload in
+    let unit = cut_header_unit first.payload in
     let behind = after z' (Sequence first.parts) unit in
     let its : First = record { parts = first.parts; payload = drop 13 unit } in
-    found_more z' (Sequence first.parts) unit (end_unit (HEAD_SIZE + length first.payload)) (end_piece (HEAD_SIZE + length first.payload) ∷ []) (moves_header_unit z' first.parts first.payload a.none a.previous h) (header_some first.payload)
-    (found_end behind (end_unit (HEAD_SIZE + length first.payload))
+    found_more z' (Sequence first.parts) unit (cut_end_unit (HEAD_SIZE + length first.payload)) (end_piece (HEAD_SIZE + length first.payload) ∷ []) (moves_header_unit z' first.parts first.payload a.none a.previous h) (header_some first.payload)
+    (found_end behind (cut_end_unit (HEAD_SIZE + length first.payload))
     (moves_end_unit behind its (HEAD_SIZE + length first.payload) refl (sym (length-header first.payload)) (omega (arith, h.most)) (end_code behind its refl (λ e. ap (λ (n : ℕ). n % 2) a.pictures)))
     (end_some (HEAD_SIZE + length first.payload)))
 
@@ -179,7 +179,7 @@ at_end frames z w z' bytes b f = by w.previous w.written w.first refl refl refl 
   where
     by : (previous : Option ℕ) (written : ℕ) (first : Option First) → w.previous ≡ previous → w.written ≡ written → w.first ≡ first → Stays frames z w z' previous → Rest w z' (closing_by previous written first) (closing_pieces previous written first)
     by (Some previous) written first e g h s =
-        inr (found_end z' (end_unit previous) (moves_end_unit z' s.first' previous s.there' s.true_one s.short (ends_whole frames z w z' previous s (even_end z f.0 f.1 f.2))) (end_some previous))
+        inr (found_end z' (cut_end_unit previous) (moves_end_unit z' s.first' previous s.there' s.true_one s.short (ends_whole frames z w z' previous s (even_end z f.0 f.1 f.2))) (end_some previous))
     by None zero (Some first) e g h s = inr (empty_found frames z w z' first s (b.first_header first h))
     by None zero None e g h s = let k = b.has_first f.0 f.1 in absurd (some_none w.first k.0 k.1 h)
     by None (suc n) first e g h s = inl (e, refl, refl, omega (arith, b.written, g))
@@ -373,7 +373,7 @@ module _ (frames : Frames) (z : Past) (w : Cutting) (parts : HeaderParts) (numbe
   chosen_next n = record w { written = n; previous = Some (HEAD_SIZE + length (drop HEAD_SIZE bytes)) }
 
   behind_chosen : (z' y : Past) (first : First) (previous n : ℕ) → Between frames z w z' → z.first ≡ Some first → first_broken (number_rules z number) ≡ None → is_in frames (frame_now z w) ≡ true → IsPicture parts number p slices (drop 13 bytes) → Ready first y previous
-      → n ≡ y.place + length (picture_unit previous (drop 13 bytes)) → Between frames next (chosen_next n) (after y unit (picture_unit previous (drop 13 bytes)))
+      → n ≡ y.place + length (cut_picture_unit previous (drop 13 bytes)) → Between frames next (chosen_next n) (after y unit (cut_picture_unit previous (drop 13 bytes)))
   unfolding chosen_next
   behind_chosen z' y first previous n b there rule chosen h r total = record {
     has_first = b.has_first;
@@ -403,11 +403,11 @@ module _ (frames : Frames) (z : Past) (w : Cutting) (parts : HeaderParts) (numbe
       even false k fields = omega (arith, r.even fields, odd_one z.pictures (λ e. clash (is_in frames (frame_now next w)) (ap (is_in frames) (frame_stays fields e) ∙ chosen) k))
 
   picture_found : (y : Past) (first : First) (previous n : ℕ) (text : List ℕ) (found : List Piece) → first.parts ≡ parts → IsPicture parts number p slices (drop 13 bytes) → Ready first y previous
-      → Rest (chosen_next n) (after y unit (picture_unit previous (drop 13 bytes))) text found → Found y (picture_unit previous (drop 13 bytes) ++ text) (picture_piece unit previous bytes ∷ found)
+      → Rest (chosen_next n) (after y unit (cut_picture_unit previous (drop 13 bytes))) text found → Found y (cut_picture_unit previous (drop 13 bytes) ++ text) (picture_piece unit previous bytes ∷ found)
   unfolding chosen_next
   picture_found y first previous n text found of h r (inl e) = absurd (some_none (Some (HEAD_SIZE + length (drop HEAD_SIZE bytes))) (HEAD_SIZE + length (drop HEAD_SIZE bytes)) refl e.0)
   picture_found y first previous n text found of h r (inr f) =
-      found_more y unit (picture_unit previous (drop 13 bytes)) text found
+      found_more y unit (cut_picture_unit previous (drop 13 bytes)) text found
       (moves_picture_unit y r.first' parts number p slices previous (drop 13 bytes) r.there' (r.same ∙ of) r.true_one r.short r.rule h)
       (picture_some previous (drop 13 bytes)) f
 
@@ -430,9 +430,9 @@ module _ (frames : Frames) (z : Past) (w : Cutting) (parts : HeaderParts) (numbe
 
   -- and where it begins one
   ready_apart : (z' : Past) (first : First) → Between frames z w z' → Apart frames z w z' → z.first ≡ Some first → first.parts ≡ parts → first_broken (number_rules z number) ≡ None → is_in frames (frame_now z w) ≡ true
-      → Ready first (after z' (Sequence parts) (header_unit first.payload)) (HEAD_SIZE + length first.payload)
+      → Ready first (after z' (Sequence parts) (cut_header_unit first.payload)) (HEAD_SIZE + length first.payload)
   ready_apart z' first b s there of rule chosen = record {
-    first' = record { parts = parts; payload = drop 13 (header_unit first.payload) };
+    first' = record { parts = parts; payload = drop 13 (cut_header_unit first.payload) };
     there' = refl;
     same = sym of;
     true_one = sym (length-header first.payload);
@@ -453,23 +453,23 @@ module _ (frames : Frames) (z : Past) (w : Cutting) (parts : HeaderParts) (numbe
 
   -- the header's unit and the picture's, where the cut begins the sequence
   abbrev its_header : First → List ℕ
-  its_header first = header_unit first.payload
+  its_header first = cut_header_unit first.payload
 
   abbrev its_picture : First → List ℕ
-  its_picture first = picture_unit (HEAD_SIZE + length first.payload) (drop 13 bytes)
+  its_picture first = cut_picture_unit (HEAD_SIZE + length first.payload) (drop 13 bytes)
 
   abbrev begun_at : Past → First → Past
   begun_at z' first = after z' (Sequence parts) (its_header first)
 
   chosen_by : (z' : Past) (first : First) (text : List ℕ) (found : List Piece) → Between frames z w z' → z.first ≡ Some first → first.parts ≡ parts → first_broken (number_rules z number) ≡ None → IsPicture parts number p slices (drop 13 bytes) → is_in frames (frame_now z w) ≡ true
       → (o : Option ℕ) → Stays frames z w z' o
-      → ((n : ℕ) (v : Past) → n ≡ w.written + length (header_due z o ++ picture_unit (length_before z o) (drop 13 bytes)) → Between frames next (chosen_next n) v → Rest (chosen_next n) v text found)
-      → Found z' ((header_due z o ++ picture_unit (length_before z o) (drop 13 bytes)) ++ text) ((header_pieces parts z o ++ picture_piece unit (length_before z o) bytes ∷ []) ++ found)
+      → ((n : ℕ) (v : Past) → n ≡ w.written + length (header_due z o ++ cut_picture_unit (length_before z o) (drop 13 bytes)) → Between frames next (chosen_next n) v → Rest (chosen_next n) v text found)
+      → Found z' ((header_due z o ++ cut_picture_unit (length_before z o) (drop 13 bytes)) ++ text) ((header_pieces parts z o ++ picture_piece unit (length_before z o) bytes ∷ []) ++ found)
   chosen_by z' first text found b there of rule h chosen (Some previous) s more =
       let r = ready_inside z' first previous s there rule chosen in
-      let n = w.written + length (picture_unit previous (drop 13 bytes)) in
+      let n = w.written + length (cut_picture_unit previous (drop 13 bytes)) in
       picture_found z' first previous n text found of h r
-      (more n (after z' unit (picture_unit previous (drop 13 bytes))) refl (behind_chosen z' z' first previous n b there rule chosen h r (omega (arith, b.written))))
+      (more n (after z' unit (cut_picture_unit previous (drop 13 bytes))) refl (behind_chosen z' z' first previous n b there rule chosen h r (omega (arith, b.written))))
   chosen_by z' first text found b there of rule h chosen None s more =
       let hu = its_header first in
       let pu = its_picture first in
@@ -478,16 +478,16 @@ module _ (frames : Frames) (z : Past) (w : Cutting) (parts : HeaderParts) (numbe
       let n = w.written + length (hu ++ pu) in
       let r = ready_apart z' first b s there of rule chosen in
       let payload : payload_of z.first ≡ first.payload = ap payload_of there in
-      subst (λ l. Found z' ((header_unit l ++ picture_unit (HEAD_SIZE + length l) (drop 13 bytes)) ++ text) (header_piece parts l ∷ picture_piece unit (HEAD_SIZE + length l) bytes ∷ found)) (sym payload)
+      subst (λ l. Found z' ((cut_header_unit l ++ cut_picture_unit (HEAD_SIZE + length l) (drop 13 bytes)) ++ text) (header_piece parts l ∷ picture_piece unit (HEAD_SIZE + length l) bytes ∷ found)) (sym payload)
       (subst (λ l. Found z' l (header_piece parts first.payload ∷ picture_piece unit previous bytes ∷ found)) (sym (append_assoc hu pu text))
       (found_more z' (Sequence parts) hu (pu ++ text) (picture_piece unit previous bytes ∷ found)
       (moves_header_unit z' parts first.payload s.none s.previous (subst (λ q. IsHeader q first.payload) of (b.header first there))) (header_some first.payload)
       (picture_found y first previous n text found of h r
-      (more n (after y unit pu) (ap (λ l. w.written + length (header_unit l ++ picture_unit (HEAD_SIZE + length l) (drop 13 bytes))) (sym payload)) (behind_chosen z' y first previous n b there rule chosen h r (omega (arith, b.written, length-append hu pu)))))))
+      (more n (after y unit pu) (ap (λ l. w.written + length (cut_header_unit l ++ cut_picture_unit (HEAD_SIZE + length l) (drop 13 bytes))) (sym payload)) (behind_chosen z' y first previous n b there rule chosen h r (omega (arith, b.written, length-append hu pu)))))))
 
   -- any picture
   abbrev due : List ℕ
-  due = header_due z w.previous ++ picture_unit (length_before z w.previous) (drop HEAD_SIZE bytes)
+  due = header_due z w.previous ++ cut_picture_unit (length_before z w.previous) (drop HEAD_SIZE bytes)
 
   behind_picture : (z' : Past) (text : List ℕ) (found : List Piece) → Between frames z w z' → Facts z (drop 13 bytes) unit → Follows text found → Rest w z' (cut_text frames z w unit bytes ++ text) (cut_pieces frames z w unit bytes ++ found)
   unfolding chosen_next
@@ -527,12 +527,12 @@ behind_end frames z w z' bytes text found b f follows = by w.previous refl b.sta
       state = record { none = none; pictures = pictures; previous = previous; whole = λ e k. refl };
     }
 
-    joined : (previous : ℕ) (s : Inside frames z w z' previous) → Rest (cut_next frames z w End bytes) (after z' End (end_unit previous)) text found → Found z' (end_unit previous ++ text) (end_piece previous ∷ found)
+    joined : (previous : ℕ) (s : Inside frames z w z' previous) → Rest (cut_next frames z w End bytes) (after z' End (cut_end_unit previous)) text found → Found z' (cut_end_unit previous ++ text) (end_piece previous ∷ found)
     joined previous s r =
         let m = moves_end_unit z' s.first' previous s.there' s.true_one s.short (ends_whole frames z w z' previous s (even_end z f.0 f.1 f.2)) in
         elim r [
-          | inl e ↦ subst (λ l. Found z' (end_unit previous ++ text) (end_piece previous ∷ l)) (sym e.2) (subst (λ l. Found z' l (end_piece previous ∷ [])) (sym (ap (λ l. end_unit previous ++ l) e.1 ∙ append-nil (end_unit previous))) (found_end z' (end_unit previous) m (end_some previous)))
-          | inr g ↦ found_more z' End (end_unit previous) text found m (end_some previous) g
+          | inl e ↦ subst (λ l. Found z' (cut_end_unit previous ++ text) (end_piece previous ∷ l)) (sym e.2) (subst (λ l. Found z' l (end_piece previous ∷ [])) (sym (ap (λ l. cut_end_unit previous ++ l) e.1 ∙ append-nil (cut_end_unit previous))) (found_end z' (cut_end_unit previous) m (end_some previous)))
+          | inr g ↦ found_more z' End (cut_end_unit previous) text found m (end_some previous) g
         ]
 
     by : (o : Option ℕ) → w.previous ≡ o → Stays frames z w z' o → Rest w z' (end_due o ++ text) (end_pieces o ++ found)
@@ -543,7 +543,7 @@ behind_end frames z w z' bytes text found b f follows = by w.previous refl b.sta
           | inr g ↦ inr g
         ]
     by (Some previous) e s =
-        let v = after z' End (end_unit previous) in
+        let v = after z' End (cut_end_unit previous) in
         inr (joined previous s (follows v (goes v refl refl (no_previous v refl) (omega (arith, b.written, ap (λ o. length (end_due o)) e)))))
 
 -- ---- all units

@@ -8,7 +8,7 @@ use Rattle.run_theory.specs.Grammar.{unit_at}
 use Rattle.run_theory.specs.Fronts.{Finishes, front_of}
 use Rattle.stream_rows.specs.Units.{Past, nothing_yet, First, DataUnit, Sequence, Repeated, Picture, Skipped, End, after}
 use Rattle.stream_cut.specs.Skim.{skim_rows, skimmed}
-use Rattle.stream_cut.specs.Cut.{Frames, is_in, header_unit, picture_unit, end_unit, Cutting, nothing_cut, frame_now, payload_of, header_due, length_before, end_due, cut_text, cut_next, or_else_some, closing_by, closing, Piece, front_from, left_from}
+use Rattle.stream_cut.specs.Cut.{Frames, is_in, cut_header_unit, cut_picture_unit, cut_end_unit, Cutting, nothing_cut, frame_now, payload_of, header_due, length_before, end_due, cut_text, cut_next, or_else_some, closing_by, closing, Piece, front_from, left_from}
 use Rattle.stream_cut.specs.CutLaws.{bytes_in, StandWith, CutsToNoMore}
 use Rattle.stream_cut.specs.Cutter.{pending}
 use Rattle.stream_rows.proofs.Answering.{after-place}
@@ -38,11 +38,11 @@ few_header z w parts frames bytes long f = record { due = by w.previous; first =
         omega (arith, ap (λ (q : First). length q.payload) same, length-drop 13 bytes, long)
     first (Some a) g h e = omega (arith, h g e)
 
-enough : (z : Past) (w : Cutting) (bytes : List ℕ) (f : First) → z.first ≡ Some f → 13 ≤ length bytes → (o : Option ℕ) → w.written + pending z.first o ≤ z.place → w.written + length (header_due z o ++ picture_unit (length_before z o) (drop 13 bytes)) ≤ z.place + length bytes
+enough : (z : Past) (w : Cutting) (bytes : List ℕ) (f : First) → z.first ≡ Some f → 13 ≤ length bytes → (o : Option ℕ) → w.written + pending z.first o ≤ z.place → w.written + length (header_due z o ++ cut_picture_unit (length_before z o) (drop 13 bytes)) ≤ z.place + length bytes
 enough z w bytes f there long None h =
-    let hu = header_unit (payload_of z.first) in
+    let hu = cut_header_unit (payload_of z.first) in
     let pend : pending z.first None ≡ 13 + length (payload_of z.first) = ap (λ x. pending x None) there ∙ ap (λ x. 13 + length (payload_of x)) (sym there) in
-    omega (arith, h, pend, length-append hu (picture_unit (length_before z None) (drop 13 bytes)), length-header (payload_of z.first), length-picture (length_before z None) (drop 13 bytes), length-drop 13 bytes, long)
+    omega (arith, h, pend, length-append hu (cut_picture_unit (length_before z None) (drop 13 bytes)), length-header (payload_of z.first), length-picture (length_before z None) (drop 13 bytes), length-drop 13 bytes, long)
 enough z w bytes f there long (Some previous) h = omega (arith, h, length-picture previous (drop 13 bytes), length-drop 13 bytes, long)
 
 few_picture : (frames : Frames) (z : Past) (w : Cutting) (parts : HeaderParts) (number : ℕ) (p : Params) (slices : List (List ℕ)) (bytes : List ℕ) (f : First) → z.first ≡ Some f → 13 ≤ length bytes → Few z w → Few (after z (Picture parts number p slices) bytes) (cut_next frames z w (Picture parts number p slices) bytes)
@@ -50,7 +50,7 @@ few_picture frames z w parts number p slices bytes f there long few = by (is_in 
   where
     by : (c : Bool)
         → Few (after z (Picture parts number p slices) bytes)
-        (cond c (record w { written = w.written + length (cond c (header_due z w.previous ++ picture_unit (length_before z w.previous) (drop HEAD_SIZE bytes)) []); previous = Some (HEAD_SIZE + length (drop HEAD_SIZE bytes)) }) w)
+        (cond c (record w { written = w.written + length (cond c (header_due z w.previous ++ cut_picture_unit (length_before z w.previous) (drop HEAD_SIZE bytes)) []); previous = Some (HEAD_SIZE + length (drop HEAD_SIZE bytes)) }) w)
     by true =
         let none : pending z.first (Some (13 + length (drop 13 bytes))) ≡ 0 = ap (λ x. pending x (Some (13 + length (drop 13 bytes)))) there in
         record { due = omega (arith, enough z w bytes f there long w.previous few.due, none); first = λ g e. omega (arith, few.first g e) }
@@ -78,7 +78,7 @@ written_by frames z w Skipped bytes = omega arith
 written_by frames z w End bytes = refl
 written_by frames z w (Picture parts number p slices) bytes = by (is_in frames (frame_now z w))
   where
-    by : (c : Bool) → (let due = header_due z w.previous ++ picture_unit (length_before z w.previous) (drop HEAD_SIZE bytes) in
+    by : (c : Bool) → (let due = header_due z w.previous ++ cut_picture_unit (length_before z w.previous) (drop HEAD_SIZE bytes) in
         let next : Cutting = cond c (record w { written = w.written + length (cond c due []); previous = Some (HEAD_SIZE + length (drop HEAD_SIZE bytes)) }) w in next.written ≡ w.written + length (cond c due []))
     by true = refl
     by false = omega arith
@@ -88,7 +88,7 @@ closing_few w place le first = by w.previous w.written w.first refl refl
   where
     by : (previous : Option ℕ) (written : ℕ) (o : Option First) → w.written ≡ written → w.first ≡ o → w.written + length (closing_by previous written o) ≤ place + 13
     by (Some previous) written o e g = omega (arith, le)
-    by None zero (Some f) e g = omega (arith, first f g, e, length-append (header_unit f.payload) (end_unit (13 + length f.payload)), length-header f.payload)
+    by None zero (Some f) e g = omega (arith, first f g, e, length-append (cut_header_unit f.payload) (cut_end_unit (13 + length f.payload)), length-header f.payload)
     by None zero None e g = omega (arith, le)
     by None (suc n) o e g = omega (arith, le)
 

@@ -31,7 +31,7 @@ use Rattle.stream_cut.specs.declared.table.Found.{Found}
 use Rattle.stream_cut.specs.declared.table.Found.TheVariants as founds
 use Rattle.stream_cut.specs.declared.table.PictureFound.{PictureFound}
 use Rattle.stream_cut.specs.Keeping.{IsCutSlice}
-use Rattle.stream_cut.specs.SkimTable.{SkimTableSeen, IsFoundBy, Keeps}
+use Rattle.stream_cut.specs.SkimTable.{SkimTableSeen, IsSkimFoundBy, KeepsSkimHeader}
 use Rattle.stream_cut.specs.Opening.{Opened, OpensSequence, OpensRepeated, OpensEnd, Opens, open_rows, rest_rows}
 use Rattle.stream_cut.specs.Skim.{skim_slices, skimmed, skim_rows}
 use Rattle.stream_cut.specs.SkimGrammar.{skimmed_laws}
@@ -186,7 +186,7 @@ offset_moves z next n unit leads = record {
 -- ---- how the unit comes out
 
 abbrev pub Over : SkimTableSeen → SkimTableSeen → List ℕ → Option (List ℕ) → Option (List ℕ) → WindowSeen → Result Found (ReadStop Reason) → Type 0
-Over before now held0 rest0 rest1 window result = UnitOver skimmed (IsFoundBy before now) (λ held0 rest0 held stop. Keeps before now) before.past held0 rest0 rest1 window result
+Over before now held0 rest0 rest1 window result = UnitOver skimmed (IsSkimFoundBy before now) (λ held0 rest0 held stop. KeepsSkimHeader before now) before.past held0 rest0 rest1 window result
 
 pub stopped : (before now : SkimTableSeen) (held0 : List ℕ) (rest0 rest1 : Option (List ℕ)) (window : WindowSeen) (stop : ReadStop Reason) (result : Result Found (ReadStop Reason)) → StopsOver skimmed before.past held0 rest0 rest1 window.room stop → now.header ≡ before.header → result ≡ Err stop
     → Over before now held0 rest0 rest1 window result

@@ -13,8 +13,8 @@ use Rattle.stream_rows.specs.Units.{Past, DataUnit, Sequence, Repeated, Picture,
 use Rattle.stream_rows.specs.Streams.{limit, past_limit}
 use Rattle.stream_cut.specs.Skim.{skimmed}
 use Rattle.stream_cut.specs.declared.table.SkimItem.{SkimItem}
-use Rattle.stream_cut.specs.SkimTable.{SkimTableSeen, TellsUnit, Keeps, item_of}
-use Rattle.stream_cut.specs.SkimReader.{SkimReaderSeen, TakesItem, NextSkimmed, seen_by, answer_of}
+use Rattle.stream_cut.specs.SkimTable.{SkimTableSeen, TellsSkimUnit, KeepsSkimHeader, item_of}
+use Rattle.stream_cut.specs.SkimReader.{SkimReaderSeen, TakesSkimItem, NextSkimmed, skim_seen, answer_of}
 
 abbrev pub Seen : Type 0
 Seen = ReaderSeen SkimTableSeen Reason
@@ -23,10 +23,10 @@ abbrev past_of : SkimTableSeen → Past
 past_of table = table.past
 
 abbrev stopped : SkimTableSeen → SkimTableSeen → List ℕ → Option (List ℕ) → List ℕ → ReadStop → Type 0
-stopped before now held0 rest0 held stop = Keeps before now
+stopped before now held0 rest0 held stop = KeepsSkimHeader before now
 
 abbrev pub TurnOver : Seen → Seen → Option (List ℕ) → Option (List ℕ) → Result (Turn SkimItem) ReadStop → Type 0
-TurnOver old new rest0 rest1 result = TableNext skimmed reasons.StreamTooLong past_of TellsUnit stopped old new rest0 rest1 result
+TurnOver old new rest0 rest1 result = TableNext skimmed reasons.StreamTooLong past_of TellsSkimUnit stopped old new rest0 rest1 result
 
 is_end : (unit : DataUnit) → unit_behind unit ≡ Final → unit ≡ End
 is_end (Sequence parts) e = absurd cc
@@ -36,17 +36,17 @@ is_end Skipped e = absurd cc
 is_end End e = refl
 
 -- an item of a unit isn't the end of the stream
-by_unit : (old new : SkimReaderSeen) (rest0 rest1 : Option (List ℕ)) (unit : DataUnit) → TakesItem old new rest0 rest1 (item_of unit) → NextSkimmed old new rest0 rest1 (Ok (item_of unit))
+by_unit : (old new : SkimReaderSeen) (rest0 rest1 : Option (List ℕ)) (unit : DataUnit) → TakesSkimItem old new rest0 rest1 (item_of unit) → NextSkimmed old new rest0 rest1 (Ok (item_of unit))
 by_unit old new rest0 rest1 (Sequence parts) t = t
 by_unit old new rest0 rest1 Repeated t = t
 by_unit old new rest0 rest1 (Picture parts number params slices) t = t
 by_unit old new rest0 rest1 Skipped t = t
 by_unit old new rest0 rest1 End t = t
 
-pub next_told : (old new : Seen) (rest0 rest1 : Option (List ℕ)) (result : Result (Turn SkimItem) ReadStop) → TurnOver old new rest0 rest1 result → NextSkimmed (seen_by old) (seen_by new) rest0 rest1 (answer_of result)
+pub next_told : (old new : Seen) (rest0 rest1 : Option (List ℕ)) (result : Result (Turn SkimItem) ReadStop) → TurnOver old new rest0 rest1 result → NextSkimmed (skim_seen old) (skim_seen new) rest0 rest1 (answer_of result)
 next_told old new rest0 rest1 (Ok (turns.Unit item)) n =
-    subst (λ (i : SkimItem). NextSkimmed (seen_by old) (seen_by new) rest0 rest1 (Ok i)) (sym n.tells.is_item)
-    (by_unit (seen_by old) (seen_by new) rest0 rest1 n.unit (record {
+    subst (λ (i : SkimItem). NextSkimmed (skim_seen old) (skim_seen new) rest0 rest1 (Ok i)) (sym n.tells.is_item)
+    (by_unit (skim_seen old) (skim_seen new) rest0 rest1 n.unit (record {
       unit = n.unit;
       bytes = n.bytes;
       is_item = refl;
@@ -56,7 +56,7 @@ next_told old new rest0 rest1 (Ok (turns.Unit item)) n =
     }))
 next_told old new rest0 rest1 (Ok (turns.Last item)) n =
     let e = is_end n.unit n.final in
-    let t = subst (λ (u : DataUnit). TellsUnit old.table new.table u n.bytes item) e n.tells in
+    let t = subst (λ (u : DataUnit). TellsSkimUnit old.table new.table u n.bytes item) e n.tells in
     let m = subst (λ (u : DataUnit). (m : MeetsFront limit past_limit skimmed old.table.past old.held rest0 rest1 (Finishes (length n.bytes) u)) × ((more : List ℕ) → rest1 ≡ Some more → old.held ++ m.read ++ more ≡ n.bytes)) e (n.meets, n.whole) in
     record {
       bytes = n.bytes;

@@ -18,7 +18,7 @@ use Rattle.run_theory.specs.Fronts.{Stands, Finishes, size_to, front_behind, fro
 use Rattle.stream_rows.specs.declared.reason.Reason.{Reason}
 use Rattle.stream_rows.specs.Units.{Past, First, DataUnit, Sequence, Picture, End, unit_behind, reason_of, has_fields, code_rules, previous_rules, number_rules, payload_rows, payload_of, after}
 use Rattle.stream_cut.specs.Skim.{skim_payload_of, skim_payload, skim_rows, skimmed}
-use Rattle.stream_cut.specs.Cut.{header_unit, picture_unit, end_unit, Piece}
+use Rattle.stream_cut.specs.Cut.{cut_header_unit, cut_picture_unit, cut_end_unit, Piece}
 use Rattle.stream_cut.specs.CutLaws.{bytes_in, IsStreamWith}
 use Rattle.stream_writer.proofs.EncodedPieces.{moves_then, moves_none}
 use Rattle.stream_writer.proofs.EncodedParts.{moves_head, true_previous}
@@ -27,7 +27,7 @@ use Rattle.stream_cut.proofs.UnitsRead.{IsHeader, IsPicture}
 
 -- ---- whole units
 
-pub moves_header_unit : (z : Past) (parts : HeaderParts) (payload : List ℕ) → z.first ≡ None → first_broken (previous_rules z 0) ≡ None → IsHeader parts payload → Moves skimmed (skim_rows z) z.place (header_unit payload) (done (Sequence parts))
+pub moves_header_unit : (z : Past) (parts : HeaderParts) (payload : List ℕ) → z.first ≡ None → first_broken (previous_rules z 0) ≡ None → IsHeader parts payload → Moves skimmed (skim_rows z) z.place (cut_header_unit payload) (done (Sequence parts))
 unfolding skim_rows skim_payload payload_rows
 moves_header_unit z parts payload none previous h =
     let info : ParseInfo = record { code = SequenceHeader; next = 13 + length payload; previous = 0 } in
@@ -41,7 +41,7 @@ pub picture_code : (z : Past) (first : First) → z.first ≡ Some first → fir
 picture_code z first there = rw there refl
 
 pub moves_picture_unit : (z : Past) (first : First) (parts : HeaderParts) (number : ℕ) (p : Params) (slices : List (List ℕ)) (previous : ℕ) (payload : List ℕ) → z.first ≡ Some first → first.parts ≡ parts → previous ≡ z.previous → previous < 2 ^ 32
-    → first_broken (number_rules z number) ≡ None → IsPicture parts number p slices payload → Moves skimmed (skim_rows z) z.place (picture_unit previous payload) (done (Picture parts number p slices))
+    → first_broken (number_rules z number) ≡ None → IsPicture parts number p slices payload → Moves skimmed (skim_rows z) z.place (cut_picture_unit previous payload) (done (Picture parts number p slices))
 unfolding skim_rows skim_payload skim_payload_of
 moves_picture_unit z first parts number p slices previous payload there of true_one short rule h =
     let info : ParseInfo = record { code = LowDelayPicture; next = 13 + length payload; previous = previous } in
@@ -53,12 +53,12 @@ moves_picture_unit z first parts number p slices previous payload there of true_
     (skims (moves_head z LowDelayPicture (13 + length payload) previous (skim_payload z z.first) h.most short (picture_code z first there) refl (true_previous z previous true_one)))
     rest
 
-pub moves_end_unit : (z : Past) (first : First) (previous : ℕ) → z.first ≡ Some first → previous ≡ z.previous → previous < 2 ^ 32 → first_broken (code_rules z EndOfSequence) ≡ None → Moves skimmed (skim_rows z) z.place (end_unit previous) (done End)
+pub moves_end_unit : (z : Past) (first : First) (previous : ℕ) → z.first ≡ Some first → previous ≡ z.previous → previous < 2 ^ 32 → first_broken (code_rules z EndOfSequence) ≡ None → Moves skimmed (skim_rows z) z.place (cut_end_unit previous) (done End)
 unfolding skim_rows skim_payload skim_payload_of payload_of
 moves_end_unit z first previous there true_one short code =
     let info : ParseInfo = record { code = EndOfSequence; next = 0; previous = previous } in
     let rest : Moves skimmed (skim_payload z z.first info) (z.place + 13) [] (done End) = subst (λ o. Moves skimmed (skim_payload z o info) (z.place + 13) [] (done End)) (sym there) (moves_none skimmed (done End) (z.place + 13)) in
-    subst (λ l. Moves skimmed (skim_rows z) z.place l (done End)) (append-nil (end_unit previous))
+    subst (λ l. Moves skimmed (skim_rows z) z.place l (done End)) (append-nil (cut_end_unit previous))
     (moves_then skimmed _ _ _ z.place (z.place + 13) (head_bytes info) [] refl (skims (moves_head z EndOfSequence 0 previous (skim_payload z z.first) (omega arith) short code refl (true_previous z previous true_one))) rest)
 
 -- ---- units before others

@@ -34,18 +34,18 @@ frames_so_far z = if has_fields z.first then z.pictures / 2 else z.pictures
 -- ---- units with other offsets
 
 -- the first unit of a sequence: its previous offset is 0
-abbrev pub header_unit : List ℕ → List ℕ
-header_unit payload =
+abbrev pub cut_header_unit : List ℕ → List ℕ
+cut_header_unit payload =
     head_bytes (record { code = SequenceHeader; next = HEAD_SIZE + length payload; previous = 0 }) ++ payload
 
 -- the unit of a picture, behind a unit of so many bytes
-abbrev pub picture_unit : ℕ → List ℕ → List ℕ
-picture_unit previous payload =
+abbrev pub cut_picture_unit : ℕ → List ℕ → List ℕ
+cut_picture_unit previous payload =
     head_bytes (record { code = LowDelayPicture; next = HEAD_SIZE + length payload; previous = previous }) ++ payload
 
 -- the end of a sequence, behind a unit of so many bytes
-abbrev pub end_unit : ℕ → List ℕ
-end_unit previous = head_bytes (record { code = EndOfSequence; next = 0; previous = previous })
+abbrev pub cut_end_unit : ℕ → List ℕ
+cut_end_unit previous = head_bytes (record { code = EndOfSequence; next = 0; previous = previous })
 
 -- ---- what the units so far leave to the cut
 
@@ -72,7 +72,7 @@ payload_of (Some first) = first.payload
 
 -- the header's unit stands before the first chosen picture of its sequence
 abbrev pub header_due : Past → Option ℕ → List ℕ
-header_due z None = header_unit (payload_of z.first)
+header_due z None = cut_header_unit (payload_of z.first)
 header_due z (Some previous) = []
 
 -- the length of the unit before the picture's
@@ -83,13 +83,13 @@ length_before z (Some previous) = previous
 -- the end of the sequence, if anything was written
 abbrev pub end_due : Option ℕ → List ℕ
 end_due None = []
-end_due (Some previous) = end_unit previous
+end_due (Some previous) = cut_end_unit previous
 
 -- what a unit of these bytes gives
 abbrev pub cut_text : Frames → Past → Cutting → DataUnit → List ℕ → List ℕ
 cut_text frames z w (Picture parts number p slices) bytes =
     if is_in frames (frame_now z w)
-    then header_due z w.previous ++ picture_unit (length_before z w.previous) (drop HEAD_SIZE bytes) else []
+    then header_due z w.previous ++ cut_picture_unit (length_before z w.previous) (drop HEAD_SIZE bytes) else []
 cut_text frames z w End bytes = end_due w.previous
 cut_text frames z w (Sequence parts) bytes = []
 cut_text frames z w Repeated bytes = []
@@ -122,11 +122,11 @@ cut_next frames z w Skipped bytes = w
 
 -- Where no picture is chosen, this is the stream.
 abbrev pub empty_cut : List ℕ → List ℕ
-empty_cut payload = header_unit payload ++ end_unit (HEAD_SIZE + length payload)
+empty_cut payload = cut_header_unit payload ++ cut_end_unit (HEAD_SIZE + length payload)
 
 -- what stands behind the stream's last unit, an end of sequence
 abbrev pub closing_by : Option ℕ → ℕ → Option First → List ℕ
-closing_by (Some previous) written first = end_unit previous
+closing_by (Some previous) written first = cut_end_unit previous
 closing_by None zero (Some first) = empty_cut first.payload
 closing_by None zero None = []
 closing_by None (suc n) first = []

@@ -20,7 +20,7 @@ pub record CutterSeen : Type 0 where
   pub has_cut : Bool
 
 -- a cutter that has cut nothing yet
-pub record IsNew (frames : Frames) (cutter : CutterSeen) : Type 0 where
+pub record IsNewCutter (frames : Frames) (cutter : CutterSeen) : Type 0 where
   pub frames_are : cutter.frames ≡ frames
   pub shapes : cutter.shapes ≡ []
   pub total : cutter.total ≡ 0
@@ -34,9 +34,9 @@ run_of shapes total (Err stops.OutFault) = Err halts.OutFault
 run_of shapes total (Err stops.NoMemory) = Err halts.NoMemory
 
 -- the input was read to its end
-abbrev pub IsWhole : CutEnd → Type 0
-IsWhole (Whole shapes total) = Unit {0}
-IsWhole (Refused refusal) = ⊥
+abbrev pub IsCutToTheEnd : CutEnd → Type 0
+IsCutToTheEnd (Whole shapes total) = Unit {0}
+IsCutToTheEnd (Refused refusal) = ⊥
 
 -- more bytes may still change it
 abbrev pub MayGoOn : CutEnd → Type 0

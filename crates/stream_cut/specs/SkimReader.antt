@@ -32,7 +32,7 @@ pub record SkimReaderSeen : Type 0 where
   pub ended : Bool
 
 -- a new reader
-pub record IsNew (r : SkimReaderSeen) : Type 0 where
+pub record IsNewSkimReader (r : SkimReaderSeen) : Type 0 where
   pub past : r.past ≡ nothing_yet
   pub header : r.header ≡ None
   pub unit : r.unit ≡ []
@@ -40,32 +40,32 @@ pub record IsNew (r : SkimReaderSeen) : Type 0 where
   pub going : (r.stop ≡ None) × (r.ended ≡ false)
 
 -- what is behind a unit of these bytes
-pub record Behind (old new : SkimReaderSeen) (unit : DataUnit) (bytes : List ℕ) : Type 0 where
+pub record IsBehindUnit (old new : SkimReaderSeen) (unit : DataUnit) (bytes : List ℕ) : Type 0 where
   pub past : new.past ≡ after old.past unit bytes
   pub header : new.header ≡ header_behind unit old.header
   pub kept : new.unit ≡ kept_behind unit bytes old.unit
   pub shape : new.shape ≡ shape_behind old.past unit bytes old.shape
 
 -- The unit in front was taken, an end of sequence where a byte follows it: the others are held, and the reader is behind it.
-pub record TakesItem (old new : SkimReaderSeen) (rest0 rest1 : Option (List ℕ)) (item : SkimItem) : Type 0 where
+pub record TakesSkimItem (old new : SkimReaderSeen) (rest0 rest1 : Option (List ℕ)) (item : SkimItem) : Type 0 where
   pub unit : DataUnit
   pub bytes : List ℕ
   pub is_item : item ≡ item_of unit
   pub takes : TakesUnit limit past_limit skimmed old.past old.held rest0 rest1 unit bytes new.held
-  pub behind : Behind old new unit bytes
+  pub behind : IsBehindUnit old new unit bytes
   pub going : (new.stop ≡ None) × (new.ended ≡ false)
 
 -- The end of sequence in front was taken, and nothing is behind it.
-pub record TakesEnd (old new : SkimReaderSeen) (rest0 rest1 : Option (List ℕ)) : Type 0 where
+pub record TakesSkimEnd (old new : SkimReaderSeen) (rest0 rest1 : Option (List ℕ)) : Type 0 where
   pub bytes : List ℕ
   pub meets : MeetsFront limit past_limit skimmed old.past old.held rest0 rest1 (Finishes (length bytes) End)
   pub whole : (more : List ℕ) → rest1 ≡ Some more → old.held ++ meets.read ++ more ≡ bytes
   pub last : IsAtEnd rest1
-  pub behind : Behind old new End bytes
+  pub behind : IsBehindUnit old new End bytes
   pub over : (new.held ≡ []) × (new.stop ≡ None) × (new.ended ≡ true)
 
 -- A stop is kept; the units so far are as they were, and any bytes may be kept of the last unit.
-pub record KeepsStop (old new : SkimReaderSeen) (stop : ReadStop) : Type 0 where
+pub record KeepsSkimStop (old new : SkimReaderSeen) (stop : ReadStop) : Type 0 where
   pub past : new.past ≡ old.past
   pub header : new.header ≡ old.header
   pub kept : new.stop ≡ Some stop
@@ -73,16 +73,16 @@ pub record KeepsStop (old new : SkimReaderSeen) (stop : ReadStop) : Type 0 where
 
 -- By how the call came out, of a reader that keeps no stop and whose stream isn't over.
 abbrev pub NextSkimmed : SkimReaderSeen → SkimReaderSeen → Option (List ℕ) → Option (List ℕ) → Result SkimItem ReadStop → Type 0
-NextSkimmed old new rest0 rest1 (Ok items.End) = TakesEnd old new rest0 rest1
-NextSkimmed old new rest0 rest1 (Ok item) = TakesItem old new rest0 rest1 item
+NextSkimmed old new rest0 rest1 (Ok items.End) = TakesSkimEnd old new rest0 rest1
+NextSkimmed old new rest0 rest1 (Ok item) = TakesSkimItem old new rest0 rest1 item
 NextSkimmed old new rest0 rest1 (Err stop) =
-    LimitStops skimmed reasons.StreamTooLong old.past old.held rest0 rest1 stop × KeepsStop old new stop
+    LimitStops skimmed reasons.StreamTooLong old.past old.held rest0 rest1 stop × KeepsSkimStop old new stop
 
 -- ---- over the reader of any table
 
 -- what is seen of it, by the reader over its table
-abbrev pub seen_by : ReaderSeen SkimTableSeen Reason → SkimReaderSeen
-seen_by r = record {
+abbrev pub skim_seen : ReaderSeen SkimTableSeen Reason → SkimReaderSeen
+skim_seen r = record {
   past = r.table.past;
   header = r.table.header;
   unit = r.table.unit;

@@ -21,15 +21,15 @@ pub record SkimTableSeen : Type 0 where
   pub shape : UnitShape
 
 -- what was found is this unit
-abbrev pub IsFound : Past → Found → DataUnit → List ℕ → Type 0
-IsFound z (founds.Sequence first) unit bytes = (unit ≡ Sequence first.parts) × (first.payload ≡ drop HEAD_SIZE bytes)
-IsFound z founds.Repeated unit bytes = unit ≡ Repeated
-IsFound z (founds.Picture picture) unit bytes = (first : First) × (params : Params) × (slices : List (List ℕ)) × (z.first ≡ Some first)
+abbrev pub IsSkimFound : Past → Found → DataUnit → List ℕ → Type 0
+IsSkimFound z (founds.Sequence first) unit bytes = (unit ≡ Sequence first.parts) × (first.payload ≡ drop HEAD_SIZE bytes)
+IsSkimFound z founds.Repeated unit bytes = unit ≡ Repeated
+IsSkimFound z (founds.Picture picture) unit bytes = (first : First) × (params : Params) × (slices : List (List ℕ)) × (z.first ≡ Some first)
     × (unit ≡ Picture first.parts picture.number params slices) × (picture.slices ≡ slice_count params.slicing)
     × (picture.a ≡ params.slicing.a) × (picture.b ≡ params.slicing.b) × (length bytes ≡ picture.head + total_bytes params.slicing)
     × IsAllowed params.slicing
-IsFound z founds.Skipped unit bytes = unit ≡ Skipped
-IsFound z founds.End unit bytes = unit ≡ End
+IsSkimFound z founds.Skipped unit bytes = unit ≡ Skipped
+IsSkimFound z founds.End unit bytes = unit ≡ End
 
 -- the unit that is kept behind one of these bytes
 abbrev pub kept_behind : DataUnit → List ℕ → List ℕ → List ℕ
@@ -59,33 +59,33 @@ item_of Skipped = items.Skipped
 item_of End = items.SequenceEnd
 
 -- what was found is this unit of these bytes, which are kept where it is a header or a picture
-pub record IsFoundBy (before now : SkimTableSeen) (found : Found) (unit : DataUnit) (bytes : List ℕ) : Type 0 where
+pub record IsSkimFoundBy (before now : SkimTableSeen) (found : Found) (unit : DataUnit) (bytes : List ℕ) : Type 0 where
   pub past : now.past ≡ before.past
   pub header : now.header ≡ before.header
   pub shape : now.shape ≡ before.shape
-  pub is_found : IsFound before.past found unit bytes
+  pub is_found : IsSkimFound before.past found unit bytes
   pub kept : now.unit ≡ kept_behind unit bytes before.unit
   pub long : HEAD_SIZE ≤ length bytes
   pub short : length bytes < 2 ^ 32
 
 -- what is true of a unit of these bytes: a picture stands under a header, and its slices are within their limits
-abbrev pub Holds : Past → DataUnit → List ℕ → Type 0
-Holds z (Picture parts number p slices) bytes = (z.first ≢ None) × IsAllowed p.slicing × (total_bytes p.slicing ≤ length bytes)
-Holds z (Sequence parts) bytes = Unit {0}
-Holds z Repeated bytes = Unit {0}
-Holds z Skipped bytes = Unit {0}
-Holds z End bytes = Unit {0}
+abbrev pub IsKnownUnit : Past → DataUnit → List ℕ → Type 0
+IsKnownUnit z (Picture parts number p slices) bytes = (z.first ≢ None) × IsAllowed p.slicing × (total_bytes p.slicing ≤ length bytes)
+IsKnownUnit z (Sequence parts) bytes = Unit {0}
+IsKnownUnit z Repeated bytes = Unit {0}
+IsKnownUnit z Skipped bytes = Unit {0}
+IsKnownUnit z End bytes = Unit {0}
 
 -- the item of a unit of these bytes, and what is behind it
-pub record TellsUnit (before behind : SkimTableSeen) (unit : DataUnit) (bytes : List ℕ) (item : SkimItem) : Type 0 where
+pub record TellsSkimUnit (before behind : SkimTableSeen) (unit : DataUnit) (bytes : List ℕ) (item : SkimItem) : Type 0 where
   pub is_item : item ≡ item_of unit
   pub header : behind.header ≡ header_behind unit before.header
   pub kept : behind.unit ≡ kept_behind unit bytes before.unit
   pub shape : behind.shape ≡ shape_behind before.past unit bytes before.shape
   pub long : HEAD_SIZE ≤ length bytes
   pub short : length bytes < 2 ^ 32
-  pub holds : Holds before.past unit bytes
+  pub holds : IsKnownUnit before.past unit bytes
 
 -- where a unit stops, the header is as before; any bytes may be kept
-pub record Keeps (before now : SkimTableSeen) : Type 0 where
+pub record KeepsSkimHeader (before now : SkimTableSeen) : Type 0 where
   pub header : now.header ≡ before.header

@@ -12,21 +12,21 @@ ghost use Rattle.parse_info.specs.Head.{head_bytes};
 ghost use Rattle.parse_info.specs.declared.ParseInfo.{ParseInfo};
 ghost use Rattle.unit_reader.specs.Soon.{Soon};
 ghost use Rattle.stream_rows.specs.Units.{nothing_yet};
-ghost use Rattle.stream_cut.specs.Cut.{Frames, CutSoFar, is_in, frames_so_far, header_unit, end_unit, empty_cut, no_cut, cutting, cut_machine};
-ghost use Rattle.stream_cut.specs.Cutter.{IsNew, IsWhole, MayGoOn, KeepsCut, run_of};
+ghost use Rattle.stream_cut.specs.Cut.{Frames, CutSoFar, is_in, frames_so_far, cut_header_unit, cut_end_unit, empty_cut, no_cut, cutting, cut_machine};
+ghost use Rattle.stream_cut.specs.Cutter.{IsNewCutter, IsCutToTheEnd, MayGoOn, KeepsCut, run_of};
 
 use crate::table::{SkimItem, SkimTable};
 use parse_info::{Code, ParseInfo};
 use planes::NoMemory;
+use run_theory::Halt;
 use slice_geometry::{UnitShape, UnitShapes};
 use std::alloc::Global;
 use std::marker::Model;
 use std::mem;
-use stream_rows::{Reason, Refusal};
 use stream_reader::{Earlier, First};
+use stream_rows::{Reason, Refusal};
 use unit_reader::{Reader, UnitCommand, run_units};
 use vc2_io::{Failed, Sink, Source, write_whole};
-use run_theory::Halt;
 
 /// Why a cut stopped.
 #[derive(Clone, Copy, Debug, PartialEq, Eq)]
@@ -59,8 +59,10 @@ fn put<K: Sink>(
     previous: u32,
     payload: &[u8],
 ) -> Result<(), Failed>
-    ensures ok { OnOk result (Appends (K.written out.old) (K.written out.new) (head_bytes (record { code = code; next = next; previous = previous }) ++ payload.now)) }
-    ensures err { OnErr result (GrewShort (K.written out.old) (K.written out.new) (head_bytes (record { code = code; next = next; previous = previous }) ++ payload.now)) }
+    ensures ok { OnOk result (Appends (K.written out.old) (K.written out.new)
+        (head_bytes (record { code = code; next = next; previous = previous }) ++ payload.now)) }
+    ensures err { OnErr result (GrewShort (K.written out.old) (K.written out.new)
+        (head_bytes (record { code = code; next = next; previous = previous }) ++ payload.now)) }
     ensures cause { HasCause (K.faults out.old) (K.faults out.new) result }
 {
     let mut head = [0; 13];
@@ -77,9 +79,11 @@ fn put<K: Sink>(
 // Writes the first unit of a sequence.
 fn put_header<K: Sink>(out: &mut K, payload: &[u8]) -> Result<u32, Failed>
     requires { length payload.now ≤ 512 }
-    ensures ok { OnOk result (Appends (K.written out.old) (K.written out.new) (header_unit payload.now)) }
+    ensures ok { OnOk result (Appends (K.written out.old) (K.written out.new)
+        (cut_header_unit payload.now)) }
     ensures length { IfOk result (λ length'. length' ≡ HEAD_SIZE + length payload.now) }
-    ensures err { OnErr result (GrewShort (K.written out.old) (K.written out.new) (header_unit payload.now)) }
+    ensures err { OnErr result (GrewShort (K.written out.old) (K.written out.new)
+        (cut_header_unit payload.now)) }
     ensures cause { HasCause (K.faults out.old) (K.faults out.new) result }
 {
     let size = 13 + payload.len() as u32;
@@ -89,8 +93,10 @@ fn put_header<K: Sink>(out: &mut K, payload: &[u8]) -> Result<u32, Failed>
 
 // Writes the end of a sequence.
 fn put_end<K: Sink>(out: &mut K, previous: u32) -> Result<(), Failed>
-    ensures ok { OnOk result (Appends (K.written out.old) (K.written out.new) (end_unit previous)) }
-    ensures err { OnErr result (GrewShort (K.written out.old) (K.written out.new) (end_unit previous)) }
+    ensures ok { OnOk result (Appends (K.written out.old) (K.written out.new)
+        (cut_end_unit previous)) }
+    ensures err { OnErr result (GrewShort (K.written out.old) (K.written out.new)
+        (cut_end_unit previous)) }
     ensures cause { HasCause (K.faults out.old) (K.faults out.new) result }
 {
     put(out, Code::EndOfSequence, 0, previous, &[])
@@ -100,7 +106,14 @@ fn put_end<K: Sink>(out: &mut K, previous: u32) -> Result<(), Failed>
 fn count(shapes: &mut UnitShapes, length: u32)
     requires room { 1 ≤ shapes.old.spare }
     requires most { shapes.old.total + length ≤ INPUT_LIMIT }
-    ensures units { shapes.new.units ≡ shapes.old.units ++ record { start = shapes.old.total; head = length; slices = 0; a = 1; b = 1 } ∷ [] }
+    ensures units { shapes.new.units
+        ≡ shapes.old.units ++ record {
+          start = shapes.old.total;
+          head = length;
+          slices = 0;
+          a = 1;
+          b = 1;
+        } ∷ [] }
     ensures total { shapes.new.total ≡ shapes.old.total + length }
     ensures room { shapes.new.spare + 1 ≡ shapes.old.spare }
 {
@@ -148,7 +161,7 @@ impl CutRun {
     ghost use Rattle.std.specs.Prelude.{◌≡◌, ◌≢◌, ◌≤◌, ◌<◌, ◌+◌, ◌++◌, ◌∷◌, ◌^◌, drop, [], length, OnOk, Some, None};
     ghost use Rattle.slice_geometry.specs.UnitLengths.{IsUnitAllowed, unit_length};
     ghost use Rattle.stream_rows.specs.Units.{First};
-    ghost use Rattle.stream_cut.specs.Cut.{header_due, length_before, picture_unit, end_due, or_else_some, header_shapes, end_shapes, closing, closing_shapes};
+    ghost use Rattle.stream_cut.specs.Cut.{header_due, length_before, cut_picture_unit, end_due, or_else_some, header_shapes, end_shapes, closing, closing_shapes};
     ghost use Rattle.stream_cut.specs.Cutter.{own_of, pending};
 
     // The frame is chosen.
@@ -175,7 +188,9 @@ impl CutRun {
 
     // Keeps the stream's first header.
     fn keep_first(&mut self, table: &SkimTable) -> Result<(), Halt>
-        ensures ok { (first : First) → table.now.past.first ≡ Some first → OnOk result (self.new ≡ record self.old { first = or_else_some self.old.first first }) }
+        ensures ok { (first : First) → table.now.past.first ≡ Some first
+            → OnOk result (self.new
+            ≡ record self.old { first = or_else_some self.old.first first }) }
         ensures err { OnErr result (result ≡ Err halts.NoMemory) }
     {
         if self.first.is_some() {
@@ -199,11 +214,17 @@ impl CutRun {
     fn begin<K: Sink>(&mut self, table: &SkimTable, out: &mut K) -> Result<u32, Halt>
         requires first { table.now.past.first ≢ None }
         requires room { 2 ≤ self.old.shapes.spare }
-        requires most { self.old.shapes.total + pending table.now.past.first self.old.previous ≤ INPUT_LIMIT }
-        ensures wrote { WritesText (header_due table.now.past self.old.previous) (K.written out.old) (K.written out.new) result }
-        ensures previous { IfOk result (λ previous. previous ≡ length_before table.now.past self.old.previous) }
-        ensures units { OnOk result (self.new.shapes.units ≡ self.old.shapes.units ++ header_shapes table.now.past self.old.shapes.total self.old.previous) }
-        ensures total { OnOk result (self.new.shapes.total ≡ self.old.shapes.total + pending table.now.past.first self.old.previous) }
+        requires most { self.old.shapes.total + pending table.now.past.first self.old.previous
+            ≤ INPUT_LIMIT }
+        ensures wrote { WritesText (header_due table.now.past self.old.previous)
+            (K.written out.old) (K.written out.new) result }
+        ensures previous { IfOk result (λ previous. previous
+            ≡ length_before table.now.past self.old.previous) }
+        ensures units { OnOk result (self.new.shapes.units
+            ≡ self.old.shapes.units ++ header_shapes table.now.past self.old.shapes.total
+            self.old.previous) }
+        ensures total { OnOk result (self.new.shapes.total
+            ≡ self.old.shapes.total + pending table.now.past.first self.old.previous) }
         ensures room { OnOk result (1 ≤ self.new.shapes.spare) }
         ensures others { OnOk result (self.new ≡ record self.old { shapes = self.new.shapes }) }
         ensures cause { HaltHasCause 0 0 (K.faults out.old) (K.faults out.new) result }
@@ -231,11 +252,25 @@ impl CutRun {
         requires short { length table.now.unit < 2 ^ 32 }
         requires allowed { IsUnitAllowed table.now.shape }
         requires shape { unit_length table.now.shape ≡ length table.now.unit }
-        requires most { self.old.shapes.total + pending table.now.past.first self.old.previous + length table.now.unit ≤ INPUT_LIMIT }
-        ensures wrote { WritesText (header_due table.now.past self.old.previous ++ picture_unit (length_before table.now.past self.old.previous) (drop HEAD_SIZE table.now.unit)) (K.written out.old) (K.written out.new) result }
-        ensures units { OnOk result (self.new.shapes.units ≡ self.old.shapes.units ++ (header_shapes table.now.past self.old.shapes.total self.old.previous ++ record table.now.shape { start = self.old.shapes.total + pending table.now.past.first self.old.previous } ∷ [])) }
-        ensures total { OnOk result (self.new.shapes.total ≡ self.old.shapes.total + pending table.now.past.first self.old.previous + length table.now.unit) }
-        ensures others { OnOk result (self.new ≡ record self.old { shapes = self.new.shapes; previous = Some (length table.now.unit) }) }
+        requires most { self.old.shapes.total + pending table.now.past.first self.old.previous
+            + length table.now.unit ≤ INPUT_LIMIT }
+        ensures wrote { WritesText (header_due table.now.past self.old.previous
+            ++ cut_picture_unit (length_before table.now.past self.old.previous)
+            (drop HEAD_SIZE table.now.unit)) (K.written out.old) (K.written out.new) result }
+        ensures units { OnOk result (self.new.shapes.units
+            ≡ self.old.shapes.units ++ (header_shapes table.now.past self.old.shapes.total
+            self.old.previous ++ record table.now.shape {
+              start = self.old.shapes.total
+                  + pending table.now.past.first self.old.previous;
+            } ∷ [])) }
+        ensures total { OnOk result (self.new.shapes.total
+            ≡ self.old.shapes.total + pending table.now.past.first self.old.previous
+            + length table.now.unit) }
+        ensures others { OnOk result (self.new
+            ≡ record self.old {
+              shapes = self.new.shapes;
+              previous = Some (length table.now.unit);
+            }) }
         ensures cause { HaltHasCause 0 0 (K.faults out.old) (K.faults out.new) result }
     {
         self.reserve(2)?;
@@ -258,10 +293,14 @@ impl CutRun {
     // Writes the end of the sequence, where it has a chosen picture.
     fn end<K: Sink>(&mut self, out: &mut K) -> Result<(), Halt>
         requires most { self.old.shapes.total + HEAD_SIZE ≤ INPUT_LIMIT }
-        ensures wrote { WritesText (end_due self.old.previous) (K.written out.old) (K.written out.new) result }
-        ensures units { OnOk result (self.new.shapes.units ≡ self.old.shapes.units ++ end_shapes self.old.shapes.total self.old.previous) }
-        ensures total { OnOk result (self.new.shapes.total ≡ self.old.shapes.total + length (end_due self.old.previous)) }
-        ensures others { OnOk result (self.new ≡ record self.old { shapes = self.new.shapes; previous = None }) }
+        ensures wrote { WritesText (end_due self.old.previous) (K.written out.old)
+            (K.written out.new) result }
+        ensures units { OnOk result (self.new.shapes.units
+            ≡ self.old.shapes.units ++ end_shapes self.old.shapes.total self.old.previous) }
+        ensures total { OnOk result (self.new.shapes.total
+            ≡ self.old.shapes.total + length (end_due self.old.previous)) }
+        ensures others { OnOk result (self.new
+            ≡ record self.old { shapes = self.new.shapes; previous = None }) }
         ensures cause { HaltHasCause 0 0 (K.faults out.old) (K.faults out.new) result }
     {
         let previous = match self.previous {
@@ -282,9 +321,12 @@ impl CutRun {
     fn empty<K: Sink>(&mut self, out: &mut K) -> Result<(), Halt>
         requires none { self.old.previous ≡ None }
         requires total { self.old.shapes.total ≡ 0 }
-        ensures wrote { WritesText (closing (own_of self.old).cut) (K.written out.old) (K.written out.new) result }
-        ensures units { OnOk result (self.new.shapes.units ≡ self.old.shapes.units ++ closing_shapes (own_of self.old).cut) }
-        ensures total { OnOk result (self.new.shapes.total ≡ self.old.shapes.total + length (closing (own_of self.old).cut)) }
+        ensures wrote { WritesText (closing (own_of self.old).cut) (K.written out.old)
+            (K.written out.new) result }
+        ensures units { OnOk result (self.new.shapes.units
+            ≡ self.old.shapes.units ++ closing_shapes (own_of self.old).cut) }
+        ensures total { OnOk result (self.new.shapes.total
+            ≡ self.old.shapes.total + length (closing (own_of self.old).cut)) }
         ensures cause { HaltHasCause 0 0 (K.faults out.old) (K.faults out.new) result }
     {
         self.reserve(2)?;
@@ -308,9 +350,12 @@ impl CutRun {
     // Writes what stands behind the last unit.
     fn close<K: Sink>(&mut self, out: &mut K) -> Result<(), Halt>
         requires most { self.old.shapes.total + HEAD_SIZE ≤ INPUT_LIMIT }
-        ensures wrote { WritesText (closing (own_of self.old).cut) (K.written out.old) (K.written out.new) result }
-        ensures units { OnOk result (self.new.shapes.units ≡ self.old.shapes.units ++ closing_shapes (own_of self.old).cut) }
-        ensures total { OnOk result (self.new.shapes.total ≡ self.old.shapes.total + length (closing (own_of self.old).cut)) }
+        ensures wrote { WritesText (closing (own_of self.old).cut) (K.written out.old)
+            (K.written out.new) result }
+        ensures units { OnOk result (self.new.shapes.units
+            ≡ self.old.shapes.units ++ closing_shapes (own_of self.old).cut) }
+        ensures total { OnOk result (self.new.shapes.total
+            ≡ self.old.shapes.total + length (closing (own_of self.old).cut)) }
         ensures cause { HaltHasCause 0 0 (K.faults out.old) (K.faults out.new) result }
     {
         if self.previous.is_none() && self.shapes.total() == 0 {
@@ -324,7 +369,7 @@ impl UnitCommand<SkimTable> for CutRun {
     ghost use Rattle.std.specs.Prelude.{refl};
     ghost use Rattle.stream_rows.specs.Units.{nothing_yet};
     ghost use Rattle.stream_cut.specs.Cut.{CutSoFar, no_cut, cutting};
-    ghost use Rattle.stream_cut.specs.Cutter.{IsWhole, MayGoOn, KeepsCut, own_of};
+    ghost use Rattle.stream_cut.specs.Cutter.{IsCutToTheEnd, MayGoOn, KeepsCut, own_of};
 
     type Ending = CutEnding;
 
@@ -340,7 +385,7 @@ impl UnitCommand<SkimTable> for CutRun {
 
     ghost keeps = { λ c t. KeepsCut c.so_far (own_of c) t };
 
-    ghost is_done = { IsWhole };
+    ghost is_done = { IsCutToTheEnd };
 
     ghost refused_is_no_end = { λ z w fault done. done };
 
@@ -440,7 +485,7 @@ impl Cutter {
     /// A cutter of the frames from one up to another, which hasn't cut yet.
     pub fn new(alloc: Global, from: u32, to: u32) -> Result<Cutter, NoMemory>
         requires { from < to }
-        ensures new { IfOk result (IsNew (record { from = from; to = to })) }
+        ensures new { IfOk result (IsNewCutter (record { from = from; to = to })) }
         ensures once { IfOk result (λ cutter. cutter.has_cut ≡ false) }
     {
         // Each cut has two units at least.
@@ -457,8 +502,11 @@ impl Cutter {
 
     // Runs over the units of a new reader.
     fn run<S: Source, K: Sink>(&self, src: &mut S, out: &mut K) -> Result<CutEnding, Halt>
-        ensures runs { Runs (cut_machine self.now.frames) IsWhole (change S.rest S.faults src.old src.new) (change K.written K.faults out.old out.new) result }
-        ensures soon { Soon MayGoOn (cut_machine self.now.frames) READ_SIZE (S.rest src.old) (S.rest src.new) result }
+        ensures runs { Runs (cut_machine self.now.frames) IsCutToTheEnd
+            (change S.rest S.faults src.old src.new)
+            (change K.written K.faults out.old out.new) result }
+        ensures soon { Soon MayGoOn (cut_machine self.now.frames) READ_SIZE (S.rest src.old)
+            (S.rest src.new) result }
     {
         match Reader::made(self.alloc, SkimTable::new(self.alloc)) {
             Ok(mut reader) => {
@@ -485,9 +533,13 @@ impl Cutter {
     /// written are kept where all is done; where it stops, they are those of before the call.
     pub fn cut<S: Source, K: Sink>(&mut self, src: &mut S, out: &mut K) -> Result<(), CutStop>
         requires { self.old.has_cut ≡ false }
-        ensures runs { Runs (cut_machine self.old.frames) IsWhole (change S.rest S.faults src.old src.new) (change K.written K.faults out.old out.new) (run_of self.new.shapes self.new.total result) }
-        ensures soon { Soon MayGoOn (cut_machine self.old.frames) READ_SIZE (S.rest src.old) (S.rest src.new) (run_of self.new.shapes self.new.total result) }
-        ensures kept { OnErr result ((self.new.shapes ≡ self.old.shapes) × (self.new.total ≡ self.old.total)) }
+        ensures runs { Runs (cut_machine self.old.frames) IsCutToTheEnd
+            (change S.rest S.faults src.old src.new) (change K.written K.faults out.old out.new)
+            (run_of self.new.shapes self.new.total result) }
+        ensures soon { Soon MayGoOn (cut_machine self.old.frames) READ_SIZE (S.rest src.old)
+            (S.rest src.new) (run_of self.new.shapes self.new.total result) }
+        ensures kept { OnErr result ((self.new.shapes ≡ self.old.shapes)
+            × (self.new.total ≡ self.old.total)) }
         ensures once { self.new.has_cut ≡ true }
         ensures frames { self.new.frames ≡ self.old.frames }
     {

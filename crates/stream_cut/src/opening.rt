@@ -8,8 +8,8 @@ ghost use Rattle.stream_cut.specs.Opening.{OpensBy, open_first, open_repeated, o
 
 use parse_info::Code;
 use sequence_header::SequenceHeader;
-use stream_rows::{Reason, Refusal};
 use stream_reader::{Earlier, First, header_reason, leads_behind, read_head, transform_reason};
+use stream_rows::{Reason, Refusal};
 use transform_params::TransformParams;
 
 /// What a unit is by its beginning.
@@ -64,7 +64,8 @@ fn open_repeated(
     bytes: &[u8],
 ) -> Result<(Opening, usize), Refusal>
     requires { place ≤ INPUT_LIMIT }
-    ensures { (z : Past) → z.place ≡ place → OpensBy z (open_repeated z next first.now) 13 bytes.now result }
+    ensures { (z : Past) → z.place ≡ place
+        → OpensBy z (open_repeated z next first.now) 13 bytes.now result }
 {
     let payload = first.payload();
     if bytes.len() < payload.len() {
@@ -103,7 +104,8 @@ fn open_picture(
 ) -> Result<(Opening, usize), Refusal>
     requires first { earlier.now.first ≡ Some first.now }
     requires few { length bytes.now ≤ 8192 }
-    ensures { OpensBy earlier.now (open_picture earlier.now next first.now.parts) 13 bytes.now result }
+    ensures { OpensBy earlier.now (open_picture earlier.now next first.now.parts) 13 bytes.now
+        result }
 {
     let place = earlier.place();
     let Some((word, behind)) = bytes.split_first_chunk::<4>() else {

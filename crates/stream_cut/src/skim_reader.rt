@@ -3,7 +3,7 @@
 ghost use Rattle.vc2_io.specs.declared.TheConstants.{READ_SIZE};
 ghost use Rattle.std.specs.Prelude.{◌≡◌, ◌≤◌, Ok, Err, Some, None, true, false, length, IfOk, IfSome, IsNone, ◌↔◌};
 ghost use Rattle.unit_reader.specs.Stops.{StopCause};
-ghost use Rattle.stream_cut.specs.SkimReader.{NextSkimmed, IsNew, answer_of};
+ghost use Rattle.stream_cut.specs.SkimReader.{NextSkimmed, IsNewSkimReader, answer_of};
 ghost use Rattle.stream_cut.specs.declared.table.SkimItem.TheVariants as items;
 
 use crate::table::{SkimItem, SkimTable};
@@ -37,17 +37,17 @@ pub struct SkimReader {
 }
 
 impl Model for SkimReader {
-    ghost use Rattle.stream_cut.specs.SkimReader.{SkimReaderSeen, seen_by};
+    ghost use Rattle.stream_cut.specs.SkimReader.{SkimReaderSeen, skim_seen};
 
     ghost Value = { SkimReaderSeen };
 
-    ghost view = { λ a. seen_by a.reader };
+    ghost view = { λ a. skim_seen a.reader };
 }
 
 impl SkimReader {
     /// A reader that holds no byte, has taken none and keeps no stop.
     pub fn new(alloc: Global) -> Result<SkimReader, NoMemory>
-        ensures { IfOk result IsNew }
+        ensures { IfOk result IsNewSkimReader }
     {
         match Reader::made(alloc, SkimTable::new(alloc)) {
             Ok(reader) => Ok(SkimReader { reader }),
@@ -60,15 +60,20 @@ impl SkimReader {
     /// at most 4096 bytes a read.
     pub fn next<S: Source>(&mut self, src: &mut S) -> Result<SkimItem, ReadStop>
         // The unit is taken, or refused as the skimmed table refuses it, or something outside failed.
-        ensures next { self.old.stop ≡ None → self.old.ended ≡ false → NextSkimmed self.old self.new (S.rest src.old) (S.rest src.new) result }
+        ensures next { self.old.stop ≡ None → self.old.ended ≡ false
+            → NextSkimmed self.old self.new (S.rest src.old) (S.rest src.new) result }
         // Where no stop is kept, at most 4096 bytes are held.
         ensures few { self.new.stop ≡ None → length self.new.held ≤ READ_SIZE }
         // A failed read is answered where the count rose, and nothing else is.
-        ensures cause { self.old.stop ≡ None → StopCause (S.faults src.old) (S.faults src.new) result }
+        ensures cause { self.old.stop ≡ None
+            → StopCause (S.faults src.old) (S.faults src.new) result }
         // After a stop each call answers it again, and nothing is read.
-        ensures kept { IfSome self.old.stop (λ stop. (result ≡ Err stop) × (self.new ≡ self.old) × (S.rest src.new ≡ S.rest src.old) × (S.faults src.new ≡ S.faults src.old)) }
+        ensures kept { IfSome self.old.stop (λ stop. (result ≡ Err stop) × (self.new ≡ self.old)
+            × (S.rest src.new ≡ S.rest src.old) × (S.faults src.new ≡ S.faults src.old)) }
         // After the end each call answers it again, and nothing is read.
-        ensures ended { self.old.stop ≡ None → self.old.ended ≡ true → (result ≡ Ok items.End) × (self.new ≡ self.old) × (S.rest src.new ≡ S.rest src.old) × (S.faults src.new ≡ S.faults src.old) }
+        ensures ended { self.old.stop ≡ None → self.old.ended ≡ true → (result ≡ Ok items.End)
+            × (self.new ≡ self.old) × (S.rest src.new ≡ S.rest src.old)
+            × (S.faults src.new ≡ S.faults src.old) }
     {
         answer_of(self.reader.next(src))
     }

@@ -14,15 +14,15 @@ ghost use Rattle.stream_rows.specs.declared.reason.Reason.TheVariants as reasons
 ghost use Rattle.stream_rows.proofs.Answering.{after-place};
 ghost use Rattle.stream_cut.specs.Skim.{skimmed, skim_rows};
 ghost use Rattle.stream_cut.specs.SkimGrammar.{skimmed_laws};
-ghost use Rattle.stream_cut.specs.SkimTable.{IsFoundBy, TellsUnit, Keeps};
+ghost use Rattle.stream_cut.specs.SkimTable.{IsSkimFoundBy, TellsSkimUnit, KeepsSkimHeader};
 
 use crate::opening::{Opening, PictureOpening, read_opening};
 use sequence_header::SequenceHeader;
 use slice_geometry::{Layout, UnitShape};
 use std::alloc::Global;
 use std::marker::Model;
-use stream_rows::Reason;
 use stream_reader::{Earlier, First, leads_behind};
+use stream_rows::Reason;
 use unit_reader::{After, Halt, ReadStop, Table, Units, Window, read_on, refused, stop_of};
 use vc2_io::Source;
 
@@ -92,7 +92,8 @@ pub(crate) fn keep<S: Source>(
     count: u64,
     kept: &mut Vec<u8>,
 ) -> Result<bool, Halt>
-    ensures moved { Kept count window.old window.new (S.rest src.old) (S.rest src.new) kept.old.items kept.new.items result }
+    ensures moved { Kept count window.old window.new (S.rest src.old)
+        (S.rest src.new) kept.old.items kept.new.items result }
     ensures cause { HaltCause (S.faults src.old) (S.faults src.new) result }
 {
     let mut left = count;
@@ -142,10 +143,13 @@ fn open<S: Source>(
 ) -> Result<(Opening, usize), ReadStop<Reason>>
     requires place { earlier.now.place + length window.old.held + window.old.room ≡ INPUT_LIMIT }
     requires few { length window.old.held ≤ READ_SIZE }
-    ensures unit { (held0 : List ℕ) (rest0 : Option (List ℕ)) → Begun skimmed earlier.now held0 rest0 (S.rest src.old) earlier.now.place window.old.held (skim_rows earlier.now)
+    ensures unit { (held0 : List ℕ) (rest0 : Option (List ℕ))
+        → Begun skimmed earlier.now held0 rest0 (S.rest src.old) earlier.now.place window.old.held
+        (skim_rows earlier.now)
         → OpenOver earlier.now held0 rest0 (S.rest src.new) window.new result }
     ensures opened { IfOk result (λ x. Opens earlier.now window.new.held x.0 x.1) }
-    ensures room { length window.new.held + window.new.room ≡ length window.old.held + window.old.room }
+    ensures room { length window.new.held + window.new.room
+        ≡ length window.old.held + window.old.room }
     ensures few { length window.new.held ≤ 8192 }
     ensures cause { StopCause (S.faults src.old) (S.faults src.new) result }
 {
@@ -237,14 +241,15 @@ impl SkimTable {
         self.shape
     }
 
-    // Keeps the first bytes that are held, and no others.
+    // KeepsSkimHeader the first bytes that are held, and no others.
     fn keep_front(&mut self, window: &mut Window, size: usize) -> Result<(), ReadStop<Reason>>
         requires { size ≤ length window.old.held }
         ensures past { self.new.past ≡ self.old.past }
         ensures header { self.new.header ≡ self.old.header }
         ensures shape { self.new.shape ≡ self.old.shape }
         ensures room { window.new.room ≡ window.old.room }
-        ensures ok { OnOk result ((self.new.unit ≡ take size window.old.held) × (window.new.held ≡ drop size window.old.held)) }
+        ensures ok { OnOk result ((self.new.unit ≡ take size window.old.held)
+            × (window.new.held ≡ drop size window.old.held)) }
         ensures err { OnErr result (window.new.held ≡ window.old.held) }
         ensures stop { (stop : ReadStop Reason) → result ≡ Err stop → stop ≡ stops.NoMemory }
     {
@@ -268,9 +273,14 @@ impl SkimTable {
         requires least { 13 ≤ size }
         requires most { size ≤ 525 }
         requires inside { size ≤ length window.old.held }
-        requires place { self.old.past.place + length window.old.held + window.old.room ≡ INPUT_LIMIT }
-        ensures unit { (held0 : List ℕ) (rest0 rest1 : Option (List ℕ)) → Begun skimmed self.old.past held0 rest0 rest1 self.old.past.place window.old.held (skim_rows self.old.past)
-            → UnitOver skimmed (IsFoundBy self.old self.new) (λ held0 rest0 held stop. Keeps self.old self.new) self.old.past held0 rest0 rest1 window.new result }
+        requires place { self.old.past.place + length window.old.held + window.old.room
+            ≡ INPUT_LIMIT }
+        ensures unit { (held0 : List ℕ) (rest0 rest1 : Option (List ℕ))
+            → Begun skimmed self.old.past held0 rest0 rest1 self.old.past.place window.old.held
+            (skim_rows self.old.past)
+            → UnitOver skimmed (IsSkimFoundBy self.old self.new)
+            (λ held0 rest0 held stop. KeepsSkimHeader self.old self.new) self.old.past held0 rest0
+            rest1 window.new result }
         ensures past { self.new.past ≡ self.old.past }
         ensures stop { (stop : ReadStop Reason) → result ≡ Err stop → stop ≡ stops.NoMemory }
     {
@@ -292,9 +302,14 @@ impl SkimTable {
         size: usize,
     ) -> Result<Found, ReadStop<Reason>>
         requires opened { Opens self.old.past window.old.held (openings.Picture picture) size }
-        requires place { self.old.past.place + length window.old.held + window.old.room ≡ INPUT_LIMIT }
-        ensures unit { (held0 : List ℕ) (rest0 : Option (List ℕ)) → Begun skimmed self.old.past held0 rest0 (S.rest src.old) self.old.past.place window.old.held (skim_rows self.old.past)
-            → UnitOver skimmed (IsFoundBy self.old self.new) (λ held0 rest0 held stop. Keeps self.old self.new) self.old.past held0 rest0 (S.rest src.new) window.new result }
+        requires place { self.old.past.place + length window.old.held + window.old.room
+            ≡ INPUT_LIMIT }
+        ensures unit { (held0 : List ℕ) (rest0 : Option (List ℕ))
+            → Begun skimmed self.old.past held0 rest0
+            (S.rest src.old) self.old.past.place window.old.held (skim_rows self.old.past)
+            → UnitOver skimmed (IsSkimFoundBy self.old self.new)
+            (λ held0 rest0 held stop. KeepsSkimHeader self.old self.new) self.old.past held0 rest0
+            (S.rest src.new) window.new result }
         ensures past { self.new.past ≡ self.old.past }
         ensures cause { StopCause (S.faults src.old) (S.faults src.new) result }
     {
@@ -333,9 +348,14 @@ impl SkimTable {
         size: usize,
     ) -> Result<Found, ReadStop<Reason>>
         requires opened { Opens self.now.past window.old.held (openings.Skipped next) size }
-        requires place { self.now.past.place + length window.old.held + window.old.room ≡ INPUT_LIMIT }
-        ensures unit { (held0 : List ℕ) (rest0 : Option (List ℕ)) → Begun skimmed self.now.past held0 rest0 (S.rest src.old) self.now.past.place window.old.held (skim_rows self.now.past)
-            → UnitOver skimmed (IsFoundBy self.now self.now) (λ held0 rest0 held stop. Keeps self.now self.now) self.now.past held0 rest0 (S.rest src.new) window.new result }
+        requires place { self.now.past.place + length window.old.held + window.old.room
+            ≡ INPUT_LIMIT }
+        ensures unit { (held0 : List ℕ) (rest0 : Option (List ℕ))
+            → Begun skimmed self.now.past held0 rest0
+            (S.rest src.old) self.now.past.place window.old.held (skim_rows self.now.past)
+            → UnitOver skimmed (IsSkimFoundBy self.now self.now)
+            (λ held0 rest0 held stop. KeepsSkimHeader self.now self.now) self.now.past held0 rest0
+            (S.rest src.new) window.new result }
         ensures cause { StopCause (S.faults src.old) (S.faults src.new) result }
     {
         window.advance(size);
@@ -378,11 +398,11 @@ impl Table for SkimTable {
 
     type Item = SkimItem;
 
-    ghost is_found = { IsFoundBy };
+    ghost is_found = { IsSkimFoundBy };
 
-    ghost tells = { TellsUnit };
+    ghost tells = { TellsSkimUnit };
 
-    ghost stopped = { λ before now held0 rest0 held stop. Keeps before now };
+    ghost stopped = { λ before now held0 rest0 held stop. KeepsSkimHeader before now };
 
     ghost stops_before = { λ table held0 rest0 held stop few. record { header = refl } };
 

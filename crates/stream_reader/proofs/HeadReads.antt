@@ -14,10 +14,10 @@ use Rattle.unit_reader.specs.Reading.{ReaderSeen, NextOver}
 use Rattle.stream_reader.specs.ReadStops.{ReadStop}
 use Rattle.stream_reader.specs.declared.head_units.HeadTable.{HeadTable}
 use Rattle.stream_reader.specs.HeadUnits.{heads}
-use Rattle.stream_reader.specs.HeadReader.{NextHeadOver, seen_by, answer_of}
+use Rattle.stream_reader.specs.HeadReader.{NextHeadOver, heads_seen, answer_of}
 
 pub next_told : (old new : ReaderSeen HeadTable Reason) (rest0 rest1 : Option (List ℕ)) (result : Result (Turn ParseInfo) ReadStop)
-    → NextOver heads reasons.StreamTooLong (λ (table : HeadTable). table.place) (λ (before behind : HeadTable) (unit : ParseInfo) (bytes : List ℕ) (item : ParseInfo). item ≡ unit) (λ (before now : HeadTable) (held0 : List ℕ) (rest0 : Option (List ℕ)) (held : List ℕ) (stop : ReadStop). Unit {0}) old new rest0 rest1 result → NextHeadOver (seen_by old) (seen_by new) rest0 rest1 (answer_of result)
+    → NextOver heads reasons.StreamTooLong (λ (table : HeadTable). table.place) (λ (before behind : HeadTable) (unit : ParseInfo) (bytes : List ℕ) (item : ParseInfo). item ≡ unit) (λ (before now : HeadTable) (held0 : List ℕ) (rest0 : Option (List ℕ)) (held : List ℕ) (stop : ReadStop). Unit {0}) old new rest0 rest1 result → NextHeadOver (heads_seen old) (heads_seen new) rest0 rest1 (answer_of result)
 next_told old new rest0 rest1 (Ok (turns.Unit item)) n = record {
   bytes = n.bytes;
   takes = subst (λ (info : ParseInfo). TakesUnit limit past_limit heads old.table.place old.held rest0 rest1 info n.bytes new.held) (sym n.tells) n.takes;
@@ -36,6 +36,6 @@ cause_told before now (Err stop) h = h
 
 -- nothing was read, and the stop is answered again
 pub kept_told : (old new : ReaderSeen HeadTable Reason) (rest0 rest1 : Option (List ℕ)) (before now : ℕ) (result : Result (Turn ParseInfo) ReadStop) (answer : Result (Option ParseInfo) ReadStop) (stop : Option ReadStop) → answer ≡ answer_of result
-    → IfSome stop (λ stop. (result ≡ Err stop) × (new ≡ old) × (rest1 ≡ rest0) × (now ≡ before)) → IfSome stop (λ stop. (answer ≡ Err stop) × (seen_by new ≡ seen_by old) × (rest1 ≡ rest0) × (now ≡ before))
+    → IfSome stop (λ stop. (result ≡ Err stop) × (new ≡ old) × (rest1 ≡ rest0) × (now ≡ before)) → IfSome stop (λ stop. (answer ≡ Err stop) × (heads_seen new ≡ heads_seen old) × (rest1 ≡ rest0) × (now ≡ before))
 kept_told old new rest0 rest1 before now result answer None e h = tt
-kept_told old new rest0 rest1 before now result answer (Some stop) e h = (e ∙ ap answer_of h.0, ap seen_by h.1, h.2, h.3)
+kept_told old new rest0 rest1 before now result answer (Some stop) e h = (e ∙ ap answer_of h.0, ap heads_seen h.1, h.2, h.3)

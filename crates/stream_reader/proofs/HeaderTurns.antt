@@ -16,7 +16,7 @@ use Rattle.unit_reader.specs.declared.stop.ReadStop.{ReadStop}
 use Rattle.unit_reader.specs.declared.stop.ReadStop.TheVariants as stops
 use Rattle.stream_rows.specs.Units.{is_truncated, Past, First, DataUnit, Sequence, reason_of, header_reason, next_checked, first_payload, units, leads_behind}
 use Rattle.stream_rows.specs.Streams.{limit}
-use Rattle.stream_reader.specs.Turns.{Takes, IsFirst, ReadsHeader}
+use Rattle.stream_reader.specs.Turns.{Takes, IsFirstHeader, ReadsHeader}
 use Rattle.unit_reader.specs.Stops.{StopsOver}
 use Rattle.stream_rows.proofs.Steady.{units_laws}
 use Rattle.stream_rows.proofs.Groups.{group_moves, group_refused}
@@ -74,7 +74,7 @@ behind_refused {held1 = held1} next parts len still room stop r left leads total
     checked_refused room next (13 + len) (Sequence parts) stop (at_behind next parts len still r left).0 leads (omega (arith, total, r.inside, length-drop len held1, ap (λ (l : List ℕ). length l) left)) e
 
 pub behind_takes : {z : Past} {held0 held1 : List ℕ} {rest0 rest1 : Option (List ℕ)} (next : ℕ) (len : ℕ) (still : List ℕ) (room : ℕ) (first : First) → ReadsHeader z next held0 rest0 rest1 held1 first.parts len → still ≡ drop len held1 → leads_behind next (13 + len) ≡ true
-    → z.place + 13 + length held1 + room ≡ limit → len ≤ 8192 → first.payload ≡ take len held1 → Takes z held0 rest0 rest1 room still (IsFirst first)
+    → z.place + 13 + length held1 + room ≡ limit → len ≤ 8192 → first.payload ≡ take len held1 → Takes z held0 rest0 rest1 room still (IsFirstHeader first)
 behind_takes {held1 = held1} next len still room first r left leads total few copy =
     let b = at_behind next first.parts len still r left in
-    checked_takes_gone room next (13 + len) (IsFirst first) (Sequence first.parts) b.0 leads (omega (arith, total, r.inside, length-drop len held1, ap (λ (l : List ℕ). length l) left)) (omega (arith, few)) (refl, copy ∙ sym b.1)
+    checked_takes_gone room next (13 + len) (IsFirstHeader first) (Sequence first.parts) b.0 leads (omega (arith, total, r.inside, length-drop len held1, ap (λ (l : List ℕ). length l) left)) (omega (arith, few)) (refl, copy ∙ sym b.1)

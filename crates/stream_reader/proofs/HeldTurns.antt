@@ -11,7 +11,7 @@ use Rattle.run_theory.specs.Begun.{Begun}
 use Rattle.run_theory.proofs.Begins.{begun_same}
 use Rattle.stream_reader.specs.ReadStops.{ReadStop}
 use Rattle.stream_rows.specs.Units.{Past, units}
-use Rattle.stream_reader.specs.Held.{slices_under, greatest_of, greatest_share, held_most, greatest_in, ReadsParams, IsGreatest, AsBefore, OfStopped, OfNone, StopsHeld, BeforeSlices, InSlices, NoDecoder}
+use Rattle.stream_reader.specs.Held.{slices_under, greatest_of, greatest_share, held_most, greatest_in, ReadsParams, IsGreatestHeld, AsBefore, OfStopped, OfNone, StopsHeld, BeforeSlices, InSlices, NoDecoder}
 use Rattle.stream_reader.proofs.PictureTurns.{wanted_is, behind_params}
 use Rattle.sequence_header.specs.declared.parts.HeaderParts.{HeaderParts}
 
@@ -54,7 +54,7 @@ slices_are z next parts number p = refl
 pub reads_params : {z : Past} {held0 held1 : List ℕ} {rest0 rest1 : Option (List ℕ)} {at : ℕ} (next : ℕ) (parts : HeaderParts) (number : ℕ) (p : Params) → Begun units z held0 rest0 rest1 at held1 (behind_params z next parts number p) → ReadsParams z held0 rest0 p
 reads_params {z} {held0} {held1} {rest0} {rest1} {at} next parts number p b = record { next = next; parts = parts; number = number; at = at; held1 = held1; rest1 = rest1; begun = begun_same (slices_under z next parts number p) b (slices_are z next parts number p) }
 
-pub stops_greatest : (z : Past) (held0 : List ℕ) (rest0 : Option (List ℕ)) (old new : Option PictureDecoderSeen) (held : List ℕ) (stop : ReadStop) → StopsHeld z held0 rest0 old new held stop → IsGreatest z held0 rest0 (greatest_in old) (greatest_in new) held stop
+pub stops_greatest : (z : Past) (held0 : List ℕ) (rest0 : Option (List ℕ)) (old new : Option PictureDecoderSeen) (held : List ℕ) (stop : ReadStop) → StopsHeld z held0 rest0 old new held stop → IsGreatestHeld z held0 rest0 (greatest_in old) (greatest_in new) held stop
 stops_greatest z held0 rest0 old new held stop (BeforeSlices same few) = AsBefore (ap greatest_in same) few
 stops_greatest z held0 rest0 old new held stop (InSlices p reads d is same few) = OfStopped p reads (ap greatest_in is ∙ ap (λ (q : Params). Some (greatest_share q.slicing)) same)
 stops_greatest z held0 rest0 old new held stop (NoDecoder want none few) = OfNone want (ap greatest_in none)

@@ -19,8 +19,8 @@ use Rattle.stream_reader.specs.declared.judging.Verdict.TheVariants as verdicts
 use Rattle.stream_rows.specs.Units.{Past, nothing_yet, unit_rows, units}
 use Rattle.stream_rows.specs.Streams.{limit, past_limit, refusal_of, HasOneAnswer}
 use Rattle.unit_reader.specs.Stops.{LimitStops}
-use Rattle.stream_reader.specs.Reader.{StreamReaderSeen, new_reader, is_end_item, TakesItem, TakesEnd, NextOver}
-use Rattle.stream_reader.specs.Judging.{IsVerdict, IsStopped, judging}
+use Rattle.stream_reader.specs.Reader.{StreamReaderSeen, new_reader, is_end_item, TakesStreamItem, TakesEnd, NextItemOver}
+use Rattle.stream_reader.specs.Judging.{IsVerdict, IsStopVerdict, judging}
 use Rattle.stream_rows.proofs.Steady.{units_laws}
 use Rattle.stream_rows.proofs.Tables.{stream_table}
 use Rattle.stream_rows.proofs.OneAnswer.{one_answer}
@@ -45,7 +45,7 @@ pub goes_first : (rest : Option (List ℕ)) (r : StreamReaderSeen) → r ≡ new
 goes_first rest r new =
     subst (GoesOn rest rest) (sym new) (record { holds = holds_opened (machine_laws limit past_limit units nothing_yet judging units_laws) rest None None (Appends-none None None refl); no_stop = refl; no_end = refl })
 
-pub ends_by : (old new : StreamReaderSeen) (rest0 rest1 : Option (List ℕ)) (item : Item) → NextOver old new rest0 rest1 (Ok item) → is_end_item item ≡ true → TakesEnd old new rest0 rest1
+pub ends_by : (old new : StreamReaderSeen) (rest0 rest1 : Option (List ℕ)) (item : Item) → NextItemOver old new rest0 rest1 (Ok item) → is_end_item item ≡ true → TakesEnd old new rest0 rest1
 ends_by old new rest0 rest1 items.Sequence n e = absurd cc
 ends_by old new rest0 rest1 items.Repeated n e = absurd cc
 ends_by old new rest0 rest1 (items.Picture number) n e = absurd cc
@@ -53,7 +53,7 @@ ends_by old new rest0 rest1 items.Skipped n e = absurd cc
 ends_by old new rest0 rest1 items.SequenceEnd n e = absurd cc
 ends_by old new rest0 rest1 items.End n e = n
 
-pub takes_by : (old new : StreamReaderSeen) (rest0 rest1 : Option (List ℕ)) (item : Item) → NextOver old new rest0 rest1 (Ok item) → is_end_item item ≡ false → TakesItem old new rest0 rest1 item
+pub takes_by : (old new : StreamReaderSeen) (rest0 rest1 : Option (List ℕ)) (item : Item) → NextItemOver old new rest0 rest1 (Ok item) → is_end_item item ≡ false → TakesStreamItem old new rest0 rest1 item
 takes_by old new rest0 rest1 items.Sequence n e = n
 takes_by old new rest0 rest1 items.Repeated n e = n
 takes_by old new rest0 rest1 (items.Picture number) n e = n
@@ -61,14 +61,14 @@ takes_by old new rest0 rest1 items.Skipped n e = n
 takes_by old new rest0 rest1 items.SequenceEnd n e = n
 takes_by old new rest0 rest1 items.End n e = absurd cc
 
-pub goes_more : (rest0 rest1 rest2 : Option (List ℕ)) (old new : StreamReaderSeen) (item : Item) → GoesOn rest0 rest1 old → TakesItem old new rest1 rest2 item → GoesOn rest0 rest2 new
+pub goes_more : (rest0 rest1 rest2 : Option (List ℕ)) (old new : StreamReaderSeen) (item : Item) → GoesOn rest0 rest1 old → TakesStreamItem old new rest1 rest2 item → GoesOn rest0 rest2 new
 goes_more rest0 rest1 rest2 old new item b n = record {
   holds = subst (λ (z : Past). Holds judge_machine rest0 rest2 None None new.held (at_past z)) (sym n.past) (turned_more nothing_yet judging units_laws rest0 None None None b.holds n.takes (Appends-none None None refl));
   no_stop = n.going.0;
   no_end = n.going.1;
 }
 
-pub place_more : (rest1 rest2 : Option (List ℕ)) (old new : StreamReaderSeen) (item : Item) → TakesItem old new rest1 rest2 item → (old.past.place < new.past.place) × (new.past.place ≤ 2 ^ 40)
+pub place_more : (rest1 rest2 : Option (List ℕ)) (old new : StreamReaderSeen) (item : Item) → TakesStreamItem old new rest1 rest2 item → (old.past.place < new.past.place) × (new.past.place ≤ 2 ^ 40)
 place_more rest1 rest2 old new item n =
     let t = n.takes in
     let place = ap (λ (z : Past). z.place) n.past ∙ after-place old.past n.unit n.bytes in
@@ -94,7 +94,7 @@ pub judged_stream : (bytes left : List ℕ) (rest1 : Option (List ℕ)) (old new
 judged_stream bytes left rest1 old new fits b n =
     is_verdict bytes verdicts.Stream fits (verdict_of bytes left verdicts.Stream (turned_ended nothing_yet judging units_laws (Some bytes) None None None (record { ending = verdicts.Stream; last = [] }) b.holds n.meets (λ more told. refl) (Appends-none None None refl)))
 
-pub judged_stop : (bytes left : List ℕ) (rest1 : Option (List ℕ)) (old : StreamReaderSeen) (stop : ReadStop) (verdict : Verdict) → AllByRecursion (λ b. b < 256) bytes → GoesOn (Some bytes) rest1 old → LimitStops units reasons.StreamTooLong old.past old.held rest1 (Some left) stop → IsStopped stop verdict → IsVerdict bytes verdict
+pub judged_stop : (bytes left : List ℕ) (rest1 : Option (List ℕ)) (old : StreamReaderSeen) (stop : ReadStop) (verdict : Verdict) → AllByRecursion (λ b. b < 256) bytes → GoesOn (Some bytes) rest1 old → LimitStops units reasons.StreamTooLong old.past old.held rest1 (Some left) stop → IsStopVerdict stop verdict → IsVerdict bytes verdict
 judged_stop bytes left rest1 old (stops.Refused refusal) verdict fits b n e =
     let told : verdicts.Refused (refusal_of n.fault) ≡ verdict = ap (λ x. verdicts.Refused x) (sym n.there) ∙ sym e in
     subst (IsVerdict bytes) told

@@ -44,7 +44,7 @@ use Rattle.stream_rows.specs.Streams.{limit, frame_under}
 use Rattle.stream_reader.specs.declared.pictures.Shown.{Shown}
 use Rattle.stream_reader.specs.Turns.{Takes, IsShown, IsTaker}
 use Rattle.unit_reader.specs.Stops.{stop_of, StopsOver}
-use Rattle.stream_reader.specs.UnitParts.{IsReady, TookSlices, slice_reason}
+use Rattle.stream_reader.specs.UnitParts.{IsAtFirstSlice, TookSlices, slice_reason}
 use Rattle.stream_rows.proofs.Frames.{frame_is}
 use Rattle.stream_rows.proofs.Steady.{units_laws}
 use Rattle.stream_reader.proofs.Reasons.{other_reason}
@@ -360,7 +360,7 @@ pub slices_begun : {z : Past} {held0 held1 : List ℕ} {rest0 rest1 : Option (Li
 slices_begun {z} {held0} {held1} {rest0} {rest1} {at} parts p q others b same = subst (λ q. Begun units z held0 rest0 rest1 at held1 (slice_rows parts q (slice_count q.slicing) [] >>= others)) (sym same) b
 
 -- the decoder makes pictures of the header's shape
-pub ready_frame : (parts header : HeaderParts) (shape : PictureShape) (p : Params) (d : PictureDecoderSeen) → IsReady shape p d → IsShapeOf shape header → header ≡ parts → frame_of d.shape ≡ frame_under parts
+pub ready_frame : (parts header : HeaderParts) (shape : PictureShape) (p : Params) (d : PictureDecoderSeen) → IsAtFirstSlice shape p d → IsShapeOf shape header → header ≡ parts → frame_of d.shape ≡ frame_under parts
 ready_frame parts header shape p d ready is same = ready.frame ∙ frame_is header shape is ∙ ap frame_under same
 
 -- the check of the next offset

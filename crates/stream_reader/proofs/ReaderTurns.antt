@@ -21,10 +21,10 @@ use Rattle.stream_reader.specs.declared.stop.Item.TheVariants as items
 use Rattle.stream_reader.specs.declared.pictures.Shown.{Shown}
 use Rattle.stream_reader.specs.declared.parts.Found.{Found}
 use Rattle.stream_reader.specs.declared.parts.Found.TheVariants as founds
-use Rattle.stream_reader.specs.Turns.{UnitOver as StreamUnitOver, IsFound, IsTaker, is_end_found}
+use Rattle.stream_reader.specs.Turns.{FoundOver as StreamUnitOver, IsFound, IsTaker, is_end_found}
 use Rattle.stream_reader.specs.Held.{HeldOver, KeptBy}
 use Rattle.stream_reader.specs.Reader.{Steps, IsTakerOf}
-use Rattle.stream_reader.specs.StreamTable.{StreamTableSeen, IsFoundBy, StopsTable, IsMaker, DecoderBehind, Makes, Keeps}
+use Rattle.stream_reader.specs.StreamTable.{StreamTableSeen, IsFoundBy, StopsTable, IsMaker, DecoderBehind, Makes, KeepsDecoder}
 
 -- ---- how its rows come out
 
@@ -92,14 +92,14 @@ maker_is makes_pictures parts p slices old new t m = record {
 }
 
 -- the decoder behind a unit
-pub decoder_behind : (makes_pictures : Bool) (unit : DataUnit) (took old new : Option PictureDecoderSeen) → IsTakerOf unit took → Keeps makes_pictures took old new → DecoderBehind makes_pictures unit old new
+pub decoder_behind : (makes_pictures : Bool) (unit : DataUnit) (took old new : Option PictureDecoderSeen) → IsTakerOf unit took → KeepsDecoder makes_pictures took old new → DecoderBehind makes_pictures unit old new
 decoder_behind makes_pictures (Picture parts number params slices) took old new t k =
-    let kept = subst (λ (d : Option PictureDecoderSeen). Keeps makes_pictures d old new) t.1 k in
+    let kept = subst (λ (d : Option PictureDecoderSeen). KeepsDecoder makes_pictures d old new) t.1 k in
     (kept.0, kept.1, maker_is makes_pictures parts params slices t.0 kept.0 t.2 kept.2)
-decoder_behind makes_pictures (Sequence parts) took old new t k = subst (λ (d : Option PictureDecoderSeen). Keeps makes_pictures d old new) t k
-decoder_behind makes_pictures Repeated took old new t k = subst (λ (d : Option PictureDecoderSeen). Keeps makes_pictures d old new) t k
-decoder_behind makes_pictures Skipped took old new t k = subst (λ (d : Option PictureDecoderSeen). Keeps makes_pictures d old new) t k
-decoder_behind makes_pictures End took old new t k = subst (λ (d : Option PictureDecoderSeen). Keeps makes_pictures d old new) t k
+decoder_behind makes_pictures (Sequence parts) took old new t k = subst (λ (d : Option PictureDecoderSeen). KeepsDecoder makes_pictures d old new) t k
+decoder_behind makes_pictures Repeated took old new t k = subst (λ (d : Option PictureDecoderSeen). KeepsDecoder makes_pictures d old new) t k
+decoder_behind makes_pictures Skipped took old new t k = subst (λ (d : Option PictureDecoderSeen). KeepsDecoder makes_pictures d old new) t k
+decoder_behind makes_pictures End took old new t k = subst (λ (d : Option PictureDecoderSeen). KeepsDecoder makes_pictures d old new) t k
 
 -- where there is no picture it is the one that was kept
 pub kept_behind : (makes_pictures : Bool) (z : Past) (found : Found) (unit : DataUnit) (bytes : List ℕ) (old now new : Option PictureDecoderSeen) → IsFound z found unit bytes → KeptBy found old now → DecoderBehind makes_pictures unit now new → DecoderBehind makes_pictures unit old new

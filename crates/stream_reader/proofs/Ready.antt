@@ -16,7 +16,7 @@ use Rattle.transform_params.specs.Params.{Params}
 use Rattle.transform_params.specs.Views.{params_of}
 use Rattle.slice_geometry.specs.Frames.{Frame, frame_of}
 use Rattle.picture_codec.specs.Decoding.{PictureDecoderSeen}
-use Rattle.stream_reader.specs.UnitParts.{IsReady}
+use Rattle.stream_reader.specs.UnitParts.{IsAtFirstSlice}
 use Rattle.sequence_header.proofs.Shapes.{and_both}
 
 abbrev is_size : Size → Size → Bool
@@ -75,7 +75,7 @@ params_same a b t so e =
 
 -- the decoder that is kept, from its first slice on
 pub ready_again : (old new : PictureDecoderSeen) (own shape : PictureShape) (theirs ours : TransformParams) → new ≡ record old { next = 0; refused = false; picture = None } → own ≡ old.shape → params_of theirs ≡ old.params
-    → frame_of own ≡ frame_of shape → params_of theirs ≡ params_of ours → IsReady shape (params_of ours) new
+    → frame_of own ≡ frame_of shape → params_of theirs ≡ params_of ours → IsAtFirstSlice shape (params_of ours) new
 ready_again old new own shape theirs ours is s p frame params = record {
   frame = ap (λ d. frame_of d.shape) is ∙ ap frame_of (sym s) ∙ frame;
   params_are = ap (λ d. d.params) is ∙ sym p ∙ params;

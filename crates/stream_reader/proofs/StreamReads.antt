@@ -21,9 +21,9 @@ use Rattle.stream_reader.specs.declared.stop.Item.{Item}
 use Rattle.stream_reader.specs.declared.stop.Item.TheVariants as items
 use Rattle.stream_reader.specs.Held.{greatest_share, greatest_in}
 use Rattle.stream_reader.specs.Turns.{shape_of}
-use Rattle.stream_reader.specs.Reader.{StreamReaderSeen, item_of, is_end_item, IsPictureOf, IsTakerOf, TakesItem, NextOver, NextUnshown, GreatestOver}
+use Rattle.stream_reader.specs.Reader.{StreamReaderSeen, item_of, is_end_item, IsPictureOf, IsTakerOf, TakesStreamItem, NextItemOver, NextUnshown, GreatestOver}
 use Rattle.stream_reader.specs.StreamTable.{StreamTableSeen, DecoderBehind, TellsUnit, StopsTable}
-use Rattle.stream_reader.specs.ReaderInside.{picture_in, taker_in, ShowsOne, ShowsWhole, seen_by, unshown_by, answer_of, is_shown, HoldsFew, IsSound, IsShowing}
+use Rattle.stream_reader.specs.ReaderInside.{picture_in, taker_in, ShowsOne, ShowsWhole, stream_seen, unshown_by, answer_of, is_shown, HoldsFew, IsReaderSound, IsShowing}
 use Rattle.stream_reader.proofs.HeldTurns.{few_most, stops_greatest, stops_most}
 
 abbrev Seen : Type 0
@@ -54,7 +54,7 @@ is_end (Picture parts number params slices) e = absurd cc
 is_end Skipped e = absurd cc
 is_end End e = refl
 
-by_item : (old new : StreamReaderSeen) (rest0 rest1 : Option (List ℕ)) (item : Item) → is_end_item item ≡ false → TakesItem old new rest0 rest1 item → NextOver old new rest0 rest1 (Ok item)
+by_item : (old new : StreamReaderSeen) (rest0 rest1 : Option (List ℕ)) (item : Item) → is_end_item item ≡ false → TakesStreamItem old new rest0 rest1 item → NextItemOver old new rest0 rest1 (Ok item)
 by_item old new rest0 rest1 items.Sequence e t = t
 by_item old new rest0 rest1 items.Repeated e t = t
 by_item old new rest0 rest1 (items.Picture number) e t = t
@@ -120,9 +120,9 @@ TurnShows old new rest0 rest1 (Ok turns.Rest) n picture = Unit {0}
 TurnShows old new rest0 rest1 (Err stop) n picture = picture ≡ None
 
 next_by : (old new : Seen) (was : Bool) (picture : Option PictureSeen) (rest0 rest1 : Option (List ℕ)) (result : TurnResult) (n : TurnOver old new rest0 rest1 result) → TurnShows old new rest0 rest1 result n picture
-    → NextOver (seen_by old was) (record (seen_by new (is_shown (answer_of result))) { picture = picture }) rest0 rest1 (answer_of result)
+    → NextItemOver (stream_seen old was) (record (stream_seen new (is_shown (answer_of result))) { picture = picture }) rest0 rest1 (answer_of result)
 next_by old new was picture rest0 rest1 (Ok (turns.Unit item)) n is =
-    by_item (seen_by old was) (record (seen_by new (is_shown (Ok item))) { picture = picture }) rest0 rest1 item (ap is_end_item n.tells.is_item ∙ not_end n.unit) (record {
+    by_item (stream_seen old was) (record (stream_seen new (is_shown (Ok item))) { picture = picture }) rest0 rest1 item (ap is_end_item n.tells.is_item ∙ not_end n.unit) (record {
       unit = n.unit;
       bytes = n.bytes;
       is_item = n.tells.is_item;
@@ -164,10 +164,10 @@ turn_shows old new rest0 rest1 (Ok (turns.Last item)) n asked = refl
 turn_shows old new rest0 rest1 (Ok turns.Rest) n asked = tt
 turn_shows old new rest0 rest1 (Err stop) n asked = refl
 
-pub next_told : (old new : Seen) (was : Bool) (rest0 rest1 : Option (List ℕ)) (result : TurnResult) → old.table.makes_pictures ≡ true → TurnOver old new rest0 rest1 result → NextOver (seen_by old was) (seen_by new (is_shown (answer_of result))) rest0 rest1 (answer_of result)
+pub next_told : (old new : Seen) (was : Bool) (rest0 rest1 : Option (List ℕ)) (result : TurnResult) → old.table.makes_pictures ≡ true → TurnOver old new rest0 rest1 result → NextItemOver (stream_seen old was) (stream_seen new (is_shown (answer_of result))) rest0 rest1 (answer_of result)
 next_told old new was rest0 rest1 result asked n = next_by old new was (picture_in (is_shown (answer_of result)) new.table.decoder) rest0 rest1 result n (turn_shows old new rest0 rest1 result n asked)
 
-from_item : (old new : StreamReaderSeen) (rest0 rest1 : Option (List ℕ)) (item : Item) → TakesItem old new rest0 rest1 item → TakesItem (record old { picture = None }) new rest0 rest1 item
+from_item : (old new : StreamReaderSeen) (rest0 rest1 : Option (List ℕ)) (item : Item) → TakesStreamItem old new rest0 rest1 item → TakesStreamItem (record old { picture = None }) new rest0 rest1 item
 from_item old new rest0 rest1 item n = record {
   unit = n.unit;
   bytes = n.bytes;
@@ -183,7 +183,7 @@ from_item old new rest0 rest1 item n = record {
 }
 
 -- which picture was shown before doesn't matter
-from_unshown : (old new : StreamReaderSeen) (rest0 rest1 : Option (List ℕ)) (result : Result Item ReadStop) → NextOver old new rest0 rest1 result → NextOver (record old { picture = None }) new rest0 rest1 result
+from_unshown : (old new : StreamReaderSeen) (rest0 rest1 : Option (List ℕ)) (result : Result Item ReadStop) → NextItemOver old new rest0 rest1 result → NextItemOver (record old { picture = None }) new rest0 rest1 result
 from_unshown old new rest0 rest1 (Ok items.End) n = record { bytes = n.bytes; meets = n.meets; whole = n.whole; last = n.last; past = n.past; header = n.header; shapes = n.shapes; none_taken = n.none_taken; over = n.over }
 from_unshown old new rest0 rest1 (Ok items.Sequence) n = from_item old new rest0 rest1 items.Sequence n
 from_unshown old new rest0 rest1 (Ok items.Repeated) n = from_item old new rest0 rest1 items.Repeated n
@@ -201,7 +201,7 @@ turn_might_show old new rest0 rest1 (Err stop) n = (None, refl)
 pub unshown_told : (old new : Seen) (was : Bool) (rest0 rest1 : Option (List ℕ)) (result : TurnResult) → TurnOver old new rest0 rest1 result → NextUnshown (unshown_by old was) (unshown_by new (is_shown (answer_of result))) rest0 rest1 (answer_of result)
 unshown_told old new was rest0 rest1 result n =
     let p = turn_might_show old new rest0 rest1 result n in
-    (refl, p.0, from_unshown (seen_by old was) _ rest0 rest1 (answer_of result) (next_by old new was p.0 rest0 rest1 result n p.1))
+    (refl, p.0, from_unshown (stream_seen old was) _ rest0 rest1 (answer_of result) (next_by old new was p.0 rest0 rest1 result n p.1))
 
 greatest_unit : (makes : Bool) (unit : DataUnit) (old new : StreamReaderSeen) (rest0 : Option (List ℕ)) (bytes : List ℕ) (was is : Option PictureDecoderSeen) → DecoderBehind makes unit was is → old.greatest ≡ greatest_in was → new.greatest ≡ greatest_in is
     → new.shapes ≡ old.shapes ++ shape_of old.past unit bytes ∷ [] → GreatestOver old new rest0 (Ok (item_of unit))
@@ -212,12 +212,12 @@ greatest_unit makes Repeated old new rest0 bytes was is d before now shapes = no
 greatest_unit makes Skipped old new rest0 bytes was is d before now shapes = now ∙ ap greatest_in d ∙ sym before
 greatest_unit makes End old new rest0 bytes was is d before now shapes = now ∙ ap greatest_in d ∙ sym before
 
-greatest_item : (old new : Seen) (was is : Bool) (rest0 : Option (List ℕ)) (unit : DataUnit) (bytes : List ℕ) (item : Item) → TellsUnit old.table new.table unit bytes item → GreatestOver (seen_by old was) (seen_by new is) rest0 (Ok item)
+greatest_item : (old new : Seen) (was is : Bool) (rest0 : Option (List ℕ)) (unit : DataUnit) (bytes : List ℕ) (item : Item) → TellsUnit old.table new.table unit bytes item → GreatestOver (stream_seen old was) (stream_seen new is) rest0 (Ok item)
 greatest_item old new was is rest0 unit bytes item t =
-    subst (λ (x : Item). GreatestOver (seen_by old was) (seen_by new is) rest0 (Ok x)) (sym t.is_item)
-    (greatest_unit old.table.makes_pictures unit (seen_by old was) (seen_by new is) rest0 bytes old.table.decoder new.table.decoder t.decoder refl refl t.shapes)
+    subst (λ (x : Item). GreatestOver (stream_seen old was) (stream_seen new is) rest0 (Ok x)) (sym t.is_item)
+    (greatest_unit old.table.makes_pictures unit (stream_seen old was) (stream_seen new is) rest0 bytes old.table.decoder new.table.decoder t.decoder refl refl t.shapes)
 
-pub greatest_told : (old new : Seen) (was is : Bool) (rest0 rest1 : Option (List ℕ)) (result : TurnResult) → TurnOver old new rest0 rest1 result → GreatestOver (seen_by old was) (seen_by new is) rest0 (answer_of result)
+pub greatest_told : (old new : Seen) (was is : Bool) (rest0 rest1 : Option (List ℕ)) (result : TurnResult) → TurnOver old new rest0 rest1 result → GreatestOver (stream_seen old was) (stream_seen new is) rest0 (answer_of result)
 greatest_told old new was is rest0 rest1 (Ok (turns.Unit item)) n = greatest_item old new was is rest0 n.unit n.bytes item n.tells
 greatest_told old new was is rest0 rest1 (Ok (turns.Last item)) n =
     ap greatest_in (subst (λ (u : DataUnit). TellsUnit old.table new.table u n.bytes item) (is_end n.unit n.final) n.tells).decoder
@@ -241,18 +241,18 @@ kept_as old new was is rest0 rest1 before now result same h = by old.stop refl h
     by None e h = tt
     by (Some stop) e h = (ap answer_of h.0, same stop e h.0 h.1, h.2, h.3)
 
-pub kept_told : (old new : Seen) (was : Bool) (rest0 rest1 : Option (List ℕ)) (before now : ℕ) (result : TurnResult) → IsSound old was
+pub kept_told : (old new : Seen) (was : Bool) (rest0 rest1 : Option (List ℕ)) (before now : ℕ) (result : TurnResult) → IsReaderSound old was
     → IfSome old.stop (λ stop. (result ≡ Err stop) × (new ≡ old) × (rest1 ≡ rest0) × (now ≡ before))
-    → IfSome old.stop (λ stop. (answer_of result ≡ Err stop) × (seen_by new (is_shown (answer_of result)) ≡ seen_by old was) × (rest1 ≡ rest0) × (now ≡ before))
+    → IfSome old.stop (λ stop. (answer_of result ≡ Err stop) × (stream_seen new (is_shown (answer_of result)) ≡ stream_seen old was) × (rest1 ≡ rest0) × (now ≡ before))
 kept_told old new was rest0 rest1 before now result sound h =
-    kept_as old new (seen_by old was) (seen_by new (is_shown (answer_of result))) rest0 rest1 before now result
-    (λ stop e told same. ap (λ (r : Seen). seen_by r (is_shown (answer_of result))) same ∙ ap (λ (b : Bool). seen_by old b) (ap (λ (r : TurnResult). is_shown (answer_of r)) told ∙ sym (sound.stopped stop e))) h
+    kept_as old new (stream_seen old was) (stream_seen new (is_shown (answer_of result))) rest0 rest1 before now result
+    (λ stop e told same. ap (λ (r : Seen). stream_seen r (is_shown (answer_of result))) same ∙ ap (λ (b : Bool). stream_seen old b) (ap (λ (r : TurnResult). is_shown (answer_of r)) told ∙ sym (sound.stopped stop e))) h
 
-pub ended_told : (old new : Seen) (was : Bool) (rest0 rest1 : Option (List ℕ)) (before now : ℕ) (result : TurnResult) → IsSound old was → old.ended ≡ true → (result ≡ Ok turns.Rest) × (new ≡ old) × (rest1 ≡ rest0) × (now ≡ before)
-    → (answer_of result ≡ Ok items.End) × (seen_by new (is_shown (answer_of result)) ≡ seen_by old was) × (rest1 ≡ rest0) × (now ≡ before)
+pub ended_told : (old new : Seen) (was : Bool) (rest0 rest1 : Option (List ℕ)) (before now : ℕ) (result : TurnResult) → IsReaderSound old was → old.ended ≡ true → (result ≡ Ok turns.Rest) × (new ≡ old) × (rest1 ≡ rest0) × (now ≡ before)
+    → (answer_of result ≡ Ok items.End) × (stream_seen new (is_shown (answer_of result)) ≡ stream_seen old was) × (rest1 ≡ rest0) × (now ≡ before)
 ended_told old new was rest0 rest1 before now result sound e h =
     let told = ap answer_of h.0 in
-    (told, ap (λ (r : Seen). seen_by r (is_shown (answer_of result))) h.1 ∙ ap (λ (b : Bool). seen_by old b) (ap is_shown told ∙ sym (sound.over e)), h.2, h.3)
+    (told, ap (λ (r : Seen). stream_seen r (is_shown (answer_of result))) h.1 ∙ ap (λ (b : Bool). stream_seen old b) (ap is_shown told ∙ sym (sound.over e)), h.2, h.3)
 
 -- ---- what is true of the fields behind it
 
@@ -262,7 +262,7 @@ few_next old new rest0 rest1 (Ok (turns.Last item)) n few = few_most new.held (g
 few_next old new rest0 rest1 (Ok turns.Rest) n few = absurd (let clash : false ≡ true = n.rests.may in cc)
 few_next old new rest0 rest1 (Err stop) n few = stops_most old.table.past old.held rest0 old.table.decoder new.table.decoder new.held stop n.2.held
 
-sound_unit : (old new : Seen) (unit : DataUnit) (bytes : List ℕ) (item : Item) → old.table.makes_pictures ≡ true → TellsUnit old.table new.table unit bytes item → new.stop ≡ None → new.ended ≡ false → HoldsFew new → IsSound new (is_shown (Ok item))
+sound_unit : (old new : Seen) (unit : DataUnit) (bytes : List ℕ) (item : Item) → old.table.makes_pictures ≡ true → TellsUnit old.table new.table unit bytes item → new.stop ≡ None → new.ended ≡ false → HoldsFew new → IsReaderSound new (is_shown (Ok item))
 sound_unit old new unit bytes item asked t none going few =
     let s = shows_is unit item t.is_item in
     record {
@@ -274,14 +274,14 @@ sound_unit old new unit bytes item asked t none going few =
       held = few;
     }
 
-sound_next : (old new : Seen) (rest0 rest1 : Option (List ℕ)) (result : TurnResult) → old.table.makes_pictures ≡ true → TurnOver old new rest0 rest1 result → HoldsFew new → IsSound new (is_shown (answer_of result))
+sound_next : (old new : Seen) (rest0 rest1 : Option (List ℕ)) (result : TurnResult) → old.table.makes_pictures ≡ true → TurnOver old new rest0 rest1 result → HoldsFew new → IsReaderSound new (is_shown (answer_of result))
 sound_next old new rest0 rest1 (Ok (turns.Unit item)) asked n few = sound_unit old new n.unit n.bytes item asked n.tells n.going.0 n.going.1 few
 sound_next old new rest0 rest1 (Ok (turns.Last item)) asked n few = record { makes = n.tells.makes ∙ asked; shown = tt; whole = tt; stopped = λ s e. refl; over = λ e. refl; held = few }
 sound_next old new rest0 rest1 (Ok turns.Rest) asked n few = absurd (let clash : false ≡ true = n.rests.may in cc)
 sound_next old new rest0 rest1 (Err stop) asked n few = record { makes = n.2.makes ∙ asked; shown = tt; whole = tt; stopped = λ s e. refl; over = λ e. refl; held = few }
 
-sound_still : (old new : Seen) (was : Bool) → IsSound old was → new ≡ old → IsSound new false
-sound_still old new was sound same = subst (λ (r : Seen). IsSound r false) (sym same) (record { makes = sound.makes; shown = tt; whole = tt; stopped = λ s e. refl; over = λ e. refl; held = sound.held })
+sound_still : (old new : Seen) (was : Bool) → IsReaderSound old was → new ≡ old → IsReaderSound new false
+sound_still old new was sound same = subst (λ (r : Seen). IsReaderSound r false) (sym same) (record { makes = sound.makes; shown = tt; whole = tt; stopped = λ s e. refl; over = λ e. refl; held = sound.held })
 
 -- a call reads nothing and leaves the reader as it was, or it comes out as the table says
 abbrev Called : Seen → Seen → Option (List ℕ) → Option (List ℕ) → TurnResult → Type 0
@@ -305,11 +305,11 @@ few_behind old new rest0 rest1 before now result held next few kept ended = elim
   | inr n ↦ few_next old new rest0 rest1 result n few
 ]
 
-pub sound_behind : (old new : Seen) (was : Bool) (rest0 rest1 : Option (List ℕ)) (before now : ℕ) (result : TurnResult) → IsSound old was → (old.stop ≡ None → old.ended ≡ false → TurnOver old new rest0 rest1 result) → (new.stop ≡ None → length new.held ≤ 4096)
+pub sound_behind : (old new : Seen) (was : Bool) (rest0 rest1 : Option (List ℕ)) (before now : ℕ) (result : TurnResult) → IsReaderSound old was → (old.stop ≡ None → old.ended ≡ false → TurnOver old new rest0 rest1 result) → (new.stop ≡ None → length new.held ≤ 4096)
     → IfSome old.stop (λ stop. (result ≡ Err stop) × (new ≡ old) × (rest1 ≡ rest0) × (now ≡ before))
-    → (old.stop ≡ None → old.ended ≡ true → (result ≡ Ok turns.Rest) × (new ≡ old) × (rest1 ≡ rest0) × (now ≡ before)) → IsSound new (is_shown (answer_of result))
+    → (old.stop ≡ None → old.ended ≡ true → (result ≡ Ok turns.Rest) × (new ≡ old) × (rest1 ≡ rest0) × (now ≡ before)) → IsReaderSound new (is_shown (answer_of result))
 sound_behind old new was rest0 rest1 before now result sound next few kept ended = elim (called old new rest0 rest1 before now result next kept ended) [
-  | inl still ↦ subst (λ (b : Bool). IsSound new b) (sym still.1) (sound_still old new was sound still.0)
+  | inl still ↦ subst (λ (b : Bool). IsReaderSound new b) (sym still.1) (sound_still old new was sound still.0)
   | inr n ↦ sound_next old new rest0 rest1 result sound.makes n (few_next old new rest0 rest1 result n few)
 ]
 
@@ -351,7 +351,7 @@ ended_unshown old new was rest0 rest1 before now result showing e h =
 pub greatest_unshown : (old new : Seen) (was is : Bool) (rest0 rest1 : Option (List ℕ)) (result : TurnResult) → TurnOver old new rest0 rest1 result → GreatestOver (unshown_by old was) (unshown_by new is) rest0 (answer_of result)
 greatest_unshown old new was is rest0 rest1 result n = by (answer_of result) (greatest_told old new was is rest0 rest1 result n)
   where
-    by : (answer : Result Item ReadStop) → GreatestOver (seen_by old was) (seen_by new is) rest0 answer → GreatestOver (unshown_by old was) (unshown_by new is) rest0 answer
+    by : (answer : Result Item ReadStop) → GreatestOver (stream_seen old was) (stream_seen new is) rest0 answer → GreatestOver (unshown_by old was) (unshown_by new is) rest0 answer
     by (Ok items.Sequence) h = h
     by (Ok items.Repeated) h = h
     by (Ok (items.Picture number)) h = h

@@ -32,7 +32,7 @@ pub record TakesHead (old new : HeadReaderSeen) (rest0 rest1 : Option (List ℕ)
   pub going : (new.stop ≡ None) × (new.ended ≡ false)
 
 -- The input is over before a unit.
-pub record RestsOver (old new : HeadReaderSeen) (rest0 rest1 : Option (List ℕ)) : Type 0 where
+pub record HeadsRestOver (old new : HeadReaderSeen) (rest0 rest1 : Option (List ℕ)) : Type 0 where
   pub rests : RestsHere heads old.place old.held rest0 rest1
   pub over : (new.held ≡ []) × (new.place ≡ old.place) × (new.stop ≡ None) × (new.ended ≡ true)
 
@@ -40,7 +40,7 @@ pub record RestsOver (old new : HeadReaderSeen) (rest0 rest1 : Option (List ℕ)
 abbrev pub NextHeadOver : HeadReaderSeen → HeadReaderSeen → Option (List ℕ) → Option (List ℕ)
     → Result (Option ParseInfo) ReadStop → Type 0
 NextHeadOver old new rest0 rest1 (Ok (Some info)) = TakesHead old new rest0 rest1 info
-NextHeadOver old new rest0 rest1 (Ok None) = RestsOver old new rest0 rest1
+NextHeadOver old new rest0 rest1 (Ok None) = HeadsRestOver old new rest0 rest1
 NextHeadOver old new rest0 rest1 (Err stop) =
     LimitStops heads reasons.StreamTooLong old.place old.held rest0 rest1 stop
     × (new.place ≡ old.place) × (new.stop ≡ Some stop) × (new.ended ≡ false)
@@ -48,8 +48,8 @@ NextHeadOver old new rest0 rest1 (Err stop) =
 -- ---- over the reader of any table
 
 -- what is seen of it, by the reader over its table
-abbrev pub seen_by : ReaderSeen HeadTable Reason → HeadReaderSeen
-seen_by r = record { place = r.table.place; held = r.held; stop = r.stop; ended = r.ended }
+abbrev pub heads_seen : ReaderSeen HeadTable Reason → HeadReaderSeen
+heads_seen r = record { place = r.table.place; held = r.held; stop = r.stop; ended = r.ended }
 
 -- what a turn tells; no unit is the last one
 abbrev pub answer_of : Result (Turn ParseInfo) ReadStop → Result (Option ParseInfo) ReadStop

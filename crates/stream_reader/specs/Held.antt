@@ -56,12 +56,12 @@ pub record ReadsParams (z : Past) (held0 : List ℕ) (rest0 : Option (List ℕ))
 
 -- The greatest share behind a call that stops: that of the picture in which it stops, as before where few bytes are held,
 -- or none where there is no memory for a decoder.
-pub data IsGreatest (z : Past) (held0 : List ℕ) (rest0 : Option (List ℕ)) (old new : Option ℕ) (held : List ℕ)
+pub data IsGreatestHeld (z : Past) (held0 : List ℕ) (rest0 : Option (List ℕ)) (old new : Option ℕ) (held : List ℕ)
     (stop : ReadStop) : Type 0 where
-  AsBefore : new ≡ old → length held ≤ 8192 → IsGreatest z held0 rest0 old new held stop
+  AsBefore : new ≡ old → length held ≤ 8192 → IsGreatestHeld z held0 rest0 old new held stop
   OfStopped : (p : Params) → ReadsParams z held0 rest0 p → new ≡ Some (greatest_share p.slicing)
-      → IsGreatest z held0 rest0 old new held stop
-  OfNone : stop ≡ stops.NoMemory → new ≡ None → IsGreatest z held0 rest0 old new held stop
+      → IsGreatestHeld z held0 rest0 old new held stop
+  OfNone : stop ≡ stops.NoMemory → new ≡ None → IsGreatestHeld z held0 rest0 old new held stop
 
 -- ---- inside a call
 

@@ -28,6 +28,6 @@ judging = record {
 }
 
 -- the verdict where a reader stops
-abbrev pub IsStopped : ReadStop → Verdict → Type 0
-IsStopped (stops.Refused refusal) verdict = verdict ≡ verdicts.Refused refusal
-IsStopped stop verdict = ⊥
+abbrev pub IsStopVerdict : ReadStop → Verdict → Type 0
+IsStopVerdict (stops.Refused refusal) verdict = verdict ≡ verdicts.Refused refusal
+IsStopVerdict stop verdict = ⊥

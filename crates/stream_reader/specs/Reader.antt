@@ -17,7 +17,7 @@ use Rattle.planes.specs.declared.Trio.{Trio}
 use Rattle.picture_codec.specs.Decoding.{PictureDecoderSeen, HasTaken, AllCanSynthesise, HoldUnit}
 use Rattle.stream_reader.specs.Turns.{IsTaker, shape_of}
 use Rattle.unit_reader.specs.Stops.{LimitStops}
-use Rattle.stream_reader.specs.Held.{greatest_of, IsGreatest}
+use Rattle.stream_reader.specs.Held.{greatest_of, IsGreatestHeld}
 
 -- What is seen of a reader: what the units so far leave, the header that was read last, the bytes that it holds, the shapes
 -- of the units, the picture of the last one, the decoder that took it, the greatest share of the last picture unit whose
@@ -90,7 +90,7 @@ pub record Steps (old new : Past) (unit : DataUnit) (bytes : List ℕ) (item : I
 
 -- The unit in front, of the bytes that were held and those that were read, was taken, an end of sequence where a byte
 -- follows it: the others are held, and the reader is behind it.
-pub record TakesItem (old new : StreamReaderSeen) (rest0 rest1 : Option (List ℕ)) (item : Item) : Type 0 where
+pub record TakesStreamItem (old new : StreamReaderSeen) (rest0 rest1 : Option (List ℕ)) (item : Item) : Type 0 where
   pub unit : DataUnit
   pub bytes : List ℕ
   pub is_item : item ≡ item_of unit
@@ -127,20 +127,20 @@ pub record KeepsStop (old new : StreamReaderSeen) (stop : ReadStop) : Type 0 whe
   pub ended : new.ended ≡ false
 
 -- By how the call came out, of a reader that keeps no stop and whose stream isn't over.
-abbrev pub NextOver : StreamReaderSeen → StreamReaderSeen → Option (List ℕ) → Option (List ℕ) → Result Item ReadStop → Type 0
-NextOver old new rest0 rest1 (Ok items.End) = TakesEnd old new rest0 rest1
-NextOver old new rest0 rest1 (Ok item) = TakesItem old new rest0 rest1 item
-NextOver old new rest0 rest1 (Err stop) =
+abbrev pub NextItemOver : StreamReaderSeen → StreamReaderSeen → Option (List ℕ) → Option (List ℕ) → Result Item ReadStop → Type 0
+NextItemOver old new rest0 rest1 (Ok items.End) = TakesEnd old new rest0 rest1
+NextItemOver old new rest0 rest1 (Ok item) = TakesStreamItem old new rest0 rest1 item
+NextItemOver old new rest0 rest1 (Err stop) =
     LimitStops units reasons.StreamTooLong old.past old.held rest0 rest1 stop × KeepsStop old new stop
 
 -- The same of a reader that shows no picture: so does one that shows some picture, and is as this one otherwise.
 abbrev pub NextUnshown : StreamReaderSeen → StreamReaderSeen → Option (List ℕ) → Option (List ℕ) → Result Item ReadStop → Type 0
 NextUnshown old new rest0 rest1 result = (new.picture ≡ None)
-    × (picture : Option PictureSeen) × NextOver old (record new { picture = picture }) rest0 rest1 result
+    × (picture : Option PictureSeen) × NextItemOver old (record new { picture = picture }) rest0 rest1 result
 
 -- The greatest share behind a call: that of the picture that was taken; behind another unit as before.
 abbrev pub GreatestOver : StreamReaderSeen → StreamReaderSeen → Option (List ℕ) → Result Item ReadStop → Type 0
 GreatestOver old new rest0 (Ok (items.Picture number)) = (shape : UnitShape) × (new.shapes ≡ old.shapes ++ shape ∷ [])
     × (new.greatest ≡ Some (greatest_of shape.a shape.b shape.slices))
 GreatestOver old new rest0 (Ok item) = new.greatest ≡ old.greatest
-GreatestOver old new rest0 (Err stop) = IsGreatest old.past old.held rest0 old.greatest new.greatest new.held stop
+GreatestOver old new rest0 (Err stop) = IsGreatestHeld old.past old.held rest0 old.greatest new.greatest new.held stop

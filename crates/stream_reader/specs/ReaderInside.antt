@@ -13,7 +13,7 @@ use Rattle.stream_reader.specs.declared.stop.Item.TheVariants as items
 use Rattle.stream_reader.specs.Reader.{StreamReaderSeen}
 use Rattle.stream_reader.specs.StreamTable.{StreamTableSeen}
 use Rattle.stream_reader.specs.Held.{held_most, greatest_in}
-use Rattle.stream_reader.specs.Turns.{IsWhole}
+use Rattle.stream_reader.specs.Turns.{HasAllSlices}
 
 -- the picture that a decoder finished
 abbrev pub seen_of : PictureDecoderSeen → Option PictureSeen
@@ -38,13 +38,13 @@ taker_in false decoder = None
 
 -- where one is shown, it took all slices
 abbrev pub ShowsWhole : Bool → Option PictureDecoderSeen → Type 0
-ShowsWhole true (Some d) = IsWhole d
+ShowsWhole true (Some d) = HasAllSlices d
 ShowsWhole true None = ⊥
 ShowsWhole false decoder = Unit {0}
 
 -- what is seen of it, by the reader over its table
-abbrev pub seen_by : ReaderSeen StreamTableSeen Reason → Bool → StreamReaderSeen
-seen_by r shows = record {
+abbrev pub stream_seen : ReaderSeen StreamTableSeen Reason → Bool → StreamReaderSeen
+stream_seen r shows = record {
   past = r.table.past;
   header = r.table.header;
   held = r.held;
@@ -58,7 +58,7 @@ seen_by r shows = record {
 
 -- the same of a reader that makes no pictures
 abbrev pub unshown_by : ReaderSeen StreamTableSeen Reason → Bool → StreamReaderSeen
-unshown_by r shows = record (seen_by r shows) { picture = None }
+unshown_by r shows = record (stream_seen r shows) { picture = None }
 
 -- what a turn tells; with the last unit and behind it, it is the end
 abbrev pub answer_of : Result (Turn Item) ReadStop → Result Item ReadStop
@@ -78,7 +78,7 @@ abbrev pub HoldsFew : ReaderSeen StreamTableSeen Reason → Type 0
 HoldsFew r = length r.held ≤ held_most (greatest_in r.table.decoder)
 
 -- a reader that makes pictures, and shows the last one where it says so
-pub record IsSound (r : ReaderSeen StreamTableSeen Reason) (shows : Bool) : Type 0 where
+pub record IsReaderSound (r : ReaderSeen StreamTableSeen Reason) (shows : Bool) : Type 0 where
   pub makes : r.table.makes_pictures ≡ true
   pub shown : ShowsOne shows r.table.decoder
   pub whole : ShowsWhole shows r.table.decoder

@@ -12,7 +12,7 @@ use Rattle.unit_reader.specs.declared.stop.ReadStop.{ReadStop}
 use Rattle.stream_reader.specs.declared.parts.Found.{Found}
 use Rattle.stream_reader.specs.declared.stop.Item.{Item}
 use Rattle.stream_rows.specs.Streams.{frame_under}
-use Rattle.stream_reader.specs.Turns.{IsRead, IsTaker, shape_of}
+use Rattle.stream_reader.specs.Turns.{IsUnitRead, IsTaker, shape_of}
 use Rattle.stream_reader.specs.Reader.{item_of, header_behind}
 use Rattle.stream_reader.specs.Held.{KeptBy, StopsHeld}
 
@@ -26,7 +26,7 @@ pub record StreamTableSeen : Type 0 where
   pub decoder : Option PictureDecoderSeen
 
 -- before the first unit
-pub record IsNew (makes_pictures : Bool) (table : StreamTableSeen) : Type 0 where
+pub record IsNewStreamTable (makes_pictures : Bool) (table : StreamTableSeen) : Type 0 where
   pub makes : table.makes_pictures ≡ makes_pictures
   pub past : table.past ≡ nothing_yet
   pub header : table.header ≡ None
@@ -41,7 +41,7 @@ pub record IsFoundBy (before now : StreamTableSeen) (found : Found) (unit : Data
   pub header : now.header ≡ before.header
   pub shapes : now.shapes.units ≡ before.shapes.units
   pub room : 1 ≤ now.shapes.spare
-  pub is_read : IsRead before.past found unit bytes
+  pub is_read : IsUnitRead before.past found unit bytes
   pub kept : KeptBy found before.decoder now.decoder
 
 -- the decoder that took these slices, and made the picture where it is asked for
@@ -83,6 +83,6 @@ pub record Makes (makes_pictures : Bool) (old new : PictureDecoderSeen) : Type 0
       → new.picture ≡ Some (picture_of (frame_of old.shape) old.params slices)
 
 -- the decoder that took a picture's slices is kept, where there is one
-abbrev pub Keeps : Bool → Option PictureDecoderSeen → Option PictureDecoderSeen → Option PictureDecoderSeen → Type 0
-Keeps makes_pictures None old new = new ≡ old
-Keeps makes_pictures (Some took) old new = (d : PictureDecoderSeen) × (new ≡ Some d) × Makes makes_pictures took d
+abbrev pub KeepsDecoder : Bool → Option PictureDecoderSeen → Option PictureDecoderSeen → Option PictureDecoderSeen → Type 0
+KeepsDecoder makes_pictures None old new = new ≡ old
+KeepsDecoder makes_pictures (Some took) old new = (d : PictureDecoderSeen) × (new ≡ Some d) × Makes makes_pictures took d

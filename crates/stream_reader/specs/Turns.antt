@@ -28,11 +28,11 @@ Takes z held0 rest0 rest1 room held1 IsSuch = ReadsRows units z held0 rest0 rest
 -- ---- what units are
 
 -- the first header, with the bytes of its payload
-abbrev pub IsFirst : First → DataUnit → List ℕ → Type 0
-IsFirst first unit bytes = (unit ≡ Sequence first.parts) × (first.payload ≡ drop HEAD_SIZE bytes)
+abbrev pub IsFirstHeader : First → DataUnit → List ℕ → Type 0
+IsFirstHeader first unit bytes = (unit ≡ Sequence first.parts) × (first.payload ≡ drop HEAD_SIZE bytes)
 
 -- the decoder took all slices of a picture, and can make it
-pub record IsWhole (d : PictureDecoderSeen) : Type 0 where
+pub record HasAllSlices (d : PictureDecoderSeen) : Type 0 where
   pub none_refused : d.refused ≡ false
   pub none_wanted : wanted_of d ≡ None
 
@@ -41,7 +41,7 @@ pub record IsTaker (parts : HeaderParts) (params : Params) (slices : List (List 
   pub frame : frame_of d.shape ≡ frame_under parts
   pub params_are : d.params ≡ params
   pub taken : HasTaken slices d
-  pub whole : IsWhole d
+  pub whole : HasAllSlices d
 
 -- the shape of a unit's bytes: a picture's slices stand behind its head
 abbrev pub shape_of : Past → DataUnit → List ℕ → UnitShape
@@ -95,7 +95,7 @@ TakesOver z held0 rest0 rest1 window IsSuch result = MatchResult result
 
 -- what was found is this unit of these bytes
 abbrev pub IsFound : Past → Found → DataUnit → List ℕ → Type 0
-IsFound z (founds.Sequence first) unit bytes = IsFirst first unit bytes
+IsFound z (founds.Sequence first) unit bytes = IsFirstHeader first unit bytes
 IsFound z founds.Repeated unit bytes = unit ≡ Repeated
 IsFound z (founds.Picture shown) unit bytes = (first : First) × (z.first ≡ Some first) × IsShown first.parts shown unit bytes
 IsFound z founds.Skipped unit bytes = unit ≡ Skipped
@@ -107,9 +107,9 @@ is_end_found founds.End = true
 is_end_found other = false
 
 -- and it is as long as a unit may be
-abbrev pub IsRead : Past → Found → DataUnit → List ℕ → Type 0
-IsRead z found unit bytes = IsFound z found unit bytes × (length bytes < 2 ^ 32)
+abbrev pub IsUnitRead : Past → Found → DataUnit → List ℕ → Type 0
+IsUnitRead z found unit bytes = IsFound z found unit bytes × (length bytes < 2 ^ 32)
 
 -- by how the unit came out, of an input that ends where the room does
-abbrev pub UnitOver : Past → List ℕ → Option (List ℕ) → Option (List ℕ) → WindowSeen → Result Found (ReadStop Reason) → Type 0
-UnitOver z held0 rest0 rest1 window result = TakesOver z held0 rest0 rest1 window (IsFound z) result
+abbrev pub FoundOver : Past → List ℕ → Option (List ℕ) → Option (List ℕ) → WindowSeen → Result Found (ReadStop Reason) → Type 0
+FoundOver z held0 rest0 rest1 window result = TakesOver z held0 rest0 rest1 window (IsFound z) result

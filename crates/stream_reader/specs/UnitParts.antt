@@ -18,7 +18,7 @@ use Rattle.stream_rows.specs.Units.{Past, DataUnit, units, slice_rows}
 use Rattle.unit_reader.specs.Stops.{StopsOver}
 
 -- a decoder of pictures of this shape and with these parameters, at its first slice
-pub record IsReady (shape : PictureShape) (params : Params) (d : PictureDecoderSeen) : Type 0 where
+pub record IsAtFirstSlice (shape : PictureShape) (params : Params) (d : PictureDecoderSeen) : Type 0 where
   pub frame : frame_of d.shape ≡ frame_of shape
   pub params_are : d.params ≡ params
   pub first : d.next ≡ 0

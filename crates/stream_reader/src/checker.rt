@@ -5,7 +5,7 @@ ghost use Rattle.std.specs.Prelude.{◌≡◌, ◌≤◌, Ok, Err, Some, None, t
 ghost use Rattle.unit_reader.specs.Stops.{StopCause};
 ghost use Rattle.transform_params.specs.Views.{params_of};
 ghost use Rattle.picture_codec.specs.Decoding.{PictureDecoderSeen};
-ghost use Rattle.stream_reader.specs.Turns.{IsWhole};
+ghost use Rattle.stream_reader.specs.Turns.{HasAllSlices};
 ghost use Rattle.stream_reader.specs.Reader.{NextUnshown, GreatestOver, AreBandsOf, new_reader};
 ghost use Rattle.stream_reader.specs.Held.{held_most};
 ghost use Rattle.stream_reader.specs.declared.stop.Item.TheVariants as items;
@@ -61,17 +61,23 @@ impl StreamChecker {
     /// follows it; at most 4096 bytes a read.
     pub fn next<S: Source>(&mut self, src: &mut S) -> Result<Item, ReadStop>
         // The unit is taken, or refused as the grammar of a stream refuses it, or something outside failed.
-        ensures next { self.old.stop ≡ None → self.old.ended ≡ false → NextUnshown self.old self.new (S.rest src.old) (S.rest src.new) result }
+        ensures next { self.old.stop ≡ None → self.old.ended ≡ false
+            → NextUnshown self.old self.new (S.rest src.old) (S.rest src.new) result }
         // Behind each call, whatever it answers, at most 8192 bytes are held, and beside them the greatest share where there is one.
         ensures held { length self.new.held ≤ held_most self.new.greatest }
         // The greatest share is that of the picture that was taken or in which the call stops; else it stays, and 8192 bytes are held at most.
-        ensures greatest { self.old.stop ≡ None → self.old.ended ≡ false → GreatestOver self.old self.new (S.rest src.old) result }
+        ensures greatest { self.old.stop ≡ None → self.old.ended ≡ false
+            → GreatestOver self.old self.new (S.rest src.old) result }
         // A failed read is answered where the count rose, and nothing else is.
-        ensures cause { self.old.stop ≡ None → StopCause (S.faults src.old) (S.faults src.new) result }
+        ensures cause { self.old.stop ≡ None
+            → StopCause (S.faults src.old) (S.faults src.new) result }
         // After a stop each call answers it again, and nothing is read.
-        ensures kept { IfSome self.old.stop (λ stop. (result ≡ Err stop) × (self.new ≡ self.old) × (S.rest src.new ≡ S.rest src.old) × (S.faults src.new ≡ S.faults src.old)) }
+        ensures kept { IfSome self.old.stop (λ stop. (result ≡ Err stop) × (self.new ≡ self.old)
+            × (S.rest src.new ≡ S.rest src.old) × (S.faults src.new ≡ S.faults src.old)) }
         // After the end each call answers it again, and nothing is read.
-        ensures ended { self.old.stop ≡ None → self.old.ended ≡ true → (result ≡ Ok items.End) × (self.new ≡ self.old) × (S.rest src.new ≡ S.rest src.old) × (S.faults src.new ≡ S.faults src.old) }
+        ensures ended { self.old.stop ≡ None → self.old.ended ≡ true → (result ≡ Ok items.End)
+            × (self.new ≡ self.old) × (S.rest src.new ≡ S.rest src.old)
+            × (S.faults src.new ≡ S.faults src.old) }
     {
         let answer = answer_of(self.reader.next(src));
         self.shows = is_shown(&answer);
@@ -88,7 +94,8 @@ impl StreamChecker {
 
     // The decoder of the picture of the unit that the last call of `next` answered; none where it didn't answer `Picture`.
     fn decoder(&self) -> Option<&PictureDecoder>
-        ensures some { IfSome result (λ decoder. (self.now.decoder ≡ Some decoder.now) × IsWhole decoder.now) }
+        ensures some { IfSome result (λ decoder. (self.now.decoder ≡ Some decoder.now)
+            × HasAllSlices decoder.now) }
         ensures none { IsNone result ↔ (self.now.decoder ≡ None) }
     {
         match self.reader.table().decoder() {
@@ -99,7 +106,8 @@ impl StreamChecker {
 
     /// The bands of the picture of the unit that the last call of `next` answered; none where it didn't answer `Picture`.
     pub fn bands(&self) -> Option<&DecodedBands>
-        ensures some { IfSome result (λ bands. (d : PictureDecoderSeen) × (self.now.decoder ≡ Some d) × AreBandsOf d bands.now) }
+        ensures some { IfSome result (λ bands. (d : PictureDecoderSeen)
+            × (self.now.decoder ≡ Some d) × AreBandsOf d bands.now) }
         ensures none { IsNone result ↔ (self.now.decoder ≡ None) }
     {
         match self.decoder() {
@@ -110,7 +118,8 @@ impl StreamChecker {
 
     /// Its transform parameters.
     pub fn params(&self) -> Option<&TransformParams>
-        ensures some { IfSome result (λ params. (d : PictureDecoderSeen) × (self.now.decoder ≡ Some d) × (params_of params.now ≡ d.params)) }
+        ensures some { IfSome result (λ params. (d : PictureDecoderSeen)
+            × (self.now.decoder ≡ Some d) × (params_of params.now ≡ d.params)) }
         ensures none { IsNone result ↔ (self.now.decoder ≡ None) }
     {
         match self.decoder() {
@@ -121,7 +130,8 @@ impl StreamChecker {
 
     /// Its shape.
     pub fn picture_shape(&self) -> Option<&PictureShape>
-        ensures some { IfSome result (λ shape. (d : PictureDecoderSeen) × (self.now.decoder ≡ Some d) × (shape.now ≡ d.shape)) }
+        ensures some { IfSome result (λ shape. (d : PictureDecoderSeen)
+            × (self.now.decoder ≡ Some d) × (shape.now ≡ d.shape)) }
         ensures none { IsNone result ↔ (self.now.decoder ≡ None) }
     {
         match self.decoder() {

@@ -33,11 +33,11 @@ pub struct HeadReader {
 }
 
 impl Model for HeadReader {
-    ghost use Rattle.stream_reader.specs.HeadReader.{HeadReaderSeen, seen_by};
+    ghost use Rattle.stream_reader.specs.HeadReader.{HeadReaderSeen, heads_seen};
 
     ghost Value = { HeadReaderSeen };
 
-    ghost view = { λ a. seen_by a.reader };
+    ghost view = { λ a. heads_seen a.reader };
 }
 
 impl HeadReader {
@@ -55,15 +55,20 @@ impl HeadReader {
     /// whole nor is refused in what was read; at most 4096 bytes a read.
     pub fn next<S: Source>(&mut self, src: &mut S) -> Result<Option<ParseInfo>, ReadStop>
         // The unit is taken, or refused as the table of heads refuses it, or the input is over, or something outside failed.
-        ensures next { self.old.stop ≡ None → self.old.ended ≡ false → NextHeadOver self.old self.new (S.rest src.old) (S.rest src.new) result }
+        ensures next { self.old.stop ≡ None → self.old.ended ≡ false
+            → NextHeadOver self.old self.new (S.rest src.old) (S.rest src.new) result }
         // Where the reader goes on, few bytes are held.
         ensures few { self.new.stop ≡ None → length self.new.held ≤ READ_SIZE }
         // A failed read is answered where the count rose, and nothing else is.
-        ensures cause { self.old.stop ≡ None → StopCause (S.faults src.old) (S.faults src.new) result }
+        ensures cause { self.old.stop ≡ None
+            → StopCause (S.faults src.old) (S.faults src.new) result }
         // After a stop each call answers it again, and nothing is read.
-        ensures kept { IfSome self.old.stop (λ stop. (result ≡ Err stop) × (self.new ≡ self.old) × (S.rest src.new ≡ S.rest src.old) × (S.faults src.new ≡ S.faults src.old)) }
+        ensures kept { IfSome self.old.stop (λ stop. (result ≡ Err stop) × (self.new ≡ self.old)
+            × (S.rest src.new ≡ S.rest src.old) × (S.faults src.new ≡ S.faults src.old)) }
         // After the end each call answers it again, and nothing is read.
-        ensures ended { self.old.stop ≡ None → self.old.ended ≡ true → (result ≡ Ok None) × (self.new ≡ self.old) × (S.rest src.new ≡ S.rest src.old) × (S.faults src.new ≡ S.faults src.old) }
+        ensures ended { self.old.stop ≡ None → self.old.ended ≡ true → (result ≡ Ok None)
+            × (self.new ≡ self.old) × (S.rest src.new ≡ S.rest src.old)
+            × (S.faults src.new ≡ S.faults src.old) }
     {
         answer_of(self.reader.next(src))
     }

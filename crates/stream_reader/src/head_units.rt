@@ -72,8 +72,10 @@ fn head<S: Source>(
 ) -> Result<ParseInfo, ReadStop<Reason>>
     requires place { place + length window.old.held + window.old.room ≡ INPUT_LIMIT }
     requires few { length window.old.held ≤ READ_SIZE }
-    ensures part { PartOver heads head_only_head (λ info. info) place (S.rest src.old) (S.rest src.new) place (λ info. HEAD_SIZE) window.old window.new result }
-    ensures place { OnOk result (place + HEAD_SIZE + length window.new.held + window.new.room ≡ INPUT_LIMIT) }
+    ensures part { PartOver heads head_only_head (λ info. info) place (S.rest src.old)
+        (S.rest src.new) place (λ info. HEAD_SIZE) window.old window.new result }
+    ensures place { OnOk result (place + HEAD_SIZE + length window.new.held + window.new.room
+        ≡ INPUT_LIMIT) }
     ensures room { window.new.room ≤ window.old.room }
     ensures cause { StopCause (S.faults src.old) (S.faults src.new) result }
 {

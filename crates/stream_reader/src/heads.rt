@@ -146,7 +146,8 @@ fn check_next(place: u64, code: Code, next: u32) -> Result<(), Refusal>
 // The rule on a previous offset.
 fn check_previous(before: Before, previous: u32) -> Result<(), Refusal>
     requires { before.place ≤ INPUT_LIMIT }
-    ensures { result ≡ passes (before.place + 9) (first_broken (previous_rules_behind before previous)) }
+    ensures { result ≡ passes (before.place + 9)
+        (first_broken (previous_rules_behind before previous)) }
 {
     // A later sequence may begin as if it stood alone.
     let begins_later = before.later && before.coding.is_none();

@@ -2,7 +2,7 @@
 
 ghost use Rattle.std.specs.Prelude.{◌≡◌, ◌<◌, ℕ, slice_index, IfOk};
 ghost use Rattle.stream_reader.specs.Reader.{new_reader};
-ghost use Rattle.stream_reader.specs.Judging.{IsVerdict, IsStopped};
+ghost use Rattle.stream_reader.specs.Judging.{IsVerdict, IsStopVerdict};
 
 use crate::checker::StreamChecker;
 use crate::stop::ReadStop;
@@ -22,7 +22,7 @@ pub enum Verdict {
 
 // The verdict where the reader stops. A source in memory has no failing reads.
 fn stopped(stop: ReadStop) -> Result<Verdict, NoMemory>
-    ensures { IfOk result (IsStopped stop) }
+    ensures { IfOk result (IsStopVerdict stop) }
 {
     match stop {
         ReadStop::Refused(refusal) => Ok(Verdict::Refused(refusal)),

@@ -5,7 +5,7 @@ ghost use Rattle.vc2_io.specs.declared.TheConstants.{INPUT_LIMIT, READ_SIZE};
 ghost use Rattle.std.specs.Prelude.{◌≡◌, ◌+◌, ◌≤◌, List, ℕ, Option, length, IfOk, IfErr, OnErr};
 ghost use Rattle.run_theory.specs.Begun.{Begun};
 ghost use Rattle.stream_rows.specs.Units.{Skipped, Repeated, Past, units, first_payload, skipped_payload, repeated_payload};
-ghost use Rattle.stream_reader.specs.Turns.{is_end_found, TakesOver, HeaderOver, IsFirst};
+ghost use Rattle.stream_reader.specs.Turns.{is_end_found, TakesOver, HeaderOver, IsFirstHeader};
 ghost use Rattle.unit_reader.specs.Stops.{StopCause};
 ghost use Rattle.unit_reader.specs.declared.stop.ReadStop.TheVariants as stops;
 
@@ -45,9 +45,13 @@ pub(crate) fn skipped<S: Source>(
     earlier: &Earlier,
     next: u32,
 ) -> Result<(), ReadStop<Reason>>
-    requires place { earlier.now.place + HEAD_SIZE + length window.old.held + window.old.room ≡ INPUT_LIMIT }
-    ensures unit { (held0 : List ℕ) (rest0 : Option (List ℕ)) → Begun units earlier.now held0 rest0 (S.rest src.old) (earlier.now.place + HEAD_SIZE) window.old.held (skipped_payload next)
-        → TakesOver earlier.now held0 rest0 (S.rest src.new) window.new (λ _ unit bytes. unit ≡ Skipped) result }
+    requires place { earlier.now.place + HEAD_SIZE + length window.old.held + window.old.room
+        ≡ INPUT_LIMIT }
+    ensures unit { (held0 : List ℕ) (rest0 : Option (List ℕ))
+        → Begun units earlier.now held0 rest0 (S.rest src.old)
+        (earlier.now.place + HEAD_SIZE) window.old.held (skipped_payload next)
+        → TakesOver earlier.now held0 rest0 (S.rest src.new) window.new
+        (λ _ unit bytes. unit ≡ Skipped) result }
     ensures held { OnErr result (length window.new.held ≤ 8192) }
     ensures cause { StopCause (S.faults src.old) (S.faults src.new) result }
 {
@@ -66,10 +70,15 @@ pub(crate) fn repeated<S: Source>(
     first: &First,
     next: u32,
 ) -> Result<(), ReadStop<Reason>>
-    requires place { earlier.now.place + HEAD_SIZE + length window.old.held + window.old.room ≡ INPUT_LIMIT }
+    requires place { earlier.now.place + HEAD_SIZE + length window.old.held + window.old.room
+        ≡ INPUT_LIMIT }
     requires few { length window.old.held ≤ READ_SIZE }
-    ensures unit { (held0 : List ℕ) (rest0 : Option (List ℕ)) → Begun units earlier.now held0 rest0 (S.rest src.old) (earlier.now.place + HEAD_SIZE) window.old.held (repeated_payload earlier.now next first.now)
-        → TakesOver earlier.now held0 rest0 (S.rest src.new) window.new (λ _ unit bytes. unit ≡ Repeated) result }
+    ensures unit { (held0 : List ℕ) (rest0 : Option (List ℕ))
+        → Begun units earlier.now held0 rest0 (S.rest src.old)
+        (earlier.now.place + HEAD_SIZE) window.old.held
+        (repeated_payload earlier.now next first.now)
+        → TakesOver earlier.now held0 rest0 (S.rest src.new) window.new
+        (λ _ unit bytes. unit ≡ Repeated) result }
     ensures held { length window.new.held ≤ 8192 }
     ensures cause { StopCause (S.faults src.old) (S.faults src.new) result }
 {
@@ -98,9 +107,12 @@ fn read_header<S: Source>(
 ) -> Result<(SequenceHeader, usize), ReadStop<Reason>>
     requires place { place + length window.old.held + window.old.room ≡ INPUT_LIMIT }
     requires few { length window.old.held ≤ 8192 }
-    ensures unit { (z : Past) (held0 : List ℕ) (rest0 : Option (List ℕ)) (next : ℕ) → place ≡ z.place + HEAD_SIZE → Begun units z held0 rest0 (S.rest src.old) place window.old.held (first_payload z next)
+    ensures unit { (z : Past) (held0 : List ℕ) (rest0 : Option (List ℕ)) (next : ℕ)
+        → place ≡ z.place + HEAD_SIZE
+        → Begun units z held0 rest0 (S.rest src.old) place window.old.held (first_payload z next)
         → HeaderOver z next held0 rest0 (S.rest src.new) window.new result }
-    ensures room { length window.new.held + window.new.room ≡ length window.old.held + window.old.room }
+    ensures room { length window.new.held + window.new.room
+        ≡ length window.old.held + window.old.room }
     ensures inside { IfOk result (λ x. x.1 ≤ length window.new.held) }
     ensures most { IfOk result (λ x. x.1 ≤ 512) }
     ensures few { length window.new.held ≤ 8192 }
@@ -146,10 +158,13 @@ pub(crate) fn first_header<S: Source>(
     earlier: &Earlier,
     next: u32,
 ) -> Result<First, ReadStop<Reason>>
-    requires place { earlier.now.place + HEAD_SIZE + length window.old.held + window.old.room ≡ INPUT_LIMIT }
+    requires place { earlier.now.place + HEAD_SIZE + length window.old.held + window.old.room
+        ≡ INPUT_LIMIT }
     requires few { length window.old.held ≤ READ_SIZE }
-    ensures unit { (held0 : List ℕ) (rest0 : Option (List ℕ)) → Begun units earlier.now held0 rest0 (S.rest src.old) (earlier.now.place + HEAD_SIZE) window.old.held (first_payload earlier.now next)
-        → TakesOver earlier.now held0 rest0 (S.rest src.new) window.new IsFirst result }
+    ensures unit { (held0 : List ℕ) (rest0 : Option (List ℕ))
+        → Begun units earlier.now held0 rest0 (S.rest src.old)
+        (earlier.now.place + HEAD_SIZE) window.old.held (first_payload earlier.now next)
+        → TakesOver earlier.now held0 rest0 (S.rest src.new) window.new IsFirstHeader result }
     ensures held { length window.new.held ≤ 8192 }
     ensures cause { StopCause (S.faults src.old) (S.faults src.new) result }
 {

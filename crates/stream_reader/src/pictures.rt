@@ -16,7 +16,7 @@ ghost use Rattle.stream_rows.specs.Streams.{frame_under};
 ghost use Rattle.stream_rows.specs.Units.{Past, units, transform_reason, number_rules, picture_payload};
 ghost use Rattle.stream_reader.specs.Turns.{PictureOver};
 ghost use Rattle.unit_reader.specs.Stops.{StopCause, PartOver};
-ghost use Rattle.stream_reader.specs.UnitParts.{SlicesOver, IsReady, slice_reason};
+ghost use Rattle.stream_reader.specs.UnitParts.{SlicesOver, IsAtFirstSlice, slice_reason};
 ghost use Rattle.stream_reader.specs.Held.{greatest_share, StopsHeld};
 
 use crate::earlier::{Earlier, First};
@@ -64,10 +64,14 @@ fn number<S: Source>(
     first: &First,
 ) -> Result<u32, ReadStop<Reason>>
     requires first { earlier.now.first ≡ Some first.now }
-    requires place { earlier.now.place + HEAD_SIZE + length window.old.held + window.old.room ≡ INPUT_LIMIT }
+    requires place { earlier.now.place + HEAD_SIZE + length window.old.held + window.old.room
+        ≡ INPUT_LIMIT }
     requires few { length window.old.held ≤ READ_SIZE }
-    ensures part { PartOver units (word_under (number_rules earlier.now)) (λ n. n) earlier.now (S.rest src.old) (S.rest src.new) (earlier.now.place + HEAD_SIZE) (λ n. 4) window.old window.new result }
-    ensures place { OnOk result (earlier.now.place + 17 + length window.new.held + window.new.room ≡ INPUT_LIMIT) }
+    ensures part { PartOver units (word_under (number_rules earlier.now)) (λ n. n) earlier.now
+        (S.rest src.old) (S.rest src.new) (earlier.now.place + HEAD_SIZE)
+        (λ n. 4) window.old window.new result }
+    ensures place { OnOk result (earlier.now.place + 17 + length window.new.held + window.new.room
+        ≡ INPUT_LIMIT) }
     ensures held { length window.new.held ≤ 8192 }
     ensures cause { StopCause (S.faults src.old) (S.faults src.new) result }
 {
@@ -96,10 +100,13 @@ fn params<S: Source>(
 ) -> Result<(TransformParams, u64), ReadStop<Reason>>
     requires place { place + length window.old.held + window.old.room ≡ INPUT_LIMIT }
     requires few { length window.old.held ≤ 8192 }
-    ensures part { (z : Past) → PartOver units (renamed transform_reason params_rows) (λ x. params_of x.0) z (S.rest src.old) (S.rest src.new) place (λ x. x.1) window.old window.new result }
+    ensures part { (z : Past) → PartOver units (renamed transform_reason params_rows)
+        (λ x. params_of x.0) z (S.rest src.old) (S.rest src.new) place
+        (λ x. x.1) window.old window.new result }
     ensures most { IfOk result (λ x. x.1 ≤ 512) }
     ensures held { length window.new.held ≤ 8192 }
-    ensures place { IfOk result (λ x. place + x.1 + length window.new.held + window.new.room ≡ INPUT_LIMIT) }
+    ensures place { IfOk result (λ x. place + x.1 + length window.new.held + window.new.room
+        ≡ INPUT_LIMIT) }
     ensures cause { StopCause (S.faults src.old) (S.faults src.new) result }
 {
     loop {
@@ -132,7 +139,8 @@ fn ready(
     shape: &PictureShape,
     params: &TransformParams,
 ) -> Result<PictureDecoder, ReadStop<Reason>>
-    ensures ready { MatchResult result (IsReady shape.now (params_of params.now)) (λ stop. stop ≡ stops.NoMemory) }
+    ensures ready { MatchResult result (IsAtFirstSlice shape.now (params_of params.now))
+        (λ stop. stop ≡ stops.NoMemory) }
     ensures none { OnErr result (kept.new ≡ None) }
 {
     if let Some(mut decoder) = kept.take() {
@@ -169,8 +177,12 @@ fn slices<S: Source>(
     requires unrefused { decoder.old.refused ≡ false }
     requires place { place + length window.old.held + window.old.room ≡ INPUT_LIMIT }
     requires few { length window.old.held ≤ 8192 }
-    ensures part { (parts : HeaderParts) (z : Past) → frame_of decoder.old.shape ≡ frame_under parts → SlicesOver parts z (S.rest src.old) (S.rest src.new) place window.old window.new decoder.old decoder.new result }
-    ensures place { OnOk result (place + total_bytes decoder.old.params.slicing + length window.new.held + window.new.room ≡ INPUT_LIMIT) }
+    ensures part { (parts : HeaderParts) (z : Past)
+        → frame_of decoder.old.shape ≡ frame_under parts
+        → SlicesOver parts z (S.rest src.old)
+        (S.rest src.new) place window.old window.new decoder.old decoder.new result }
+    ensures place { OnOk result (place + total_bytes decoder.old.params.slicing
+        + length window.new.held + window.new.room ≡ INPUT_LIMIT) }
     ensures shape { decoder.new.shape ≡ decoder.old.shape }
     ensures params { decoder.new.params ≡ decoder.old.params }
     ensures unrefused { OnOk result (decoder.new.refused ≡ false) }
@@ -209,11 +221,18 @@ pub(crate) fn picture<S: Source>(
     kept: &mut Option<PictureDecoder>,
 ) -> Result<Shown, ReadStop<Reason>>
     requires first { earlier.now.first ≡ Some first.now }
-    requires place { earlier.now.place + HEAD_SIZE + length window.old.held + window.old.room ≡ INPUT_LIMIT }
+    requires place { earlier.now.place + HEAD_SIZE + length window.old.held + window.old.room
+        ≡ INPUT_LIMIT }
     requires few { length window.old.held ≤ READ_SIZE }
-    ensures unit { (held0 : List ℕ) (rest0 : Option (List ℕ)) → Begun units earlier.now held0 rest0 (S.rest src.old) (earlier.now.place + HEAD_SIZE) window.old.held (picture_payload earlier.now next first.now.parts)
+    ensures unit { (held0 : List ℕ) (rest0 : Option (List ℕ))
+        → Begun units earlier.now held0 rest0 (S.rest src.old)
+        (earlier.now.place + HEAD_SIZE) window.old.held
+        (picture_payload earlier.now next first.now.parts)
         → PictureOver earlier.now held0 rest0 (S.rest src.new) window.new first.now.parts result }
-    ensures held { (held0 : List ℕ) (rest0 : Option (List ℕ)) → Begun units earlier.now held0 rest0 (S.rest src.old) (earlier.now.place + HEAD_SIZE) window.old.held (picture_payload earlier.now next first.now.parts)
+    ensures held { (held0 : List ℕ) (rest0 : Option (List ℕ))
+        → Begun units earlier.now held0 rest0 (S.rest src.old)
+        (earlier.now.place + HEAD_SIZE) window.old.held
+        (picture_payload earlier.now next first.now.parts)
         → IfErr result (StopsHeld earlier.now held0 rest0 kept.old kept.new window.new.held) }
     ensures cause { StopCause (S.faults src.old) (S.faults src.new) result }
 {

@@ -3,12 +3,12 @@
 ghost use Rattle.vc2_io.specs.declared.TheConstants.{INPUT_LIMIT};
 ghost use Rattle.std.specs.Prelude.{◌≡◌, ◌≤◌, Ok, Err, Some, None, true, false, length, IfOk, IfSome, IsNone, ◌↔◌};
 ghost use Rattle.unit_reader.specs.Stops.{StopCause};
-ghost use Rattle.stream_reader.specs.Reader.{NextOver, GreatestOver, new_reader};
+ghost use Rattle.stream_reader.specs.Reader.{NextItemOver, GreatestOver, new_reader};
 ghost use Rattle.stream_reader.specs.Held.{held_most};
 ghost use Rattle.transform_params.specs.Views.{params_of};
 ghost use Rattle.picture_codec.specs.Decoding.{PictureDecoderSeen};
 ghost use Rattle.stream_reader.specs.ReaderInside.{answer_of, is_shown};
-ghost use Rattle.stream_reader.specs.Turns.{IsWhole};
+ghost use Rattle.stream_reader.specs.Turns.{HasAllSlices};
 ghost use Rattle.stream_reader.specs.Reader.{AreBandsOf};
 ghost use Rattle.stream_reader.specs.declared.stop.Item.TheVariants as items;
 
@@ -54,13 +54,13 @@ pub struct StreamReader {
 
 impl Model for StreamReader {
     ghost use Rattle.stream_reader.specs.Reader.{StreamReaderSeen};
-    ghost use Rattle.stream_reader.specs.ReaderInside.{seen_by, IsSound};
+    ghost use Rattle.stream_reader.specs.ReaderInside.{stream_seen, IsReaderSound};
 
     ghost Value = { StreamReaderSeen };
 
-    ghost view = { λ a. seen_by a.reader a.shows };
+    ghost view = { λ a. stream_seen a.reader a.shows };
 
-    ghost invariant = { λ a. IsSound a.reader a.shows };
+    ghost invariant = { λ a. IsReaderSound a.reader a.shows };
 }
 
 impl StreamReader {
@@ -82,17 +82,23 @@ impl StreamReader {
     /// follows it; at most 4096 bytes a read.
     pub fn next<S: Source>(&mut self, src: &mut S) -> Result<Item, ReadStop>
         // The unit is taken, or refused as the grammar of a stream refuses it, or something outside failed.
-        ensures next { self.old.stop ≡ None → self.old.ended ≡ false → NextOver self.old self.new (S.rest src.old) (S.rest src.new) result }
+        ensures next { self.old.stop ≡ None → self.old.ended ≡ false
+            → NextItemOver self.old self.new (S.rest src.old) (S.rest src.new) result }
         // Behind each call, whatever it answers, at most 8192 bytes are held, and beside them the greatest share where there is one.
         ensures held { length self.new.held ≤ held_most self.new.greatest }
         // The greatest share is that of the picture that was taken or in which the call stops; else it stays, and 8192 bytes are held at most.
-        ensures greatest { self.old.stop ≡ None → self.old.ended ≡ false → GreatestOver self.old self.new (S.rest src.old) result }
+        ensures greatest { self.old.stop ≡ None → self.old.ended ≡ false
+            → GreatestOver self.old self.new (S.rest src.old) result }
         // A failed read is answered where the count rose, and nothing else is.
-        ensures cause { self.old.stop ≡ None → StopCause (S.faults src.old) (S.faults src.new) result }
+        ensures cause { self.old.stop ≡ None
+            → StopCause (S.faults src.old) (S.faults src.new) result }
         // After a stop each call answers it again, and nothing is read.
-        ensures kept { IfSome self.old.stop (λ stop. (result ≡ Err stop) × (self.new ≡ self.old) × (S.rest src.new ≡ S.rest src.old) × (S.faults src.new ≡ S.faults src.old)) }
+        ensures kept { IfSome self.old.stop (λ stop. (result ≡ Err stop) × (self.new ≡ self.old)
+            × (S.rest src.new ≡ S.rest src.old) × (S.faults src.new ≡ S.faults src.old)) }
         // After the end each call answers it again, and nothing is read.
-        ensures ended { self.old.stop ≡ None → self.old.ended ≡ true → (result ≡ Ok items.End) × (self.new ≡ self.old) × (S.rest src.new ≡ S.rest src.old) × (S.faults src.new ≡ S.faults src.old) }
+        ensures ended { self.old.stop ≡ None → self.old.ended ≡ true → (result ≡ Ok items.End)
+            × (self.new ≡ self.old) × (S.rest src.new ≡ S.rest src.old)
+            × (S.faults src.new ≡ S.faults src.old) }
     {
         let answer = answer_of(self.reader.next(src));
         self.shows = is_shown(&answer);
@@ -120,7 +126,8 @@ impl StreamReader {
 
     // Its decoder.
     fn decoder(&self) -> Option<&PictureDecoder>
-        ensures some { IfSome result (λ decoder. (self.now.decoder ≡ Some decoder.now) × IsWhole decoder.now) }
+        ensures some { IfSome result (λ decoder. (self.now.decoder ≡ Some decoder.now)
+            × HasAllSlices decoder.now) }
         ensures none { IsNone result ↔ (self.now.decoder ≡ None) }
     {
         match self.reader.table().decoder() {
@@ -131,7 +138,8 @@ impl StreamReader {
 
     /// The bands of the picture of the unit that the last call of `next` answered; none where it didn't answer `Picture`.
     pub fn bands(&self) -> Option<&DecodedBands>
-        ensures some { IfSome result (λ bands. (d : PictureDecoderSeen) × (self.now.decoder ≡ Some d) × AreBandsOf d bands.now) }
+        ensures some { IfSome result (λ bands. (d : PictureDecoderSeen)
+            × (self.now.decoder ≡ Some d) × AreBandsOf d bands.now) }
         ensures none { IsNone result ↔ (self.now.decoder ≡ None) }
     {
         match self.decoder() {
@@ -142,7 +150,8 @@ impl StreamReader {
 
     /// Its transform parameters.
     pub fn params(&self) -> Option<&TransformParams>
-        ensures some { IfSome result (λ params. (d : PictureDecoderSeen) × (self.now.decoder ≡ Some d) × (params_of params.now ≡ d.params)) }
+        ensures some { IfSome result (λ params. (d : PictureDecoderSeen)
+            × (self.now.decoder ≡ Some d) × (params_of params.now ≡ d.params)) }
         ensures none { IsNone result ↔ (self.now.decoder ≡ None) }
     {
         match self.decoder() {

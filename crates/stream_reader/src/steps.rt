@@ -7,9 +7,9 @@ ghost use Rattle.slice_geometry.specs.Frames.{frame_of};
 ghost use Rattle.picture_codec.specs.Samples.{picture_of};
 ghost use Rattle.picture_codec.specs.Decoding.{HasTaken, synthesised_picture, wanted_of};
 ghost use Rattle.stream_rows.specs.Units.{Past, DataUnit};
-ghost use Rattle.stream_reader.specs.Turns.{IsFound, IsWhole, shape_of};
+ghost use Rattle.stream_reader.specs.Turns.{IsFound, HasAllSlices, shape_of};
 ghost use Rattle.stream_reader.specs.Reader.{Steps, header_behind};
-ghost use Rattle.stream_reader.specs.StreamTable.{Keeps};
+ghost use Rattle.stream_reader.specs.StreamTable.{KeepsDecoder};
 
 use crate::earlier::Earlier;
 use crate::parts::Found;
@@ -20,8 +20,10 @@ use slice_geometry::UnitShape;
 
 /// The shape of a unit of so many bytes.
 pub(crate) fn shape_of(found: &Found, start: u64, size: u32) -> UnitShape
-    ensures shape { (z : Past) (unit : DataUnit) (bytes : List ℕ) → z.place ≡ start → length bytes ≡ size → IsFound z found.now unit bytes → result ≡ shape_of z unit bytes }
-    ensures size { (z : Past) (unit : DataUnit) (bytes : List ℕ) → length bytes ≡ size → IsFound z found.now unit bytes → unit_length result ≡ size }
+    ensures shape { (z : Past) (unit : DataUnit) (bytes : List ℕ) → z.place ≡ start
+        → length bytes ≡ size → IsFound z found.now unit bytes → result ≡ shape_of z unit bytes }
+    ensures size { (z : Past) (unit : DataUnit) (bytes : List ℕ) → length bytes ≡ size
+        → IsFound z found.now unit bytes → unit_length result ≡ size }
     ensures start { result.start ≡ start }
     ensures allowed { IsUnitAllowed result }
 {
@@ -47,8 +49,11 @@ pub(crate) fn shape_of(found: &Found, start: u64, size: u32) -> UnitShape
 pub(crate) fn step(earlier: &mut Earlier, found: Found, size: u32) -> (Item, Option<PictureDecoder>)
     requires some { 0 < size }
     requires most { earlier.old.place + size ≤ INPUT_LIMIT }
-    requires found { (unit : DataUnit) × (bytes : List ℕ) × (length bytes ≡ size) × IsFound earlier.old found unit bytes }
-    ensures { (unit : DataUnit) (bytes : List ℕ) → length bytes ≡ size → IsFound earlier.old found unit bytes → Steps earlier.old earlier.new unit bytes result.0 result.1 }
+    requires found { (unit : DataUnit) × (bytes : List ℕ) × (length bytes ≡ size)
+        × IsFound earlier.old found unit bytes }
+    ensures { (unit : DataUnit) (bytes : List ℕ) → length bytes ≡ size
+        → IsFound earlier.old found unit bytes
+        → Steps earlier.old earlier.new unit bytes result.0 result.1 }
 {
     match found {
         Found::Sequence(first) => {
@@ -76,7 +81,8 @@ pub(crate) fn step(earlier: &mut Earlier, found: Found, size: u32) -> (Item, Opt
 
 /// The header that was read last, behind a unit.
 pub(crate) fn header_behind(found: &Found, before: Option<SequenceHeader>) -> Option<SequenceHeader>
-    ensures { (z : Past) (unit : DataUnit) (bytes : List ℕ) → IsFound z found.now unit bytes → result ≡ header_behind unit before }
+    ensures { (z : Past) (unit : DataUnit) (bytes : List ℕ) → IsFound z found.now unit bytes
+        → result ≡ header_behind unit before }
 {
     match found {
         Found::Sequence(first) => Some(*first.header()),
@@ -88,21 +94,23 @@ pub(crate) fn header_behind(found: &Found, before: Option<SequenceHeader>) -> Op
 fn finish(decoder: &mut PictureDecoder)
     requires unrefused { decoder.old.refused ≡ false }
     requires whole { wanted_of decoder.old ≡ None }
-    ensures state { decoder.new ≡ record decoder.old { picture = Some (synthesised_picture decoder.old) } }
+    ensures state { decoder.new
+        ≡ record decoder.old { picture = Some (synthesised_picture decoder.old) } }
     ensures unit { (slices : List (List ℕ)) → HasTaken slices decoder.old
-        → synthesised_picture decoder.old ≡ picture_of (frame_of decoder.old.shape) decoder.old.params slices }
+        → synthesised_picture decoder.old
+        ≡ picture_of (frame_of decoder.old.shape) decoder.old.params slices }
 {
     let _ = decoder.finish();
 }
 
-/// Keeps the decoder that took a picture's slices, which first makes the picture where pictures are asked for.
+/// KeepsDecoder the decoder that took a picture's slices, which first makes the picture where pictures are asked for.
 pub(crate) fn keep(
     kept: &mut Option<PictureDecoder>,
     took: Option<PictureDecoder>,
     makes_pictures: bool,
 )
-    requires { IfSome took IsWhole }
-    ensures { Keeps makes_pictures took kept.old kept.new }
+    requires { IfSome took HasAllSlices }
+    ensures { KeepsDecoder makes_pictures took kept.old kept.new }
 {
     if let Some(mut decoder) = took {
         if makes_pictures {

@@ -68,11 +68,11 @@ impl Model for StreamTable {
 
 impl StreamTable {
     ghost use Rattle.std.specs.Prelude.{◌≡◌, ◌↔◌, IfSome, IsNone, Some, None};
-    ghost use Rattle.stream_reader.specs.StreamTable.{IsNew};
+    ghost use Rattle.stream_reader.specs.StreamTable.{IsNewStreamTable};
 
     /// Before the first unit. Pictures are made of their slices where they are asked for.
     pub fn new(alloc: Global, makes_pictures: bool) -> StreamTable
-        ensures { IsNew makes_pictures result }
+        ensures { IsNewStreamTable makes_pictures result }
     {
         StreamTable {
             alloc,

@@ -5,7 +5,7 @@ ghost use Rattle.vc2_io.specs.declared.TheConstants.{INPUT_LIMIT, READ_SIZE};
 ghost use Rattle.std.specs.Prelude.{◌≡◌, ◌+◌, ◌≤◌, List, ℕ, Option, length, OnOk};
 ghost use Rattle.run_theory.specs.Begun.{Begun};
 ghost use Rattle.stream_rows.specs.Units.{units, unit_head, payload_rows};
-ghost use Rattle.stream_reader.specs.Turns.{UnitOver};
+ghost use Rattle.stream_reader.specs.Turns.{FoundOver};
 ghost use Rattle.unit_reader.specs.Stops.{StopCause, PartOver};
 ghost use Rattle.stream_reader.specs.Held.{HeldOver};
 
@@ -29,8 +29,11 @@ fn head<S: Source>(
 ) -> Result<ParseInfo, ReadStop<Reason>>
     requires place { earlier.now.place + length window.old.held + window.old.room ≡ INPUT_LIMIT }
     requires few { length window.old.held ≤ READ_SIZE }
-    ensures part { PartOver units (unit_head earlier.now) (λ info. info) earlier.now (S.rest src.old) (S.rest src.new) earlier.now.place (λ info. HEAD_SIZE) window.old window.new result }
-    ensures place { OnOk result (earlier.now.place + HEAD_SIZE + length window.new.held + window.new.room ≡ INPUT_LIMIT) }
+    ensures part { PartOver units (unit_head earlier.now) (λ info. info) earlier.now
+        (S.rest src.old) (S.rest src.new) earlier.now.place
+        (λ info. HEAD_SIZE) window.old window.new result }
+    ensures place { OnOk result (earlier.now.place + HEAD_SIZE + length window.new.held
+        + window.new.room ≡ INPUT_LIMIT) }
     ensures few { OnOk result (length window.new.held ≤ READ_SIZE) }
     ensures held { length window.new.held ≤ 8192 }
     ensures cause { StopCause (S.faults src.old) (S.faults src.new) result }
@@ -63,11 +66,18 @@ fn payload<S: Source>(
     info: ParseInfo,
     kept: &mut Option<PictureDecoder>,
 ) -> Result<Found, ReadStop<Reason>>
-    requires place { earlier.now.place + HEAD_SIZE + length window.old.held + window.old.room ≡ INPUT_LIMIT }
+    requires place { earlier.now.place + HEAD_SIZE + length window.old.held + window.old.room
+        ≡ INPUT_LIMIT }
     requires few { length window.old.held ≤ READ_SIZE }
-    ensures unit { (held0 : List ℕ) (rest0 : Option (List ℕ)) → Begun units earlier.now held0 rest0 (S.rest src.old) (earlier.now.place + HEAD_SIZE) window.old.held (payload_rows earlier.now earlier.now.first info)
-        → UnitOver earlier.now held0 rest0 (S.rest src.new) window.new result }
-    ensures held { (held0 : List ℕ) (rest0 : Option (List ℕ)) → Begun units earlier.now held0 rest0 (S.rest src.old) (earlier.now.place + HEAD_SIZE) window.old.held (payload_rows earlier.now earlier.now.first info)
+    ensures unit { (held0 : List ℕ) (rest0 : Option (List ℕ))
+        → Begun units earlier.now held0 rest0 (S.rest src.old)
+        (earlier.now.place + HEAD_SIZE) window.old.held
+        (payload_rows earlier.now earlier.now.first info)
+        → FoundOver earlier.now held0 rest0 (S.rest src.new) window.new result }
+    ensures held { (held0 : List ℕ) (rest0 : Option (List ℕ))
+        → Begun units earlier.now held0 rest0 (S.rest src.old)
+        (earlier.now.place + HEAD_SIZE) window.old.held
+        (payload_rows earlier.now earlier.now.first info)
         → HeldOver earlier.now held0 rest0 kept.old kept.new window.new.held result }
     ensures cause { StopCause (S.faults src.old) (S.faults src.new) result }
 {
@@ -107,9 +117,13 @@ pub(crate) fn unit<S: Source>(
 ) -> Result<Found, ReadStop<Reason>>
     requires place { earlier.now.place + length window.old.held + window.old.room ≡ INPUT_LIMIT }
     requires few { length window.old.held ≤ READ_SIZE }
-    ensures unit { (held0 : List ℕ) (rest0 : Option (List ℕ)) → Begun units earlier.now held0 rest0 (S.rest src.old) earlier.now.place window.old.held ((units).rows earlier.now)
-        → UnitOver earlier.now held0 rest0 (S.rest src.new) window.new result }
-    ensures held { (held0 : List ℕ) (rest0 : Option (List ℕ)) → Begun units earlier.now held0 rest0 (S.rest src.old) earlier.now.place window.old.held ((units).rows earlier.now)
+    ensures unit { (held0 : List ℕ) (rest0 : Option (List ℕ))
+        → Begun units earlier.now held0 rest0 (S.rest src.old) earlier.now.place window.old.held
+        ((units).rows earlier.now)
+        → FoundOver earlier.now held0 rest0 (S.rest src.new) window.new result }
+    ensures held { (held0 : List ℕ) (rest0 : Option (List ℕ))
+        → Begun units earlier.now held0 rest0 (S.rest src.old) earlier.now.place window.old.held
+        ((units).rows earlier.now)
         → HeldOver earlier.now held0 rest0 kept.old kept.new window.new.held result }
     ensures cause { StopCause (S.faults src.old) (S.faults src.new) result }
 {

@@ -7,7 +7,7 @@ use Rattle.sequence_header.specs.declared.parts.HeaderParts.{HeaderParts}
 use Rattle.transform_params.specs.Params.{Params}
 use Rattle.transform_params.specs.ParameterFields.{unit_length}
 use Rattle.stream_writer.specs.EncodedStream.{header_length, header_unit}
-use Rattle.stream_writer.specs.WriterInside.{Holds}
+use Rattle.stream_writer.specs.WriterInside.{HoldsHeader}
 
 -- a vector whose items are as many as before
 pub same_room : (x items : List ℕ) (len : ℕ) → length x ≡ len → take len (x ++ drop (length x) items) ≡ x
@@ -15,7 +15,7 @@ same_room x items len e = take_at x (drop (length x) items) len e
 
 -- a header's unit behind its end's room
 pub first_holds : (parts : HeaderParts) (p : Params) (b unit behind : List ℕ) (to : ℕ) → length unit ≡ header_length parts → length behind ≡ unit_length p → unit_length p < 2 ^ 32 → 13 ≤ length b → to ≤ 13 + header_length parts → unit ≡ header_unit parts
-    → Holds parts p (take 13 b ++ (unit ++ behind)) to
+    → HoldsHeader parts p (take 13 b ++ (unit ++ behind)) to
 first_holds parts p b unit behind to many others small room inside is =
     let first = length-take-le 13 b room in
     let long : length (take 13 b ++ (unit ++ behind)) ≡ 13 + header_length parts + unit_length p = omega (arith, length-append (take 13 b) (unit ++ behind), length-append unit behind, first, many, others) in
@@ -27,7 +27,7 @@ first_holds parts p b unit behind to many others small room inside is =
     }
 
 -- an end in its place
-pub end_holds : (parts : HeaderParts) (p : Params) (b end : List ℕ) (from : ℕ) → Holds parts p b from → length end ≡ 13 → Holds parts p (end ++ drop 13 b) from
+pub end_holds : (parts : HeaderParts) (p : Params) (b end : List ℕ) (from : ℕ) → HoldsHeader parts p b from → length end ≡ 13 → HoldsHeader parts p (end ++ drop 13 b) from
 end_holds parts p b end from h e =
     let long : length (end ++ drop 13 b) ≡ length b = omega (arith, length-append end (drop 13 b), length-drop 13 b, e, h.long) in
     record {
@@ -38,7 +38,7 @@ end_holds parts p b end from h e =
     }
 
 -- a picture's unit in its place
-module _ (parts : HeaderParts) (p : Params) (n : ℕ) (n_is : n ≡ header_length parts) (b unit : List ℕ) (from : ℕ) (h : Holds parts p b from) (many : length unit ≡ unit_length p) where
+module _ (parts : HeaderParts) (p : Params) (n : ℕ) (n_is : n ≡ header_length parts) (b unit : List ℕ) (from : ℕ) (h : HoldsHeader parts p b from) (many : length unit ≡ unit_length p) where
   in_front : length (take (13 + n) b) ≡ 13 + n
   in_front = length-take-le (13 + n) b (omega (arith, h.long, n_is))
 
@@ -57,7 +57,7 @@ module _ (parts : HeaderParts) (p : Params) (n : ℕ) (n_is : n ≡ header_lengt
       let x = put_mid (13 + n) (length b - (13 + n)) b unit in
       same_room x items len (ap (λ (l : List ℕ). length l) put_is ∙ put_long ∙ e) ∙ put_is
 
-  pub put_holds : (to : ℕ) → to ≤ 13 + n → Holds parts p (take (13 + n) b ++ unit) to
+  pub put_holds : (to : ℕ) → to ≤ 13 + n → HoldsHeader parts p (take (13 + n) b ++ unit) to
   put_holds to inside = record {
     long = put_long ∙ h.long;
     small = h.small;

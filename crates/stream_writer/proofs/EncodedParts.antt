@@ -20,7 +20,7 @@ use Rattle.sequence_header.proofs.WroteText.{header_back}
 use Rattle.transform_params.specs.Params as params
 use Rattle.transform_params.specs.Params.{Params, params_rows}
 use Rattle.transform_params.specs.ParameterFields as written_params
-use Rattle.transform_params.specs.ParameterFields.{byte_length, params_bytes, IsLawful}
+use Rattle.transform_params.specs.ParameterFields.{byte_length, params_bytes, AreLawfulParams}
 use Rattle.transform_params.proofs.WrittenBack.{written_back}
 use Rattle.run_theory.specs.Grammar.{bytes_at}
 use Rattle.run_theory.specs.Begun.{Moves}
@@ -83,7 +83,7 @@ moves_checked z n unit = record {
 
 -- ---- the sequence header
 
-pub moves_header : (z : Past) (parts : HeaderParts) → checking.IsLawful parts → Moves units (first_payload z (13 + header_len parts)) (z.place + 13) (header_bytes parts) (done (Sequence parts))
+pub moves_header : (z : Past) (parts : HeaderParts) → checking.IsLawfulHeader parts → Moves units (first_payload z (13 + header_len parts)) (z.place + 13) (header_bytes parts) (done (Sequence parts))
 moves_header z parts f = record {
   moves = λ more.
       let piece = header_bytes parts in
@@ -98,7 +98,7 @@ moves_header z parts f = record {
 
 -- ---- the transform parameters
 
-pub moves_params : (p : Params) (next : Params → Rows Reason DataUnit) (at : ℕ) → IsLawful p → Moves units (renamed transform_reason params_rows >>= next) at (params_bytes p) (next p)
+pub moves_params : (p : Params) (next : Params → Rows Reason DataUnit) (at : ℕ) → AreLawfulParams p → Moves units (renamed transform_reason params_rows >>= next) at (params_bytes p) (next p)
 moves_params p next at f =
     let piece = params_bytes p in
     let long : length piece ≡ byte_length p = length-filled (written (written_params.fields_of p)) in

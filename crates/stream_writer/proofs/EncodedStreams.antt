@@ -23,7 +23,7 @@ use Rattle.sequence_header.specs.Bytes.{header_len, header_text, header_bytes}
 use Rattle.sequence_header.proofs.Bounds.{header_short}
 use Rattle.transform_params.specs.Params.{Params}
 use Rattle.transform_params.specs.ParameterFields as written_params
-use Rattle.transform_params.specs.ParameterFields.{bit_length, unit_length, params_bytes, IsLawful}
+use Rattle.transform_params.specs.ParameterFields.{bit_length, unit_length, params_bytes, AreLawfulParams}
 use Rattle.run_theory.specs.Grammar.{bytes_at}
 use Rattle.run_theory.specs.Begun.{Moves}
 use Rattle.stream_rows.specs.declared.reason.Reason.TheVariants as reasons
@@ -187,7 +187,7 @@ first_order true same odd h = rw (h refl) refl
 first_order false same odd h = refl
 
 -- the state behind a picture
-pub going_on : (parts : HeaderParts) (p : Params) (z : Past) (previous number position : ℕ) (slices : List (List ℕ)) → IsLawful p → IsSliced parts p slices → (g : Going parts z previous number position)
+pub going_on : (parts : HeaderParts) (p : Params) (z : Past) (previous number position : ℕ) (slices : List (List ℕ)) → AreLawfulParams p → IsSliced parts p slices → (g : Going parts z previous number position)
     → Going parts (after z (Picture g.first.parts number p slices) (picture_unit p previous number slices)) (unit_length p) (number_after number) (position + 1)
 going_on parts p z previous number position slices f s g = record {
   first = g.first;

@@ -15,7 +15,7 @@ use Rattle.sequence_header.specs.Checking as checking
 use Rattle.slice_geometry.specs.Slicing.{slice_count, bytes_before, total_bytes}
 use Rattle.slice_geometry.proofs.Shares.{bytes_before-rises, bytes_before-zero}
 use Rattle.transform_params.specs.Params.{Params, params_rows}
-use Rattle.transform_params.specs.ParameterFields.{fields_of, byte_length, unit_length, params_bytes, IsLawful}
+use Rattle.transform_params.specs.ParameterFields.{fields_of, byte_length, unit_length, params_bytes, AreLawfulParams}
 use Rattle.run_theory.specs.Begun.{Moves}
 use Rattle.stream_rows.specs.declared.reason.Reason.{Reason}
 use Rattle.stream_rows.specs.Units.{First, Past, DataUnit, Sequence, Picture, End, transform_reason, code_rules, previous_rules, number_rules, slice_rows, next_checked, picture_payload, payload_of, payload_rows, unit_rows, units}
@@ -33,7 +33,7 @@ pub length-end_unit : (previous : ℕ) → length (end_unit previous) ≡ 13
 length-end_unit previous = refl
 
 -- slices from slice n on have the bytes between
-length-slices : (parts : HeaderParts) (p : Params) (n : ℕ) (slices : List (List ℕ)) → IsLawful p → AreSlices parts p n slices → bytes_before p.slicing.a p.slicing.b n + length (concat slices) ≡ bytes_before p.slicing.a p.slicing.b (n + length slices)
+length-slices : (parts : HeaderParts) (p : Params) (n : ℕ) (slices : List (List ℕ)) → AreLawfulParams p → AreSlices parts p n slices → bytes_before p.slicing.a p.slicing.b n + length (concat slices) ≡ bytes_before p.slicing.a p.slicing.b (n + length slices)
 length-slices parts p n [] f s =
     let none : n ≡ n + 0 = omega arith in
     let all : bytes_before p.slicing.a p.slicing.b n ≡ bytes_before p.slicing.a p.slicing.b (n + 0) = ap (λ k. bytes_before p.slicing.a p.slicing.b k) none in
@@ -45,20 +45,20 @@ length-slices parts p n (slice ∷ slices) f s =
     let all : bytes_before p.slicing.a p.slicing.b (n + 1 + length slices) ≡ bytes_before p.slicing.a p.slicing.b (n + length (slice ∷ slices)) = ap (λ k. bytes_before p.slicing.a p.slicing.b k) more in
     omega (arith, rises, s.0.many, length-append slice (concat slices), others, all)
 
-pub length-all_slices : (parts : HeaderParts) (p : Params) (slices : List (List ℕ)) → IsLawful p → IsSliced parts p slices → length (concat slices) ≡ total_bytes p.slicing
+pub length-all_slices : (parts : HeaderParts) (p : Params) (slices : List (List ℕ)) → AreLawfulParams p → IsSliced parts p slices → length (concat slices) ≡ total_bytes p.slicing
 length-all_slices parts p slices f s =
     let all = length-slices parts p 0 slices f s.each in
     let count : 0 + length slices ≡ slice_count p.slicing = omega (arith, s.count) in
     let whole : bytes_before p.slicing.a p.slicing.b (0 + length slices) ≡ total_bytes p.slicing = ap (λ k. bytes_before p.slicing.a p.slicing.b k) count in
     omega (arith, all, whole, bytes_before-zero p.slicing.a p.slicing.b)
 
-pub length-picture_unit : (parts : HeaderParts) (p : Params) (previous number : ℕ) (slices : List (List ℕ)) → IsLawful p → IsSliced parts p slices → length (picture_unit p previous number slices) ≡ unit_length p
+pub length-picture_unit : (parts : HeaderParts) (p : Params) (previous number : ℕ) (slices : List (List ℕ)) → AreLawfulParams p → IsSliced parts p slices → length (picture_unit p previous number slices) ≡ unit_length p
 length-picture_unit parts p previous number slices f s =
     omega (arith, length-append (params_bytes p) (concat slices), length-filled (written (fields_of p)), length-all_slices parts p slices f s)
 
 -- ---- what a unit's rows make of its bytes
 
-pub moves_header_unit : (z : Past) (parts : HeaderParts) → z.first ≡ None → first_broken (previous_rules z 0) ≡ None → checking.IsLawful parts → 13 + header_len parts < 2 ^ 32
+pub moves_header_unit : (z : Past) (parts : HeaderParts) → z.first ≡ None → first_broken (previous_rules z 0) ≡ None → checking.IsLawfulHeader parts → 13 + header_len parts < 2 ^ 32
     → Moves units (unit_rows z) z.place (header_unit parts) (done (Sequence parts))
 unfolding unit_rows payload_rows
 moves_header_unit z parts none previous_holds f few =
@@ -69,7 +69,7 @@ moves_header_unit z parts none previous_holds f few =
     (moves_head z SequenceHeader (13 + header_len parts) 0 (payload_rows z z.first) few (omega arith) (rw none refl) refl previous_holds)
     rest
 
-pub moves_picture_unit : (z : Past) (first : First) (p : Params) (previous number : ℕ) (slices : List (List ℕ)) → z.first ≡ Some first → IsLawful p → IsSliced first.parts p slices → previous ≡ z.previous → previous < 2 ^ 32 → number < 2 ^ 32 → unit_length p < 2 ^ 32
+pub moves_picture_unit : (z : Past) (first : First) (p : Params) (previous number : ℕ) (slices : List (List ℕ)) → z.first ≡ Some first → AreLawfulParams p → IsSliced first.parts p slices → previous ≡ z.previous → previous < 2 ^ 32 → number < 2 ^ 32 → unit_length p < 2 ^ 32
     → first_broken (code_rules z LowDelayPicture) ≡ None → first_broken (number_rules z number) ≡ None
     → Moves units (unit_rows z) z.place (picture_unit p previous number slices) (done (Picture first.parts number p slices))
 unfolding unit_rows payload_rows payload_of picture_payload

@@ -10,7 +10,7 @@ use Rattle.stream_rows.specs.Streams.{frame_under}
 use Rattle.stream_writer.specs.StreamPictures.{pictures_of}
 use Rattle.stream_writer.specs.EncodedStream.{Settings, header_unit}
 use Rattle.stream_writer.specs.EncodedPictures.{all_slices}
-use Rattle.stream_writer.specs.Writer.{StreamWriterSeen, started, after_picture, due_units, texts_from, HaveRoom}
+use Rattle.stream_writer.specs.Writer.{StreamWriterSeen, started, after_picture, due_units, texts_from, HaveRoomInTurn}
 use Rattle.stream_writer.specs.WriterRuns.{CallsWrite, shown_of, RunsWriteStreams}
 use Rattle.stream_writer.proofs.SameShapes.{steep_for}
 use Rattle.stream_writer.proofs.EncodedStreams.{encoded_pictures}
@@ -19,7 +19,7 @@ use Rattle.stream_writer.proofs.WriterCalls.{calls_stream}
 
 -- each has room, and its text is written
 calls_texts : (w : StreamWriterSeen) (pictures : List PictureSamples) (out0 out1 : Option (List ℕ)) → CallsWrite w pictures out0 out1
-    → Appends out0 out1 (texts_from w (all_slices w.settings pictures)) × HaveRoom w (all_slices w.settings pictures)
+    → Appends out0 out1 (texts_from w (all_slices w.settings pictures)) × HaveRoomInTurn w (all_slices w.settings pictures)
 calls_texts w [] out0 out1 c = (c.1.wrote, tt)
 calls_texts w (p ∷ pictures) out0 out1 c =
     let slices = slices_of (frame_under w.settings.parts) w.settings.params p in

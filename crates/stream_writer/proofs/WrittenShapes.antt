@@ -12,7 +12,7 @@ use Rattle.parse_info.specs.Chain.{ChainSeen}
 use Rattle.stream_writer.specs.declared.write_stop.WriteStop.{WriteStop}
 use Rattle.stream_writer.specs.EncodedStream.{header_length}
 use Rattle.stream_writer.specs.Writer.{total_length, pictures_among, last_length, plain_shape, picture_shape, bytes_before, due_shapes}
-use Rattle.stream_writer.specs.WriterInside.{IsSound}
+use Rattle.stream_writer.specs.WriterInside.{IsWriterSound}
 
 pub total_push : (units : List UnitShape) (u : UnitShape) → total_length (units ++ u ∷ []) ≡ total_length units + shapes.unit_length u
 total_push [] u = omega arith
@@ -72,8 +72,8 @@ module _ (parts : HeaderParts) (p : Params) where
 -- ---- the fields of a writer
 
 -- behind a unit without slices
-pub sound_plain : (first number position size : ℕ) (chain chain' : ChainSeen) (units units' : UnitShapesSeen) (stop : Option WriteStop) (ended ended' : Bool) → IsSound first chain number position units stop ended → units'.units ≡ units.units ++ plain_shape units.total size ∷ []
-    → units'.total ≡ units.total + size → chain' ≡ record { place = chain.place + size; previous = size } → (ended' ≡ false → units'.total + 13 ≤ 2 ^ 40) → IsSound first chain' number position units' stop ended'
+pub sound_plain : (first number position size : ℕ) (chain chain' : ChainSeen) (units units' : UnitShapesSeen) (stop : Option WriteStop) (ended ended' : Bool) → IsWriterSound first chain number position units stop ended → units'.units ≡ units.units ++ plain_shape units.total size ∷ []
+    → units'.total ≡ units.total + size → chain' ≡ record { place = chain.place + size; previous = size } → (ended' ≡ false → units'.total + 13 ≤ 2 ^ 40) → IsWriterSound first chain' number position units' stop ended'
 sound_plain first number position size chain chain' units units' stop ended ended' s list total links room =
     let u = plain_shape units.total size in
     let long = plain_length units.total size in
@@ -89,9 +89,9 @@ sound_plain first number position size chain chain' units units' stop ended ende
     }
 
 -- behind a picture and what is due before it
-pub sound_picture : (parts : HeaderParts) (p : Params) (begins : Bool) (first number number' position : ℕ) (chain chain' : ChainSeen) (units units' : UnitShapesSeen) (stop : Option WriteStop) (ended : Bool) → IsSound first chain number position units stop ended
+pub sound_picture : (parts : HeaderParts) (p : Params) (begins : Bool) (first number number' position : ℕ) (chain chain' : ChainSeen) (units units' : UnitShapesSeen) (stop : Option WriteStop) (ended : Bool) → IsWriterSound first chain number position units stop ended
     → units'.units ≡ units.units ++ due_shapes parts p begins units.total → units'.total ≡ units.total + bytes_before parts begins + unit_length p → chain' ≡ record { place = units'.total; previous = unit_length p } → number' ≡ (number + 1) % 2 ^ 32
-    → 1 ≤ slice_count p.slicing → units'.total + 13 ≤ 2 ^ 40 → IsSound first chain' number' (position + 1) units' stop ended
+    → 1 ≤ slice_count p.slicing → units'.total + 13 ≤ 2 ^ 40 → IsWriterSound first chain' number' (position + 1) units' stop ended
 sound_picture parts p begins first number number' position chain chain' units units' stop ended s list total links next some room =
     let pictures : pictures_among units.units + 1 ≡ pictures_among units'.units = sym (pictures_due parts p begins units.units units.total some) ∙ ap pictures_among (sym list) in
     record {
@@ -105,8 +105,8 @@ sound_picture parts p begins first number number' position chain chain' units un
     }
 
 -- over a list with room for more, whatever stop is kept
-pub sound_kept : (first number position : ℕ) (chain : ChainSeen) (units units' : UnitShapesSeen) (stop stop' : Option WriteStop) (ended : Bool) → IsSound first chain number position units stop ended → units'.units ≡ units.units → units'.total ≡ units.total
-    → IsSound first chain number position units' stop' ended
+pub sound_kept : (first number position : ℕ) (chain : ChainSeen) (units units' : UnitShapesSeen) (stop stop' : Option WriteStop) (ended : Bool) → IsWriterSound first chain number position units stop ended → units'.units ≡ units.units → units'.total ≡ units.total
+    → IsWriterSound first chain number position units' stop' ended
 sound_kept first number position chain units units' stop stop' ended s list total = record {
   total = total ∙ s.total ∙ ap total_length (sym list);
   place = s.place ∙ sym total;

@@ -14,7 +14,7 @@ use Rattle.slice_encoder.specs.Trials.{CodedPicture}
 use Rattle.slice_encoder.specs.Chosen.{chosen, written_slice, written_slices}
 use Rattle.slice_encoder.specs.TrialLaws.{IsIndex}
 use Rattle.slice_encoder.specs.Ready.{AreGiven}
-use Rattle.picture_codec.specs.Written.{AreWritten, params_of}
+use Rattle.picture_codec.specs.Written.{AreWritten, coded_params}
 use Rattle.picture_codec.proofs.Steps.{column_in, row_in, number_is}
 use Rattle.picture_codec.proofs.WrittenPictures as pictures
 use Rattle.picture_codec.proofs.WrittenPasses.{not_too_long, is_small_there}
@@ -39,8 +39,8 @@ are_slices parts p k (slice ∷ slices) f =
 both_hold : (too_long small : Bool) → too_long ≡ false → small ≡ true → first_broken ((not too_long or_else reasons.LumaLengthTooLong) ∷ (small or_else reasons.CoefficientTooLarge) ∷ []) ≡ None
 both_hold too_long small e f = rw (e, f) refl
 
-module _ (parts : HeaderParts) (wavelet : Wavelet) (j : CodedPicture) (indices : List ℕ) (slices : List (List ℕ)) (allowed : IsAllowed j.slicing) (given : AreGiven j) (all : All IsIndex indices) (written : AreWritten j indices slices) (luma : j.frame.luma ≡ luma_size parts) (colour : j.frame.colour ≡ colour_size parts) (shares : HaveShares (params_of wavelet j) slices) where
-  is_slice : (n : ℕ) → n < length slices → IsSlice parts (params_of wavelet j) n (get_or slices n [])
+module _ (parts : HeaderParts) (wavelet : Wavelet) (j : CodedPicture) (indices : List ℕ) (slices : List (List ℕ)) (allowed : IsAllowed j.slicing) (given : AreGiven j) (all : All IsIndex indices) (written : AreWritten j indices slices) (luma : j.frame.luma ≡ luma_size parts) (colour : j.frame.colour ≡ colour_size parts) (shares : HaveShares (coded_params wavelet j) slices) where
+  is_slice : (n : ℕ) → n < length slices → IsSlice parts (coded_params wavelet j) n (get_or slices n [])
   is_slice n lt =
       let s = j.slicing in
       let sx = n % s.slices_x in
@@ -58,10 +58,10 @@ module _ (parts : HeaderParts) (wavelet : Wavelet) (j : CodedPicture) (indices :
         passes = subst (λ (y : Size). rules y (colour_size parts) (get_or slices n [])) luma (subst (λ (c : Size). rules j.frame.luma c (get_or slices n [])) colour (subst (rules j.frame.luma j.frame.colour) same here));
       }
 
-  pub sliced : IsSliced parts (params_of wavelet j) slices
+  pub sliced : IsSliced parts (coded_params wavelet j) slices
   sliced = record {
     count = shares.count;
-    each = are_slices parts (params_of wavelet j) 0 slices (λ i lt. subst (λ n. IsSlice parts (params_of wavelet j) n (get_or slices i [])) (first i) (is_slice i lt));
+    each = are_slices parts (coded_params wavelet j) 0 slices (λ i lt. subst (λ n. IsSlice parts (coded_params wavelet j) n (get_or slices i [])) (first i) (is_slice i lt));
   }
     where
       first : (i : ℕ) → i ≡ 0 + i
@@ -75,7 +75,7 @@ pub chosen_are_sliced : ChosenAreSliced
 chosen_are_sliced parts wavelet j allowed given steep luma colour =
     let s = j.slicing in
     let many : length (written_slices j) ≡ slice_count s = length-map-range_with_len (written_slice j) 0 (slice_count s) in
-    let shares : HaveShares (params_of wavelet j) (written_slices j) = record {
+    let shares : HaveShares (coded_params wavelet j) (written_slices j) = record {
       count = many;
       many = λ n lt. let few : n < slice_count s = omega (arith, lt, many) in ap length (slice_there j allowed given steep n few) ∙ share_is j allowed given steep n few;
       fit = λ n lt. let few : n < slice_count s = omega (arith, lt, many) in subst (λ l. AllByRecursion (λ b. b < 256) l) (sym (slice_there j allowed given steep n few)) (bytes_there j allowed given steep n);

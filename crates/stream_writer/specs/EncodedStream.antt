@@ -13,7 +13,7 @@ use Rattle.sequence_header.specs.Bytes.{header_len, header_bytes}
 use Rattle.sequence_header.specs.Checking as checking
 use Rattle.slice_geometry.specs.Slicing.{slice_count}
 use Rattle.transform_params.specs.Params.{Params}
-use Rattle.transform_params.specs.ParameterFields.{unit_length, IsLawful}
+use Rattle.transform_params.specs.ParameterFields.{unit_length, AreLawfulParams}
 use Rattle.picture_codec.specs.Encoding.{picture_bytes}
 use Rattle.stream_rows.specs.Units.{DataUnit, Sequence, Picture, End, share, slice_rules}
 use Rattle.stream_rows.specs.Streams.{Entry, IsStream}
@@ -124,8 +124,8 @@ IsGroup coding (Some group) = (1 ≤ group) × (coding ≡ 1 → group % 2 ≡ 0
 
 -- settings that break no rule
 pub record AreLawful (s : Settings) : Type 0 where
-  pub header : checking.IsLawful s.parts
-  pub params : IsLawful s.params
+  pub header : checking.IsLawfulHeader s.parts
+  pub params : AreLawfulParams s.params
   pub first : s.first < 2 ^ 32
   pub even : s.parts.coding ≡ 1 → s.first % 2 ≡ 0
   pub group : IsGroup s.parts.coding s.group

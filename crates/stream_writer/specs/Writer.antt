@@ -177,6 +177,6 @@ texts_from w [] = end_unit (next_previous w)
 texts_from w (slices ∷ pictures) = due_units w slices ++ texts_from (after_picture w) pictures
 
 -- each of them has room when its turn comes, as it has where its call answers Ok
-abbrev pub HaveRoom : StreamWriterSeen → List (List (List ℕ)) → Type 0
-HaveRoom w [] = Unit {0}
-HaveRoom w (slices ∷ pictures) = HasRoom w × HaveRoom (after_picture w) pictures
+abbrev pub HaveRoomInTurn : StreamWriterSeen → List (List (List ℕ)) → Type 0
+HaveRoomInTurn w [] = Unit {0}
+HaveRoomInTurn w (slices ∷ pictures) = HasRoom w × HaveRoomInTurn (after_picture w) pictures

@@ -15,7 +15,7 @@ use Rattle.stream_writer.specs.EncodedStream.{Settings, header_length, header_un
 use Rattle.stream_writer.specs.Writer.{StreamWriterSeen, IsSteepUnder, total_length, pictures_among, last_length}
 
 -- place, offset and number are those of the units that are written
-pub record IsSound (first : ℕ) (chain : ChainSeen) (number position : ℕ) (shapes : UnitShapesSeen) (stop : Option WriteStop)
+pub record IsWriterSound (first : ℕ) (chain : ChainSeen) (number position : ℕ) (shapes : UnitShapesSeen) (stop : Option WriteStop)
     (ended : Bool) : Type 0 where
   pub total : shapes.total ≡ total_length shapes.units
   pub place : chain.place ≡ shapes.total
@@ -34,7 +34,7 @@ pub record DueSeen : Type 0 where
   pub due : List ℕ
 
 -- The buffer has room for an end, a header and a picture's unit. The header stands there.
-pub record Holds (parts : HeaderParts) (p : Params) (buffer : List ℕ) (from : ℕ) : Type 0 where
+pub record HoldsHeader (parts : HeaderParts) (p : Params) (buffer : List ℕ) (from : ℕ) : Type 0 where
   pub long : length buffer ≡ HEAD_SIZE + header_length parts + unit_length p
   pub small : unit_length p < 2 ^ 32
   pub inside : from ≤ length buffer
@@ -46,8 +46,8 @@ pub record Encodes (parts : HeaderParts) (p : Params) (encoder : PictureEncoderS
   pub params : encoder.params ≡ p
 
 -- a writer that wrote nothing yet
-abbrev pub IsReady : Settings → StreamWriterSeen → Type 0
-IsReady s w = (w ≡ record { settings = s; shapes = []; ended = false; stop = None }) × IsSteepUnder s
+abbrev pub IsNewWriter : Settings → StreamWriterSeen → Type 0
+IsNewWriter s w = (w ≡ record { settings = s; shapes = []; ended = false; stop = None }) × IsSteepUnder s
 
 -- why there is none
 abbrev pub IsUnready : Settings → WriteStop → Type 0

@@ -12,7 +12,7 @@ use Rattle.slice_encoder.specs.Trials.{CodedPicture, luma_of, c1_of, c2_of, rest
 use Rattle.slice_encoder.specs.Chosen.{chosen, written_slices}
 use Rattle.slice_encoder.specs.TrialLaws.{IsIndex, IsSteepOk}
 use Rattle.slice_encoder.specs.Ready.{AreGiven}
-use Rattle.picture_codec.specs.Written.{AreWritten, params_of}
+use Rattle.picture_codec.specs.Written.{AreWritten, coded_params}
 use Rattle.stream_rows.specs.Units.{share}
 use Rattle.stream_writer.specs.EncodedStream.{IsSliced}
 
@@ -37,12 +37,12 @@ HoldLists j indices slices = (sx sy : ℕ) → sx < j.slicing.slices_x → sy < 
 abbrev pub WrittenAreSliced : Type 0
 WrittenAreSliced = (parts : HeaderParts) (wavelet : Wavelet) (j : CodedPicture) (indices : List ℕ)
     (slices : List (List ℕ)) → IsAllowed j.slicing → AreGiven j → All IsIndex indices → AreWritten j indices slices
-    → j.frame.luma ≡ luma_size parts → j.frame.colour ≡ colour_size parts → HaveShares (params_of wavelet j) slices
-    → IsSliced parts (params_of wavelet j) slices × HoldLists j indices slices
+    → j.frame.luma ≡ luma_size parts → j.frame.colour ≡ colour_size parts → HaveShares (coded_params wavelet j) slices
+    → IsSliced parts (coded_params wavelet j) slices × HoldLists j indices slices
 
 -- So are the slices that an encoder chooses for a picture, each at the least index at which it fits after those before it.
 abbrev pub ChosenAreSliced : Type 0
 ChosenAreSliced = (parts : HeaderParts) (wavelet : Wavelet) (j : CodedPicture) → IsAllowed j.slicing → AreGiven j
     → IsSteepOk j.slicing.depth (max j.frame.luma_depth j.frame.colour_depth) j.matrix
     → j.frame.luma ≡ luma_size parts → j.frame.colour ≡ colour_size parts
-    → IsSliced parts (params_of wavelet j) (written_slices j) × HoldLists j (chosen j (slice_count j.slicing)) (written_slices j)
+    → IsSliced parts (coded_params wavelet j) (written_slices j) × HoldLists j (chosen j (slice_count j.slicing)) (written_slices j)

@@ -39,13 +39,13 @@ pub(crate) struct DueUnits {
 impl Model for DueUnits {
     ghost use Rattle.std.specs.Prelude.{drop};
     ghost use Rattle.transform_params.specs.Views.{params_of};
-    ghost use Rattle.stream_writer.specs.WriterInside.{DueSeen, Holds, Encodes};
+    ghost use Rattle.stream_writer.specs.WriterInside.{DueSeen, HoldsHeader, Encodes};
 
     ghost Value = { DueSeen };
 
     ghost view = { λ a. record { parts = a.header; params = params_of a.params; due = drop a.from a.buffer.items } };
 
-    ghost invariant = { λ a. Holds a.header (params_of a.params) a.buffer.items a.from × Encodes a.header (params_of a.params) a.encoder };
+    ghost invariant = { λ a. HoldsHeader a.header (params_of a.params) a.buffer.items a.from × Encodes a.header (params_of a.params) a.encoder };
 }
 
 impl DueUnits {
@@ -117,7 +117,8 @@ impl DueUnits {
         requires spare { 3 ≤ shapes.old.spare }
         requires place { chain.old.place ≡ shapes.old.total }
         requires most { shapes.old.total + bytes_before self.now.parts begins ≤ INPUT_LIMIT }
-        ensures units { shapes.new.units ≡ shapes.old.units ++ shapes_before self.now.parts begins shapes.old.total }
+        ensures units { shapes.new.units
+            ≡ shapes.old.units ++ shapes_before self.now.parts begins shapes.old.total }
         ensures total { shapes.new.total ≡ shapes.old.total + bytes_before self.now.parts begins }
         ensures spare { 1 ≤ shapes.new.spare }
         ensures place { chain.new.place ≡ shapes.new.total }
@@ -135,10 +136,17 @@ impl DueUnits {
     pub fn step(&self, begins: bool, shapes: &mut UnitShapes, chain: &mut Chain)
         requires spare { 3 ≤ shapes.old.spare }
         requires place { chain.old.place ≡ shapes.old.total }
-        requires most { shapes.old.total + bytes_before self.now.parts begins + unit_length self.now.params ≤ INPUT_LIMIT }
-        ensures units { shapes.new.units ≡ shapes.old.units ++ due_shapes self.now.parts self.now.params begins shapes.old.total }
-        ensures total { shapes.new.total ≡ shapes.old.total + bytes_before self.now.parts begins + unit_length self.now.params }
-        ensures chain { chain.new ≡ record { place = shapes.new.total; previous = unit_length self.now.params } }
+        requires most { shapes.old.total + bytes_before self.now.parts begins
+            + unit_length self.now.params ≤ INPUT_LIMIT }
+        ensures units { shapes.new.units
+            ≡ shapes.old.units ++ due_shapes self.now.parts self.now.params begins
+            shapes.old.total }
+        ensures total { shapes.new.total
+            ≡ shapes.old.total + bytes_before self.now.parts begins + unit_length self.now.params }
+        ensures chain { chain.new ≡ record {
+          place = shapes.new.total;
+          previous = unit_length self.now.params;
+        } }
         ensures some { 1 ≤ slice_count self.now.params.slicing }
     {
         self.step_before(begins, shapes, chain);
@@ -151,7 +159,12 @@ impl DueUnits {
     /// many bytes.
     pub fn put(&mut self, picture: &Picture, begins: bool, previous: u32, number: u32)
         requires shape { IsShapeOf picture.now.shape self.old.parts }
-        ensures { self.new ≡ record { parts = self.old.parts; params = self.old.params; due = units_with self.old.parts self.old.params begins previous number (slices_of (frame_under self.old.parts) self.old.params picture.now.samples) } }
+        ensures { self.new ≡ record {
+          parts = self.old.parts;
+          params = self.old.params;
+          due = units_with self.old.parts self.old.params begins previous number
+              (slices_of (frame_under self.old.parts) self.old.params picture.now.samples);
+        } }
     {
         let header_len = self.header_len();
         let front = 13 + header_len as usize;

@@ -7,7 +7,7 @@ ghost use Rattle.picture_codec.specs.Encoding.{slices_of};
 ghost use Rattle.stream_rows.specs.Streams.{frame_under};
 ghost use Rattle.stream_writer.specs.EncodedStream.{begins_at, IsGroup, header_length, header_unit};
 ghost use Rattle.stream_writer.specs.Writer.{total_length, plain_shape, Starts, WritesPicture, WritesEnd, Wrote, EndStops, WriteCause};
-ghost use Rattle.stream_writer.specs.WriterInside.{IsReady, IsUnready};
+ghost use Rattle.stream_writer.specs.WriterInside.{IsNewWriter, IsUnready};
 
 use crate::due_units::DueUnits;
 use crate::write_stop::WriteStop;
@@ -49,13 +49,13 @@ pub struct StreamWriter {
 
 impl Model for StreamWriter {
     ghost use Rattle.stream_writer.specs.Writer.{StreamWriterSeen};
-    ghost use Rattle.stream_writer.specs.WriterInside.{IsSound};
+    ghost use Rattle.stream_writer.specs.WriterInside.{IsWriterSound};
 
     ghost Value = { StreamWriterSeen };
 
     ghost view = { λ w. record { settings = record { parts = w.due.parts; params = w.due.params; first = w.first; group = w.group }; shapes = w.shapes.units; ended = w.ended; stop = w.stop } };
 
-    ghost invariant = { λ w. IsSound w.first w.chain w.number w.position w.shapes w.stop w.ended };
+    ghost invariant = { λ w. IsWriterSound w.first w.chain w.number w.position w.shapes w.stop w.ended };
 }
 
 impl StreamWriter {
@@ -67,7 +67,14 @@ impl StreamWriter {
         first: u32,
         group: Option<u32>,
     ) -> Result<StreamWriter, WriteStop>
-        ensures { MatchResult result (IsReady (record { parts = header.now; params = params_of params.now; first = first; group = group })) (IsUnready (record { parts = header.now; params = params_of params.now; first = first; group = group })) }
+        ensures { MatchResult result (IsNewWriter
+            (record {
+              parts = header.now;
+              params = params_of params.now;
+              first = first;
+              group = group;
+            })) (IsUnready (record
+            { parts = header.now; params = params_of params.now; first = first; group = group })) }
     {
         let encoder = match PictureEncoder::new(alloc, &header.picture_shape(), params) {
             Ok(made) => made,
@@ -94,8 +101,13 @@ impl StreamWriter {
     fn begin<K: Sink>(&mut self, sink: &mut K) -> Result<(), WriteStop>
         requires nothing { self.old.shapes ≡ [] }
         requires open { self.old.ended ≡ false }
-        ensures wrote { Wrote (header_unit self.old.settings.parts) (K.written sink.old) (K.written sink.new) result }
-        ensures after { IfOk result (λ _. self.new ≡ record self.old { shapes = plain_shape 0 (header_length self.old.settings.parts) ∷ [] }) }
+        ensures wrote { Wrote (header_unit self.old.settings.parts) (K.written sink.old)
+            (K.written sink.new) result }
+        ensures after { IfOk result (λ _. self.new
+            ≡ record self.old {
+              shapes = plain_shape 0
+                  (header_length self.old.settings.parts) ∷ [];
+            }) }
         ensures why { EndStops result }
         ensures cause { WriteCause (K.faults sink.old) (K.faults sink.new) result }
     {
@@ -126,7 +138,12 @@ impl StreamWriter {
     ) -> Result<StreamWriter, WriteStop>
         requires even { header.now.coding ≡ 1 → first % 2 ≡ 0 }
         requires group { IsGroup header.now.coding group }
-        ensures starts { Starts (record { parts = header.now; params = params_of params.now; first = first; group = group }) (K.written sink.old) (K.written sink.new) result }
+        ensures starts { Starts (record {
+          parts = header.now;
+          params = params_of params.now;
+          first = first;
+          group = group;
+        }) (K.written sink.old) (K.written sink.new) result }
         ensures cause { WriteCause (K.faults sink.old) (K.faults sink.new) result }
     {
         let mut writer = StreamWriter::ready(alloc, header, params, first, group)?;
@@ -145,9 +162,14 @@ impl StreamWriter {
     pub fn picture<K: Sink>(&mut self, picture: &Picture, sink: &mut K) -> Result<(), WriteStop>
         requires open { self.old.ended ≡ false }
         requires shape { IsShapeOf picture.now.shape self.old.settings.parts }
-        ensures picture { self.old.stop ≡ None → WritesPicture self.old self.new (slices_of (frame_under self.old.settings.parts) self.old.settings.params picture.now.samples) (K.written sink.old) (K.written sink.new) result }
-        ensures cause { self.old.stop ≡ None → WriteCause (K.faults sink.old) (K.faults sink.new) result }
-        ensures kept { IfSome self.old.stop (λ stop. (result ≡ Err stop) × (self.new ≡ self.old) × (K.written sink.new ≡ K.written sink.old) × (K.faults sink.new ≡ K.faults sink.old)) }
+        ensures picture { self.old.stop ≡ None
+            → WritesPicture self.old self.new
+            (slices_of (frame_under self.old.settings.parts) self.old.settings.params
+            picture.now.samples) (K.written sink.old) (K.written sink.new) result }
+        ensures cause { self.old.stop ≡ None
+            → WriteCause (K.faults sink.old) (K.faults sink.new) result }
+        ensures kept { IfSome self.old.stop (λ stop. (result ≡ Err stop) × (self.new ≡ self.old)
+            × (K.written sink.new ≡ K.written sink.old) × (K.faults sink.new ≡ K.faults sink.old)) }
     {
         if let Some(stop) = self.stop {
             return Err(stop);
@@ -180,9 +202,12 @@ impl StreamWriter {
     /// Writes the end of the last sequence. There is room for it. Only `shapes` may be called behind it.
     pub fn end<K: Sink>(&mut self, sink: &mut K) -> Result<(), WriteStop>
         requires { self.old.ended ≡ false }
-        ensures end { self.old.stop ≡ None → WritesEnd self.old self.new (K.written sink.old) (K.written sink.new) result }
-        ensures cause { self.old.stop ≡ None → WriteCause (K.faults sink.old) (K.faults sink.new) result }
-        ensures kept { IfSome self.old.stop (λ stop. (result ≡ Err stop) × (self.new ≡ self.old) × (K.written sink.new ≡ K.written sink.old) × (K.faults sink.new ≡ K.faults sink.old)) }
+        ensures end { self.old.stop ≡ None
+            → WritesEnd self.old self.new (K.written sink.old) (K.written sink.new) result }
+        ensures cause { self.old.stop ≡ None
+            → WriteCause (K.faults sink.old) (K.faults sink.new) result }
+        ensures kept { IfSome self.old.stop (λ stop. (result ≡ Err stop) × (self.new ≡ self.old)
+            × (K.written sink.new ≡ K.written sink.old) × (K.faults sink.new ≡ K.faults sink.old)) }
     {
         if let Some(stop) = self.stop {
             return Err(stop);

@@ -44,7 +44,8 @@ pub(crate) fn write_picture_unit(
     requires shape { picture.now.shape ≡ encoder.old.shape }
     requires long { length unit.old ≡ unit_length encoder.old.params }
     requires small { length unit.old < 2 ^ 32 }
-    ensures unit { unit.new ≡ picture_unit encoder.old.params previous number (slices_of (frame_of encoder.old.shape) encoder.old.params picture.now.samples) }
+    ensures unit { unit.new ≡ picture_unit encoder.old.params previous number
+        (slices_of (frame_of encoder.old.shape) encoder.old.params picture.now.samples) }
     ensures same_encoder { encoder.new ≡ encoder.old }
 {
     let mut head = [0; 13];

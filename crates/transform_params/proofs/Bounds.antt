@@ -2,7 +2,7 @@
 use Rattle.std.proofs.Common.{ℕ, ◌+◌, ◌^◌, ◌<◌, ◌≤◌, List, [], ◌∷◌, length, arith}
 use Rattle.field_rows.proofs.CodeLengths.{AreFew, AreFew-append, few_short}
 use Rattle.transform_params.specs.Params.{Params, params_fields}
-use Rattle.transform_params.specs.ParameterFields.{wavelet_fields, slicing_fields, entry_fields, matrix_fields, fields_of, byte_length, unit_length, IsLawful}
+use Rattle.transform_params.specs.ParameterFields.{wavelet_fields, slicing_fields, entry_fields, matrix_fields, fields_of, byte_length, unit_length, AreLawfulParams}
 use Rattle.transform_params.proofs.WrittenBack.{params_kinds}
 
 few_entries : (entries : List ℕ) → AreFew (length entries) (entry_fields entries)
@@ -17,9 +17,9 @@ few_fields p =
     (record { each = (tt, entries.each); count = omega (arith, entries.count) }))
 
 -- at most 20 fields of at most 65 bits
-params_short : (p : Params) → IsLawful p → byte_length p ≤ 163
+params_short : (p : Params) → AreLawfulParams p → byte_length p ≤ 163
 params_short p f = omega (arith, few_short (1 + (5 + (1 + length p.matrix.entries))) params_fields (fields_of p) (few_fields p) (params_kinds p f), f.count, f.allowed.depth)
 
 -- a unit of a picture has far fewer bytes than an offset counts
-pub unit_small : (p : Params) → IsLawful p → unit_length p < 2 ^ 32
+pub unit_small : (p : Params) → AreLawfulParams p → unit_length p < 2 ^ 32
 unit_small p f = omega (arith, params_short p f, f.allowed.share.total)

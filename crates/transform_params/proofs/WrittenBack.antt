@@ -14,7 +14,7 @@ use Rattle.lifting.specs.declared.Wavelet.TheVariants.{LeGall, HaarFlat, HaarShi
 use Rattle.transform_params.specs.declared.faults.TransformReason.{TransformReason}
 use Rattle.transform_params.specs.declared.faults.TransformReason.TheVariants.{DefaultMatrix}
 use Rattle.transform_params.specs.Params.{Params, reason_of, wavelet_index_rows, wavelet_rows, slices_y_rows, denominator_rows, slicing_rows, matrix_rows, params_fields, params_rows}
-use Rattle.transform_params.specs.ParameterFields.{wavelet_fields, slicing_fields, entry_fields, matrix_fields, fields_of, byte_length, params_bytes, IsLawful}
+use Rattle.transform_params.specs.ParameterFields.{wavelet_fields, slicing_fields, entry_fields, matrix_fields, fields_of, byte_length, params_bytes, AreLawfulParams}
 
 -- fields that pass and are of their rows' kinds
 record Passes {R A : Type 0} (rows : Rows R A) (vs : List Value) (a : A) : Type 0 where
@@ -76,7 +76,7 @@ pass_matrix depth m deep count small =
     (subst (λ (n : ℕ). Passes {R = TransformReason} (numbers n) (entry_fields m.entries) m.entries) count (pass_entries m.entries small))
     (subst (λ (d : ℕ). Passes {R = TransformReason} {A = Weights} (done (record { depth = d; entries = m.entries })) [] m) deep (pass_done m))))
 
-pass_params : (p : Params) → IsLawful p → Passes params_fields (fields_of p) p
+pass_params : (p : Params) → AreLawfulParams p → Passes params_fields (fields_of p) p
 unfolding params_fields
 pass_params p f =
     Passes-bind wavelet_rows (λ wavelet. slicing_rows >>= λ slicing. matrix_rows slicing.depth >>= λ matrix. done (record { wavelet = wavelet; slicing = slicing; matrix = matrix }))
@@ -87,11 +87,11 @@ pass_params p f =
     (Passes-bind (matrix_rows p.slicing.depth) (λ matrix. done (record { wavelet = p.wavelet; slicing = p.slicing; matrix = matrix })) (matrix_fields p.matrix) [] p.matrix p
     (pass_matrix p.slicing.depth p.matrix f.deep f.count f.small) (pass_done p))))
 
-pub params_kinds : (p : Params) → IsLawful p → AreOfKind params_fields (fields_of p)
+pub params_kinds : (p : Params) → AreLawfulParams p → AreOfKind params_fields (fields_of p)
 params_kinds p f = let both = pass_params p f in both.kinds
 
 -- the law
-pub written_back : (p : Params) (more : List ℕ) → IsLawful p → read reason_of params_rows (cursor_at (params_bytes p ++ more) 0) ≡ Ok (p, cursor_at (params_bytes p ++ more) (8 * byte_length p))
+pub written_back : (p : Params) (more : List ℕ) → AreLawfulParams p → read reason_of params_rows (cursor_at (params_bytes p ++ more) 0) ≡ Ok (p, cursor_at (params_bytes p ++ more) (8 * byte_length p))
 unfolding params_rows
 written_back p more f =
     let both = pass_params p f in

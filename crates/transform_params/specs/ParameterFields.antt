@@ -51,7 +51,7 @@ abbrev pub params_bytes : Params → List ℕ
 params_bytes p = bytes_of (written (fields_of p) ++ zeros_to_byte_end (bit_length p))
 
 -- Parameters that are written as they are read: they break no rule, and each number is one that a field holds.
-pub record IsLawful (p : Params) : Type 0 where
+pub record AreLawfulParams (p : Params) : Type 0 where
   pub allowed : IsAllowed p.slicing
   pub a : p.slicing.a < 2 ^ 32
   pub b : p.slicing.b < 2 ^ 32

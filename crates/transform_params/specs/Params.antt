@@ -25,8 +25,8 @@ reason_of codes.Short = Truncated
 reason_of codes.TooLarge = NumberTooLarge
 
 -- a fault as rows have it
-abbrev pub fault_of : TransformFault → Fault TransformReason
-fault_of f = record { place = f.bit; reason = f.reason }
+abbrev pub params_fault : TransformFault → Fault TransformReason
+params_fault f = record { place = f.bit; reason = f.reason }
 
 -- the wavelet indices that this profile allows
 abbrev pub is_wavelet : ℕ → Bool

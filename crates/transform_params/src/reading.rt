@@ -3,7 +3,7 @@
 ghost use Rattle.std.specs.Prelude.{◌≡◌, ◌≤◌, ◌+◌, ◌*◌, ◌^◌, ◌/◌, take, length, IfErr, IfOk};
 ghost use Rattle.bit_codes.specs.Bits.{cursor_at};
 ghost use Rattle.field_rows.specs.Rows.{Gives, GivesOf, read, numbers};
-ghost use Rattle.transform_params.specs.Params.{reason_of, fault_of, wavelet_index_rows, wavelet_of, wavelet_rows, slices_y_rows, denominator_rows, slicing_rows, matrix_rows, params_fields, params_rows};
+ghost use Rattle.transform_params.specs.Params.{reason_of, params_fault, wavelet_index_rows, wavelet_of, wavelet_rows, slices_y_rows, denominator_rows, slicing_rows, matrix_rows, params_fields, params_rows};
 ghost use Rattle.transform_params.specs.Views.{params_of};
 
 use crate::TransformParams;
@@ -16,7 +16,7 @@ use slice_geometry::Layout;
 
 #[tactic(auto, using(field_rows::proofs::Reading::asking), unfolding(crate::specs::Params::wavelet_index_rows))]
 fn wavelet_index(r: &mut BitReader<'_>) -> Result<u32, TransformFault>
-    ensures { Gives (λ v. v) fault_of result r.new (read reason_of wavelet_index_rows r.old) }
+    ensures { Gives (λ v. v) params_fault result r.new (read reason_of wavelet_index_rows r.old) }
 {
     let bit = r.place();
     let index = number(r)?;
@@ -44,7 +44,7 @@ fn wavelet_of(index: u32) -> Wavelet
 
 #[tactic(auto, using(field_rows::proofs::Reading::reading), unfolding(crate::specs::Params::wavelet_rows))]
 fn wavelet(r: &mut BitReader<'_>) -> Result<Wavelet, TransformFault>
-    ensures { Gives (λ v. v) fault_of result r.new (read reason_of wavelet_rows r.old) }
+    ensures { Gives (λ v. v) params_fault result r.new (read reason_of wavelet_rows r.old) }
 {
     let index = wavelet_index(r)?;
     Ok(wavelet_of(index))
@@ -53,7 +53,8 @@ fn wavelet(r: &mut BitReader<'_>) -> Result<Wavelet, TransformFault>
 #[tactic(auto, using(field_rows::proofs::Reading::asking), unfolding(crate::specs::Params::slices_y_rows))]
 fn slices_y(r: &mut BitReader<'_>, slices_x: u32) -> Result<u32, TransformFault>
     requires { slices_x ≤ 8192 }
-    ensures exact { Gives (λ v. v) fault_of result r.new (read reason_of (slices_y_rows slices_x) r.old) }
+    ensures exact { Gives (λ v. v) params_fault result r.new
+        (read reason_of (slices_y_rows slices_x) r.old) }
     ensures range { IfOk result (λ v. (1 ≤ v) × (v ≤ 8192) × (slices_x * v ≤ 2 ^ 20)) }
 {
     let bit = r.place();
@@ -70,7 +71,8 @@ fn slices_y(r: &mut BitReader<'_>, slices_x: u32) -> Result<u32, TransformFault>
 #[tactic(auto, using(field_rows::proofs::Reading::asking), unfolding(crate::specs::Params::denominator_rows))]
 fn denominator(r: &mut BitReader<'_>, count: u32, a: u32) -> Result<u32, TransformFault>
     requires { count ≤ 2 ^ 20 }
-    ensures exact { Gives (λ v. v) fault_of result r.new (read reason_of (denominator_rows count a) r.old) }
+    ensures exact { Gives (λ v. v) params_fault result r.new
+        (read reason_of (denominator_rows count a) r.old) }
     ensures range { IfOk result (λ v. (1 ≤ v) × (v ≤ a) × (count * a / v ≤ 2 ^ 28)) }
 {
     let place = r.place();
@@ -87,7 +89,8 @@ fn denominator(r: &mut BitReader<'_>, count: u32, a: u32) -> Result<u32, Transfo
 // So many numbers, in the front of an array.
 fn entries(r: &mut BitReader<'_>, count: usize) -> Result<[u32; 13], TransformFault>
     requires { count ≤ 13 }
-    ensures { Gives (λ entries. take count entries) fault_of result r.new (read reason_of (numbers count) r.old) }
+    ensures { Gives (λ entries. take count entries) params_fault result r.new
+        (read reason_of (numbers count) r.old) }
 {
     let mut entries = [0; 13];
     for i in 0..count {
@@ -99,7 +102,7 @@ fn entries(r: &mut BitReader<'_>, count: usize) -> Result<[u32; 13], TransformFa
 // How the picture is cut into slices.
 #[tactic(auto, using(field_rows::proofs::Reading::reading), unfolding(crate::specs::Params::slicing_rows))]
 fn layout(r: &mut BitReader<'_>) -> Result<Layout, TransformFault>
-    ensures { Gives (λ l. l) fault_of result r.new (read reason_of slicing_rows r.old) }
+    ensures { Gives (λ l. l) params_fault result r.new (read reason_of slicing_rows r.old) }
 {
     let depth = number_within(r, 0, 4, TransformReason::DepthRefused)?;
     let slices_x = number_within(r, 1, 8192, TransformReason::SlicesRefused)?;
@@ -116,7 +119,8 @@ fn layout(r: &mut BitReader<'_>) -> Result<Layout, TransformFault>
 #[tactic(auto, using(field_rows::proofs::Reading::reading), unfolding(crate::specs::Params::matrix_rows))]
 fn matrix(r: &mut BitReader<'_>, depth: u32) -> Result<Matrix, TransformFault>
     requires { depth ≤ 4 }
-    ensures exact { Gives (λ m. m) fault_of result r.new (read reason_of (matrix_rows depth) r.old) }
+    ensures exact { Gives (λ m. m) params_fault result r.new
+        (read reason_of (matrix_rows depth) r.old) }
     ensures depth { IfOk result (λ m. m.depth ≡ depth) }
 {
     let _custom = flag_set(r, TransformReason::DefaultMatrix)?;
@@ -127,7 +131,7 @@ fn matrix(r: &mut BitReader<'_>, depth: u32) -> Result<Matrix, TransformFault>
 
 #[tactic(auto, using(field_rows::proofs::Reading::reading), unfolding(crate::specs::Params::params_fields))]
 fn params(r: &mut BitReader<'_>) -> Result<TransformParams, TransformFault>
-    ensures { Gives params_of fault_of result r.new (read reason_of params_fields r.old) }
+    ensures { Gives params_of params_fault result r.new (read reason_of params_fields r.old) }
 {
     let wavelet = wavelet(r)?;
     let layout = layout(r)?;
@@ -144,7 +148,8 @@ impl TransformParams {
     /// the last one's end; or the first fault in the order of the fields, which lies within the bytes.
     pub fn read(bytes: &[u8]) -> Result<(TransformParams, usize), TransformFault>
         requires { length bytes.now ≤ 2 ^ 40 }
-        ensures exact { GivesOf params_of fault_of result bytes.now (read reason_of params_rows (cursor_at bytes.now 0)) }
+        ensures exact { GivesOf params_of params_fault result bytes.now
+            (read reason_of params_rows (cursor_at bytes.now 0)) }
         ensures within { IfErr result (λ f. f.bit ≤ 8 * length bytes.now) }
     {
         let mut r = BitReader::new(bytes);

@@ -6,7 +6,7 @@ ghost use Rattle.bit_codes.specs.Bits.{bits_before, cursor_at};
 ghost use Rattle.field_rows.specs.Rows.{read};
 ghost use Rattle.field_rows.specs.Given.{written};
 ghost use Rattle.transform_params.specs.Params.{reason_of, params_rows};
-ghost use Rattle.transform_params.specs.ParameterFields.{wavelet_index, slicing_fields, matrix_fields, entry_fields, bit_length, byte_length, unit_length, params_bytes, IsLawful};
+ghost use Rattle.transform_params.specs.ParameterFields.{wavelet_index, slicing_fields, matrix_fields, entry_fields, bit_length, byte_length, unit_length, params_bytes, AreLawfulParams};
 ghost use Rattle.transform_params.specs.Views.{params_of};
 
 use crate::TransformParams;
@@ -47,7 +47,7 @@ impl TransformParams {
     fn bit_len(&self) -> u32
         ensures value { result ≡ bit_length (params_of self.now) }
         ensures most { result ≤ 1240 }
-        ensures lawful { IsLawful (params_of self.now) }
+        ensures lawful { AreLawfulParams (params_of self.now) }
     {
         let layout = self.layout;
         1 + uint_len(wavelet_index(self.wavelet))
@@ -63,7 +63,7 @@ impl TransformParams {
     pub fn byte_len(&self) -> usize
         ensures value { result ≡ byte_length (params_of self.now) }
         ensures most { result ≤ 155 }
-        ensures lawful { IsLawful (params_of self.now) }
+        ensures lawful { AreLawfulParams (params_of self.now) }
     {
         ((self.bit_len() + 7) / 8) as usize
     }
@@ -72,7 +72,7 @@ impl TransformParams {
     /// the slices.
     pub fn unit_len(&self) -> u32
         ensures value { result ≡ unit_length (params_of self.now) }
-        ensures lawful { IsLawful (params_of self.now) }
+        ensures lawful { AreLawfulParams (params_of self.now) }
     {
         17 + self.byte_len() as u32 + self.layout.total_bytes()
     }
@@ -82,7 +82,9 @@ impl TransformParams {
     pub fn write(&self, bytes: &mut [u8])
         requires { length bytes.old ≡ byte_length (params_of self.now) }
         ensures bytes { bytes.new ≡ params_bytes (params_of self.now) }
-        ensures read_back { (more : List ℕ) → read reason_of params_rows (cursor_at (bytes.new ++ more) 0) ≡ Ok (params_of self.now, cursor_at (bytes.new ++ more) (8 * length bytes.new)) }
+        ensures read_back { (more : List ℕ)
+            → read reason_of params_rows (cursor_at (bytes.new ++ more) 0)
+            ≡ Ok (params_of self.now, cursor_at (bytes.new ++ more) (8 * length bytes.new)) }
     {
         prove!(self.byte_len() <= 155);
         let mut w = BitWriter::new(bytes);
@@ -95,10 +97,12 @@ impl TransformParams {
 
 #[tactic(auto, using(field_rows::proofs::Written::writing))]
 fn put_layout(w: &mut BitWriter<'_>, layout: &Layout)
-    requires { w.old.place + length (written (slicing_fields layout.now)) ≤ 8 * length w.old.bytes.now }
+    requires { w.old.place + length (written (slicing_fields layout.now))
+        ≤ 8 * length w.old.bytes.now }
     ensures same_reference { w.new.bytes.ghost_name ≡ w.old.bytes.ghost_name }
     ensures place { w.new.place ≡ w.old.place + length (written (slicing_fields layout.now)) }
-    ensures written { bits_before w.new.place w.new.bytes.now ≡ bits_before w.old.place w.old.bytes.now ++ written (slicing_fields layout.now) }
+    ensures written { bits_before w.new.place w.new.bytes.now
+        ≡ bits_before w.old.place w.old.bytes.now ++ written (slicing_fields layout.now) }
     ensures room { length w.new.bytes.now ≡ length w.old.bytes.now }
 {
     w.put_uint(layout.depth());
@@ -110,10 +114,12 @@ fn put_layout(w: &mut BitWriter<'_>, layout: &Layout)
 
 #[tactic(auto, using(field_rows::proofs::Written::writing))]
 fn put_matrix(w: &mut BitWriter<'_>, matrix: &Matrix)
-    requires { w.old.place + length (written (matrix_fields matrix.now)) ≤ 8 * length w.old.bytes.now }
+    requires { w.old.place + length (written (matrix_fields matrix.now))
+        ≤ 8 * length w.old.bytes.now }
     ensures same_reference { w.new.bytes.ghost_name ≡ w.old.bytes.ghost_name }
     ensures place { w.new.place ≡ w.old.place + length (written (matrix_fields matrix.now)) }
-    ensures written { bits_before w.new.place w.new.bytes.now ≡ bits_before w.old.place w.old.bytes.now ++ written (matrix_fields matrix.now) }
+    ensures written { bits_before w.new.place w.new.bytes.now
+        ≡ bits_before w.old.place w.old.bytes.now ++ written (matrix_fields matrix.now) }
     ensures room { length w.new.bytes.now ≡ length w.old.bytes.now }
 {
     w.put_flag(true);

@@ -54,7 +54,8 @@ fn fill_row(row: &mut [u16], start: u32, first: u64, depth: u32) -> u32
     requires depth { IsDepth depth }
     requires short { length row.old ≤ 8192 }
     ensures len { length row.new ≡ length row.old }
-    ensures row { (x : ℕ) → x < length row.old → slice_index_or row.new x 0 ≡ (x + first + state_at start (x + 1) / 4096) % 2 ^ depth }
+    ensures row { (x : ℕ) → x < length row.old
+        → slice_index_or row.new x 0 ≡ (x + first + state_at start (x + 1) / 4096) % 2 ^ depth }
     ensures below { All (λ v. v < 2 ^ depth) row.new }
     ensures state { result ≡ state_at start (length row.old) }
     ensures small { result < 2 ^ 16 }
@@ -100,8 +101,11 @@ fn fill_rows(picture: &mut Picture, c: Component, p: u64, start: u32, line: &mut
     requires long { length line.old ≡ width_of picture.old c }
     ensures same_shape { picture.new.shape ≡ picture.old.shape }
     ensures rows { (seed first : ℕ) → start ≡ state_at seed first
-        → shown picture.new c ≡ video_rows seed p first (bits_of picture.old c) (pictures.size_of (frame_of picture.old.shape) c) }
-    ensures others { (other : Component) → other ≢ c → shown picture.new other ≡ shown picture.old other }
+        → shown picture.new c
+        ≡ video_rows seed p first (bits_of picture.old c)
+        (pictures.size_of (frame_of picture.old.shape) c) }
+    ensures others { (other : Component) → other ≢ c
+        → shown picture.new other ≡ shown picture.old other }
     ensures state { result ≡ state_at start (height_of picture.old c * width_of picture.old c) }
     ensures small { result < 2 ^ 16 }
 {
@@ -123,8 +127,11 @@ fn fill_component(picture: &mut Picture, c: Component, p: u64, start: u32) -> u3
     requires start { start < 2 ^ 16 }
     ensures same_shape { picture.new.shape ≡ picture.old.shape }
     ensures rows { (seed first : ℕ) → start ≡ state_at seed first
-        → shown picture.new c ≡ video_rows seed p first (bits_of picture.old c) (pictures.size_of (frame_of picture.old.shape) c) }
-    ensures others { (other : Component) → other ≢ c → shown picture.new other ≡ shown picture.old other }
+        → shown picture.new c
+        ≡ video_rows seed p first (bits_of picture.old c)
+        (pictures.size_of (frame_of picture.old.shape) c) }
+    ensures others { (other : Component) → other ≢ c
+        → shown picture.new other ≡ shown picture.old other }
     ensures state { result ≡ state_at start (height_of picture.old c * width_of picture.old c) }
     ensures small { result < 2 ^ 16 }
 {
@@ -158,7 +165,11 @@ impl TrialVideo {
     pub fn next(&mut self, picture: &mut Picture)
         requires shape { picture.old.shape ≡ self.old.shape }
         requires few { self.old.pictures < 2 ^ 40 }
-        ensures picture { picture.new ≡ record { shape = picture.old.shape; samples = video_picture (frame_of self.old.shape) self.old.seed self.old.pictures } }
+        ensures picture { picture.new
+            ≡ record {
+              shape = picture.old.shape;
+              samples = video_picture (frame_of self.old.shape) self.old.seed self.old.pictures;
+            } }
         ensures after { self.new ≡ record self.old { pictures = self.old.pictures + 1 } }
     {
         let p = self.pictures;

@@ -15,8 +15,8 @@ ghost use Rattle.unit_reader.specs.Running.{begun, machine_over, Passes, Turns};
 use crate::reader::{Reader, Turn};
 use crate::stop::ReadStop;
 use crate::table::Table;
-use vc2_io::{Sink, Source};
 use run_theory::Halt;
+use vc2_io::{Sink, Source};
 
 /// A command, by what it writes for each unit and at the end.
 pub trait UnitCommand<T: Table>: Drop {
@@ -49,15 +49,22 @@ pub trait UnitCommand<T: Table>: Drop {
 
     /// Writes the text before any read.
     fn open<K: Sink>(&mut self, out: &mut K) -> Result<(), Halt>
-        ensures wrote { WritesText (command).opening (K.written out.old) (K.written out.new) result }
+        ensures wrote { WritesText (command).opening (K.written out.old)
+            (K.written out.new) result }
         ensures own { self.new ≡ self.old }
         ensures cause { HaltHasCause 0 0 (K.faults out.old) (K.faults out.new) result };
 
     /// Writes the text of a unit, behind which the table is.
     fn turn<K: Sink>(&mut self, table: &T, item: T::Item, out: &mut K) -> Result<(), Halt>
-        requires { (before : T) × Passes T.grammar T.beyond T.past T.tells before table.now item × keeps self.old before }
-        ensures wrote { (before : T) (p : Passes T.grammar T.beyond T.past T.tells before table.now item) → keeps self.old before → Turns (command) (T.past before) p.unit p.bytes (own self.old before) (own self.new table.now) (K.written out.old) (K.written out.new) result }
-        ensures keeps { (before : T) → Passes T.grammar T.beyond T.past T.tells before table.now item → keeps self.old before → OnOk result (keeps self.new table.now) }
+        requires { (before : T) × Passes T.grammar T.beyond T.past T.tells before table.now item
+            × keeps self.old before }
+        ensures wrote { (before : T) (p : Passes T.grammar T.beyond T.past T.tells before table.now
+            item) → keeps self.old before
+            → Turns (command) (T.past before) p.unit p.bytes (own self.old before)
+            (own self.new table.now) (K.written out.old) (K.written out.new) result }
+        ensures keeps { (before : T)
+            → Passes T.grammar T.beyond T.past T.tells before table.now item
+            → keeps self.old before → OnOk result (keeps self.new table.now) }
         ensures cause { HaltHasCause 0 0 (K.faults out.old) (K.faults out.new) result };
 
     /// Ends behind the last unit, behind which the table is.
@@ -67,14 +74,19 @@ pub trait UnitCommand<T: Table>: Drop {
         item: T::Item,
         out: &mut K,
     ) -> Result<Self::Ending, Halt>
-        requires { (before : T) × Passes T.grammar T.beyond T.past T.tells before table.now item × keeps self.old before }
-        ensures wrote { (before : T) (p : Passes T.grammar T.beyond T.past T.tells before table.now item) → keeps self.old before → (T.grammar).behind p.unit ≡ Final → let close = (command).finished (T.past before) (own self.old before) p.unit p.bytes in
+        requires { (before : T) × Passes T.grammar T.beyond T.past T.tells before table.now item
+            × keeps self.old before }
+        ensures wrote { (before : T) (p : Passes T.grammar T.beyond T.past T.tells before table.now
+            item) → keeps self.old before → (T.grammar).behind p.unit ≡ Final
+            → let close = (command).finished (T.past before) (own self.old before) p.unit p.bytes in
             Closes close.ending close.last (K.written out.old) (K.written out.new) result }
         ensures cause { HaltHasCause 0 0 (K.faults out.old) (K.faults out.new) result };
 
     /// Ends where the input is over before a unit.
     fn rest<K: Sink>(&mut self, table: &T, out: &mut K) -> Result<Self::Ending, Halt>
-        ensures wrote { (before : T) → T.past table.now ≡ T.past before → (T.grammar).rests (T.past before) ≡ true → keeps self.old before → let close = (command).rested (T.past before) (own self.old before) in
+        ensures wrote { (before : T) → T.past table.now ≡ T.past before
+            → (T.grammar).rests (T.past before) ≡ true → keeps self.old before
+            → let close = (command).rested (T.past before) (own self.old before) in
             Closes close.ending close.last (K.written out.old) (K.written out.new) result }
         ensures cause { HaltHasCause 0 0 (K.faults out.old) (K.faults out.new) result };
 
@@ -86,7 +98,12 @@ pub trait UnitCommand<T: Table>: Drop {
         reason: T::Reason,
         out: &mut K,
     ) -> Result<Self::Ending, Halt>
-        ensures wrote { (before : T) (held0 held1 : List ℕ) (rest0 : Option (List ℕ)) (fault : Fault T.Reason) → place ≡ fault.place / 8 → reason ≡ fault.reason → T.stopped before table.now held0 rest0 held1 (stops.Refused (record { place = place; reason = reason })) → T.past table.now ≡ T.past before → keeps self.old before → let close = (command).refused (T.past before) (own self.old before) fault in
+        ensures wrote { (before : T) (held0 held1 : List ℕ) (rest0 : Option (List ℕ))
+            (fault : Fault T.Reason) → place ≡ fault.place / 8 → reason ≡ fault.reason
+            → T.stopped before table.now held0 rest0 held1
+            (stops.Refused (record { place = place; reason = reason }))
+            → T.past table.now ≡ T.past before → keeps self.old before
+            → let close = (command).refused (T.past before) (own self.old before) fault in
             Closes close.ending close.last (K.written out.old) (K.written out.new) result }
         ensures cause { HaltHasCause 0 0 (K.faults out.old) (K.faults out.new) result };
 
@@ -107,8 +124,12 @@ pub fn run_units<T: Table, C: UnitCommand<T>, S: Source, K: Sink>(
     requires first { T.past reader.old.table ≡ C.first }
     requires start { C.own command.old reader.old.table ≡ C.start command.old }
     requires keeps { C.keeps command.old reader.old.table }
-    ensures runs { Runs (machine_over T.grammar T.beyond C.first (begun C.command (C.start command.old))) C.is_done (change S.rest S.faults src.old src.new) (change K.written K.faults out.old out.new) result }
-    ensures soon { Soon C.may_go_on (machine_over T.grammar T.beyond C.first (begun C.command (C.start command.old))) READ_SIZE (S.rest src.old) (S.rest src.new) result }
+    ensures runs { Runs (machine_over T.grammar T.beyond C.first
+        (begun C.command (C.start command.old))) C.is_done (change S.rest S.faults src.old src.new)
+        (change K.written K.faults out.old out.new) result }
+    ensures soon { Soon C.may_go_on (machine_over T.grammar T.beyond C.first
+        (begun C.command (C.start command.old))) READ_SIZE (S.rest src.old)
+        (S.rest src.new) result }
 {
     match command.open(out) {
         Ok(()) => {}

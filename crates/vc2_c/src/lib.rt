@@ -45,11 +45,14 @@ fn answer(
 ) -> u32
     requires empty { (out.old.len ≡ 0) × (note.old.len ≡ 0) }
     requires sound { (out.old.failures ≡ 0) × (note.old.failures ≡ 0) }
-    ensures loans { (out.new.cells.ghost_name ≡ out.old.cells.ghost_name) × (note.new.cells.ghost_name ≡ note.old.cells.ghost_name) }
-    ensures sizes { (length out.new.cells.now ≡ length out.old.cells.now) × (length note.new.cells.now ≡ length note.old.cells.now) }
+    ensures loans { (out.new.cells.ghost_name ≡ out.old.cells.ghost_name)
+        × (note.new.cells.ghost_name ≡ note.old.cells.ghost_name) }
+    ensures sizes { (length out.new.cells.now ≡ length out.old.cells.now)
+        × (length note.new.cells.now ≡ length note.old.cells.now) }
     ensures answer { IsAnswer (reply_to (map string_bytes words.now) input.now)
         (record { size = length out.old.cells.now; bytes = take out.new.len out.new.cells.now })
-        (record { size = length note.old.cells.now; bytes = take note.new.len note.new.cells.now }) result }
+        (record { size = length note.old.cells.now; bytes = take note.new.len note.new.cells.now })
+        result }
 {
     let mut src = SteadySource::new(input);
     let status = run(alloc, words, &mut src, out, note);
@@ -66,11 +69,14 @@ fn answer_text(
 ) -> u32
     requires empty { (out.old.len ≡ 0) × (note.old.len ≡ 0) }
     requires sound { (out.old.failures ≡ 0) × (note.old.failures ≡ 0) }
-    ensures loans { (out.new.cells.ghost_name ≡ out.old.cells.ghost_name) × (note.new.cells.ghost_name ≡ note.old.cells.ghost_name) }
-    ensures sizes { (length out.new.cells.now ≡ length out.old.cells.now) × (length note.new.cells.now ≡ length note.old.cells.now) }
+    ensures loans { (out.new.cells.ghost_name ≡ out.old.cells.ghost_name)
+        × (note.new.cells.ghost_name ≡ note.old.cells.ghost_name) }
+    ensures sizes { (length out.new.cells.now ≡ length out.old.cells.now)
+        × (length note.new.cells.now ≡ length note.old.cells.now) }
     ensures answer { IsAnswer (reply_to (words_of text.now) input.now)
         (record { size = length out.old.cells.now; bytes = take out.new.len out.new.cells.now })
-        (record { size = length note.old.cells.now; bytes = take note.new.len note.new.cells.now }) result }
+        (record { size = length note.old.cells.now; bytes = take note.new.len note.new.cells.now })
+        result }
 {
     match words_of(alloc, text) {
         Ok(words) => answer(alloc, &words, input, out, note),
@@ -96,7 +102,8 @@ pub extern "C" fn vc2_run(
         (record { size = length out.new; bytes = take out_len.new out.new })
         (record { size = length note.new; bytes = take note_len.new note.new }) result }
     // Of other words nothing is done, and the code says so.
-    ensures not_text { ¬ (IsUtf8 words.now) → (result ≡ 6) × (out_len.new ≡ 0) × (note_len.new ≡ 0) }
+    ensures not_text { ¬ (IsUtf8 words.now) → (result ≡ 6) × (out_len.new ≡ 0)
+        × (note_len.new ≡ 0) }
     // The counts lie in the rooms.
     ensures counts { (out_len.new ≤ length out.new) × (note_len.new ≤ length note.new) }
 {

@@ -50,7 +50,9 @@ impl Sink for Room<'_> {
     fn write(&mut self, piece: &[u8]) -> Result<usize, Failed>
         ensures bound { WritesAtMost result piece.now }
         ensures some { IfOk result (λ n. 0 < length piece.now → 0 < n) }
-        ensures bytes { WriteAppends (Some (told self.old.cells.ghost_name self.old.cells.now self.old.len)) (Some (told self.new.cells.ghost_name self.new.cells.now self.new.len)) result piece.now }
+        ensures bytes { WriteAppends (Some (told self.old.cells.ghost_name self.old.cells.now
+            self.old.len)) (Some (told self.new.cells.ghost_name self.new.cells.now self.new.len))
+            result piece.now }
         ensures cause { HasCause self.old.failures self.new.failures result }
     {
         let count = piece.len().min(self.cells.len() - self.len);

@@ -10,8 +10,8 @@ use Rattle.stream_rows.specs.Streams.{limit}
 use Rattle.stream_writer.specs.EncodedStream.{begins_at, header_length, number_after, units_with}
 use Rattle.stream_writer.specs.Writer.{StreamWriterSeen, pictures_among, bytes_before, due_shapes, due_units, begins_next, after_picture, HasRoom}
 use Rattle.stream_writer.proofs.WrittenShapes.{total_due, pictures_due, last_due, plain_length}
-use Rattle.vc2_words.specs.Settings.{Asked, later_sequences, stream_length}
-use Rattle.vc2_cli.specs.Encode.{shapes_at, stream_place, previous_at, number_at, units_at, place_due, has_room}
+use Rattle.vc2_words.specs.Settings.{Asked, later_sequences, asked_length}
+use Rattle.vc2_cli.specs.Encode.{shapes_at, stream_place, previous_at, number_of_next, units_at, place_due, has_room}
 use Rattle.vc2_cli.specs.EncodeTurn.{behind, IsBehind}
 
 -- ---- one picture more
@@ -25,7 +25,7 @@ place_next e n = total_due e.parts e.params (begins_at e.group n) (shapes_at e n
 pub previous_next : (e : Asked) (n : ℕ) → previous_at e (suc n) ≡ unit_length e.params
 previous_next e n = last_due e.parts e.params (begins_at e.group n) (shapes_at e n) (stream_place e n)
 
-pub number_next : (e : Asked) (n : ℕ) → number_after (number_at e n) ≡ number_at e (suc n)
+pub number_next : (e : Asked) (n : ℕ) → number_after (number_of_next e n) ≡ number_of_next e (suc n)
 number_next e n = omega arith
 
 rises_by : (e : Asked) (k n m : ℕ) → m ≡ n + k → stream_place e n ≤ stream_place e m
@@ -125,7 +125,7 @@ later_next (Some (suc g)) (suc m) =
     by false t = omega (arith, next_part m g (λ none. false≢true (sym t ∙ eq-eqb (suc m % suc g) 0 none)))
 
 -- the bytes of a stream of n pictures
-pub length_behind : (e : Asked) (n : ℕ) → stream_place e n + 13 ≡ stream_length e.parts e.params e.group n
+pub length_behind : (e : Asked) (n : ℕ) → stream_place e n + 13 ≡ asked_length e.parts e.params e.group n
 length_behind e zero =
     let none = later_first e.group in
     omega (arith, place_first e, ap (λ (k : ℕ). (1 + k) * (header_length e.parts + 13)) none)
@@ -140,7 +140,7 @@ length_behind e (suc n) = by (length_behind e n) (begins_at e.group n) refl
     same : (q size unit : ℕ) → ((1 + q) * size + n * unit) + unit ≡ (1 + (q + 0)) * size + suc n * unit
     same q size unit = grind arith
 
-    by : stream_place e n + 13 ≡ stream_length e.parts e.params e.group n → (begins : Bool) → begins_at e.group n ≡ begins → stream_place e (suc n) + 13 ≡ stream_length e.parts e.params e.group (suc n)
+    by : stream_place e n + 13 ≡ asked_length e.parts e.params e.group n → (begins : Bool) → begins_at e.group n ≡ begins → stream_place e (suc n) + 13 ≡ asked_length e.parts e.params e.group (suc n)
     by behind true t =
         let next = place_next e n ∙ ap (λ (b : Bool). stream_place e n + bytes_before e.parts b + unit_length e.params) t in
         let later = later_next e.group n ∙ ap (λ (b : Bool). later_sequences e.group n + cond b 1 0) t in

@@ -19,10 +19,10 @@ use Rattle.vc2_cli.specs.Mapped.{answer_told}
 use Rattle.vc2_words.specs.Commands.{cut}
 use Rattle.vc2_cli.specs.Reply.{reply_of, command_reply}
 use Rattle.vc2_cli.specs.StreamReplies.{AreBytes, refused_reply}
-use Rattle.vc2_cli.specs.CutReplies.{AreCut, IsCutWhole, IsCutRefused, cut_reply}
+use Rattle.vc2_cli.specs.CutReplies.{HasCutReply, IsCutWhole, IsCutRefused, cut_reply}
 use Rattle.vc2_cli.proofs.Mapped.{told_answer}
 
-pub are_cut : (c : CutSettings) (pieces : List Piece) (tail : List ℕ) (left : Past) → StandWithin nothing_yet pieces tail left → AreCut c pieces tail left
+pub are_cut : (c : CutSettings) (pieces : List Piece) (tail : List ℕ) (left : Past) → StandWithin nothing_yet pieces tail left → HasCutReply c pieces tail left
 are_cut c pieces tail left stand =
     let frames = frames_of c in
     let runs = cuts_by_running frames pieces tail left stand in

@@ -8,13 +8,13 @@ use Rattle.slice_geometry.specs.declared.PictureShape.{PictureShape}
 use Rattle.slice_geometry.specs.Frames.{Frame, frame_of}
 use Rattle.slice_geometry.specs.declared.unit_list.UnitShape.{UnitShape}
 use Rattle.slice_geometry.specs.UnitLengths as lengths
-use Rattle.slice_geometry.specs.UnitLengths.{IsUnitAllowed, StandInTurn}
+use Rattle.slice_geometry.specs.UnitLengths.{IsUnitAllowed, ShapesInTurn}
 use Rattle.slice_geometry.specs.Slicing.{slice_count, total_bytes}
 use Rattle.slice_geometry.proofs.UnitLemmas.{in_turn-push}
 use Rattle.sequence_header.specs.declared.parts.HeaderParts.{HeaderParts}
 use Rattle.sequence_header.specs.Coding.{IsShapeOf}
 use Rattle.transform_params.specs.Params.{Params}
-use Rattle.transform_params.specs.ParameterFields.{unit_length, IsLawful}
+use Rattle.transform_params.specs.ParameterFields.{unit_length, AreLawfulParams}
 use Rattle.transform_params.proofs.Bounds.{unit_small}
 use Rattle.channel_schedule.specs.declared.schedule.Schedule.{Schedule}
 use Rattle.channel_schedule.specs.declared.schedule.Outcome.{Outcome}
@@ -69,7 +69,7 @@ use Rattle.vc2_cli.proofs.EncodedWalk.{behind_unit, behind_header, behind_pictur
 
 -- ---- the units stand one after another
 
-module _ (s : Asked) (f : IsLawful s.params) where
+module _ (s : Asked) (f : AreLawfulParams s.params) where
   picture_allowed : (place : ℕ) → IsUnitAllowed (picture_shape s.params place)
   picture_allowed place = record {
     some = f.allowed.share.some;
@@ -82,30 +82,30 @@ module _ (s : Asked) (f : IsLawful s.params) where
   plain_allowed place size = record { some = lit≤ tt; byte = lit≤ tt; count = lit≤ tt; share = lit≤ tt }
 
   -- with the units that are due with a picture
-  due_in_turn : (begins : Bool) (list : List UnitShape) (place : ℕ) → StandInTurn 0 list place → StandInTurn 0 (list ++ due_shapes s.parts s.params begins place) (place + bytes_before s.parts begins + unit_length s.params)
+  due_in_turn : (begins : Bool) (list : List UnitShape) (place : ℕ) → ShapesInTurn 0 list place → ShapesInTurn 0 (list ++ due_shapes s.parts s.params begins place) (place + bytes_before s.parts begins + unit_length s.params)
   due_in_turn false list place there =
       let u = picture_shape s.params (place + 0) in
-      subst (λ (k : ℕ). StandInTurn 0 (list ++ u ∷ []) k) (omega (arith, picture_length s.params (place + 0))) (in_turn-push 0 list place u there (omega arith) (picture_allowed (place + 0)))
+      subst (λ (k : ℕ). ShapesInTurn 0 (list ++ u ∷ []) k) (omega (arith, picture_length s.params (place + 0))) (in_turn-push 0 list place u there (omega arith) (picture_allowed (place + 0)))
   due_in_turn true list place there =
       let h = header_length s.parts in
       let a = plain_shape place 13 in
       let b = plain_shape (place + 13) h in
       let c = picture_shape s.params (place + bytes_before s.parts true) in
       let ends : place + lengths.unit_length a ≡ place + 13 = ap (λ (k : ℕ). place + k) (plain_length place 13) in
-      let one = subst (λ (k : ℕ). StandInTurn 0 (list ++ a ∷ []) k) ends (in_turn-push 0 list place a there refl (plain_allowed place 13)) in
+      let one = subst (λ (k : ℕ). ShapesInTurn 0 (list ++ a ∷ []) k) ends (in_turn-push 0 list place a there refl (plain_allowed place 13)) in
       let two = in_turn-push 0 (list ++ a ∷ []) (place + 13) b one refl (plain_allowed (place + 13) h) in
       let begins : place + bytes_before s.parts true ≡ place + 13 + lengths.unit_length b = omega (arith, plain_length (place + 13) h) in
       let three = in_turn-push 0 ((list ++ a ∷ []) ++ b ∷ []) (place + 13 + lengths.unit_length b) c two begins (picture_allowed (place + bytes_before s.parts true)) in
       let all : ((list ++ a ∷ []) ++ b ∷ []) ++ c ∷ [] ≡ list ++ a ∷ b ∷ c ∷ [] = append_assoc (list ++ a ∷ []) (b ∷ []) (c ∷ []) ∙ append_assoc list (a ∷ []) (b ∷ c ∷ []) in
-      subst (λ (l : List UnitShape). StandInTurn 0 l (place + bytes_before s.parts true + unit_length s.params)) all
-      (subst (λ (k : ℕ). StandInTurn 0 (((list ++ a ∷ []) ++ b ∷ []) ++ c ∷ []) k) (omega (arith, begins, picture_length s.params (place + bytes_before s.parts true))) three)
+      subst (λ (l : List UnitShape). ShapesInTurn 0 l (place + bytes_before s.parts true + unit_length s.params)) all
+      (subst (λ (k : ℕ). ShapesInTurn 0 (((list ++ a ∷ []) ++ b ∷ []) ++ c ∷ []) k) (omega (arith, begins, picture_length s.params (place + bytes_before s.parts true))) three)
 
-  in_turn : (n : ℕ) → StandInTurn 0 (shapes_at s n) (stream_place s n)
+  in_turn : (n : ℕ) → ShapesInTurn 0 (shapes_at s n) (stream_place s n)
   in_turn zero = (refl, plain_allowed 0 (header_length s.parts), omega (arith, plain_length 0 (header_length s.parts)))
-  in_turn (suc n) = subst (λ (k : ℕ). StandInTurn 0 (shapes_at s (suc n)) k) (sym (place_next s n)) (due_in_turn (begins_at s.group n) (shapes_at s n) (stream_place s n) (in_turn n))
+  in_turn (suc n) = subst (λ (k : ℕ). ShapesInTurn 0 (shapes_at s (suc n)) k) (sym (place_next s n)) (due_in_turn (begins_at s.group n) (shapes_at s n) (stream_place s n) (in_turn n))
 
-  all_in_turn : (n : ℕ) → StandInTurn 0 (shapes_at s n ++ plain_shape (stream_place s n) 13 ∷ []) (stream_place s n + 13)
-  all_in_turn n = subst (λ (k : ℕ). StandInTurn 0 (shapes_at s n ++ plain_shape (stream_place s n) 13 ∷ []) (stream_place s n + k)) (plain_length (stream_place s n) 13)
+  all_in_turn : (n : ℕ) → ShapesInTurn 0 (shapes_at s n ++ plain_shape (stream_place s n) 13 ∷ []) (stream_place s n + 13)
+  all_in_turn n = subst (λ (k : ℕ). ShapesInTurn 0 (shapes_at s n ++ plain_shape (stream_place s n) 13 ∷ []) (stream_place s n + k)) (plain_length (stream_place s n) 13)
       (in_turn-push 0 (shapes_at s n) (stream_place s n) (plain_shape (stream_place s n) 13) (in_turn n) refl (plain_allowed (stream_place s n) 13))
 
   -- the bytes of the units behind n pictures
@@ -239,7 +239,7 @@ module _ (s : Asked) (schedule : Schedule) (f : AreLawful (written_under s)) whe
 
 -- ---- the least schedule runs
 
-plan_runs : (s : Asked) (n : ℕ) → IsLawful s.params → IsRate s.rate → outcome_of (ended_plan s (shapes_at s n) (stream_place s n)) (shapes_at s n ++ plain_shape (stream_place s n) 13 ∷ []) (stream_place s n + 13) ≡ Runs
+plan_runs : (s : Asked) (n : ℕ) → AreLawfulParams s.params → IsRate s.rate → outcome_of (ended_plan s (shapes_at s n) (stream_place s n)) (shapes_at s n ++ plain_shape (stream_place s n) 13 ∷ []) (stream_place s n + 13) ≡ Runs
 plan_runs s n f rate =
     let list = shapes_in (shapes_at s n ++ plain_shape (stream_place s n) 13 ∷ []) (stream_place s n + 13) in
     let delay = plan_delay list s.rate s.idle in

@@ -6,12 +6,12 @@ use Rattle.std.proofs.lemmas.List.{length-append}
 use Rattle.std.proofs.Math.Seq.{drop-append_seam}
 use Rattle.sequence_header.specs.declared.parts.HeaderParts.{HeaderParts}
 use Rattle.sequence_header.specs.Coding.{IsShapeOf, luma_size, colour_size, luma_depth, colour_depth}
-use Rattle.sequence_header.specs.Checking.{Passes}
+use Rattle.sequence_header.specs.Checking.{PassesRules}
 use Rattle.sequence_header.proofs.Shapes.{luma_fits, colour_fits, depth_fits, excursions}
 use Rattle.slice_geometry.specs.declared.PictureShape.{PictureShape}
 use Rattle.slice_geometry.specs.Frames.{Frame}
 use Rattle.slice_geometry.specs.Slicing.{slice_count}
-use Rattle.transform_params.specs.ParameterFields.{unit_length, IsLawful}
+use Rattle.transform_params.specs.ParameterFields.{unit_length, AreLawfulParams}
 use Rattle.picture_codec.specs.Samples.{PictureSamples}
 use Rattle.picture_codec.specs.Encoding.{slices_of}
 use Rattle.raw_video.specs.RawText.{raw_text}
@@ -32,7 +32,7 @@ use Rattle.vc2_words.specs.Settings.{Asked}
 use Rattle.vc2_cli.specs.declared.status.Ending.{Ending}
 use Rattle.vc2_cli.specs.declared.status.Note.TheVariants.{Encoded}
 use Rattle.vc2_cli.specs.declared.status.Ending.TheVariants.{Done}
-use Rattle.vc2_cli.specs.Encode.{written_under, raw_size, stream_place, previous_at, number_at, units_at, has_room, is_half, refused_at, shapes_at, ended_plan, ended_at, last_text, encoding, encode_machine}
+use Rattle.vc2_cli.specs.Encode.{written_under, raw_size, stream_place, previous_at, number_of_next, units_at, has_room, is_half, refused_at, shapes_at, ended_plan, ended_at, last_text, encoding, encode_machine}
 use Rattle.vc2_cli.specs.WholePictures.{raw_input, stream_of}
 use Rattle.vc2_cli.specs.EncodeReply.{MayBeWritten, encoded_reply, AreEncoded}
 use Rattle.vc2_cli.specs.Reply.{reply_of}
@@ -40,7 +40,7 @@ use Rattle.vc2_cli.proofs.EncodeTurns.{encode_laws}
 use Rattle.vc2_cli.proofs.Behind.{previous_next, number_next, room_before}
 
 -- the shape of a header's pictures
-abbrev pub header_shape : (p : HeaderParts) → Passes p → PictureShape
+abbrev pub header_shape : (p : HeaderParts) → PassesRules p → PictureShape
 header_shape p q = record {
   luma = luma_size p;
   colour = colour_size p;
@@ -52,14 +52,14 @@ header_shape p q = record {
   colour_depth_fits = depth_fits _ (excursions p.signal q.signal).some_colour (excursions p.signal q.signal).colour;
 }
 
-pub header_has : (p : HeaderParts) (q : Passes p) → IsShapeOf (header_shape p q) p
+pub header_has : (p : HeaderParts) (q : PassesRules p) → IsShapeOf (header_shape p q) p
 header_has p q = record { luma = refl; colour = refl; luma_depth = refl; colour_depth = refl }
 
-pub some_size : (s : Asked) → Passes s.parts → 0 < raw_size s
+pub some_size : (s : Asked) → PassesRules s.parts → 0 < raw_size s
 some_size s q = subst (λ (f : Frame). 0 < raw_length f) (frame_is s.parts (header_shape s.parts q) (header_has s.parts q)) (some_raw (header_shape s.parts q))
 
 -- a picture has a slice
-pub some_slices : (s : Asked) → IsLawful s.params → 1 ≤ slice_count s.params.slicing
+pub some_slices : (s : Asked) → AreLawfulParams s.params → 1 ≤ slice_count s.params.slicing
 some_slices s f = product s.params.slicing.slices_x s.params.slicing.slices_y f.allowed.slices.some_across f.allowed.slices.some_down
   where
     product : (x y : ℕ) → 1 ≤ x → 1 ≤ y → 1 ≤ x * y
@@ -67,7 +67,7 @@ some_slices s f = product s.params.slicing.slices_x s.params.slicing.slices_y f.
 
 -- ---- the walk over whole pictures
 
-module _ (s : Asked) (q : Passes s.parts) where
+module _ (s : Asked) (q : PassesRules s.parts) where
   few : (frame_under s.parts).luma_depth ≤ 16
   few = (header_shape s.parts q).luma_depth_fits.most
 
@@ -125,19 +125,19 @@ module _ (s : Asked) (q : Passes s.parts) where
 
   -- what is written is the units behind the first
   pub units_are : (n m previous : ℕ) (ps : List PictureSamples) → m ≡ n + length ps → previous_at s n ≡ previous
-      → texts n ps ++ end_unit (previous_at s m) ≡ units_behind (written_under s) n previous (number_at s n) (map (slices_of (frame_under s.parts) s.params) ps)
+      → texts n ps ++ end_unit (previous_at s m) ≡ units_behind (written_under s) n previous (number_of_next s n) (map (slices_of (frame_under s.parts) s.params) ps)
   units_are n m previous [] e is = let here : m ≡ n = omega (arith, e) in ap (λ (k : ℕ). end_unit (previous_at s k)) here ∙ ap end_unit is
   units_are n m previous (p ∷ ps) e is =
       let slices = slices_of (frame_under s.parts) s.params p in
       let others = map (slices_of (frame_under s.parts) s.params) ps in
       let rest = texts (suc n) ps ++ end_unit (previous_at s m) in
-      let unit = units_with s.parts s.params (begins_at s.group n) previous (number_at s n) slices in
+      let unit = units_with s.parts s.params (begins_at s.group n) previous (number_of_next s n) slices in
       let next : suc n ≡ n + 1 = omega arith in
       append_assoc (units_at s n slices) (texts (suc n) ps) (end_unit (previous_at s m))
-      ∙ ap (λ (k : ℕ). units_with s.parts s.params (begins_at s.group n) k (number_at s n) slices ++ rest) is
+      ∙ ap (λ (k : ℕ). units_with s.parts s.params (begins_at s.group n) k (number_of_next s n) slices ++ rest) is
       ∙ ap (λ (l : List ℕ). unit ++ l) (units_are (suc n) m (unit_length s.params) ps (omega (arith, e)) (previous_next s n))
       ∙ ap (λ (k : ℕ). unit ++ units_behind (written_under s) (suc n) (unit_length s.params) k others) (sym (number_next s n))
-      ∙ ap (λ (k : ℕ). unit ++ units_behind (written_under s) k (unit_length s.params) (number_after (number_at s n)) others) next
+      ∙ ap (λ (k : ℕ). unit ++ units_behind (written_under s) k (unit_length s.params) (number_after (number_of_next s n)) others) next
 
   whole_frames : (coding n : ℕ) → (coding ≡ 1 → n % 2 ≡ 0) → is_half coding n ≡ false
   whole_frames coding n even = by (eqb coding 1) refl

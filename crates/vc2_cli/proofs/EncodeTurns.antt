@@ -41,7 +41,7 @@ use Rattle.vc2_cli.specs.declared.status.Ending.TheVariants.{Done}
 use Rattle.run_theory.specs.Runs.{Runs, Closes}
 use Rattle.vc2_cli.specs.Endings.{IsDone}
 use Rattle.vc2_cli.specs.Encode.{written_under, raw_size, units_at, has_room, is_half, refused_at, ended_plan, ended_at, last_text, encoding, encode_machine, told_of_fault, told_of_stop}
-use Rattle.vc2_cli.specs.EncodeTurn.{IsBehind, Goes}
+use Rattle.vc2_cli.specs.EncodeTurn.{IsBehind, WritesPictures}
 use Rattle.vc2_cli.proofs.Behind.{behind_next, due_is, room_is, no_room_is}
 use Rattle.run_theory.proofs.Closing.{takes_none, cause_then}
 
@@ -104,7 +104,7 @@ runs_unopened e rest out0 out1 src to0 to1 stops.NoMemory flat starts why = reco
 }
 
 pub goes_first : (e : Asked) (rest out0 out1 : Option (List ℕ)) (r : RawReaderSeen) (w : StreamWriterSeen) → 0 < raw_size e → frame_of r.shape ≡ frame_under e.parts → r.place ≡ 0 → r.refused ≡ false → w ≡ started (written_under e)
-    → Appends out0 out1 (header_unit e.parts) → Goes e 0 rest rest out0 out1 r w
+    → Appends out0 out1 (header_unit e.parts) → WritesPictures e 0 rest rest out0 out1 r w
 goes_first e rest out0 out1 r w some frame at unrefused start wrote = record {
   frame = frame;
   unrefused = unrefused;
@@ -113,7 +113,7 @@ goes_first e rest out0 out1 r w some frame at unrefused start wrote = record {
       (turns.goes_first (frame_under e.parts) (encoding e) some rest out0 out1 wrote);
 }
 
-module _ (e : Asked) (n : ℕ) (rest0 rest1 out0 out1 : Option (List ℕ)) (reader : RawReaderSeen) (w : StreamWriterSeen) (some : 0 < raw_size e) (goes : Goes e n rest0 rest1 out0 out1 reader w) where
+module _ (e : Asked) (n : ℕ) (rest0 rest1 out0 out1 : Option (List ℕ)) (reader : RawReaderSeen) (w : StreamWriterSeen) (some : 0 < raw_size e) (goes : WritesPictures e n rest0 rest1 out0 out1 reader w) where
   abbrev f : Frame
   f = frame_under e.parts
 
@@ -143,7 +143,7 @@ module _ (e : Asked) (n : ℕ) (rest0 rest1 out0 out1 : Option (List ℕ)) (read
         by false t = refl
 
     pub goes_more : (out2 : Option (List ℕ)) (reader' : RawReaderSeen) (w' : StreamWriterSeen) → 1 ≤ slice_count e.params.slicing → reader' ≡ reader_after reader (Ok steps.Picture)
-        → WritesPicture w w' (slices_of (frame_under w.settings.parts) w.settings.params p) out1 out2 (Ok tt) → Goes e (n + 1) rest0 rest2 out0 out2 reader' w'
+        → WritesPicture w w' (slices_of (frame_under w.settings.parts) w.settings.params p) out1 out2 (Ok tt) → WritesPictures e (n + 1) rest0 rest2 out0 out2 reader' w'
     goes_more out2 reader' w' slices after wrote =
         let text : Appends out1 out2 (units_of_next e n p) = subst (λ (l : List ℕ). Appends out1 out2 l) (units_are e n w p slices goes.writer) wrote.wrote in
         let run = turns.goes_more f (encoding e) some now rest0 rest1 out0 out1 goes.run rest2 p r out2 (with_room (room_is e slices n w goes.writer wrote.why)) text in

@@ -9,7 +9,7 @@ use Rattle.sequence_header.specs.declared.parts.HeaderReason.{HeaderReason}
 use Rattle.sequence_header.specs.declared.parts.HeaderParts.{HeaderParts}
 use Rattle.sequence_header.specs.Header.{coding_rules, coding_rows}
 use Rattle.sequence_header.specs.HeaderFields.{coding_fields, frame_size}
-use Rattle.sequence_header.specs.Checking.{Passes}
+use Rattle.sequence_header.specs.Checking.{PassesRules}
 use Rattle.sequence_header.specs.Coding.{picture_height, luma_size, colour_size}
 use Rattle.sequence_header.proofs.Failing.{coding_fail}
 use Rattle.sequence_header.proofs.Indices.{not_both}
@@ -40,7 +40,7 @@ pub record HasFields (p : HeaderParts) : Type 0 where
   pub even : p.height % 2 ≡ 0
   pub quarters : p.sampling ≡ 2 → p.height % 4 ≡ 0
 
-pub has_fields : (p : HeaderParts) → Passes p → p.coding ≡ 1 → HasFields p
+pub has_fields : (p : HeaderParts) → PassesRules p → p.coding ≡ 1 → HasFields p
 has_fields p q one =
     let rule = coding_kept (frame_size p) p.sampling p.coding q.coding in
     let second = (kept _ _ _ (kept _ _ _ rule).1).0 in
@@ -57,7 +57,7 @@ has_fields p q one =
 abbrev pub of_frames : HeaderParts → HeaderParts
 of_frames p = record p { coding = 0 }
 
-frames_pass : (p : HeaderParts) → Passes p → Passes (of_frames p)
+frames_pass : (p : HeaderParts) → PassesRules p → PassesRules (of_frames p)
 frames_pass p q = record {
   version = q.version;
   size = q.size;
@@ -74,10 +74,10 @@ frames_pass p q = record {
 field_height : (p : HeaderParts) → p.coding ≡ 1 → picture_height p ≡ p.height / 2
 field_height p one = let is : eqb p.coding 1 ≡ true = eq-eqb p.coding 1 one in rw is refl
 
-twice_luma : (p : HeaderParts) → Passes p → p.coding ≡ 1 → 2 * (luma_size p).h ≡ p.height
+twice_luma : (p : HeaderParts) → PassesRules p → p.coding ≡ 1 → 2 * (luma_size p).h ≡ p.height
 twice_luma p q one = omega (arith, field_height p one, (has_fields p q one).even)
 
-twice_colour : (p : HeaderParts) → Passes p → p.coding ≡ 1 → 2 * (colour_size p).h ≡ (colour_size (of_frames p)).h
+twice_colour : (p : HeaderParts) → PassesRules p → p.coding ≡ 1 → 2 * (colour_size p).h ≡ (colour_size (of_frames p)).h
 twice_colour p q one = by (eqb p.sampling 2) refl
   where
     has : HasFields p
@@ -88,8 +88,8 @@ twice_colour p q one = by (eqb p.sampling 2) refl
     by false is = omega (arith, field_height p one, has.even)
 
 -- twice the heights of fields are heights of a picture
-pub luma_doubled : (p : HeaderParts) → Passes p → p.coding ≡ 1 → IsSize (luma_size p).w (2 * (luma_size p).h)
+pub luma_doubled : (p : HeaderParts) → PassesRules p → p.coding ≡ 1 → IsSize (luma_size p).w (2 * (luma_size p).h)
 luma_doubled p q one = subst (λ (h : ℕ). IsSize p.width h) (sym (twice_luma p q one)) (luma_fits (of_frames p) (frames_pass p q))
 
-pub colour_doubled : (p : HeaderParts) → Passes p → p.coding ≡ 1 → IsSize (colour_size p).w (2 * (colour_size p).h)
+pub colour_doubled : (p : HeaderParts) → PassesRules p → p.coding ≡ 1 → IsSize (colour_size p).w (2 * (colour_size p).h)
 colour_doubled p q one = subst (λ (h : ℕ). IsSize (colour_size p).w h) (sym (twice_colour p q one)) (colour_fits (of_frames p) (frames_pass p q))

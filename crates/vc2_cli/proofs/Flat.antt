@@ -7,14 +7,14 @@ use Rattle.planes.specs.Subbands.{band_index}
 use Rattle.slice_geometry.specs.SliceOrder.{level_of, orient_of}
 use Rattle.slice_geometry.proofs.NumberedBands.{band-exists, index-numbered}
 use Rattle.slice_decoder.proofs.Whole.{is_band}
-use Rattle.transform_params.specs.ParameterFields.{IsLawful}
+use Rattle.transform_params.specs.ParameterFields.{AreLawfulParams}
 use Rattle.vc2_words.specs.Settings.{Asked}
 use Rattle.slice_encoder.specs.TrialLaws.{IsSteepOk}
 use Rattle.stream_writer.specs.Writer.{IsSteepUnder}
 use Rattle.vc2_cli.specs.Encode.{written_under}
 use Rattle.vc2_cli.specs.Words.{greater_depth, is_flat}
 
-module _ (s : Asked) (f : IsLawful s.params) where
+module _ (s : Asked) (f : AreLawfulParams s.params) where
   abbrev leaves_room : ℕ → Bool
   leaves_room entry = leb (entry + 4 * (greater_depth s + 2 + 3 * s.params.slicing.depth)) 127
 
@@ -31,7 +31,7 @@ module _ (s : Asked) (f : IsLawful s.params) where
       le-leb _ 127 (subst (λ (v : ℕ). v + 4 * (greater_depth s + 2 + 3 * s.params.slicing.depth) ≤ 127) (sym (get_or_default_zero s.params.matrix.entries k d inside)) here))
 
 -- a test that is true exactly where the encoder's rule holds
-pub flat_answer : (s : Asked) → IsLawful s.params → (depth signal : ℕ) (result : Bool) → depth ≡ s.params.slicing.depth → signal ≡ greater_depth s → (result ≡ true → IsSteepOk depth signal s.params.matrix)
+pub flat_answer : (s : Asked) → AreLawfulParams s.params → (depth signal : ℕ) (result : Bool) → depth ≡ s.params.slicing.depth → signal ≡ greater_depth s → (result ≡ true → IsSteepOk depth signal s.params.matrix)
     → (IsSteepOk depth signal s.params.matrix → result ≡ true) → result ≡ is_flat s
 flat_answer s f depth signal result deep great to from = by result (is_flat s) refl refl
   where

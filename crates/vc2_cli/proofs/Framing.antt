@@ -21,7 +21,7 @@ use Rattle.field_weave.specs.WeaveRuns.{field_text, first_of}
 use Rattle.field_weave.proofs.WeaveLaws.{split_of_placed_table}
 use Rattle.vc2_words.proofs.Plainness.{some_same, none_some}
 use Rattle.unit_reader.proofs.Opens.{IsOpenMachine}
-use Rattle.vc2_cli.specs.Endings.{MayGoOn}
+use Rattle.vc2_cli.specs.Endings.{MayEndOtherwise}
 use Rattle.vc2_cli.specs.Telling.{PassesUnit, IsUnder, begins, tells_sequence, tells_picture}
 use Rattle.vc2_cli.proofs.Decoding.{stream_laws, stream_opens, item_tells}
 use Rattle.vc2_cli.proofs.Passing.{place_is, picture_is, shown_is}
@@ -37,7 +37,7 @@ left_of order frames first = record { order = order; frames = frames; first = fi
 pub frames_laws : (order : Order) → IsMachine (frames_machine order)
 frames_laws order = stream_laws (framing order)
 
-pub frames_opens : (order : Order) → IsOpenMachine MayGoOn (frames_machine order)
+pub frames_opens : (order : Order) → IsOpenMachine MayEndOtherwise (frames_machine order)
 frames_opens order = stream_opens (framing order) (record { finished = λ z w unit bytes. tt; rested = λ z w. tt; refused = λ z w fault short. short })
 
 -- ---- what a unit leaves to the reader

@@ -20,7 +20,7 @@ use Rattle.vc2_words.specs.Settings.{Asked}
 use Rattle.vc2_words.specs.declared.words.TrialPart.{TrialPart}
 use Rattle.vc2_words.specs.declared.settings.CutSettings.{CutSettings}
 use Rattle.vc2_words.specs.declared.settings.FieldVideo.{FieldVideo}
-use Rattle.vc2_words.specs.Lawful.{AreLawful, IsAskedSchedule, IsTrial, IsFieldVideo, IsCut}
+use Rattle.vc2_words.specs.Lawful.{AreLawful, IsAskedSchedule, IsTrial, IsFieldVideo, IsCutSettings}
 use Rattle.stream_writer.specs.Writer.{IsSteepUnder}
 use Rattle.vc2_cli.specs.Encode.{written_under}
 use Rattle.vc2_cli.specs.Words.{seen_words, is_flat, unless_steep, checked, words_ask}
@@ -178,7 +178,7 @@ pub split_is : (words : List (List ℕ)) (command : Result Command WordFault) (v
 split_is words command video same is = words_say words (split video) (split_was (asked_by words) video (sym same ∙ is))
 
 -- a cut that was read is lawful
-pub cut_is : (words : List (List ℕ)) (command : Result Command WordFault) (settings : CutSettings) → seen_words command ≡ words_ask words → seen_words command ≡ Ok (cut settings) → IsCut settings
+pub cut_is : (words : List (List ℕ)) (command : Result Command WordFault) (settings : CutSettings) → seen_words command ≡ words_ask words → seen_words command ≡ Ok (cut settings) → IsCutSettings settings
 cut_is words command settings same is = words_say words (cut settings) (cut_was (asked_by words) settings (sym same ∙ is))
 
 -- a schedule that was read is lawful

@@ -17,7 +17,7 @@ use Rattle.proxy_picture.specs.Making.{ProxyDecoderSeen, reduced_picture}
 use Rattle.proxy_picture.proofs.Full.{full_is}
 use Rattle.vc2_cli.specs.Decode.{shown_text}
 use Rattle.vc2_cli.specs.Proxy.{proxy_text, levels_in, proxying, proxy_machine, MakesProxiesOf}
-use Rattle.vc2_cli.specs.Endings.{MayGoOn}
+use Rattle.vc2_cli.specs.Endings.{MayEndOtherwise}
 use Rattle.vc2_cli.proofs.Decoding.{stream_laws, stream_opens}
 use Rattle.unit_reader.proofs.Opens.{IsOpenMachine}
 
@@ -65,7 +65,7 @@ makes_for d shape params level m shape_is params_are makes =
 pub proxy_laws : (level : ℕ) → IsMachine (proxy_machine level)
 proxy_laws level = stream_laws (proxying level)
 
-pub proxy_opens : (level : ℕ) → IsOpenMachine MayGoOn (proxy_machine level)
+pub proxy_opens : (level : ℕ) → IsOpenMachine MayEndOtherwise (proxy_machine level)
 proxy_opens level = stream_opens (proxying level) (record { finished = λ z w unit bytes. tt; rested = λ z w. tt; refused = λ z w fault short. short })
 
 -- ---- where all levels are asked for

@@ -4,7 +4,7 @@ use Rattle.std.specs.Prelude.{IfErr}
 use Rattle.vc2_io.specs.declared.TheConstants.{INPUT_LIMIT}
 use Rattle.run_theory.specs.Ran.{TakesAtMost}
 use Rattle.vc2_cli.specs.declared.status.Status.{Status}
-use Rattle.run_theory.specs.Runs.{Change, IsSteady}
+use Rattle.run_theory.specs.Runs.{Change, HasNoNewFault}
 use Rattle.vc2_cli.specs.Words.{words_ask}
 use Rattle.vc2_cli.specs.Trial.{trial_text}
 use Rattle.vc2_cli.specs.Soon.{StopsSoon, IfUnits}
@@ -17,7 +17,7 @@ pub ran_by : (words : List (List ℕ)) (src out note : Change) (told : Status)
     → IfSome src.was (λ input. IfUnits (words_ask words) (λ most. StopsSoon (command_reply (words_ask words)) most input src.is told))
     → TakesAtMost (INPUT_LIMIT + 1) src.was src.is → HasCauses src out note told
     → IfErr (words_ask words) (λ fault. AnswersUsage fault note.was note.is told × (src.is ≡ src.was) × (out.is ≡ out.was))
-    → IfTrial (words_ask words) (λ s part. AnswersTrial (trial_text s part) out.was out.is note.was note.is told × (src.is ≡ src.was) × IsSteady src)
+    → IfTrial (words_ask words) (λ s part. AnswersTrial (trial_text s part) out.was out.is note.was note.is told × (src.is ≡ src.was) × HasNoNewFault src)
     → IfHeader (words_ask words) (TakesAtMost 250 src.was src.is) → Ran words src out note told
 ran_by words src out note told settled soon limit causes usage trial header = record {
   status = told_status (words_ask words) src.was src.is out.was out.is note.was note.is told settled;

@@ -3,7 +3,7 @@ use Rattle.std.proofs.Common.{◌≡◌, ℕ, zero, suc, ◌+◌, ◌-◌, ◌*�
 use Rattle.std.proofs.lemmas.Bool.{false≢true}
 use Rattle.std.proofs.lemmas.List.{length-append, length-drop, take_at}
 use Rattle.slice_geometry.specs.Frames.{Frame}
-use Rattle.sequence_header.specs.Checking.{Passes}
+use Rattle.sequence_header.specs.Checking.{PassesRules}
 use Rattle.picture_codec.specs.Samples.{PictureSamples}
 use Rattle.picture_codec.specs.Encoding.{slices_of}
 use Rattle.raw_video.specs.RawParse.{RawFront, Shown, Over, LargeAt, CutAt, TooLong, raw_front, ahead, parse_from, raw_parse}
@@ -40,7 +40,7 @@ eqb_suc a b = by (eqb a b) refl
     by true t = let e : suc a ≡ suc b = omega (arith, eqb-true a b t) in sym (eq-eqb (suc a) (suc b) e)
     by false t = sym (ne_eqb (suc a) (suc b) (λ e. false≢true (sym t ∙ eq-eqb a b (omega (arith, e)))))
 
-module _ (s : Asked) (q : Passes s.parts) where
+module _ (s : Asked) (q : PassesRules s.parts) where
   abbrev frame : Frame
   frame = frame_under s.parts
 

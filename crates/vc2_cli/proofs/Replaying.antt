@@ -11,7 +11,7 @@ use Rattle.channel_schedule.specs.declared.schedule.Outcome.{Outcome}
 use Rattle.channel_schedule.specs.Courses.{course_of, count_in, IsOutcome}
 use Rattle.channel_schedule.proofs.Unique.{one_outcome}
 use Rattle.unit_reader.proofs.Opens.{IsOpenMachine}
-use Rattle.vc2_cli.specs.Endings.{MayGoOn, replayed}
+use Rattle.vc2_cli.specs.Endings.{MayEndOtherwise, replayed}
 use Rattle.vc2_cli.specs.Telling.{PassesUnit}
 use Rattle.vc2_cli.proofs.Decoding.{stream_laws, stream_opens}
 use Rattle.vc2_cli.proofs.Passing.{place_is}
@@ -20,7 +20,7 @@ use Rattle.vc2_cli.specs.Scheduled.{outcome_of, replaying, replaying_any, replay
 pub replay_laws : (schedule : Schedule) → IsMachine (replay_machine schedule)
 replay_laws schedule = stream_laws (replaying schedule)
 
-pub replay_opens : (schedule : Schedule) → IsOpenMachine MayGoOn (replay_machine schedule)
+pub replay_opens : (schedule : Schedule) → IsOpenMachine MayEndOtherwise (replay_machine schedule)
 replay_opens schedule = stream_opens (replaying schedule) (record { finished = λ z w unit bytes. tt; rested = λ z w. tt; refused = λ z w fault short. short })
 
 -- the outcome, as a value

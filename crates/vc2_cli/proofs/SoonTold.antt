@@ -16,13 +16,13 @@ use Rattle.vc2_cli.specs.Running.{Running}
 use Rattle.vc2_cli.specs.RunsAs.{GoesOn}
 use Rattle.vc2_cli.specs.Reply.{command_reply, status_of, reply_by}
 use Rattle.vc2_cli.specs.Settled.{Concludes, status_of_halt}
-use Rattle.vc2_cli.specs.Endings.{MayGoOn}
+use Rattle.vc2_cli.specs.Endings.{MayEndOtherwise}
 use Rattle.vc2_cli.specs.Soon.{IsOpen, StopsSoon, IfUnits}
 use Rattle.vc2_cli.proofs.Parts.{if_told}
 use Rattle.vc2_cli.proofs.Settling.{not_outside}
 
 -- the status of an ending that may change may change
-status_open : (ending : Ending) → MayGoOn ending → IsOpen (status_of ending)
+status_open : (ending : Ending) → MayEndOtherwise ending → IsOpen (status_of ending)
 status_open (Done note) goes = tt
 status_open (Scheduled outcomes.Runs) goes = tt
 status_open (Scheduled (outcomes.Late slot have need)) goes = tt

@@ -3,7 +3,7 @@ use Rattle.std.proofs.Common.{◌≡◌, ◌+◌, ℕ, List, [], Option, None, S
 use Rattle.vc2_io.specs.declared.TheConstants.{INPUT_LIMIT}
 use Rattle.run_theory.specs.Walk.{Machine, answer_to, IsMachine}
 use Rattle.run_theory.specs.Ran.{Ran, TakesAtMost, HaltHasCause}
-use Rattle.run_theory.specs.Runs.{Change, IsSteady, Runs, Closes}
+use Rattle.run_theory.specs.Runs.{Change, HasNoNewFault, Runs, Closes}
 use Rattle.run_theory.specs.declared.Halt.{Halt}
 use Rattle.run_theory.proofs.Closing.{takes_none, cause_then}
 use Rattle.unit_reader.specs.Soon.{Soon}
@@ -14,7 +14,7 @@ use Rattle.vc2_cli.specs.declared.status.Ending.{Ending}
 use Rattle.vc2_cli.specs.declared.status.Ending.TheVariants.{Done}
 use Rattle.vc2_cli.specs.declared.status.Note.TheVariants.{Nothing}
 use Rattle.vc2_cli.specs.declared.status.Status.{Status}
-use Rattle.vc2_cli.specs.Endings.{IsDone, MayGoOn}
+use Rattle.vc2_cli.specs.Endings.{IsDone, MayEndOtherwise}
 use Rattle.vc2_cli.specs.First.{header_machine, behind_first}
 use Rattle.vc2_cli.specs.Trial.{trial_text}
 use Rattle.vc2_cli.specs.Running.{running, over_units, over_video, trial_running}
@@ -24,7 +24,7 @@ use Rattle.vc2_cli.specs.Settled.{Concludes}
 use Rattle.vc2_cli.proofs.HeaderRuns.{header_laws}
 use Rattle.vc2_cli.proofs.Settling.{comes_by, at_end, trial_comes, trial_told}
 
-pub goes_on : {Z : Type 0} (machine : Machine Z Ending) (most : ℕ) (rest0 rest1 : Option (List ℕ)) (result : Result Ending Halt) → Soon MayGoOn machine most rest0 rest1 result → GoesOn (answer_to machine) most rest0 rest1 result
+pub goes_on : {Z : Type 0} (machine : Machine Z Ending) (most : ℕ) (rest0 rest1 : Option (List ℕ)) (result : Result Ending Halt) → Soon MayEndOtherwise machine most rest0 rest1 result → GoesOn (answer_to machine) most rest0 rest1 result
 goes_on machine most rest0 rest1 result s = (s.taken, s.took, s.goes, s.lost)
 
 -- a command that reads to the end
@@ -37,7 +37,7 @@ to_end machine laws most src out result r soon = record {
   soon = soon;
 }
 
-pub units_run : {Z : Type 0} (machine : Machine Z Ending) (laws : IsMachine machine) (src out : Change) (result : Result Ending Halt) → Runs machine IsDone src out result → Soon MayGoOn machine 4096 src.was src.is result
+pub units_run : {Z : Type 0} (machine : Machine Z Ending) (laws : IsMachine machine) (src out : Change) (result : Result Ending Halt) → Runs machine IsDone src out result → Soon MayEndOtherwise machine 4096 src.was src.is result
     → RunsAs (over_units machine) src out result
 units_run machine laws src out result r soon = to_end machine laws (Some 4096) src out result r (goes_on machine 4096 src.was src.is result soon)
 
@@ -50,7 +50,7 @@ few_enough rest0 rest1 few = (few.0, omega (arith, few.1), few.2)
 
 pub header_runs : (src out : Change) (result : Result Ending Halt) → ((input : List ℕ) → src.was ≡ Some input → IfOk result (λ ending. ReadsAll (status_of ending) → (more : List ℕ) → src.is ≡ Some more → more ≡ behind_first input))
     → TakesAtMost 250 src.was src.is → Ran header_machine src.was src.is out.was out.is result → HaltHasCause src.faults_were src.faults_are out.faults_were out.faults_are result
-    → Soon MayGoOn header_machine 1 src.was src.is result → RunsAs (running header_machine behind_first (Some 1)) src out result
+    → Soon MayEndOtherwise header_machine 1 src.was src.is result → RunsAs (running header_machine behind_first (Some 1)) src out result
 header_runs src out result left few ran cause soon = record {
   comes = λ input e. comes_by header_machine header_laws behind_first (Some 1) src.was src.is out.was out.is input result e (left input e) ran;
   limit = few_enough src.was src.is few;
@@ -71,7 +71,7 @@ trial_runs s part rest faults out result closes cause = record {
 -- ---- what more is said
 
 pub if_trial : (asked : AskedCommand) (src out : Change) (note0 note1 : Option (List ℕ)) (result : Result Ending Halt) (status : Status) → SaysMore asked src out result → Concludes result note0 note1 status
-    → IfTrial (Ok asked) (λ s part. AnswersTrial (trial_text s part) out.was out.is note0 note1 status × (src.is ≡ src.was) × IsSteady src)
+    → IfTrial (Ok asked) (λ s part. AnswersTrial (trial_text s part) out.was out.is note0 note1 status × (src.is ≡ src.was) × HasNoNewFault src)
 if_trial (trial s part) src out note0 note1 result status more told = (trial_told (trial_text s part) out.was out.is note0 note1 result status more.0 told, more.1, more.2)
 if_trial chain src out note0 note1 result status more told = tt
 if_trial header src out note0 note1 result status more told = tt

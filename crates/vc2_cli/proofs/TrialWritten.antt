@@ -25,10 +25,10 @@ use Rattle.stream_writer.specs.Writer.{StreamWriterSeen, total_length, next_plac
 use Rattle.stream_writer.proofs.WrittenShapes.{plain_length}
 use Rattle.stream_rows.proofs.Frames.{frame_is}
 use Rattle.vc2_words.specs.declared.words.TrialPart.{TrialPart}
-use Rattle.vc2_words.specs.Settings.{Asked, stream_length}
+use Rattle.vc2_words.specs.Settings.{Asked, asked_length}
 use Rattle.vc2_words.specs.Lawful as words
 use Rattle.vc2_words.specs.Lawful.{AreLawful, IsTrial}
-use Rattle.vc2_cli.specs.Encode.{written_under, stream_place, previous_at, number_at, shapes_at, ended_plan}
+use Rattle.vc2_cli.specs.Encode.{written_under, stream_place, previous_at, number_of_next, shapes_at, ended_plan}
 use Rattle.vc2_cli.specs.EncodeReply.{AreSettings, MayBeWritten}
 use Rattle.vc2_cli.specs.WholePictures.{stream_of, plan_for}
 use Rattle.vc2_cli.specs.Trial.{trial_pictures}
@@ -42,7 +42,7 @@ use Rattle.vc2_cli.proofs.StreamSinks.{grew_rest}
 
 -- ---- what may be written
 
-group_of : (coding : ℕ) (group : Option ℕ) → words.IsGroup coding group → IsGroup coding group
+group_of : (coding : ℕ) (group : Option ℕ) → words.IsAskedGroup coding group → IsGroup coding group
 group_of coding None g = tt
 group_of coding (Some n) g = (g.0, g.2)
 
@@ -92,28 +92,28 @@ module _ (s : Asked) (part : TrialPart) (t : IsTrial s part) where
       }
 
   -- the stream's length
-  pub trial_length : IsSteepUnder (written_under s) → length (stream_of s (trial_pictures s part)) ≡ stream_length s.parts s.params s.group part.pictures
+  pub trial_length : IsSteepUnder (written_under s) → length (stream_of s (trial_pictures s part)) ≡ asked_length s.parts s.params s.group part.pictures
   trial_length flat = length_is s (trial_pictures s part) (trial_settings s t.settings flat) trial_may ∙ ap (λ (k : ℕ). stream_place s k + 13) (trial_count s part) ∙ length_behind s part.pictures
 
 -- ---- the units from a picture on
 
-pub units_are : (s : Asked) (n previous : ℕ) (pictures : List PictureSamples) → previous_at s n ≡ previous → units_from s n pictures ≡ units_behind (written_under s) n previous (number_at s n) (map (slices_of (frame_under s.parts) s.params) pictures)
+pub units_are : (s : Asked) (n previous : ℕ) (pictures : List PictureSamples) → previous_at s n ≡ previous → units_from s n pictures ≡ units_behind (written_under s) n previous (number_of_next s n) (map (slices_of (frame_under s.parts) s.params) pictures)
 units_are s n previous [] is = ap end_unit is
 units_are s n previous (p ∷ pictures) is =
     let slices = slices_of (frame_under s.parts) s.params p in
     let next : suc n ≡ n + 1 = omega arith in
     let rest = units_are s (suc n) (unit_length s.params) pictures (previous_next s n) in
-    ap (λ (k : ℕ). units_with s.parts s.params (begins_at s.group n) k (number_at s n) slices ++ units_from s (suc n) pictures) is
-    ∙ ap (λ (l : List ℕ). units_with s.parts s.params (begins_at s.group n) previous (number_at s n) slices ++ l)
+    ap (λ (k : ℕ). units_with s.parts s.params (begins_at s.group n) k (number_of_next s n) slices ++ units_from s (suc n) pictures) is
+    ∙ ap (λ (l : List ℕ). units_with s.parts s.params (begins_at s.group n) previous (number_of_next s n) slices ++ l)
     (rest ∙ ap (λ (k : ℕ). units_behind (written_under s) (suc n) (unit_length s.params) k (map (slices_of (frame_under s.parts) s.params) pictures)) (sym (number_next s n))
-    ∙ ap (λ (k : ℕ). units_behind (written_under s) k (unit_length s.params) (number_after (number_at s n)) (map (slices_of (frame_under s.parts) s.params) pictures)) next)
+    ∙ ap (λ (k : ℕ). units_behind (written_under s) k (unit_length s.params) (number_after (number_of_next s n)) (map (slices_of (frame_under s.parts) s.params) pictures)) next)
 
 pub begins : (s : Asked) (part : TrialPart) (t : IsTrial s part) (flat : IsSteepUnder (written_under s)) (video : TrialVideoSeen) (w : StreamWriterSeen) (sink sink' : MemSinkSeen) → frame_of video.shape ≡ frame_under s.parts → video.seed ≡ part.seed → video.pictures ≡ 0
-    → w ≡ started (written_under s) → sink.bytes ≡ [] → sink.room ≡ stream_length s.parts s.params s.group part.pictures → Appends (told_of_sink sink) (told_of_sink sink') (header_unit s.parts) → HasWritten s part 0 video w sink'
+    → w ≡ started (written_under s) → sink.bytes ≡ [] → sink.room ≡ asked_length s.parts s.params s.group part.pictures → Appends (told_of_sink sink) (told_of_sink sink') (header_unit s.parts) → HasWritten s part 0 video w sink'
 begins s part t flat video w sink sink' frame seed given new empty room grew =
     let grown = grew_rest sink sink' (header_unit s.parts) grew in
     let all : part.pictures - 0 ≡ part.pictures = omega arith in
-    let number : number_at s 0 ≡ s.first = omega (arith, t.settings.first) in
+    let number : number_of_next s 0 ≡ s.first = omega (arith, t.settings.first) in
     let slices = map (slices_of (frame_under s.parts) s.params) (trial_pictures s part) in
     record {
       frame = frame;

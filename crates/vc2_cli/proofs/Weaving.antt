@@ -9,7 +9,7 @@ use Rattle.field_weave.specs.WeaveAnswers.{woven_answer, split_answer}
 use Rattle.field_weave.proofs.Answers.{weave_answer, split_answers}
 use Rattle.run_theory.specs.Ran.{HaltHasCause}
 use Rattle.run_theory.specs.declared.Halt.{Halt}
-use Rattle.sequence_header.specs.Checking.{Passes}
+use Rattle.sequence_header.specs.Checking.{PassesRules}
 use Rattle.sequence_header.specs.declared.parts.HeaderParts.{HeaderParts}
 use Rattle.stream_rows.specs.Streams.{frame_under}
 use Rattle.stream_rows.proofs.Frames.{frame_is}
@@ -25,12 +25,12 @@ use Rattle.vc2_cli.specs.declared.status.Ending.{Ending}
 use Rattle.run_theory.specs.Runs.{Runs}
 use Rattle.vc2_cli.specs.Endings.{IsDone}
 use Rattle.vc2_cli.specs.Mapped.{told_as, answer_told}
-use Rattle.vc2_cli.specs.Weave.{order_of, ending_of, weave_machine, split_machine, outcome_of}
+use Rattle.vc2_cli.specs.Weave.{order_of, ending_of, weave_command_machine, split_command_machine, outcome_of}
 use Rattle.vc2_cli.proofs.Mapped.{told_laws, told_answer, told_ran}
 use Rattle.vc2_cli.proofs.EncodeReplies.{header_shape, header_has}
 
 -- a field has a byte, and so has a frame
-some_field : (p : HeaderParts) → Passes p → 0 < raw_length (frame_under p)
+some_field : (p : HeaderParts) → PassesRules p → 0 < raw_length (frame_under p)
 some_field p q = subst (λ (f : Frame). 0 < raw_length f) (frame_is p (header_shape p q) (header_has p q)) (some_raw (header_shape p q))
 
 -- the bytes of a frame are those of two fields
@@ -46,12 +46,12 @@ some_frame f some = omega (arith, some, frame_bytes f)
 abbrev ok_of : Ending → Result Ending Halt
 ok_of ending = Ok ending
 
-pub weave_laws : (video : FieldVideo) → IsFieldVideo video → IsMachine (weave_machine video)
+pub weave_laws : (video : FieldVideo) → IsFieldVideo video → IsMachine (weave_command_machine video)
 weave_laws video is =
     let f = frame_under video.header in
     told_laws ending_of (weaver.weave_machine (order_of video.top) f) (picture_laws f (weaving (order_of video.top) f) (some_field video.header is.header.passes))
 
-pub split_laws : (video : FieldVideo) → IsFieldVideo video → IsMachine (split_machine video)
+pub split_laws : (video : FieldVideo) → IsFieldVideo video → IsMachine (split_command_machine video)
 split_laws video is =
     let f = frame_under video.header in
     told_laws ending_of (weaver.split_machine (order_of video.top) f) (picture_laws (doubled f) (splitting (order_of video.top) f) (some_frame f (some_field video.header is.header.passes)))
@@ -88,13 +88,13 @@ module _ {Z : Type 0} (machine : Machine Z WeaveEnd) (rest0 rest1 out0 out1 : Op
   }
 
 -- what they come to
-pub weave_replies : (video : FieldVideo) (input : List ℕ) → IsFieldVideo video → answer_to (weave_machine video) input ≡ answer_told ending_of (woven_answer (order_of video.top) (frame_under video.header) input)
+pub weave_replies : (video : FieldVideo) (input : List ℕ) → IsFieldVideo video → answer_to (weave_command_machine video) input ≡ answer_told ending_of (woven_answer (order_of video.top) (frame_under video.header) input)
 weave_replies video input is =
     let f = frame_under video.header in
     told_answer ending_of (weaver.weave_machine (order_of video.top) f) input
     ∙ ap (λ (a : Answer WeaveEnd). answer_told ending_of a) (weave_answer (order_of video.top) f input (some_field video.header is.header.passes))
 
-pub split_replies : (video : FieldVideo) (input : List ℕ) → IsFieldVideo video → answer_to (split_machine video) input ≡ answer_told ending_of (split_answer (order_of video.top) (frame_under video.header) input)
+pub split_replies : (video : FieldVideo) (input : List ℕ) → IsFieldVideo video → answer_to (split_command_machine video) input ≡ answer_told ending_of (split_answer (order_of video.top) (frame_under video.header) input)
 split_replies video input is =
     let f = frame_under video.header in
     told_answer ending_of (weaver.split_machine (order_of video.top) f) input

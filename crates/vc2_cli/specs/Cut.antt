@@ -24,5 +24,5 @@ abbrev pub frames_of : CutSettings → Frames
 frames_of c = record { from = c.from; to = c.to }
 
 -- cut, with its ending told
-abbrev pub cut_machine : CutSettings → Machine (Between Past CutSoFar) Ending
-cut_machine c = told_as (ending_of c.rate c.idle) (cutter.cut_machine (frames_of c))
+abbrev pub cut_command_machine : CutSettings → Machine (Between Past CutSoFar) Ending
+cut_command_machine c = told_as (ending_of c.rate c.idle) (cutter.cut_machine (frames_of c))

@@ -30,7 +30,7 @@ cut_reply c pieces = record { status = status.Done; rest = []; out = cut_of (fra
 
 -- These units stand in front of the tail, and leave this. Where the tail is a unit that ends the stream, the cut is written;
 -- where it is refused, what is settled by the units before it.
-pub record AreCut (c : CutSettings) (pieces : List Piece) (tail : List ℕ) (left : Past) : Type 0 where
+pub record HasCutReply (c : CutSettings) (pieces : List Piece) (tail : List ℕ) (left : Past) : Type 0 where
   pub stream : (unit : DataUnit) → front_within limit past_limit skimmed left tail ≡ Finishes (length tail) unit
       → command_reply (Ok (cut c)) (bytes_in pieces ++ tail) ≡ cut_reply c pieces
   pub refusal : (fault : Fault Reason) → front_within limit past_limit skimmed left tail ≡ Refuses fault

@@ -52,12 +52,12 @@ abbrev pub previous_at : Asked → ℕ → ℕ
 previous_at s n = last_length 0 (shapes_at s n)
 
 -- the next picture's number
-abbrev pub number_at : Asked → ℕ → ℕ
-number_at s n = (s.first + n) % 2 ^ 32
+abbrev pub number_of_next : Asked → ℕ → ℕ
+number_of_next s n = (s.first + n) % 2 ^ 32
 
 -- the units that are due with the next picture, whose slices are these
 abbrev pub units_at : Asked → ℕ → List (List ℕ) → List ℕ
-units_at s n slices = units_with s.parts s.params (begins_at s.group n) (previous_at s n) (number_at s n) slices
+units_at s n slices = units_with s.parts s.params (begins_at s.group n) (previous_at s n) (number_of_next s n) slices
 
 -- the bytes of the stream behind these units
 abbrev pub place_due : Asked → ℕ → ℕ

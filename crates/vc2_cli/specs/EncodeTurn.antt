@@ -17,7 +17,7 @@ abbrev pub IsBehind : Asked → ℕ → StreamWriterSeen → Type 0
 IsBehind s n w = w ≡ behind s n
 
 -- n pictures are read and written
-pub record Goes (s : Asked) (n : ℕ) (rest0 rest1 out0 out1 : Option (List ℕ)) (r : RawReaderSeen) (w : StreamWriterSeen) : Type 0 where
+pub record WritesPictures (s : Asked) (n : ℕ) (rest0 rest1 out0 out1 : Option (List ℕ)) (r : RawReaderSeen) (w : StreamWriterSeen) : Type 0 where
   pub frame : frame_of r.shape ≡ frame_under s.parts
   pub unrefused : r.refused ≡ false
   pub writer : IsBehind s n w

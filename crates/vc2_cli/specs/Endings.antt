@@ -15,9 +15,9 @@ IsDone (Scheduled outcome) = Unit {0}
 IsDone (Refused refusal) = ⊥
 
 -- more bytes may still change it: it is no refusal, or only that of a field that is short
-abbrev pub MayGoOn : Ending → Type 0
-MayGoOn (Refused refusal) = is_truncated refusal.reason ≡ true
-MayGoOn other = Unit {0}
+abbrev pub MayEndOtherwise : Ending → Type 0
+MayEndOtherwise (Refused refusal) = is_truncated refusal.reason ≡ true
+MayEndOtherwise other = Unit {0}
 
 -- an ending without a last text
 abbrev pub closed : Ending → Close Ending

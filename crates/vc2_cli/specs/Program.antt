@@ -8,7 +8,7 @@ use Rattle.vc2_io.specs.Outside.{GrewShort}
 use Rattle.run_theory.specs.Ran.{TakesAtMost}
 use Rattle.vc2_cli.specs.declared.status.Status.{Status}
 use Rattle.vc2_cli.specs.declared.status.Status.TheVariants as st
-use Rattle.run_theory.specs.Runs.{Change, IsSteady, IsUntouched}
+use Rattle.run_theory.specs.Runs.{Change, HasNoNewFault, IsUntouched}
 use Rattle.vc2_cli.specs.Exit.{exit_code_of}
 use Rattle.vc2_cli.specs.Trial.{trial_text}
 use Rattle.vc2_cli.specs.Words.{words_ask}
@@ -53,7 +53,7 @@ pub record Ran (words : List (List ℕ)) (src out note : Change) (told : Status)
   -- `trial` reads nothing, writes its text and no note, and ends otherwise only where a write of the output failed or no
   -- memory was found.
   pub trial : IfTrial (words_ask words) (λ s part. AnswersTrial (trial_text s part) out.was out.is note.was note.is told
-      × (src.is ≡ src.was) × IsSteady src)
+      × (src.is ≡ src.was) × HasNoNewFault src)
   -- `header` takes at most 250 bytes, however it comes out.
   pub header : IfHeader (words_ask words) (TakesAtMost 250 src.was src.is)
 

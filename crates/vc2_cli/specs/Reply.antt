@@ -9,7 +9,7 @@ use Rattle.vc2_words.specs.declared.keys.WordFault.{WordFault}
 use Rattle.vc2_words.specs.declared.words.TrialPart.{TrialPart}
 use Rattle.vc2_words.specs.Settings.{Asked}
 use Rattle.vc2_words.specs.Commands.{AskedCommand, header, trial}
-use Rattle.run_theory.specs.Runs.{Change, IsSteady, HasFailed}
+use Rattle.run_theory.specs.Runs.{Change, HasNoNewFault, HasFailed}
 use Rattle.vc2_cli.specs.declared.status.ScheduleFault.{ScheduleFault}
 use Rattle.vc2_cli.specs.declared.status.ScheduleFault.TheVariants.{Late, Overfull}
 use Rattle.vc2_cli.specs.declared.status.Status.{Status}
@@ -124,10 +124,10 @@ Breaks due input rest out0 out1 = (taken : List ℕ) × Consumes (Some input) re
 
 -- A fault is answered only where its object's count rose; every other count stands still.
 abbrev pub HasCauses : Change → Change → Change → Status → Type 0
-HasCauses src out note status.ReadFault = HasFailed src × IsSteady out × IsSteady note
-HasCauses src out note status.OutFault = IsSteady src × HasFailed out × IsSteady note
-HasCauses src out note status.NoteFault = IsSteady src × IsSteady out × HasFailed note
-HasCauses src out note other = IsSteady src × IsSteady out × IsSteady note
+HasCauses src out note status.ReadFault = HasFailed src × HasNoNewFault out × HasNoNewFault note
+HasCauses src out note status.OutFault = HasNoNewFault src × HasFailed out × HasNoNewFault note
+HasCauses src out note status.NoteFault = HasNoNewFault src × HasNoNewFault out × HasFailed note
+HasCauses src out note other = HasNoNewFault src × HasNoNewFault out × HasNoNewFault note
 
 -- Words with this fault: the usage line went to `note`, or a part of it, or there was no memory for it.
 abbrev pub AnswersUsage : WordFault → Option (List ℕ) → Option (List ℕ) → Status → Type 0

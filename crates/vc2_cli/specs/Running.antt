@@ -15,9 +15,9 @@ use Rattle.vc2_cli.specs.Proxy.{proxy_machine}
 use Rattle.vc2_cli.specs.Scheduled.{replay_machine}
 use Rattle.vc2_cli.specs.Encode.{encode_machine}
 use Rattle.vc2_cli.specs.Trial.{trial_text}
-use Rattle.vc2_cli.specs.Weave.{order_of, weave_machine, split_machine}
+use Rattle.vc2_cli.specs.Weave.{order_of, weave_command_machine, split_command_machine}
 use Rattle.vc2_cli.specs.Frames.{frames_machine}
-use Rattle.vc2_cli.specs.Cut.{cut_machine}
+use Rattle.vc2_cli.specs.Cut.{cut_command_machine}
 
 -- what a command answers to an input, the text that is due once bytes were taken, what it leaves of the input where it
 -- ends well, and the most bytes that one read of it takes, where it reads units
@@ -59,6 +59,6 @@ running_of (check (Some schedule)) = over_units (replay_machine schedule)
 running_of (encode settings) = over_video (encode_machine settings)
 running_of (trial settings part) = trial_running settings part
 running_of (frames top) = over_units (frames_machine (order_of top))
-running_of (weave video) = over_video (weave_machine video)
-running_of (split video) = over_video (split_machine video)
-running_of (cut settings) = over_units (cut_machine settings)
+running_of (weave video) = over_video (weave_command_machine video)
+running_of (split video) = over_video (split_command_machine video)
+running_of (cut settings) = over_units (cut_command_machine settings)

@@ -4,7 +4,7 @@ use Rattle.std.specs.Io.KnownBytes.{Appends, Consumes}
 use Rattle.vc2_io.specs.declared.TheConstants.{INPUT_LIMIT}
 use Rattle.run_theory.specs.Walk.{Answer, out_of}
 use Rattle.run_theory.specs.Ran.{TakesAtMost, HaltHasCause}
-use Rattle.run_theory.specs.Runs.{Change, IsSteady, Closes}
+use Rattle.run_theory.specs.Runs.{Change, HasNoNewFault, Closes}
 use Rattle.run_theory.specs.declared.Halt.{Halt}
 use Rattle.run_theory.specs.declared.Halt.TheVariants.{ReadFault, OutFault, NoMemory}
 use Rattle.unit_reader.specs.Soon.{all_but}
@@ -12,7 +12,7 @@ use Rattle.vc2_words.specs.Commands.{AskedCommand, header, trial}
 use Rattle.vc2_cli.specs.declared.status.Ending.{Ending}
 use Rattle.vc2_cli.specs.declared.status.Ending.TheVariants.{Done}
 use Rattle.vc2_cli.specs.declared.status.Note.TheVariants.{Nothing}
-use Rattle.vc2_cli.specs.Endings.{MayGoOn}
+use Rattle.vc2_cli.specs.Endings.{MayEndOtherwise}
 use Rattle.vc2_cli.specs.Trial.{trial_text}
 use Rattle.vc2_cli.specs.Running.{Running, running_of}
 use Rattle.vc2_cli.specs.Reply.{Breaks, Stops, StopsShort, ReadsAll, reply_by, status_of}
@@ -31,7 +31,7 @@ ComesOut running input rest out0 out1 (Err NoMemory) = Stops (reply_by running i
 -- More bytes may still change what those come to that were taken, without the last ones; and at a failed read, with all.
 abbrev pub GoesOn : (List ℕ → Answer Ending) → ℕ → Option (List ℕ) → Option (List ℕ) → Result Ending Halt → Type 0
 GoesOn answer most rest0 rest1 result = (taken : List ℕ) × Consumes rest0 rest1 taken
-    × MayGoOn (answer (all_but most taken)).ending × (result ≡ Err ReadFault → MayGoOn (answer taken).ending)
+    × MayEndOtherwise (answer (all_but most taken)).ending × (result ≡ Err ReadFault → MayEndOtherwise (answer taken).ending)
 
 -- what the run of a command leaves
 pub record RunsAs (running : Running) (src out : Change) (result : Result Ending Halt) : Type 0 where
@@ -43,7 +43,7 @@ pub record RunsAs (running : Running) (src out : Change) (result : Result Ending
 -- what more is said of two commands
 abbrev pub SaysMore : AskedCommand → Change → Change → Result Ending Halt → Type 0
 SaysMore (trial s part) src out result =
-    Closes (Done Nothing) (trial_text s part) out.was out.is result × (src.is ≡ src.was) × IsSteady src
+    Closes (Done Nothing) (trial_text s part) out.was out.is result × (src.is ≡ src.was) × HasNoNewFault src
 SaysMore header src out result = TakesAtMost 250 src.was src.is
 SaysMore other src out result = Unit {0}
 

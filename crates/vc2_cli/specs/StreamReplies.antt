@@ -48,7 +48,7 @@ abbrev pub refused_reply : List ℕ → Refusal → Reply
 refused_reply text refusal = record { status = status.Refused refusal; rest = []; out = text; note = refusal_line refusal }
 
 -- A stream is decoded whole; an input that is refused, up to its fault.
-pub record IsDecoded (bytes : List ℕ) : Type 0 where
+pub record HasDecodedReply (bytes : List ℕ) : Type 0 where
   pub stream : (units : List Entry) (last : Entry) → IsStream bytes units last
       → command_reply (Ok decode) bytes ≡ decoded_reply bytes units
   pub refusal : (refusal : Refusal) (is : IsRefusal bytes refusal)

@@ -34,9 +34,9 @@ trial_text s part =
 -- ---- the comparison, as a command over the units of the stream
 
 -- it went through the whole stream
-abbrev pub IsWhole : ComparisonEnd → Type 0
-IsWhole (Compared worst) = Unit {0}
-IsWhole (Refused refusal) = ⊥
+abbrev pub IsComparedWhole : ComparisonEnd → Type 0
+IsComparedWhole (Compared worst) = Unit {0}
+IsComparedWhole (Refused refusal) = ⊥
 
 -- more bytes may still change how it ends
 abbrev pub MayChange : ComparisonEnd → Type 0

@@ -33,12 +33,12 @@ ending_of (Err (stops.HalfFrame place)) = refused_at place reasons.HalfFrame
 ending_of (Err other) = refused_at limit reasons.StreamTooLong
 
 -- The machines of these fields.
-abbrev pub weave_machine : FieldVideo → Machine (BehindPictures FieldsSoFar) Ending
-weave_machine video = told_as ending_of (weaver.weave_machine (order_of video.top) (frame_under video.header))
+abbrev pub weave_command_machine : FieldVideo → Machine (BehindPictures FieldsSoFar) Ending
+weave_command_machine video = told_as ending_of (weaver.weave_machine (order_of video.top) (frame_under video.header))
 
 -- split, with its ending told
-abbrev pub split_machine : FieldVideo → Machine (BehindPictures ℕ) Ending
-split_machine video = told_as ending_of (weaver.split_machine (order_of video.top) (frame_under video.header))
+abbrev pub split_command_machine : FieldVideo → Machine (BehindPictures ℕ) Ending
+split_command_machine video = told_as ending_of (weaver.split_machine (order_of video.top) (frame_under video.header))
 
 -- ---- for the code
 

@@ -4,17 +4,17 @@ ghost use Rattle.std.specs.Prelude.{◌≡◌, refl};
 ghost use Rattle.stream_rows.specs.Units.{nothing_yet};
 ghost use Rattle.run_theory.specs.Ran.{HaltHasCause};
 ghost use Rattle.run_theory.specs.Runs.{change, Runs, Closes};
-ghost use Rattle.vc2_cli.specs.Endings.{IsDone, MayGoOn, accepted};
+ghost use Rattle.vc2_cli.specs.Endings.{IsDone, MayEndOtherwise, accepted};
 ghost use Rattle.unit_reader.specs.Soon.{Soon};
 ghost use Rattle.vc2_cli.specs.Decode.{Counts, nothing_counted, checking, check_machine, pictures_told, IsLastCount, KeepsFew};
 
 use crate::status::{Ending, Note};
 use crate::texts::accepted_text;
+use run_theory::Halt;
 use std::alloc::Global;
 use stream_units::{Item, Reason, Refusal, StreamTable};
 use unit_reader::{Reader, UnitCommand, run_units};
 use vc2_io::{Sink, Source, write_whole};
-use run_theory::Halt;
 
 // Writes the line of a stream that is accepted.
 fn accept<K: Sink>(
@@ -24,7 +24,8 @@ fn accept<K: Sink>(
     slices: u64,
     bytes: u64,
 ) -> Result<Ending, Halt>
-    ensures wrote { Closes (accepted pictures slices bytes).ending (accepted pictures slices bytes).last (K.written out.old) (K.written out.new) result }
+    ensures wrote { Closes (accepted pictures slices bytes).ending
+        (accepted pictures slices bytes).last (K.written out.old) (K.written out.new) result }
     ensures cause { HaltHasCause 0 0 (K.faults out.old) (K.faults out.new) result }
 {
     let line = match accepted_text(alloc, pictures, slices, bytes) {
@@ -85,7 +86,7 @@ impl UnitCommand<StreamTable> for Checking {
 
     ghost refused_is_no_end = { λ z w fault done. done };
 
-    ghost may_go_on = { MayGoOn };
+    ghost may_go_on = { MayEndOtherwise };
 
     fn open<K: Sink>(&mut self, _out: &mut K) -> Result<(), Halt> {
         Ok(())
@@ -138,8 +139,10 @@ pub(crate) fn check<S: Source, K: Sink>(
     src: &mut S,
     out: &mut K,
 ) -> Result<Ending, Halt>
-    ensures runs { Runs check_machine IsDone (change S.rest S.faults src.old src.new) (change K.written K.faults out.old out.new) result }
-    ensures soon { Soon MayGoOn check_machine READ_SIZE (S.rest src.old) (S.rest src.new) result }
+    ensures runs { Runs check_machine IsDone (change S.rest S.faults src.old src.new)
+        (change K.written K.faults out.old out.new) result }
+    ensures soon { Soon MayEndOtherwise check_machine READ_SIZE (S.rest src.old)
+        (S.rest src.new) result }
 {
     match Reader::made(alloc, StreamTable::new(alloc, false)) {
         Ok(mut reader) => {

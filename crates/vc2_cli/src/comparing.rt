@@ -6,17 +6,17 @@ ghost use Rattle.vc2_words.specs.Lawful.{IsTrial};
 ghost use Rattle.stream_rows.specs.Units.{nothing_yet};
 ghost use Rattle.vc2_cli.specs.Encode.{written_under};
 ghost use Rattle.vc2_cli.specs.WholePictures.{stream_of};
-ghost use Rattle.vc2_cli.specs.Trial.{IsWhole, MayChange, Comparison, with_picture, comparing, trial_pictures, trial_worst};
+ghost use Rattle.vc2_cli.specs.Trial.{IsComparedWhole, MayChange, Comparison, with_picture, comparing, trial_pictures, trial_worst};
 ghost use Rattle.vc2_cli.specs.TrialTurn.{comparison_of, IsCompared};
 
 use crate::decode::decoder_of;
 use picture_codec::Picture;
+use run_theory::Halt;
 use std::alloc::Global;
 use stream_units::{Item, Reason, Refusal, StreamTable};
 use trial_video::{TrialVideo, worst_difference};
 use unit_reader::{Reader, UnitCommand, run_units};
 use vc2_io::{NoMemory, NullSink, Sink, SteadySource};
-use run_theory::Halt;
 use vc2_words::{Settings, TrialPart};
 
 /// How a comparison ends: with the greatest difference of a sample, or the stream is refused.
@@ -42,7 +42,9 @@ impl Comparing {
         requires few { self.old.video.pictures + self.old.left ≤ 2 ^ 32 }
         ensures same_shape { self.new.picture.shape ≡ self.new.video.shape }
         ensures few { self.new.video.pictures + self.new.left ≤ 2 ^ 32 }
-        ensures own { comparison_of self.new.video self.new.left self.new.worst ≡ with_picture self.old.left (comparison_of self.old.video self.old.left self.old.worst) decoded.now.samples }
+        ensures own { comparison_of self.new.video self.new.left self.new.worst
+            ≡ with_picture self.old.left (comparison_of self.old.video self.old.left
+            self.old.worst) decoded.now.samples }
     {
         if self.left == 0 {
             return;
@@ -69,7 +71,7 @@ impl UnitCommand<StreamTable> for Comparing {
 
     ghost keeps = { λ c t. (c.picture.shape ≡ c.video.shape) × (c.video.pictures + c.left ≤ 2 ^ 32) × (t.makes_pictures ≡ true) };
 
-    ghost is_done = { IsWhole };
+    ghost is_done = { IsComparedWhole };
 
     ghost refused_is_no_end = { λ z w fault done. done };
 
@@ -142,7 +144,8 @@ pub(crate) fn compare_video(
 ) -> Result<u16, NoMemory>
     requires lawful { IsTrial (shown settings.now) part }
     requires flat { IsSteepUnder (written_under (shown settings.now)) }
-    requires stream { stream.now ≡ stream_of (shown settings.now) (trial_pictures (shown settings.now) part) }
+    requires stream { stream.now ≡ stream_of (shown settings.now)
+        (trial_pictures (shown settings.now) part) }
     ensures { IfOk result (λ worst. worst ≡ trial_worst (shown settings.now) part) }
 {
     let shape = settings.header.picture_shape();

@@ -5,17 +5,17 @@ ghost use Rattle.channel_schedule.specs.Rates.{IsRate};
 ghost use Rattle.unit_reader.specs.Soon.{Soon};
 ghost use Rattle.stream_cut.specs.Cutter.{run_of};
 ghost use Rattle.run_theory.specs.Runs.{change, Runs};
-ghost use Rattle.vc2_words.specs.Lawful.{IsCut};
-ghost use Rattle.vc2_cli.specs.Cut.{ending_of, cut_machine};
-ghost use Rattle.vc2_cli.specs.Endings.{IsDone, MayGoOn};
+ghost use Rattle.vc2_words.specs.Lawful.{IsCutSettings};
+ghost use Rattle.vc2_cli.specs.Cut.{ending_of, cut_command_machine};
+ghost use Rattle.vc2_cli.specs.Endings.{IsDone, MayEndOtherwise};
 ghost use Rattle.vc2_cli.specs.Mapped.{result_told};
 
 use crate::status::{Ending, Note};
 use channel_schedule::plan;
+use run_theory::Halt;
 use std::alloc::Global;
 use stream_cut::{CutStop, Cutter};
 use vc2_io::{Sink, Source};
-use run_theory::Halt;
 use vc2_words::CutSettings;
 
 // How the command comes out.
@@ -25,7 +25,8 @@ fn outcome_of(
     came: Result<(), CutStop>,
 ) -> Result<Ending, Halt>
     requires { IsRate settings.now.rate }
-    ensures { result ≡ result_told (ending_of settings.now.rate settings.now.idle) (run_of cutter.now.shapes cutter.now.total came) }
+    ensures { result ≡ result_told (ending_of settings.now.rate settings.now.idle)
+        (run_of cutter.now.shapes cutter.now.total came) }
 {
     match came {
         Ok(()) => {
@@ -46,9 +47,12 @@ pub(crate) fn cut<S: Source, K: Sink>(
     src: &mut S,
     out: &mut K,
 ) -> Result<Ending, Halt>
-    requires { IsCut settings.now }
-    ensures runs { Runs (cut_machine settings.now) IsDone (change S.rest S.faults src.old src.new) (change K.written K.faults out.old out.new) result }
-    ensures soon { Soon MayGoOn (cut_machine settings.now) READ_SIZE (S.rest src.old) (S.rest src.new) result }
+    requires { IsCutSettings settings.now }
+    ensures runs { Runs (cut_command_machine settings.now) IsDone
+        (change S.rest S.faults src.old src.new)
+        (change K.written K.faults out.old out.new) result }
+    ensures soon { Soon MayEndOtherwise (cut_command_machine settings.now) READ_SIZE
+        (S.rest src.old) (S.rest src.new) result }
 {
     match Cutter::new(alloc, settings.from, settings.to) {
         Ok(mut cutter) => {

@@ -4,7 +4,7 @@ ghost use Rattle.std.specs.Prelude.{◌≡◌, ◌≢◌, ℕ, Some, None, true,
 ghost use Rattle.std.specs.Io.KnownBytes.{Appends};
 ghost use Rattle.vc2_io.specs.Outside.{HasCause, GrewShort};
 ghost use Rattle.run_theory.specs.Runs.{change, Runs};
-ghost use Rattle.vc2_cli.specs.Endings.{IsDone, MayGoOn};
+ghost use Rattle.vc2_cli.specs.Endings.{IsDone, MayEndOtherwise};
 ghost use Rattle.unit_reader.specs.Soon.{Soon};
 ghost use Rattle.stream_rows.specs.Units.{nothing_yet};
 ghost use Rattle.stream_reader.specs.ReaderInside.{seen_of};
@@ -14,16 +14,17 @@ ghost use Rattle.vc2_cli.specs.Decode.{decoding, decode_machine, shown_text, Kee
 use crate::status::{Ending, Note};
 use picture_codec::PictureDecoder;
 use raw_video::write_picture;
+use run_theory::Halt;
 use std::alloc::Global;
 use stream_units::{Item, Reason, Refusal, StreamTable};
 use unit_reader::{Reader, UnitCommand, run_units};
 use vc2_io::{Failed, Sink, Source};
-use run_theory::Halt;
 
 /// The decoder of the picture that the item tells, if it tells one.
 pub(crate) fn decoder_of(table: &StreamTable, item: Item) -> Option<&PictureDecoder>
     requires { tells_picture item ≡ true → table.now.decoder ≢ None }
-    ensures some { IfSome result (λ decoder. (tells_picture item ≡ true) × (table.now.decoder ≡ Some decoder.now)) }
+    ensures some { IfSome result (λ decoder. (tells_picture item ≡ true)
+        × (table.now.decoder ≡ Some decoder.now)) }
     ensures none { IsNone result → tells_picture item ≡ false }
 {
     match item {
@@ -38,8 +39,10 @@ pub(crate) fn decoder_of(table: &StreamTable, item: Item) -> Option<&PictureDeco
 /// Writes the raw text of the picture that the decoder made.
 pub(crate) fn write_shown<K: Sink>(out: &mut K, decoder: &PictureDecoder) -> Result<(), Failed>
     requires { decoder.now.picture ≢ None }
-    ensures ok { OnOk result (Appends (K.written out.old) (K.written out.new) (shown_text (seen_of decoder.now))) }
-    ensures err { OnErr result (GrewShort (K.written out.old) (K.written out.new) (shown_text (seen_of decoder.now))) }
+    ensures ok { OnOk result (Appends (K.written out.old) (K.written out.new)
+        (shown_text (seen_of decoder.now))) }
+    ensures err { OnErr result (GrewShort (K.written out.old) (K.written out.new)
+        (shown_text (seen_of decoder.now))) }
     ensures cause { HasCause (K.faults out.old) (K.faults out.new) result }
 {
     write_picture(out, decoder.picture())
@@ -70,7 +73,7 @@ impl UnitCommand<StreamTable> for Decoding {
 
     ghost refused_is_no_end = { λ z w fault done. done };
 
-    ghost may_go_on = { MayGoOn };
+    ghost may_go_on = { MayEndOtherwise };
 
     fn open<K: Sink>(&mut self, _out: &mut K) -> Result<(), Halt> {
         Ok(())
@@ -127,8 +130,10 @@ pub(crate) fn decode<S: Source, K: Sink>(
     src: &mut S,
     out: &mut K,
 ) -> Result<Ending, Halt>
-    ensures runs { Runs decode_machine IsDone (change S.rest S.faults src.old src.new) (change K.written K.faults out.old out.new) result }
-    ensures soon { Soon MayGoOn decode_machine READ_SIZE (S.rest src.old) (S.rest src.new) result }
+    ensures runs { Runs decode_machine IsDone (change S.rest S.faults src.old src.new)
+        (change K.written K.faults out.old out.new) result }
+    ensures soon { Soon MayEndOtherwise decode_machine READ_SIZE (S.rest src.old)
+        (S.rest src.new) result }
 {
     match Reader::made(alloc, StreamTable::new(alloc, true)) {
         Ok(mut reader) => {

@@ -10,16 +10,16 @@ ghost use Rattle.stream_writer.specs.Writer.{next_place, next_previous, IsSteepU
 ghost use Rattle.run_theory.specs.Runs.{change, Runs, Closes};
 ghost use Rattle.vc2_cli.specs.Endings.{IsDone};
 ghost use Rattle.vc2_cli.specs.Encode.{written_under, raw_size, encode_machine, refused_at, is_half, ended_plan, ended_at, last_text, told_of_fault, told_of_stop};
-ghost use Rattle.vc2_cli.specs.EncodeTurn.{Goes};
+ghost use Rattle.vc2_cli.specs.EncodeTurn.{WritesPictures};
 
 use crate::status::{Ending, Note};
 use channel_schedule::plan;
 use picture_codec::Picture;
 use raw_video::{RawFault, RawReader, RawStep};
+use run_theory::Halt;
 use std::alloc::Global;
 use stream_units::{Reason, Refusal, StreamWriter, WriteStop};
 use vc2_io::{INPUT_LIMIT, Sink, Source};
-use run_theory::Halt;
 use vc2_words::Settings;
 
 fn refused(place: u64, reason: Reason) -> Result<Ending, Halt>
@@ -70,7 +70,8 @@ fn finish<K: Sink>(
     requires open { writer.old.ended ≡ false }
     requires going { writer.old.stop ≡ None }
     ensures closes { let half = is_half settings.now.header.coding pictures in
-        Closes (ended_at half place (ended_plan (shown settings.now) writer.old.shapes (next_place writer.old))) (last_text half (next_previous writer.old))
+        Closes (ended_at half place (ended_plan (shown settings.now) writer.old.shapes
+        (next_place writer.old))) (last_text half (next_previous writer.old))
         (K.written out.old) (K.written out.new) result }
     ensures cause { HaltHasCause 0 0 (K.faults out.old) (K.faults out.new) result }
 {
@@ -109,10 +110,23 @@ fn encode_pictures<S: Source, K: Sink>(
     requires pictures { IsShapeOf picture.old.shape writer.old.settings.parts }
     requires unended { writer.old.ended ≡ false }
     requires going { writer.old.stop ≡ None }
-    ensures { (rest out0 : Option (List ℕ)) → 0 < raw_size (shown settings.now) → 1 ≤ slice_count (shown settings.now).params.slicing
-        → Goes (shown settings.now) 0 rest (S.rest src.old) out0 (K.written out.old) reader.old writer.old
-        → Runs (encode_machine (shown settings.now)) IsDone (record { was = rest; is = S.rest src.new; faults_were = S.faults src.old; faults_are = S.faults src.new })
-        (record { was = out0; is = K.written out.new; faults_were = K.faults out.old; faults_are = K.faults out.new }) result }
+    ensures { (rest out0 : Option (List ℕ)) → 0 < raw_size (shown settings.now)
+        → 1 ≤ slice_count (shown settings.now).params.slicing
+        → WritesPictures (shown settings.now) 0 rest (S.rest src.old) out0
+        (K.written out.old) reader.old writer.old
+        → Runs (encode_machine (shown settings.now)) IsDone
+        (record {
+          was = rest;
+          is = S.rest src.new;
+          faults_were = S.faults src.old;
+          faults_are = S.faults src.new;
+        })
+        (record {
+          was = out0;
+          is = K.written out.new;
+          faults_were = K.faults out.old;
+          faults_are = K.faults out.new;
+        }) result }
 {
     for turn in 0..most_turns() {
         let place = reader.place();
@@ -139,7 +153,9 @@ pub(crate) fn encode<S: Source, K: Sink>(
 ) -> Result<Ending, Halt>
     requires lawful { AreLawful (shown settings.now) }
     requires flat { IsSteepUnder (written_under (shown settings.now)) }
-    ensures { Runs (encode_machine (shown settings.now)) IsDone (change S.rest S.faults src.old src.new) (change K.written K.faults out.old out.new) result }
+    ensures { Runs (encode_machine (shown settings.now)) IsDone
+        (change S.rest S.faults src.old src.new)
+        (change K.written K.faults out.old out.new) result }
 {
     let shape = settings.header.picture_shape();
     let mut picture = match Picture::new(alloc, &shape) {

@@ -10,7 +10,7 @@ ghost use Rattle.picture_codec.specs.Samples.{PictureSeen, PictureSamples};
 ghost use Rattle.stream_rows.specs.Units.{nothing_yet};
 ghost use Rattle.field_weave.specs.Weaving.{doubled, split};
 ghost use Rattle.run_theory.specs.Runs.{change, Runs, WritesText};
-ghost use Rattle.vc2_cli.specs.Endings.{IsDone, MayGoOn};
+ghost use Rattle.vc2_cli.specs.Endings.{IsDone, MayEndOtherwise};
 ghost use Rattle.unit_reader.specs.Soon.{Soon};
 ghost use Rattle.vc2_cli.specs.Telling.{tells_sequence};
 ghost use Rattle.vc2_cli.specs.Weave.{order_of};
@@ -23,11 +23,11 @@ use field_weave::{Order, frame_shape, take_field};
 use picture_codec::Picture;
 use planes::NoMemory;
 use raw_video::write_picture;
+use run_theory::Halt;
 use std::alloc::Global;
 use stream_units::{Item, Reason, Refusal, StreamTable};
 use unit_reader::{Reader, UnitCommand, run_units};
 use vc2_io::{Failed, Sink, Source};
-use run_theory::Halt;
 
 // Whether the pictures under the header that was read last are fields.
 fn are_fields(table: &StreamTable) -> bool
@@ -41,7 +41,8 @@ fn are_fields(table: &StreamTable) -> bool
 
 // The frame that the fields under the header that was read last are put in; none for frames.
 fn frame_for(alloc: Global, table: &StreamTable) -> Result<Option<Picture>, NoMemory>
-    ensures { IfOk result (λ frame. (parts : HeaderParts) → table.now.header ≡ Some parts → IsFrameFor parts frame) }
+    ensures { IfOk result (λ frame. (parts : HeaderParts) → table.now.header ≡ Some parts
+        → IsFrameFor parts frame) }
 {
     let header = match table.header() {
         Some(header) => header,
@@ -92,7 +93,7 @@ impl UnitCommand<StreamTable> for Framing {
 
     ghost refused_is_no_end = { λ z w fault done. done };
 
-    ghost may_go_on = { MayGoOn };
+    ghost may_go_on = { MayEndOtherwise };
 
     fn open<K: Sink>(&mut self, _out: &mut K) -> Result<(), Halt> {
         Ok(())
@@ -175,8 +176,11 @@ pub(crate) fn frames<S: Source, K: Sink>(
     src: &mut S,
     out: &mut K,
 ) -> Result<Ending, Halt>
-    ensures runs { Runs (frames_machine (order_of top)) IsDone (change S.rest S.faults src.old src.new) (change K.written K.faults out.old out.new) result }
-    ensures soon { Soon MayGoOn (frames_machine (order_of top)) READ_SIZE (S.rest src.old) (S.rest src.new) result }
+    ensures runs { Runs (frames_machine (order_of top)) IsDone
+        (change S.rest S.faults src.old src.new)
+        (change K.written K.faults out.old out.new) result }
+    ensures soon { Soon MayEndOtherwise (frames_machine (order_of top)) READ_SIZE (S.rest src.old)
+        (S.rest src.new) result }
 {
     match Reader::made(alloc, StreamTable::new(alloc, true)) {
         Ok(mut reader) => {

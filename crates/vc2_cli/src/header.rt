@@ -5,15 +5,15 @@ ghost use Rattle.vc2_cli.specs.Reply.{ReadsAll, status_of};
 ghost use Rattle.vc2_cli.specs.First.{header_machine, behind_first};
 ghost use Rattle.vc2_cli.specs.FirstTurn.{TookFirst};
 ghost use Rattle.unit_reader.specs.Soon.{Soon};
-ghost use Rattle.vc2_cli.specs.Endings.{MayGoOn};
+ghost use Rattle.vc2_cli.specs.Endings.{MayEndOtherwise};
 
 use crate::header_texts::header_text;
 use crate::status::{Ending, Note};
+use run_theory::Halt;
 use sequence_header::SequenceHeader;
 use std::alloc::Global;
 use stream_units::{Refusal, first_unit};
 use vc2_io::{Sink, Source, fill, write_whole};
-use run_theory::Halt;
 
 // More bytes than any first unit has.
 const MOST: usize = 250;
@@ -29,7 +29,7 @@ pub(crate) enum First {
 fn take_first<S: Source>(alloc: Global, src: &mut S) -> Result<First, Halt>
     ensures took { TookFirst (S.rest src.old) (S.rest src.new) result }
     ensures cause { HaltHasCause (S.faults src.old) (S.faults src.new) 0 0 result }
-    ensures soon { Soon MayGoOn header_machine 1 (S.rest src.old) (S.rest src.new) result }
+    ensures soon { Soon MayEndOtherwise header_machine 1 (S.rest src.old) (S.rest src.new) result }
 {
     let mut bytes = Vec::new(alloc);
     loop {
@@ -64,11 +64,15 @@ pub(crate) fn header<S: Source, K: Sink>(
     src: &mut S,
     out: &mut K,
 ) -> Result<Ending, Halt>
-    ensures left { (input : List ℕ) → S.rest src.old ≡ Some input → IfOk result (λ ending. ReadsAll (status_of ending) → (more : List ℕ) → S.rest src.new ≡ Some more → more ≡ behind_first input) }
+    ensures left { (input : List ℕ) → S.rest src.old ≡ Some input
+        → IfOk result (λ ending. ReadsAll (status_of ending) → (more : List ℕ)
+        → S.rest src.new ≡ Some more → more ≡ behind_first input) }
     ensures limit { TakesAtMost 250 (S.rest src.old) (S.rest src.new) }
-    ensures ran { Ran header_machine (S.rest src.old) (S.rest src.new) (K.written out.old) (K.written out.new) result }
-    ensures cause { HaltHasCause (S.faults src.old) (S.faults src.new) (K.faults out.old) (K.faults out.new) result }
-    ensures soon { Soon MayGoOn header_machine 1 (S.rest src.old) (S.rest src.new) result }
+    ensures ran { Ran header_machine (S.rest src.old) (S.rest src.new) (K.written out.old)
+        (K.written out.new) result }
+    ensures cause { HaltHasCause (S.faults src.old) (S.faults src.new) (K.faults out.old)
+        (K.faults out.new) result }
+    ensures soon { Soon MayEndOtherwise header_machine 1 (S.rest src.old) (S.rest src.new) result }
 {
     let first = match take_first(alloc, src) {
         Ok(first) => first,

@@ -46,9 +46,14 @@ pub fn run_to_exit<S: Source, K: Sink, N: Sink>(
     note: &mut N,
 ) -> u8
     // `run` says what was read and written, and the exit status is that of its status.
-    ensures runs { IfOk args (λ words. Exits (map string_bytes (drop 1 (into_iter_items words))) (change S.rest S.faults src.old src.new) (change K.written K.faults out.old out.new) (change N.written N.faults note.old note.new) result) }
+    ensures runs { IfOk args (λ words. Exits (map string_bytes (drop 1 (into_iter_items words)))
+        (change S.rest S.faults src.old src.new) (change K.written K.faults out.old out.new)
+        (change N.written N.faults note.old note.new) result) }
     // Where the system gives no words, nothing is read or written.
-    ensures no_words { IfErr args (λ error. (result ≡ exit_of_kind (error_kind error)) × IsUntouched (change S.rest S.faults src.old src.new) × IsUntouched (change K.written K.faults out.old out.new) × IsUntouched (change N.written N.faults note.old note.new)) }
+    ensures no_words { IfErr args (λ error. (result ≡ exit_of_kind (error_kind error))
+        × IsUntouched (change S.rest S.faults src.old src.new)
+        × IsUntouched (change K.written K.faults out.old out.new)
+        × IsUntouched (change N.written N.faults note.old note.new)) }
 {
     let args = match args {
         Ok(args) => args,

@@ -9,12 +9,12 @@ ghost use Rattle.transform_params.specs.Views.{params_of};
 ghost use Rattle.picture_codec.specs.Decoding.{AllCanSynthesise, HoldUnit};
 ghost use Rattle.raw_video.specs.RawText.{raw_text};
 ghost use Rattle.stream_rows.specs.Units.{DataUnit, nothing_yet};
-ghost use Rattle.stream_reader.specs.Turns.{IsWhole};
+ghost use Rattle.stream_reader.specs.Turns.{HasAllSlices};
 ghost use Rattle.stream_reader.specs.Reader.{IsTakerOf};
 ghost use Rattle.proxy_picture.specs.Proxy.{proxy_frame, proxy_picture};
 ghost use Rattle.proxy_picture.specs.Making.{reduced_picture};
 ghost use Rattle.run_theory.specs.Runs.{change, Runs, WritesText};
-ghost use Rattle.vc2_cli.specs.Endings.{IsDone, MayGoOn};
+ghost use Rattle.vc2_cli.specs.Endings.{IsDone, MayEndOtherwise};
 ghost use Rattle.unit_reader.specs.Soon.{Soon};
 ghost use Rattle.vc2_cli.specs.Proxy.{Proxied, nothing_proxied, proxying_any, proxy_machine, proxy_text, KeepsWhole, MakesProxiesOf};
 
@@ -24,13 +24,13 @@ use picture_codec::{DecodedBands, PictureDecoder};
 use planes::NoMemory;
 use proxy_picture::ProxyDecoder;
 use raw_video::write_picture;
+use run_theory::Halt;
 use slice_geometry::PictureShape;
 use std::alloc::Global;
 use stream_units::{Item, Reason, Refusal, StreamTable};
 use transform_params::TransformParams;
 use unit_reader::{Reader, UnitCommand, run_units};
 use vc2_io::{Failed, Sink, Source};
-use run_theory::Halt;
 
 // A maker of the proxies of pictures of this shape and with these parameters: the one that is kept, or else a new one.
 fn ready(
@@ -58,11 +58,17 @@ fn write_made<K: Sink>(
     bands: &DecodedBands,
 ) -> Result<(), Failed>
     requires { AllCanSynthesise maker.old.params.slicing maker.old.shape bands.now }
-    ensures ok { OnOk result (Appends (K.written out.old) (K.written out.new) (raw_text (proxy_frame (frame_of maker.old.shape) maker.old.params maker.old.level) (reduced_picture maker.old bands.now))) }
-    ensures err { OnErr result (GrewShort (K.written out.old) (K.written out.new) (raw_text (proxy_frame (frame_of maker.old.shape) maker.old.params maker.old.level) (reduced_picture maker.old bands.now))) }
+    ensures ok { OnOk result (Appends (K.written out.old) (K.written out.new)
+        (raw_text (proxy_frame (frame_of maker.old.shape) maker.old.params maker.old.level)
+        (reduced_picture maker.old bands.now))) }
+    ensures err { OnErr result (GrewShort (K.written out.old) (K.written out.new)
+        (raw_text (proxy_frame (frame_of maker.old.shape) maker.old.params maker.old.level)
+        (reduced_picture maker.old bands.now))) }
     ensures cause { HasCause (K.faults out.old) (K.faults out.new) result }
-    ensures unit { (slices : List (List ℕ)) → HoldUnit (frame_of maker.old.shape) maker.old.params slices bands.now
-        → reduced_picture maker.old bands.now ≡ proxy_picture (frame_of maker.old.shape) maker.old.params maker.old.level slices }
+    ensures unit { (slices : List (List ℕ))
+        → HoldUnit (frame_of maker.old.shape) maker.old.params slices bands.now
+        → reduced_picture maker.old bands.now
+        ≡ proxy_picture (frame_of maker.old.shape) maker.old.params maker.old.level slices }
 {
     write_picture(out, maker.make(bands))
 }
@@ -75,8 +81,9 @@ fn write_proxy<K: Sink>(
     level: u32,
     decoder: &PictureDecoder,
 ) -> Result<(), Halt>
-    requires { IsWhole decoder.now }
-    ensures wrote { (unit : DataUnit) → IsTakerOf unit (Some decoder.now) → WritesText (proxy_text level unit) (K.written out.old) (K.written out.new) result }
+    requires { HasAllSlices decoder.now }
+    ensures wrote { (unit : DataUnit) → IsTakerOf unit (Some decoder.now)
+        → WritesText (proxy_text level unit) (K.written out.old) (K.written out.new) result }
     ensures cause { HaltHasCause 0 0 (K.faults out.old) (K.faults out.new) result }
 {
     let mut maker = match ready(alloc, kept, decoder.shape(), decoder.params(), level) {
@@ -119,7 +126,7 @@ impl UnitCommand<StreamTable> for Proxying {
 
     ghost refused_is_no_end = { λ z w fault done. done };
 
-    ghost may_go_on = { MayGoOn };
+    ghost may_go_on = { MayEndOtherwise };
 
     fn open<K: Sink>(&mut self, _out: &mut K) -> Result<(), Halt> {
         Ok(())
@@ -177,8 +184,10 @@ fn lower_proxies<S: Source, K: Sink>(
     src: &mut S,
     out: &mut K,
 ) -> Result<Ending, Halt>
-    ensures runs { Runs (proxy_machine level) IsDone (change S.rest S.faults src.old src.new) (change K.written K.faults out.old out.new) result }
-    ensures soon { Soon MayGoOn (proxy_machine level) READ_SIZE (S.rest src.old) (S.rest src.new) result }
+    ensures runs { Runs (proxy_machine level) IsDone (change S.rest S.faults src.old src.new)
+        (change K.written K.faults out.old out.new) result }
+    ensures soon { Soon MayEndOtherwise (proxy_machine level) READ_SIZE (S.rest src.old)
+        (S.rest src.new) result }
 {
     match Reader::made(alloc, StreamTable::new(alloc, false)) {
         Ok(mut reader) => {
@@ -222,7 +231,7 @@ impl UnitCommand<StreamTable> for WholeProxying {
 
     ghost refused_is_no_end = { λ z w fault done. done };
 
-    ghost may_go_on = { MayGoOn };
+    ghost may_go_on = { MayEndOtherwise };
 
     fn open<K: Sink>(&mut self, _out: &mut K) -> Result<(), Halt> {
         Ok(())
@@ -282,8 +291,10 @@ fn whole_proxies<S: Source, K: Sink>(
     out: &mut K,
 ) -> Result<Ending, Halt>
     requires { 4 ≤ level }
-    ensures runs { Runs (proxy_machine level) IsDone (change S.rest S.faults src.old src.new) (change K.written K.faults out.old out.new) result }
-    ensures soon { Soon MayGoOn (proxy_machine level) READ_SIZE (S.rest src.old) (S.rest src.new) result }
+    ensures runs { Runs (proxy_machine level) IsDone (change S.rest S.faults src.old src.new)
+        (change K.written K.faults out.old out.new) result }
+    ensures soon { Soon MayEndOtherwise (proxy_machine level) READ_SIZE (S.rest src.old)
+        (S.rest src.new) result }
 {
     match Reader::made(alloc, StreamTable::new(alloc, true)) {
         Ok(mut reader) => {
@@ -303,8 +314,10 @@ pub(crate) fn proxy<S: Source, K: Sink>(
     src: &mut S,
     out: &mut K,
 ) -> Result<Ending, Halt>
-    ensures runs { Runs (proxy_machine level) IsDone (change S.rest S.faults src.old src.new) (change K.written K.faults out.old out.new) result }
-    ensures soon { Soon MayGoOn (proxy_machine level) READ_SIZE (S.rest src.old) (S.rest src.new) result }
+    ensures runs { Runs (proxy_machine level) IsDone (change S.rest S.faults src.old src.new)
+        (change K.written K.faults out.old out.new) result }
+    ensures soon { Soon MayEndOtherwise (proxy_machine level) READ_SIZE (S.rest src.old)
+        (S.rest src.new) result }
 {
     // No picture has more than four levels.
     if level >= 4 {

@@ -5,7 +5,7 @@ ghost use Rattle.stream_rows.specs.Units.{nothing_yet};
 ghost use Rattle.run_theory.specs.Ran.{HaltHasCause};
 ghost use Rattle.channel_schedule.specs.Rates.{IsSchedule};
 ghost use Rattle.run_theory.specs.Runs.{change, Runs, Closes};
-ghost use Rattle.vc2_cli.specs.Endings.{IsDone, MayGoOn, replayed};
+ghost use Rattle.vc2_cli.specs.Endings.{IsDone, MayEndOtherwise, replayed};
 ghost use Rattle.unit_reader.specs.Soon.{Soon};
 ghost use Rattle.vc2_cli.specs.Decode.{KeepsFew};
 ghost use Rattle.vc2_cli.specs.Scheduled.{Replayed, nothing_replayed, replaying_any, replay_machine};
@@ -14,11 +14,11 @@ use crate::check::{last_count, pictures_told};
 use crate::status::{Ending, Note};
 use crate::texts::replayed_text;
 use channel_schedule::{Outcome, Schedule, replay};
+use run_theory::Halt;
 use std::alloc::Global;
 use stream_units::{Item, Reason, Refusal, StreamTable};
 use unit_reader::{Reader, UnitCommand, run_units};
 use vc2_io::{Sink, Source, write_whole};
-use run_theory::Halt;
 
 // Writes the lines of a stream that is accepted.
 fn accept<K: Sink>(
@@ -29,7 +29,9 @@ fn accept<K: Sink>(
     bytes: u64,
     outcome: Outcome,
 ) -> Result<Ending, Halt>
-    ensures wrote { Closes (replayed pictures slices bytes outcome).ending (replayed pictures slices bytes outcome).last (K.written out.old) (K.written out.new) result }
+    ensures wrote { Closes (replayed pictures slices bytes outcome).ending
+        (replayed pictures slices bytes outcome).last (K.written out.old)
+        (K.written out.new) result }
     ensures cause { HaltHasCause 0 0 (K.faults out.old) (K.faults out.new) result }
 {
     let lines = match replayed_text(alloc, pictures, slices, bytes, &outcome) {
@@ -71,7 +73,7 @@ impl UnitCommand<StreamTable> for Replaying {
 
     ghost refused_is_no_end = { λ z w fault done. done };
 
-    ghost may_go_on = { MayGoOn };
+    ghost may_go_on = { MayEndOtherwise };
 
     fn open<K: Sink>(&mut self, _out: &mut K) -> Result<(), Halt> {
         Ok(())
@@ -129,8 +131,10 @@ pub(crate) fn check_schedule<S: Source, K: Sink>(
     out: &mut K,
 ) -> Result<Ending, Halt>
     requires { IsSchedule schedule }
-    ensures runs { Runs (replay_machine schedule) IsDone (change S.rest S.faults src.old src.new) (change K.written K.faults out.old out.new) result }
-    ensures soon { Soon MayGoOn (replay_machine schedule) READ_SIZE (S.rest src.old) (S.rest src.new) result }
+    ensures runs { Runs (replay_machine schedule) IsDone (change S.rest S.faults src.old src.new)
+        (change K.written K.faults out.old out.new) result }
+    ensures soon { Soon MayEndOtherwise (replay_machine schedule) READ_SIZE (S.rest src.old)
+        (S.rest src.new) result }
 {
     match Reader::made(alloc, StreamTable::new(alloc, false)) {
         Ok(mut reader) => {

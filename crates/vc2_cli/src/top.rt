@@ -10,7 +10,7 @@ ghost use Rattle.vc2_words.specs.Settings.{Asked};
 ghost use Rattle.vc2_words.specs.declared.words.TrialPart.{TrialPart};
 ghost use Rattle.vc2_words.specs.declared.settings.CutSettings.{CutSettings};
 ghost use Rattle.vc2_words.specs.declared.settings.FieldVideo.{FieldVideo};
-ghost use Rattle.vc2_words.specs.Lawful.{AreLawful, IsTrial, IsFieldVideo, IsCut};
+ghost use Rattle.vc2_words.specs.Lawful.{AreLawful, IsTrial, IsFieldVideo, IsCutSettings};
 ghost use Rattle.stream_writer.specs.Writer.{IsSteepUnder};
 ghost use Rattle.vc2_cli.specs.Encode.{written_under};
 ghost use Rattle.vc2_cli.specs.Words.{seen_words};
@@ -39,9 +39,9 @@ use crate::trial::trial;
 use crate::weave::{split, weave};
 use crate::words::checked;
 use channel_schedule::Outcome;
+use run_theory::Halt;
 use std::alloc::{AllocError, Global};
 use vc2_io::{Sink, Source, write_whole};
-use run_theory::Halt;
 use vc2_words::{Command, WordFault, read_words};
 
 fn status_of_halt(halt: Halt) -> Status
@@ -160,13 +160,18 @@ fn perform<S: Source, K: Sink>(
     src: &mut S,
     out: &mut K,
 ) -> Result<Ending, Halt>
-    requires schedule { (schedule : Schedule) → seen command ≡ asked.check (Some schedule) → IsSchedule schedule }
-    requires settings { (s : Asked) → seen command ≡ asked.encode s → AreLawful s × IsSteepUnder (written_under s) }
-    requires trial { (s : Asked) (part : TrialPart) → seen command ≡ asked.trial s part → IsTrial s part × IsSteepUnder (written_under s) }
+    requires schedule { (schedule : Schedule) → seen command ≡ asked.check (Some schedule)
+        → IsSchedule schedule }
+    requires settings { (s : Asked) → seen command ≡ asked.encode s → AreLawful s
+        × IsSteepUnder (written_under s) }
+    requires trial { (s : Asked) (part : TrialPart) → seen command ≡ asked.trial s part
+        → IsTrial s part × IsSteepUnder (written_under s) }
     requires weave { (video : FieldVideo) → seen command ≡ asked.weave video → IsFieldVideo video }
     requires split { (video : FieldVideo) → seen command ≡ asked.split video → IsFieldVideo video }
-    requires cut { (settings : CutSettings) → seen command ≡ asked.cut settings → IsCut settings }
-    ensures { Does (seen command) (change S.rest S.faults src.old src.new) (change K.written K.faults out.old out.new) result }
+    requires cut { (settings : CutSettings) → seen command ≡ asked.cut settings
+        → IsCutSettings settings }
+    ensures { Does (seen command) (change S.rest S.faults src.old src.new)
+        (change K.written K.faults out.old out.new) result }
 {
     match command {
         Command::Chain => chain(alloc, src, out),
@@ -194,23 +199,38 @@ fn answer<S: Source, K: Sink, N: Sink>(
     out: &mut K,
     note: &mut N,
 ) -> Status
-    requires schedule { (schedule : Schedule) → seen_words command ≡ Ok (asked.check (Some schedule)) → IsSchedule schedule }
-    requires settings { (s : Asked) → seen_words command ≡ Ok (asked.encode s) → AreLawful s × IsSteepUnder (written_under s) }
-    requires trial { (s : Asked) (part : TrialPart) → seen_words command ≡ Ok (asked.trial s part) → IsTrial s part × IsSteepUnder (written_under s) }
-    requires weave { (video : FieldVideo) → seen_words command ≡ Ok (asked.weave video) → IsFieldVideo video }
-    requires split { (video : FieldVideo) → seen_words command ≡ Ok (asked.split video) → IsFieldVideo video }
-    requires cut { (settings : CutSettings) → seen_words command ≡ Ok (asked.cut settings) → IsCut settings }
+    requires schedule { (schedule : Schedule)
+        → seen_words command ≡ Ok (asked.check (Some schedule)) → IsSchedule schedule }
+    requires settings { (s : Asked) → seen_words command ≡ Ok (asked.encode s) → AreLawful s
+        × IsSteepUnder (written_under s) }
+    requires trial { (s : Asked) (part : TrialPart) → seen_words command ≡ Ok (asked.trial s part)
+        → IsTrial s part × IsSteepUnder (written_under s) }
+    requires weave { (video : FieldVideo) → seen_words command ≡ Ok (asked.weave video)
+        → IsFieldVideo video }
+    requires split { (video : FieldVideo) → seen_words command ≡ Ok (asked.split video)
+        → IsFieldVideo video }
+    requires cut { (settings : CutSettings) → seen_words command ≡ Ok (asked.cut settings)
+        → IsCutSettings settings }
     ensures settled { (input : List ℕ) → S.rest src.old ≡ Some input →
-        Settles (command_reply (seen_words command) input) (command_due (seen_words command)) input (S.rest src.new)
+        Settles (command_reply (seen_words command) input) (command_due (seen_words command)) input
+        (S.rest src.new)
         (K.written out.old) (K.written out.new) (N.written note.old) (N.written note.new) result }
     ensures limit { TakesAtMost (INPUT_LIMIT + 1) (S.rest src.old) (S.rest src.new) }
-    ensures causes { HasCauses (change S.rest S.faults src.old src.new) (change K.written K.faults out.old out.new) (change N.written N.faults note.old note.new) result }
-    ensures usage { IfErr command (λ fault. AnswersUsage fault (N.written note.old) (N.written note.new) result
+    ensures causes { HasCauses (change S.rest S.faults src.old src.new)
+        (change K.written K.faults out.old out.new)
+        (change N.written N.faults note.old note.new) result }
+    ensures usage { IfErr command (λ fault. AnswersUsage fault (N.written note.old)
+        (N.written note.new) result
         × (S.rest src.new ≡ S.rest src.old) × (K.written out.new ≡ K.written out.old)) }
-    ensures trial { IfTrial (seen_words command) (λ s part. AnswersTrial (trial_text s part) (K.written out.old) (K.written out.new) (N.written note.old) (N.written note.new) result
+    ensures trial { IfTrial (seen_words command)
+        (λ s part. AnswersTrial (trial_text s part) (K.written out.old) (K.written out.new)
+        (N.written note.old) (N.written note.new) result
         × (S.rest src.new ≡ S.rest src.old) × (S.faults src.new ≡ S.faults src.old)) }
-    ensures header { IfHeader (seen_words command) (TakesAtMost 250 (S.rest src.old) (S.rest src.new)) }
-    ensures soon { (input : List ℕ) → S.rest src.old ≡ Some input → IfUnits (seen_words command) (λ most. StopsSoon (command_reply (seen_words command)) most input (S.rest src.new) result) }
+    ensures header { IfHeader (seen_words command)
+        (TakesAtMost 250 (S.rest src.old) (S.rest src.new)) }
+    ensures soon { (input : List ℕ) → S.rest src.old ≡ Some input
+        → IfUnits (seen_words command) (λ most.
+        StopsSoon (command_reply (seen_words command)) most input (S.rest src.new) result) }
 {
     match command {
         Ok(command) => conclude(alloc, perform(alloc, command, src, out), note),
@@ -229,7 +249,9 @@ pub fn run<S: Source, K: Sink, N: Sink>(
     out: &mut K,
     note: &mut N,
 ) -> Status
-    ensures { Ran (map string_bytes words.now) (change S.rest S.faults src.old src.new) (change K.written K.faults out.old out.new) (change N.written N.faults note.old note.new) result }
+    ensures { Ran (map string_bytes words.now) (change S.rest S.faults src.old src.new)
+        (change K.written K.faults out.old out.new)
+        (change N.written N.faults note.old note.new) result }
 {
     let command = checked(read_words(words));
     answer(alloc, command, src, out, note)

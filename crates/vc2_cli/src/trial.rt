@@ -3,7 +3,7 @@ ghost use Rattle.std.specs.Prelude.{◌≡◌, ◌≤◌, ◌^◌, [], length, I
 ghost use Rattle.sequence_header.specs.Coding.{IsShapeOf};
 ghost use Rattle.channel_schedule.specs.Rates.{IsRate};
 ghost use Rattle.channel_schedule.specs.Plans.{plan_of};
-ghost use Rattle.vc2_words.specs.Settings.{stream_length};
+ghost use Rattle.vc2_words.specs.Settings.{asked_length};
 ghost use Rattle.vc2_words.specs.Shown.{shown};
 ghost use Rattle.vc2_words.specs.Lawful.{IsTrial};
 ghost use Rattle.run_theory.specs.Ran.{HaltHasCause};
@@ -22,12 +22,12 @@ use crate::stream_sink::StreamSink;
 use crate::texts::trial_text;
 use channel_schedule::{Outcome, Rate, Schedule, plan, replay};
 use picture_codec::Picture;
+use run_theory::Halt;
 use slice_geometry::UnitShapes;
 use std::alloc::Global;
 use stream_units::{StreamWriter, WriteStop};
 use trial_video::TrialVideo;
 use vc2_io::{NoMemory, Sink, write_whole};
-use run_theory::Halt;
 use vc2_words::{Settings, TrialPart, later_sequences};
 
 /// What a trial finds: the bytes of its stream, the least schedule with which that runs, and the greatest difference.
@@ -40,8 +40,10 @@ struct Found {
 
 // The bytes of a stream of so many pictures.
 fn stream_len(settings: &Settings, pictures: u32) -> usize
-    requires { stream_length (shown settings.now).parts (shown settings.now).params (shown settings.now).group pictures ≤ 2 ^ 28 }
-    ensures { result ≡ stream_length (shown settings.now).parts (shown settings.now).params (shown settings.now).group pictures }
+    requires { asked_length (shown settings.now).parts (shown settings.now).params
+        (shown settings.now).group pictures ≤ 2 ^ 28 }
+    ensures { result ≡ asked_length (shown settings.now).parts (shown settings.now).params
+        (shown settings.now).group pictures }
 {
     let sequences = 1 + later_sequences(settings.group, pictures) as usize;
     let ends = sequences * (13 + settings.header.byte_len() + 13);
@@ -83,8 +85,10 @@ fn write_video(
     requires pictures { IsShapeOf picture.old.shape (shown settings.now).parts }
     requires shape { picture.old.shape ≡ video.old.shape }
     requires begun { HasWritten (shown settings.now) part 0 video.old writer.old sink.old }
-    ensures plan { IfOk result (λ schedule. schedule ≡ plan_for (shown settings.now) (trial_pictures (shown settings.now) part)) }
-    ensures stream { IfOk result (λ schedule. sink.new.bytes ≡ stream_of (shown settings.now) (trial_pictures (shown settings.now) part)) }
+    ensures plan { IfOk result (λ schedule. schedule
+        ≡ plan_for (shown settings.now) (trial_pictures (shown settings.now) part)) }
+    ensures stream { IfOk result (λ schedule. sink.new.bytes
+        ≡ stream_of (shown settings.now) (trial_pictures (shown settings.now) part)) }
 {
     for _n in 0..part.pictures {
         video.next(picture);
@@ -115,9 +119,13 @@ fn encode_video(
     requires lawful { IsTrial (shown settings.now) part }
     requires flat { IsSteepUnder (written_under (shown settings.now)) }
     requires empty { sink.old.bytes ≡ [] }
-    requires room { sink.old.room ≡ stream_length (shown settings.now).parts (shown settings.now).params (shown settings.now).group part.pictures }
-    ensures plan { IfOk result (λ schedule. schedule ≡ plan_for (shown settings.now) (trial_pictures (shown settings.now) part)) }
-    ensures stream { IfOk result (λ schedule. sink.new.bytes ≡ stream_of (shown settings.now) (trial_pictures (shown settings.now) part)) }
+    requires room { sink.old.room
+        ≡ asked_length (shown settings.now).parts (shown settings.now).params
+        (shown settings.now).group part.pictures }
+    ensures plan { IfOk result (λ schedule. schedule
+        ≡ plan_for (shown settings.now) (trial_pictures (shown settings.now) part)) }
+    ensures stream { IfOk result (λ schedule. sink.new.bytes
+        ≡ stream_of (shown settings.now) (trial_pictures (shown settings.now) part)) }
 {
     let shape = settings.header.picture_shape();
     let mut picture = match Picture::new(alloc, &shape) {
@@ -149,8 +157,10 @@ fn encode_video(
 fn go_through(alloc: Global, settings: &Settings, part: TrialPart) -> Result<Found, NoMemory>
     requires lawful { IsTrial (shown settings.now) part }
     requires flat { IsSteepUnder (written_under (shown settings.now)) }
-    ensures bytes { IfOk result (λ found. found.bytes ≡ length (stream_of (shown settings.now) (trial_pictures (shown settings.now) part))) }
-    ensures plan { IfOk result (λ found. found.schedule ≡ plan_for (shown settings.now) (trial_pictures (shown settings.now) part)) }
+    ensures bytes { IfOk result (λ found. found.bytes
+        ≡ length (stream_of (shown settings.now) (trial_pictures (shown settings.now) part))) }
+    ensures plan { IfOk result (λ found. found.schedule
+        ≡ plan_for (shown settings.now) (trial_pictures (shown settings.now) part)) }
     ensures worst { IfOk result (λ found. found.worst ≡ trial_worst (shown settings.now) part) }
 {
     let mut sink = match StreamSink::new(alloc, stream_len(settings, part.pictures)) {
@@ -182,7 +192,8 @@ pub(crate) fn trial<K: Sink>(
 ) -> Result<Ending, Halt>
     requires lawful { IsTrial (shown settings.now) part }
     requires flat { IsSteepUnder (written_under (shown settings.now)) }
-    ensures told { Closes (ending.Done note.Nothing) (trial_text (shown settings.now) part) (K.written out.old) (K.written out.new) result }
+    ensures told { Closes (ending.Done note.Nothing) (trial_text (shown settings.now) part)
+        (K.written out.old) (K.written out.new) result }
     ensures cause { HaltHasCause 0 0 (K.faults out.old) (K.faults out.new) result }
 {
     let found = match go_through(alloc, settings, part) {

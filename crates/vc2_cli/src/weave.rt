@@ -4,14 +4,14 @@ ghost use Rattle.vc2_words.specs.Lawful.{IsFieldVideo};
 ghost use Rattle.run_theory.specs.Runs.{change, Runs};
 ghost use Rattle.vc2_cli.specs.Endings.{IsDone};
 ghost use Rattle.vc2_cli.specs.Encode.{refused_at};
-ghost use Rattle.vc2_cli.specs.Weave.{order_of, weave_machine, split_machine, outcome_of};
+ghost use Rattle.vc2_cli.specs.Weave.{order_of, weave_command_machine, split_command_machine, outcome_of};
 
 use crate::status::{Ending, Note};
 use field_weave::{Order, WeaveStop, Weaver};
+use run_theory::Halt;
 use std::alloc::Global;
 use stream_units::{Reason, Refusal};
 use vc2_io::{INPUT_LIMIT, Sink, Source};
-use run_theory::Halt;
 use vc2_words::FieldVideo;
 
 pub(crate) fn order_of(top: bool) -> Order
@@ -49,7 +49,9 @@ pub(crate) fn weave<S: Source, K: Sink>(
     out: &mut K,
 ) -> Result<Ending, Halt>
     requires { IsFieldVideo video.now }
-    ensures { Runs (weave_machine video.now) IsDone (change S.rest S.faults src.old src.new) (change K.written K.faults out.old out.new) result }
+    ensures { Runs (weave_command_machine video.now) IsDone
+        (change S.rest S.faults src.old src.new)
+        (change K.written K.faults out.old out.new) result }
 {
     let shape = video.header.picture_shape();
     match Weaver::new(alloc, &shape, order_of(video.top)) {
@@ -70,7 +72,9 @@ pub(crate) fn split<S: Source, K: Sink>(
     out: &mut K,
 ) -> Result<Ending, Halt>
     requires { IsFieldVideo video.now }
-    ensures { Runs (split_machine video.now) IsDone (change S.rest S.faults src.old src.new) (change K.written K.faults out.old out.new) result }
+    ensures { Runs (split_command_machine video.now) IsDone
+        (change S.rest S.faults src.old src.new)
+        (change K.written K.faults out.old out.new) result }
 {
     let shape = video.header.picture_shape();
     match Weaver::new(alloc, &shape, order_of(video.top)) {

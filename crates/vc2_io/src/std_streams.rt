@@ -40,9 +40,11 @@ impl<R: Read> Source for StdSource<R> {
     /// One call of the reader's `read`. Any error of it is a fault, an interrupted call among them.
     fn read(&mut self, buf: &mut [u8]) -> Result<usize, Failed>
         ensures bound { ReadsAtMost result buf.new }
-        ensures bytes { ReadConsumes (R.remaining self.old.inner) (R.remaining self.new.inner) result buf.new }
+        ensures bytes { ReadConsumes (R.remaining self.old.inner)
+            (R.remaining self.new.inner) result buf.new }
         ensures cause { HasCause self.old.failures self.new.failures result }
-        ensures count { self.new.failures ≡ (if is_err result then next_count self.old.failures else self.old.failures) }
+        ensures count { self.new.failures
+            ≡ (if is_err result then next_count self.old.failures else self.old.failures) }
     {
         match self.inner.read(buf) {
             Ok(count) => Ok(count),
@@ -90,10 +92,13 @@ impl<W: Write> Sink for StdSink<W> {
         ensures some { IfOk result (λ n. 0 < length piece.now → 0 < n) }
         ensures bytes { WriteAppends None None result piece.now }
         ensures cause { HasCause self.old.failures self.new.failures result }
-        ensures count { self.new.failures ≡ (if is_err result then next_count self.old.failures else self.old.failures) }
+        ensures count { self.new.failures
+            ≡ (if is_err result then next_count self.old.failures else self.old.failures) }
         // The writer got the prefix of the piece that is told; after a fault, some prefix.
-        ensures wrote { IfOk result (λ n. Appends (W.contents self.old.inner) (W.contents self.new.inner) (take n piece.now)) }
-        ensures failed { OnErr result ((n : ℕ) × Appends (W.contents self.old.inner) (W.contents self.new.inner) (take n piece.now)) }
+        ensures wrote { IfOk result (λ n. Appends (W.contents self.old.inner)
+            (W.contents self.new.inner) (take n piece.now)) }
+        ensures failed { OnErr result ((n : ℕ)
+            × Appends (W.contents self.old.inner) (W.contents self.new.inner) (take n piece.now)) }
     {
         let count = match self.inner.write(piece) {
             Ok(count) => count,

@@ -10,8 +10,8 @@ use Rattle.vc2_words.specs.declared.keys.WordFault.{WordFault}
 use Rattle.vc2_words.specs.Keys.{name_of, key_of, takes, place_of}
 use Rattle.vc2_words.specs.Forms.{cut_at, value_in}
 use Rattle.field_rows.specs.Rows.{and_then}
-use Rattle.vc2_words.specs.Operands.{Table, nothing, value_of, with_value, valued, keyed, cut_operand, operand, operands_from, operands_of, unless, missing}
-use Rattle.vc2_words.specs.Commands.{AskedCommand, asked_by, named, command_of}
+use Rattle.vc2_words.specs.Operands.{Table, nothing, value_of, with_value, table_with, table_under, cut_operand, operand, operands_from, operands_of, unless, missing}
+use Rattle.vc2_words.specs.Commands.{AskedCommand, asked_by, command_named, command_of}
 use Rattle.vc2_words.specs.Order.{IsFirstFault, FirstIsTold}
 use Rattle.vc2_words.proofs.Plainness.{in_table, nothing_read}
 
@@ -97,17 +97,17 @@ record IsTaken (name : Name) (given : Table) (word : List ℕ) (next : Table) : 
 taken_of : (name : Name) (i : ℕ) (given : Table) (word : List ℕ) (next : Table) → operand name i given word ≡ Ok next → IsTaken name given word next
 taken_of name i given word next e = by_cut (cut_at 61 word) refl e
   where
-    by_value : (p : List ℕ × List ℕ) (key : Key) → cut_at 61 word ≡ Some p → key_of p.0 ≡ Some key → takes name key ≡ true → is_some (value_of given key) ≡ false → (v : Option (List ℕ)) → value_in key p.1 ≡ v → valued i given key v ≡ Ok next → IsTaken name given word next
+    by_value : (p : List ℕ × List ℕ) (key : Key) → cut_at 61 word ≡ Some p → key_of p.0 ≡ Some key → takes name key ≡ true → is_some (value_of given key) ≡ false → (v : Option (List ℕ)) → value_in key p.1 ≡ v → table_with i given key v ≡ Ok next → IsTaken name given word next
     by_value p key cut named_key may free None reads e = err_ok e
     by_value p key cut named_key may free (Some ns) reads e = record { parts = p; cut = cut; key = key; named_key = named_key; may = may; free = free; numbers = ns; reads = reads; next_is = ok_same e }
 
     by_tests : (p : List ℕ × List ℕ) (key : Key) → cut_at 61 word ≡ Some p → key_of p.0 ≡ Some key → (t s : Bool) (repeated unknown : WordFault) → takes name key ≡ t → is_some (value_of given key) ≡ s
-        → (if t then (if s then Err repeated else valued i given key (value_in key p.1)) else Err unknown) ≡ Ok next → IsTaken name given word next
+        → (if t then (if s then Err repeated else table_with i given key (value_in key p.1)) else Err unknown) ≡ Ok next → IsTaken name given word next
     by_tests p key cut named_key false s repeated unknown may free e = err_ok e
     by_tests p key cut named_key true true repeated unknown may free e = err_ok e
     by_tests p key cut named_key true false repeated unknown may free e = by_value p key cut named_key may free (value_in key p.1) refl e
 
-    by_key : (p : List ℕ × List ℕ) → cut_at 61 word ≡ Some p → (k : Option Key) → key_of p.0 ≡ k → keyed name i given p.1 k ≡ Ok next → IsTaken name given word next
+    by_key : (p : List ℕ × List ℕ) → cut_at 61 word ≡ Some p → (k : Option Key) → key_of p.0 ≡ k → table_under name i given p.1 k ≡ Ok next → IsTaken name given word next
     by_key p cut None named_key e = err_ok e
     by_key p cut (Some key) named_key e = by_tests p key cut named_key (takes name key) (is_some (value_of given key)) _ _ refl refl e
 
@@ -181,6 +181,6 @@ order_is_free word a b front back command e = here (name_of word) e
     by_table name (Ok g) is e =
         ap (λ r. and_then (and_then r (λ given. unless (missing name given) given)) (λ given. command_of name given)) (all_exchanged name 1 nothing g front back a b nothing_read.many is) ∙ e
 
-    here : (n : Option Name) → named n (front ++ (a ∷ b ∷ back)) ≡ asks command → named n (front ++ (b ∷ a ∷ back)) ≡ asks command
+    here : (n : Option Name) → command_named n (front ++ (a ∷ b ∷ back)) ≡ asks command → command_named n (front ++ (b ∷ a ∷ back)) ≡ asks command
     here None e = err_asks e
     here (Some name) e = by_table name (operands_from name 1 nothing (front ++ (a ∷ b ∷ back))) refl e

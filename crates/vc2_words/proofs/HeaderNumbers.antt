@@ -8,14 +8,14 @@ use Rattle.sequence_header.specs.declared.parts.SignalField.{SignalField}
 use Rattle.sequence_header.specs.declared.parts.SignalField.TheVariants as signals
 use Rattle.sequence_header.specs.Header.{scan_rows, rate_rows, signal_rows}
 use Rattle.sequence_header.specs.HeaderFields.{scan_fields, rate_fields, signal_fields, version_of, frame_size}
-use Rattle.sequence_header.specs.Checking.{Passes, IsLawful}
+use Rattle.sequence_header.specs.Checking.{PassesRules, IsLawfulHeader}
 use Rattle.sequence_header.proofs.FieldKinds.{version_kinds, size_kinds, sampling_kinds, scan_kinds_none, scan_kinds, rate_kinds, rate_kinds_pair, aspect_kinds_none, clean_kinds_none, signal_kinds, signal_kinds_custom, colour_kinds_none, coding_kinds}
 use Rattle.sequence_header.proofs.WroteText.{HaveKinds, header_kinds}
 use Rattle.vc2_words.specs.declared.keys.Key.TheVariants as of_key
 use Rattle.vc2_words.specs.Forms.{greatest}
 use Rattle.vc2_words.specs.Operands.{Table, value_of}
 use Rattle.vc2_words.specs.Plain.{IsPlain, IsPlainScan, IsPlainRate, IsPlainSignal}
-use Rattle.vc2_words.specs.Read.{IsRead}
+use Rattle.vc2_words.specs.Read.{IsTableRead}
 use Rattle.vc2_words.specs.Settings.{number_of, signal_of, parts_of, field_parts}
 use Rattle.vc2_words.proofs.Small.{number_small}
 
@@ -44,7 +44,7 @@ signalled : (signal : SignalField) → IsPlainSignal signal → HasLow signal �
 signalled (signals.Index n) plain low = signal_kinds n plain.0 (omega (arith, plain.1))
 signalled (signals.Custom r) plain low = signal_kinds_custom r (omega (arith, low.0)) (omega (arith, low.1)) (omega (arith, low.2)) (omega (arith, low.3))
 
-pub parts_lawful : (given : Table) → IsRead given → IsPlain (parts_of given) → Passes (parts_of given) → IsLawful (parts_of given)
+pub parts_lawful : (given : Table) → IsTableRead given → IsPlain (parts_of given) → PassesRules (parts_of given) → IsLawfulHeader (parts_of given)
 parts_lawful given read plain passes =
     let p = parts_of given in
     let width = number_small given of_key.Size 0 read in
@@ -65,7 +65,7 @@ parts_lawful given read plain passes =
     record { passes = passes; kinds = header_kinds p passes kinds }
 
 -- the same of fields
-pub field_parts_lawful : (given : Table) → IsRead given → IsPlain (field_parts given) → Passes (field_parts given) → IsLawful (field_parts given)
+pub field_parts_lawful : (given : Table) → IsTableRead given → IsPlain (field_parts given) → PassesRules (field_parts given) → IsLawfulHeader (field_parts given)
 field_parts_lawful given read plain passes =
     let p = field_parts given in
     let width = number_small given of_key.Size 0 read in

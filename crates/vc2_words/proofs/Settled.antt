@@ -4,10 +4,10 @@ use Rattle.std.specs.Prelude.{Option, Result, ◌==◌, slice_index, is_some, no
 use Rattle.std.specs.List.{AllByRecursion}
 use Rattle.std.proofs.lemmas.Bool.{leb-true, eqb-true, eq-eqb, true≢false}
 use Rattle.field_rows.specs.Rows.{Rule, first_broken}
-use Rattle.sequence_header.specs.Checking.{Passes}
+use Rattle.sequence_header.specs.Checking.{PassesRules}
 use Rattle.slice_geometry.specs.Slicing.{Slicing, slice_count, AreSlicesAllowed, IsShareAllowed}
 use Rattle.transform_params.specs.Params.{Params}
-use Rattle.transform_params.specs.ParameterFields.{IsLawful, unit_length}
+use Rattle.transform_params.specs.ParameterFields.{AreLawfulParams, unit_length}
 use Rattle.channel_schedule.specs.declared.schedule.Rate.{Rate}
 use Rattle.channel_schedule.specs.declared.schedule.Schedule.{Schedule}
 use Rattle.channel_schedule.specs.Rates.{IsRate}
@@ -18,19 +18,19 @@ use Rattle.vc2_words.specs.Forms.{greatest, cut_at, slash, number_in, number_fro
 use Rattle.field_rows.specs.Rows.{and_then}
 use Rattle.vc2_words.specs.Operands.{Table, value_of, has_schedule, operands_of}
 use Rattle.vc2_words.specs.Plain.{IsPlain, IsPlainFor}
-use Rattle.vc2_words.specs.Lawful.{AreLawful, IsGroup, IsAskedSchedule, IsTrial, IsFieldVideo, IsCut}
+use Rattle.vc2_words.specs.Lawful.{AreLawful, IsAskedGroup, IsAskedSchedule, IsTrial, IsFieldVideo, IsCutSettings}
 use Rattle.vc2_words.specs.declared.keys.Name.{Name}
 use Rattle.vc2_words.specs.declared.keys.Name.TheVariants as names
 use Rattle.vc2_words.specs.declared.keys.WordFault.{WordFault}
 use Rattle.vc2_words.specs.Keys.{name_of, all_keys}
-use Rattle.vc2_words.specs.Commands.{AskedCommand, check, encode, trial, weave, split, cut, unless_broken, schedule_from, schedule_of, command_of, part_of, named, asked_by}
+use Rattle.vc2_words.specs.Commands.{AskedCommand, check, encode, trial, weave, split, cut, unless_broken, schedule_from, schedule_of, command_of, part_of, command_named, asked_by}
 use Rattle.vc2_words.proofs.Plainness.{IsWhole, missing_none, plain_of, whole_of, pair_is, single_is, range_is, none_some, some_same}
-use Rattle.vc2_words.specs.Read.{IsRead, IsValue}
+use Rattle.vc2_words.specs.Read.{IsTableRead, IsValue}
 use Rattle.vc2_words.proofs.Small.{AreSmall, given_small, number_small}
 use Rattle.vc2_words.proofs.HeaderNumbers.{parts_lawful, field_parts_lawful}
 use Rattle.vc2_words.proofs.Trials.{seed_low, pictures_of}
 use Rattle.transform_params.proofs.Bounds.{unit_small}
-use Rattle.vc2_words.specs.Settings.{number_of, number_at, entries_of, parts_of, params_of, slicing_of, are_slices, is_share, number_rules, trial_rules, broken_rule, or_first, is_even_with, are_paired, group_of, asked_of, field_parts, field_rules, video_of, cut_of, cut_rules, rate_or, rate_given, buffer_given}
+use Rattle.vc2_words.specs.Settings.{number_of, given_number, entries_of, parts_of, params_of, slicing_of, are_slices, is_share, trial_number_rules, trial_rules, broken_rule, or_first, is_even_with, are_paired, group_of, asked_of, field_parts, field_rules, video_of, cut_of, cut_rules, rate_or, rate_given, buffer_given}
 use Rattle.vc2_words.proofs.Lawful.{range_of, and_both, passes}
 use Rattle.vc2_words.proofs.Rules.{all_hold, slices_hold, share_holds, count_holds}
 
@@ -38,7 +38,7 @@ all_low : (ns : List ℕ) → AreSmall ns → AllByRecursion (λ (n : ℕ). n < 
 all_low [] small = tt
 all_low (n ∷ ns) small = (omega (arith, small.0), all_low ns small.1)
 
-entries_low : (given : Table) → IsRead given → AllByRecursion (λ (n : ℕ). n < 2 ^ 32) (entries_of (value_of given of_key.Matrix))
+entries_low : (given : Table) → IsTableRead given → AllByRecursion (λ (n : ℕ). n < 2 ^ 32) (entries_of (value_of given of_key.Matrix))
 entries_low given read = here (value_of given of_key.Matrix) refl
   where
     here : (v : Option (List ℕ)) → value_of given of_key.Matrix ≡ v → AllByRecursion (λ (n : ℕ). n < 2 ^ 32) (entries_of v)
@@ -68,7 +68,7 @@ none_before None b e = refl
 none_before (Some rule) b e = e
 
 abbrev numbers_of : Table → Option ℕ → List (Rule settings.Rule)
-numbers_of given pictures = number_rules (parts_of given) (params_of given) (number_at given of_key.First 0) (group_in given) pictures
+numbers_of given pictures = trial_number_rules (parts_of given) (params_of given) (given_number given of_key.First 0) (group_in given) pictures
 
 abbrev trials_of : Table → Option ℕ → List (Rule settings.Rule)
 trials_of given pictures = trial_rules (parts_of given) (params_of given) (group_in given) pictures
@@ -76,9 +76,9 @@ trials_of given pictures = trial_rules (parts_of given) (params_of given) (group
 numbers_hold : (given : Table) (pictures : Option ℕ) → broken_rule given pictures ≡ None → first_broken (numbers_of given pictures) ≡ None
 numbers_hold given pictures none = none_before (first_broken (numbers_of given pictures)) (first_broken (trials_of given pictures)) none
 
-pub params_lawful : (given : Table) (pictures : Option ℕ) → IsRead given → broken_rule given pictures ≡ None → IsLawful (params_of given)
+pub params_lawful : (given : Table) (pictures : Option ℕ) → IsTableRead given → broken_rule given pictures ≡ None → AreLawfulParams (params_of given)
 params_lawful given pictures read none =
-    let first = number_at given of_key.First 0 in
+    let first = given_number given of_key.First 0 in
     let held = numbers_hold given pictures none in
     let all = all_hold (numbers_of given pictures) held in
     let a = number_small given of_key.Bytes 0 read in
@@ -96,7 +96,7 @@ params_lawful given pictures read none =
       small = entries_low given read;
     }
 
-pub header_passes : (given : Table) (pictures : Option ℕ) → IsPlain (parts_of given) → broken_rule given pictures ≡ None → Passes (parts_of given)
+pub header_passes : (given : Table) (pictures : Option ℕ) → IsPlain (parts_of given) → broken_rule given pictures ≡ None → PassesRules (parts_of given)
 header_passes given pictures plain none =
     let all = all_hold (numbers_of given pictures) (numbers_hold given pictures none) in
     passes (parts_of given) plain all.0 all.1.0 all.1.1.0
@@ -118,7 +118,7 @@ rate_lawful (Some ns) read usual good =
 one_product : (m n : ℕ) → 1 ≤ m → 1 ≤ n → 1 ≤ m * n
 one_product m n some_m some_n = let more : m * 1 ≤ m * n = mul-le-mul_left m some_n in omega (arith, more)
 
-usual_rate : (params : Params) (idle : ℕ) → IsLawful params → idle ≤ 2 ^ 20 → HasRate (record { num = unit_length params; den = slice_count params.slicing + idle })
+usual_rate : (params : Params) (idle : ℕ) → AreLawfulParams params → idle ≤ 2 ^ 20 → HasRate (record { num = unit_length params; den = slice_count params.slicing + idle })
 usual_rate params idle lawful few =
     let slices = lawful.allowed.slices in
     record {
@@ -134,7 +134,7 @@ even_with coding n good one =
     let is : (coding == 1) ≡ true = eq-eqb coding 1 one in
     eqb-true (n % 2) 0 (rw is at good)
 
-group_lawful : (coding : ℕ) (v : Option (List ℕ)) → ((ns : List ℕ) → v ≡ Some ns → IsValue of_key.Group ns) → are_paired coding (group_of v) ≡ true → IsGroup coding (group_of v)
+group_lawful : (coding : ℕ) (v : Option (List ℕ)) → ((ns : List ℕ) → v ≡ Some ns → IsValue of_key.Group ns) → are_paired coding (group_of v) ≡ true → IsAskedGroup coding (group_of v)
 group_lawful coding None read even = tt
 group_lawful coding (Some ns) read even =
     let value = read ns refl in
@@ -143,13 +143,13 @@ group_lawful coding (Some ns) read even =
     let is : slice_index ns 0 ≡ one.0 = ap (λ (l : List ℕ). slice_index l 0) one.2 in
     (omega (arith, is, range.0), omega (arith, is, range.1), even_with coding (slice_index ns 0) even)
 
-lawful : (given : Table) (pictures : Option ℕ) → IsRead given → IsPlain (parts_of given) → broken_rule given pictures ≡ None → AreLawful (asked_of given)
+lawful : (given : Table) (pictures : Option ℕ) → IsTableRead given → IsPlain (parts_of given) → broken_rule given pictures ≡ None → AreLawful (asked_of given)
 lawful given pictures read plain none =
-    let first = number_at given of_key.First 0 in
+    let first = given_number given of_key.First 0 in
     let low = number_small given of_key.First 0 read in
     let all = all_hold (numbers_of given pictures) (numbers_hold given pictures none) in
     let params = params_lawful given pictures read none in
-    let idle = number_at given of_key.Idle 0 in
+    let idle = given_number given of_key.Idle 0 in
     let few : idle ≤ 2 ^ 20 = number_small given of_key.Idle 0 read in
     let rate = rate_lawful (value_of given of_key.Rate) (λ ns is. read.read of_key.Rate ns is) (record { num = unit_length (params_of given); den = slice_count (slicing_of given) + idle }) (usual_rate (params_of given) idle params few) in
     record {
@@ -170,9 +170,9 @@ none_behind : (a b : Option settings.Rule) → or_first a b ≡ None → b ≡ N
 none_behind None b e = e
 none_behind (Some rule) b e = none_some (sym e)
 
-trial_lawful : (given : Table) → IsWhole names.Trial given → IsPlain (parts_of given) → broken_rule given (Some (number_at given of_key.Pictures 0)) ≡ None → IsTrial (asked_of given) (part_of given)
+trial_lawful : (given : Table) → IsWhole names.Trial given → IsPlain (parts_of given) → broken_rule given (Some (given_number given of_key.Pictures 0)) ≡ None → IsTrial (asked_of given) (part_of given)
 trial_lawful given whole plain none =
-    let pictures = number_at given of_key.Pictures 0 in
+    let pictures = given_number given of_key.Pictures 0 in
     let numbers = all_hold (numbers_of given (Some pictures)) (numbers_hold given (Some pictures) none) in
     let trials = all_hold (trials_of given (Some pictures)) (none_behind (first_broken (numbers_of given (Some pictures))) (first_broken (trials_of given (Some pictures))) none) in
     let range = pictures_of given whole in
@@ -187,13 +187,13 @@ trial_lawful given whole plain none =
 
 -- ---- a schedule
 
-schedule_lawful : (given : Table) → IsRead given → (s : Schedule) → schedule_of given ≡ Some s → IsAskedSchedule s
+schedule_lawful : (given : Table) → IsTableRead given → (s : Schedule) → schedule_of given ≡ Some s → IsAskedSchedule s
 schedule_lawful given read s e = here (value_of given of_key.Rate) (value_of given of_key.Delay) (value_of given of_key.Buffer) refl refl e
   where
-    few : number_at given of_key.Idle 0 ≤ 2 ^ 20
+    few : given_number given of_key.Idle 0 ≤ 2 ^ 20
     few = number_small given of_key.Idle 0 read
 
-    here : (r d b : Option (List ℕ)) → value_of given of_key.Rate ≡ r → value_of given of_key.Delay ≡ d → schedule_from (rate_given r) d (buffer_given b) (number_at given of_key.Idle 0) ≡ Some s → IsAskedSchedule s
+    here : (r d b : Option (List ℕ)) → value_of given of_key.Rate ≡ r → value_of given of_key.Delay ≡ d → schedule_from (rate_given r) d (buffer_given b) (given_number given of_key.Idle 0) ≡ Some s → IsAskedSchedule s
     here None d b ir id e = none_some e
     here (Some ns) None b ir id e = none_some e
     here (Some ns) (Some ds) None ir id e = none_some e
@@ -208,13 +208,13 @@ abbrev SaysOf : Option Schedule → Type 0
 SaysOf None = Unit {0}
 SaysOf (Some s) = IsAskedSchedule s
 
-schedule_says : (given : Table) → IsRead given → (r : Option Schedule) → schedule_of given ≡ r → SaysOf r
+schedule_says : (given : Table) → IsTableRead given → (r : Option Schedule) → schedule_of given ≡ r → SaysOf r
 schedule_says given read None is = tt
 schedule_says given read (Some s) is = schedule_lawful given read s is
 
 -- ---- fields
 
-fields_lawful : (given : Table) → IsRead given → IsPlain (field_parts given) → first_broken (field_rules (field_parts given)) ≡ None → IsFieldVideo (video_of given)
+fields_lawful : (given : Table) → IsTableRead given → IsPlain (field_parts given) → first_broken (field_rules (field_parts given)) ≡ None → IsFieldVideo (video_of given)
 fields_lawful given read plain none =
     let all = all_hold (field_rules (field_parts given)) none in
     record { header = field_parts_lawful given read plain (passes (field_parts given) plain all.0 all.1.0 all.1.1.0); fields = refl }
@@ -222,7 +222,7 @@ fields_lawful given read plain none =
 -- ---- a cut
 
 -- a rate that is given is one
-rate_in : (given : Table) → IsRead given → not (is_some (value_of given of_key.Rate)) ≡ false → HasRate (record { num = number_at given of_key.Rate 0; den = number_at given of_key.Rate 1 })
+rate_in : (given : Table) → IsTableRead given → not (is_some (value_of given of_key.Rate)) ≡ false → HasRate (record { num = given_number given of_key.Rate 0; den = given_number given of_key.Rate 1 })
 rate_in given read some = here (value_of given of_key.Rate) refl some
   where
     here : (v : Option (List ℕ)) → value_of given of_key.Rate ≡ v → not (is_some v) ≡ false → HasRate (record { num = number_of v 0; den = number_of v 1 })
@@ -232,11 +232,11 @@ rate_in given read some = here (value_of given of_key.Rate) refl some
         let pair = pair_is 1 (cut_at slash value.text) ns value.reads in
         rw pair.2 (record { rate = record { some_bytes = pair.3; some_slots = pair.5 }; bytes = omega (arith, pair.4); slots = omega (arith, pair.6) })
 
-pub cut_lawful : (given : Table) → IsWhole names.Cut given → first_broken (cut_rules (cut_of given)) ≡ None → IsCut (cut_of given)
+pub cut_lawful : (given : Table) → IsWhole names.Cut given → first_broken (cut_rules (cut_of given)) ≡ None → IsCutSettings (cut_of given)
 cut_lawful given whole none =
     let all = missing_none names.Cut (has_schedule given) given all_keys whole.whole in
     let rate = rate_in given whole.read all.1.1.1.1.1.1.1.1.1.1.1.1.0 in
-    let order = leb-true (number_at given of_key.From 0 + 1) (number_at given of_key.To 0) (all_hold (cut_rules (cut_of given)) none).0 in
+    let order = leb-true (given_number given of_key.From 0 + 1) (given_number given of_key.To 0) (all_hold (cut_rules (cut_of given)) none).0 in
     record {
       some = omega (arith, order);
       last = omega (arith, number_small given of_key.To 0 whole.read);
@@ -252,7 +252,7 @@ Says (encode s) = AreLawful s
 Says (trial s part) = IsTrial s part
 Says (weave video) = IsFieldVideo video
 Says (split video) = IsFieldVideo video
-Says (cut c) = IsCut c
+Says (cut c) = IsCutSettings c
 Says _ = Unit {0}
 
 abbrev fine : AskedCommand → Result AskedCommand WordFault
@@ -293,7 +293,7 @@ command_says names.Check given c whole plain e = subst (λ (k : AskedCommand). S
 command_says names.Proxy given c whole plain e = subst (λ (k : AskedCommand). Says k) (fine_same e) tt
 command_says names.Encode given c whole plain e = unbroken given None (encode (asked_of given)) c (lawful given None whole.read plain) e
 command_says names.Trial given c whole plain e =
-    unbroken given (Some (number_at given of_key.Pictures 0)) (trial (asked_of given) (part_of given)) c (trial_lawful given whole plain) e
+    unbroken given (Some (given_number given of_key.Pictures 0)) (trial (asked_of given) (part_of given)) c (trial_lawful given whole plain) e
 command_says names.Weave given c whole plain e = unbroken_fields given (weave (video_of given)) c (fields_lawful given whole.read plain) e
 command_says names.Split given c whole plain e = unbroken_fields given (split (video_of given)) c (fields_lawful given whole.read plain) e
 command_says names.Cut given c whole plain e = unbroken_cut given (cut (cut_of given)) c (cut_lawful given whole) e
@@ -307,6 +307,6 @@ words_say (word ∷ words) c e = here (name_of word) e
     read name (Err fault) is e = failed e
     read name (Ok given) is e = command_says name given c (whole_of name words given is) (plain_of name words given is) e
 
-    here : (n : Option Name) → named n words ≡ fine c → Says c
+    here : (n : Option Name) → command_named n words ≡ fine c → Says c
     here None e = failed e
     here (Some name) e = read name (operands_of name words) refl e

@@ -8,7 +8,7 @@ use Rattle.vc2_words.specs.declared.keys.Key.{Key}
 use Rattle.vc2_words.specs.declared.keys.Key.TheVariants as of_key
 use Rattle.vc2_words.specs.Forms as Forms
 use Rattle.vc2_words.specs.Forms.{greatest, slash, cross, comma, value_in, cut_at, number_in, number_from, in_range, single, both_parts, more, exactly, list_in, list_behind, signal_at}
-use Rattle.vc2_words.specs.Read.{IsRead, bound_of, IsFit, IsFitValue}
+use Rattle.vc2_words.specs.Read.{IsTableRead, bound_of, IsFit, IsFitValue}
 use Rattle.vc2_words.specs.Keys.{place_of}
 use Rattle.std.proofs.lemmas.Bool.{eqb-true, eq-eqb, false≢true}
 use Rattle.std.proofs.lemmas.List.{get_or-set_same, get_or-set_other, length-set, get_or-replicate}
@@ -101,12 +101,12 @@ index_up_to bound [] i low = omega arith
 index_up_to bound (n ∷ ns) zero low = low.0
 index_up_to bound (n ∷ ns) (suc i) low = index_up_to bound ns i low.1
 
-pub given_small : (given : Table) (key : Key) (ns : List ℕ) → IsRead given → value_of given key ≡ Some ns → AreUpTo (bound_of key) ns
+pub given_small : (given : Table) (key : Key) (ns : List ℕ) → IsTableRead given → value_of given key ≡ Some ns → AreUpTo (bound_of key) ns
 given_small given key ns read is =
     let value = read.read key ns is in
     value_small key value.text ns value.reads
 
-pub number_small : (given : Table) (key : Key) (i : ℕ) → IsRead given → number_of (value_of given key) i ≤ bound_of key
+pub number_small : (given : Table) (key : Key) (i : ℕ) → IsTableRead given → number_of (value_of given key) i ≤ bound_of key
 number_small given key i read = here (value_of given key) refl
   where
     here : (v : Option (List ℕ)) → value_of given key ≡ v → number_of v i ≤ bound_of key

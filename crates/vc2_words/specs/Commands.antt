@@ -17,7 +17,7 @@ use Rattle.vc2_words.specs.declared.words.Command.TheVariants as commands
 use Rattle.vc2_words.specs.Keys.{name_of}
 use Rattle.field_rows.specs.Rows.{and_then}
 use Rattle.vc2_words.specs.Operands.{Table, value_of, operands_of}
-use Rattle.vc2_words.specs.Settings.{Asked, asked_of, broken_rule, field_parts, field_rules, video_of, cut_of, cut_rules, is_top, number_at, rate_given, buffer_given}
+use Rattle.vc2_words.specs.Settings.{Asked, asked_of, broken_rule, field_parts, field_rules, video_of, cut_of, cut_rules, is_top, given_number, rate_given, buffer_given}
 use Rattle.vc2_words.specs.Shown.{shown}
 
 -- what words ask for: a command with its settings
@@ -43,11 +43,11 @@ schedule_from rate delay size idle = None
 -- the schedule that is given, if one is
 abbrev pub schedule_of : Table → Option Schedule
 schedule_of given = schedule_from (rate_given (value_of given of_key.Rate)) (value_of given of_key.Delay)
-    (buffer_given (value_of given of_key.Buffer)) (number_at given of_key.Idle 0)
+    (buffer_given (value_of given of_key.Buffer)) (given_number given of_key.Idle 0)
 
 -- what a trial is asked for beside its stream
 abbrev pub part_of : Table → TrialPart
-part_of given = record { seed = number_at given of_key.Seed 0; pictures = number_at given of_key.Pictures 0 }
+part_of given = record { seed = given_number given of_key.Seed 0; pictures = given_number given of_key.Pictures 0 }
 
 -- the command, or the first rule that its settings break
 abbrev pub unless_broken : Option settings.Rule → AskedCommand → Result AskedCommand WordFault
@@ -62,22 +62,22 @@ command_of names.Decode given = Ok decode
 command_of names.Check given = Ok (check (schedule_of given))
 command_of names.Encode given = unless_broken (broken_rule given None) (encode (asked_of given))
 command_of names.Trial given =
-    unless_broken (broken_rule given (Some (number_at given of_key.Pictures 0))) (trial (asked_of given) (part_of given))
+    unless_broken (broken_rule given (Some (given_number given of_key.Pictures 0))) (trial (asked_of given) (part_of given))
 command_of names.Weave given = unless_broken (first_broken (field_rules (field_parts given))) (weave (video_of given))
 command_of names.Split given = unless_broken (first_broken (field_rules (field_parts given))) (split (video_of given))
 command_of names.Frames given = Ok (frames (is_top given))
-command_of names.Proxy given = Ok (proxy (number_at given of_key.Level 0))
+command_of names.Proxy given = Ok (proxy (given_number given of_key.Level 0))
 command_of names.Cut given = unless_broken (first_broken (cut_rules (cut_of given))) (cut (cut_of given))
 
 -- what the words behind a command's name ask of it
-abbrev pub named : Option Name → List (List ℕ) → Result AskedCommand WordFault
-named None words = Err faults.UnknownCommand
-named (Some name) words = and_then (operands_of name words) (λ given. command_of name given)
+abbrev pub command_named : Option Name → List (List ℕ) → Result AskedCommand WordFault
+command_named None words = Err faults.UnknownCommand
+command_named (Some name) words = and_then (operands_of name words) (λ given. command_of name given)
 
 -- the words' command, or their first fault
 abbrev pub asked_by : List (List ℕ) → Result AskedCommand WordFault
 asked_by [] = Err faults.NoCommand
-asked_by (word ∷ words) = named (name_of word) words
+asked_by (word ∷ words) = command_named (name_of word) words
 
 -- what is seen of a command
 abbrev pub seen : Command → AskedCommand

@@ -12,7 +12,7 @@ pub record IsValue (key : Key) (ns : List ℕ) : Type 0 where
   pub reads : value_in key text ≡ Some ns
 
 -- each key that is given has the value of some text
-pub record IsRead (given : Table) : Type 0 where
+pub record IsTableRead (given : Table) : Type 0 where
   pub read : (key : Key) (ns : List ℕ) → value_of given key ≡ Some ns → IsValue key ns
   pub many : length given ≡ KEY_COUNT
 

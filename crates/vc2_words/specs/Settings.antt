@@ -32,8 +32,8 @@ number_of None i = 0
 number_of (Some ns) i = slice_index ns i
 
 -- number i of what a key was given
-abbrev pub number_at : Table → Key → ℕ → ℕ
-number_at given key i = number_of (value_of given key) i
+abbrev pub given_number : Table → Key → ℕ → ℕ
+given_number given key i = number_of (value_of given key) i
 
 -- ---- the header
 
@@ -73,16 +73,16 @@ parts_of given = record {
   major = 1;
   minor = 0;
   level = 0;
-  width = number_at given of_key.Size 0;
-  height = number_at given of_key.Size 1;
-  sampling = number_at given of_key.Sampling 0;
+  width = given_number given of_key.Size 0;
+  height = given_number given of_key.Size 1;
+  sampling = given_number given of_key.Sampling 0;
   scan = scan_of (value_of given of_key.Scan);
-  rate = rate_field (number_at given of_key.Fps 0) (number_at given of_key.Fps 1);
+  rate = rate_field (given_number given of_key.Fps 0) (given_number given of_key.Fps 1);
   aspect = aspects.Default;
   clean = None;
   signal = signal_of (value_of given of_key.Signal);
   colour = colours.Default;
-  coding = number_at given of_key.Fields 0;
+  coding = given_number given of_key.Fields 0;
 }
 
 -- sides of 1 to 8192 samples, and at most 2^24 of them
@@ -119,7 +119,7 @@ field_rules parts =
 
 -- the first field has line 0 of the frame
 abbrev pub is_top : Table → Bool
-is_top given = number_at given of_key.Order 0 == 1
+is_top given = given_number given of_key.Order 0 == 1
 
 -- the video of raw fields
 abbrev pub video_of : Table → FieldVideo
@@ -134,11 +134,11 @@ wavelet_of n = if n == 0 then LeGall else (if n == 1 then HaarFlat else HaarShif
 -- the depth, the slices and a slice's share (12.4.5.2)
 abbrev pub slicing_of : Table → Slicing
 slicing_of given = record {
-  depth = number_at given of_key.Depth 0;
-  slices_x = number_at given of_key.Slices 0;
-  slices_y = number_at given of_key.Slices 1;
-  a = number_at given of_key.Bytes 0;
-  b = number_at given of_key.Bytes 1;
+  depth = given_number given of_key.Depth 0;
+  slices_x = given_number given of_key.Slices 0;
+  slices_y = given_number given of_key.Slices 1;
+  a = given_number given of_key.Bytes 0;
+  b = given_number given of_key.Bytes 1;
 }
 
 -- the numbers that are given
@@ -149,9 +149,9 @@ entries_of (Some ns) = ns
 -- the transform parameters that are asked for (12.4)
 abbrev pub params_of : Table → Params
 params_of given = record {
-  wavelet = wavelet_of (number_at given of_key.Wavelet 0);
+  wavelet = wavelet_of (given_number given of_key.Wavelet 0);
   slicing = slicing_of given;
-  matrix = record { depth = number_at given of_key.Depth 0; entries = entries_of (value_of given of_key.Matrix) };
+  matrix = record { depth = given_number given of_key.Depth 0; entries = entries_of (value_of given of_key.Matrix) };
 }
 
 -- 1 to 8192 slices a side, and at most 2^20 of them
@@ -180,18 +180,18 @@ later_sequences (Some zero) pictures = 0
 later_sequences (Some (suc n)) pictures = (pictures - 1) / suc n
 
 -- the bytes of a stream of so many pictures: a header unit and an end unit for each sequence, and a unit for each picture
-abbrev pub stream_length : HeaderParts → Params → Option ℕ → ℕ → ℕ
-stream_length parts params group pictures =
+abbrev pub asked_length : HeaderParts → Params → Option ℕ → ℕ → ℕ
+asked_length parts params group pictures =
     (1 + later_sequences group pictures) * (13 + header_len parts + 13) + pictures * unit_length params
 
 -- a trial's stream has at most 2^28 bytes
 abbrev pub is_short : HeaderParts → Params → Option ℕ → Option ℕ → Bool
 is_short parts params group None = true
-is_short parts params group (Some pictures) = nat_le (stream_length parts params group pictures) (2 ^ 28)
+is_short parts params group (Some pictures) = nat_le (asked_length parts params group pictures) (2 ^ 28)
 
 -- the rules on the numbers
-abbrev pub number_rules : HeaderParts → Params → ℕ → Option ℕ → Option ℕ → List (Rule settings.Rule)
-number_rules parts params first group pictures =
+abbrev pub trial_number_rules : HeaderParts → Params → ℕ → Option ℕ → Option ℕ → List (Rule settings.Rule)
+trial_number_rules parts params first group pictures =
     (is_size parts or_else broken.Size)
     ∷ (is_divided parts or_else broken.Divide)
     ∷ (is_signal parts.signal or_else broken.Signal)
@@ -221,7 +221,7 @@ group_of (Some ns) = Some (slice_index ns 0)
 abbrev pub broken_rule : Table → Option ℕ → Option settings.Rule
 broken_rule given pictures =
     let group = group_of (value_of given of_key.Group) in
-    or_first (first_broken (number_rules (parts_of given) (params_of given) (number_at given of_key.First 0) group pictures))
+    or_first (first_broken (trial_number_rules (parts_of given) (params_of given) (given_number given of_key.First 0) group pictures))
     (first_broken (trial_rules (parts_of given) (params_of given) group pictures))
 
 -- what is asked of a stream; a new sequence begins behind every so many pictures
@@ -258,10 +258,10 @@ abbrev pub asked_of : Table → Asked
 asked_of given = record {
   parts = parts_of given;
   params = params_of given;
-  first = number_at given of_key.First 0;
-  rate = rate_of (params_of given) (number_at given of_key.Idle 0) (value_of given of_key.Rate);
+  first = given_number given of_key.First 0;
+  rate = rate_of (params_of given) (given_number given of_key.Idle 0) (value_of given of_key.Rate);
   group = group_of (value_of given of_key.Group);
-  idle = number_at given of_key.Idle 0;
+  idle = given_number given of_key.Idle 0;
 }
 
 -- ---- a cut
@@ -269,10 +269,10 @@ asked_of given = record {
 -- its rate is given, since the command has to have one
 abbrev pub cut_of : Table → CutSettings
 cut_of given = record {
-  from = number_at given of_key.From 0;
-  to = number_at given of_key.To 0;
-  rate = record { num = number_at given of_key.Rate 0; den = number_at given of_key.Rate 1 };
-  idle = number_at given of_key.Idle 0;
+  from = given_number given of_key.From 0;
+  to = given_number given of_key.To 0;
+  rate = record { num = given_number given of_key.Rate 0; den = given_number given of_key.Rate 1 };
+  idle = given_number given of_key.Idle 0;
 }
 
 -- the frames from one number on, and before another, are some

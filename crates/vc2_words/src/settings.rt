@@ -10,7 +10,7 @@ ghost use Rattle.vc2_words.specs.Forms.{greatest};
 ghost use Rattle.vc2_words.specs.Read.{bound_of};
 ghost use Rattle.vc2_words.specs.Shown.{shown};
 ghost use Rattle.vc2_words.specs.Settings as asked;
-ghost use Rattle.vc2_words.specs.Settings.{number_at, parts_of, slicing_of, params_of, broken_rule, number_rules, entries_of, asked_of};
+ghost use Rattle.vc2_words.specs.Settings.{given_number, parts_of, slicing_of, params_of, broken_rule, trial_number_rules, entries_of, asked_of};
 
 use crate::keys::{Key, Rule};
 use crate::operands::Given;
@@ -59,7 +59,7 @@ pub struct CutSettings {
 /// The number of this place in a key's value, or 0.
 fn number(given: &Given, key: Key, i: usize) -> u32
     requires { bound_of key ≤ greatest }
-    ensures { result ≡ number_at given.now.values key i }
+    ensures { result ≡ given_number given.now.values key i }
 {
     match given.get(key) {
         None => 0,
@@ -212,7 +212,11 @@ pub fn is_top(given: &Given) -> bool
 /// The fields of these operands, or the first rule that they break.
 pub fn video_of(given: &Given) -> Result<FieldVideo, Rule>
     requires { IsPlain (asked.field_parts given.now.values) }
-    ensures { MatchResult result (λ video. (first_broken (asked.field_rules (asked.field_parts given.now.values)) ≡ None) × (video ≡ asked.video_of given.now.values)) (λ rule. first_broken (asked.field_rules (asked.field_parts given.now.values)) ≡ Some rule) }
+    ensures { MatchResult result (λ video. (first_broken
+        (asked.field_rules (asked.field_parts given.now.values)) ≡ None)
+        × (video ≡ asked.video_of given.now.values))
+        (λ rule. first_broken (asked.field_rules (asked.field_parts given.now.values))
+        ≡ Some rule) }
 {
     let parts = field_parts(given);
     match broken_field(&parts) {
@@ -276,7 +280,10 @@ fn entry_count(given: &Given) -> usize
 fn matrix_of(given: &Given, depth: u32) -> Matrix
     requires deep { depth ≤ 4 }
     requires count { length (entries_of (value_of given.now.values of_key.Matrix)) ≡ 1 + 3 * depth }
-    ensures { result ≡ record { depth = depth; entries = entries_of (value_of given.now.values of_key.Matrix) } }
+    ensures { result ≡ record {
+      depth = depth;
+      entries = entries_of (value_of given.now.values of_key.Matrix);
+    } }
 {
     let count = entry_count(given);
     let mut entries = [0; 13];
@@ -287,7 +294,7 @@ fn matrix_of(given: &Given, depth: u32) -> Matrix
 }
 
 fn wavelet_of(given: &Given) -> Wavelet
-    ensures { result ≡ asked.wavelet_of (number_at given.now.values of_key.Wavelet 0) }
+    ensures { result ≡ asked.wavelet_of (given_number given.now.values of_key.Wavelet 0) }
 {
     match number(given, Key::Wavelet, 0) {
         0 => Wavelet::LeGall,
@@ -298,7 +305,7 @@ fn wavelet_of(given: &Given) -> Wavelet
 
 /// The idle slots behind each picture.
 pub fn idle_of(given: &Given) -> u32
-    ensures value { result ≡ number_at given.now.values of_key.Idle 0 }
+    ensures value { result ≡ given_number given.now.values of_key.Idle 0 }
     ensures few { result ≤ 2 ^ 20 }
 {
     number(given, Key::Idle, 0)
@@ -307,7 +314,8 @@ pub fn idle_of(given: &Given) -> u32
 /// The rate that was given, or a picture unit's bytes in as many slots as it has slices and idle slots behind them.
 fn rate_of(given: &Given, params: &TransformParams, idle: u32) -> Rate
     requires { idle ≤ 2 ^ 20 }
-    ensures { result ≡ asked.rate_of (views.params_of params.now) idle (value_of given.now.values of_key.Rate) }
+    ensures { result ≡ asked.rate_of (views.params_of params.now) idle
+        (value_of given.now.values of_key.Rate) }
 {
     match given_rate(given) {
         Some(rate) => rate,
@@ -351,7 +359,8 @@ fn broken_number(
     group: Option<u32>,
     pictures: Option<u32>,
 ) -> Option<Rule>
-    ensures { result ≡ first_broken (number_rules parts.now (params_of given.now.values) first group pictures) }
+    ensures { result ≡ first_broken (trial_number_rules parts.now
+        (params_of given.now.values) first group pictures) }
 {
     let depth = number(given, Key::Depth, 0);
     if !is_size(parts) {
@@ -384,7 +393,8 @@ fn params_of(given: &Given) -> TransformParams
     requires deep { (slicing_of given.now.values).depth ≤ 4 }
     requires slices { asked.are_slices (slicing_of given.now.values) ≡ true }
     requires share { asked.is_share (slicing_of given.now.values) ≡ true }
-    requires count { length (entries_of (value_of given.now.values of_key.Matrix)) ≡ 1 + 3 * (slicing_of given.now.values).depth }
+    requires count { length (entries_of (value_of given.now.values of_key.Matrix))
+        ≡ 1 + 3 * (slicing_of given.now.values).depth }
     ensures { views.params_of result ≡ params_of given.now.values }
 {
     let layout = layout_of(given);
@@ -429,7 +439,9 @@ fn is_short(
 /// The settings of these operands, or the first rule that they break; `pictures` is the number of a trial's pictures.
 pub fn settings_of(given: &Given, pictures: Option<u32>) -> Result<Settings, Rule>
     requires { IsPlain (parts_of given.now.values) }
-    ensures { MatchResult result (λ s. (broken_rule given.now.values pictures ≡ None) × (shown s ≡ asked_of given.now.values)) (λ rule. broken_rule given.now.values pictures ≡ Some rule) }
+    ensures { MatchResult result (λ s. (broken_rule given.now.values pictures ≡ None)
+        × (shown s ≡ asked_of given.now.values))
+        (λ rule. broken_rule given.now.values pictures ≡ Some rule) }
 {
     let parts = parts_of(given);
     let first = number(given, Key::First, 0);
@@ -460,7 +472,7 @@ pub fn settings_of(given: &Given, pictures: Option<u32>) -> Result<Settings, Rul
 /// The one number of a key, or 0.
 pub fn single(given: &Given, key: Key) -> u32
     requires { bound_of key ≤ greatest }
-    ensures { result ≡ number_at given.now.values key 0 }
+    ensures { result ≡ given_number given.now.values key 0 }
 {
     number(given, key, 0)
 }
@@ -493,7 +505,10 @@ pub fn given_buffer(given: &Given) -> Option<u64>
 
 /// The cut of these operands, or the rule that they break.
 pub fn cut_of(given: &Given) -> Result<CutSettings, Rule>
-    ensures { MatchResult result (λ cut. (first_broken (asked.cut_rules (asked.cut_of given.now.values)) ≡ None) × (cut ≡ asked.cut_of given.now.values)) (λ rule. first_broken (asked.cut_rules (asked.cut_of given.now.values)) ≡ Some rule) }
+    ensures { MatchResult result (λ cut. (first_broken
+        (asked.cut_rules (asked.cut_of given.now.values)) ≡ None)
+        × (cut ≡ asked.cut_of given.now.values))
+        (λ rule. first_broken (asked.cut_rules (asked.cut_of given.now.values)) ≡ Some rule) }
 {
     let cut = CutSettings {
         from: single(given, Key::From),

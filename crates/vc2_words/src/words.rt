@@ -56,7 +56,9 @@ fn schedule_of(given: &Given) -> Option<Schedule>
 
 fn encode_of(given: &Given) -> Result<Command, WordFault>
     requires { IsPlain (parts_of given.now.values) }
-    ensures { MatchResult result (λ command. commands.command_of names.Encode given.now.values ≡ Ok (seen command)) (λ fault. commands.command_of names.Encode given.now.values ≡ Err fault) }
+    ensures { MatchResult result (λ command. commands.command_of names.Encode given.now.values
+        ≡ Ok (seen command)) (λ fault. commands.command_of names.Encode given.now.values
+        ≡ Err fault) }
 {
     match settings_of(given, None) {
         Ok(settings) => Ok(Command::Encode(settings)),
@@ -66,7 +68,9 @@ fn encode_of(given: &Given) -> Result<Command, WordFault>
 
 fn trial_of(given: &Given) -> Result<Command, WordFault>
     requires { IsPlain (parts_of given.now.values) }
-    ensures { MatchResult result (λ command. commands.command_of names.Trial given.now.values ≡ Ok (seen command)) (λ fault. commands.command_of names.Trial given.now.values ≡ Err fault) }
+    ensures { MatchResult result (λ command. commands.command_of names.Trial given.now.values
+        ≡ Ok (seen command)) (λ fault. commands.command_of names.Trial given.now.values
+        ≡ Err fault) }
 {
     let part = TrialPart {
         seed: single(given, Key::Seed),
@@ -80,7 +84,9 @@ fn trial_of(given: &Given) -> Result<Command, WordFault>
 
 fn weave_of(given: &Given) -> Result<Command, WordFault>
     requires { IsPlain (field_parts given.now.values) }
-    ensures { MatchResult result (λ command. commands.command_of names.Weave given.now.values ≡ Ok (seen command)) (λ fault. commands.command_of names.Weave given.now.values ≡ Err fault) }
+    ensures { MatchResult result (λ command. commands.command_of names.Weave given.now.values
+        ≡ Ok (seen command)) (λ fault. commands.command_of names.Weave given.now.values
+        ≡ Err fault) }
 {
     match video_of(given) {
         Ok(video) => Ok(Command::Weave(video)),
@@ -90,7 +96,9 @@ fn weave_of(given: &Given) -> Result<Command, WordFault>
 
 fn split_of(given: &Given) -> Result<Command, WordFault>
     requires { IsPlain (field_parts given.now.values) }
-    ensures { MatchResult result (λ command. commands.command_of names.Split given.now.values ≡ Ok (seen command)) (λ fault. commands.command_of names.Split given.now.values ≡ Err fault) }
+    ensures { MatchResult result (λ command. commands.command_of names.Split given.now.values
+        ≡ Ok (seen command)) (λ fault. commands.command_of names.Split given.now.values
+        ≡ Err fault) }
 {
     match video_of(given) {
         Ok(video) => Ok(Command::Split(video)),
@@ -99,7 +107,8 @@ fn split_of(given: &Given) -> Result<Command, WordFault>
 }
 
 fn cut_command_of(given: &Given) -> Result<Command, WordFault>
-    ensures { MatchResult result (λ command. commands.command_of names.Cut given.now.values ≡ Ok (seen command)) (λ fault. commands.command_of names.Cut given.now.values ≡ Err fault) }
+    ensures { MatchResult result (λ command. commands.command_of names.Cut given.now.values
+        ≡ Ok (seen command)) (λ fault. commands.command_of names.Cut given.now.values ≡ Err fault) }
 {
     match cut_of(given) {
         Ok(settings) => Ok(Command::Cut(settings)),
@@ -109,7 +118,8 @@ fn cut_command_of(given: &Given) -> Result<Command, WordFault>
 
 fn command_of(name: Name, given: &Given) -> Result<Command, WordFault>
     requires { IsPlainFor name (parts_of given.now.values) }
-    ensures { MatchResult result (λ command. commands.command_of name given.now.values ≡ Ok (seen command)) (λ fault. commands.command_of name given.now.values ≡ Err fault) }
+    ensures { MatchResult result (λ command. commands.command_of name given.now.values
+        ≡ Ok (seen command)) (λ fault. commands.command_of name given.now.values ≡ Err fault) }
 {
     match name {
         Name::Chain => Ok(Command::Chain),
@@ -128,7 +138,8 @@ fn command_of(name: Name, given: &Given) -> Result<Command, WordFault>
 
 /// The command that the words name with its settings, or their first fault. The words are those after the program's name.
 pub fn read_words(words: &[String]) -> Result<Command, WordFault>
-    ensures { MatchResult result (λ command. asked_by (map string_bytes words.now) ≡ Ok (seen command)) (λ fault. asked_by (map string_bytes words.now) ≡ Err fault) }
+    ensures { MatchResult result (λ command. asked_by (map string_bytes words.now)
+        ≡ Ok (seen command)) (λ fault. asked_by (map string_bytes words.now) ≡ Err fault) }
 {
     if words.is_empty() {
         return Err(WordFault::NoCommand);

@@ -58,7 +58,8 @@ fn are_small(row: &[i64]) -> bool
 
 // Whether all values of a plane are so.
 fn is_small(plane: &Plane) -> bool
-    ensures { result ≡ true → (y x : ℕ) → y < height plane.now → Within (2 ^ 36) (at plane.now y x) }
+    ensures { result ≡ true → (y x : ℕ) → y < height plane.now
+        → Within (2 ^ 36) (at plane.now y x) }
 {
     for y in 0..plane.h() {
         if !are_small(plane.row(y)) {

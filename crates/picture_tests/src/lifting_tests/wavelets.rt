@@ -40,7 +40,8 @@ fn is_of_samples(plane: &Plane) -> bool
 
 // Whether a plane has this size, and samples alone.
 fn is_band(band: &Plane, w: u32, h: u32) -> bool
-    ensures { result ≡ true → (band.now.w ≡ w) × (height band.now ≡ h) × ((y x : ℕ) → Within (2 ^ 15) (at band.now y x)) }
+    ensures { result ≡ true → (band.now.w ≡ w) × (height band.now ≡ h)
+        × ((y x : ℕ) → Within (2 ^ 15) (at band.now y x)) }
 {
     is_of_samples(band) && band.w() == w && band.h() == h
 }
@@ -81,7 +82,8 @@ fn can_synth(bands: &Bands, plane: &Plane, scratch: &Plane) -> bool
 // Whether `analyse` may be called.
 fn can_analyse(bands: &Bands, plane: &Plane, scratch: &Plane) -> bool
     ensures sizes { result ≡ true → AgreeInSize bands.now plane.now scratch.now }
-    ensures small { result ≡ true → GridWithin (height plane.now) plane.now.w (2 ^ 15) (at plane.now) }
+    ensures small { result ≡ true
+        → GridWithin (height plane.now) plane.now.w (2 ^ 15) (at plane.now) }
 {
     is_of_samples(plane) && can_synth(bands, plane, scratch)
 }

@@ -1,6 +1,8 @@
 //! The stream of one picture of one sample: its heads, cut at each byte, over a source that fails, and unit by unit.
 
-use crate::stream_units_tests::reading::{By, assert_same, expect_bytes, expect_piece, expect_rows};
+use crate::stream_units_tests::reading::{
+    By, assert_same, expect_bytes, expect_piece, expect_rows,
+};
 use crate::told::bytes_of;
 use sequence_header::{AspectField, ColourField, HeaderParts, RateField, SignalField};
 use slice_geometry::{UnitShape, UnitShapes};

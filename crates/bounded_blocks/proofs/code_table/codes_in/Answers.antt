@@ -3,7 +3,7 @@ use Rattle.std.specs.Int.RustNames.{unsigned_abs}
 use Rattle.std.proofs.lemmas.Int.{to_z-of_z, fits_signed_from_abs}
 use Rattle.std.proofs.lemmas.List.{length-set}
 use Rattle.bit_codes.specs.Bits.{digits_below}
-use Rattle.bounded_blocks.specs.Parts.{Reads}
+use Rattle.bounded_blocks.specs.Parts.{ReadsValues}
 use Rattle.bit_codes.proofs.CodeOf.{length-digits_below}
 use Rattle.bounded_blocks.specs.ShortCodes.{BeginsBits}
 use Rattle.bounded_blocks.proofs.TableCodes.{codes-begin, low_set, one_code_more}
@@ -11,7 +11,7 @@ use Rattle.bounded_blocks.proofs.code_table.codes_in.Goals as goal
 
 pub returns-then-code-eq0 : goal.returns-then-code-eq0
 returns-then-code-eq0 c = let l = c.loop-i in codes-begin l.codes 12 c.args.word (omega (arith, l.invariant.count)) l.invariant.few l.invariant.low
-    (λ rest. subst (λ (n : ℕ). Reads n (digits_below 12 c.args.word ++ rest) (take n l.codes.values) (digits_below (12 - l.codes.length) c.args.word ++ rest)) (sym l.invariant.count) (l.invariant.read rest))
+    (λ rest. subst (λ (n : ℕ). ReadsValues n (digits_below 12 c.args.word ++ rest) (take n l.codes.values) (digits_below (12 - l.codes.length) c.args.word ++ rest)) (sym l.invariant.count) (l.invariant.read rest))
 
 pub overflow_add-codes-in-loop-i : goal.overflow_add-codes-in-loop-i
 overflow_add-codes-in-loop-i c =
@@ -40,4 +40,4 @@ loop-i-preserved c =
 
 pub returns : goal.returns
 returns c = let l = c.loop-i in codes-begin l.codes 12 c.args.word (omega (arith, l.invariant.count)) l.invariant.few l.invariant.low
-    (λ rest. subst (λ (n : ℕ). Reads n (digits_below 12 c.args.word ++ rest) (take n l.codes.values) (digits_below (12 - l.codes.length) c.args.word ++ rest)) (sym l.invariant.count) (l.invariant.read rest))
+    (λ rest. subst (λ (n : ℕ). ReadsValues n (digits_below 12 c.args.word ++ rest) (take n l.codes.values) (digits_below (12 - l.codes.length) c.args.word ++ rest)) (sym l.invariant.count) (l.invariant.read rest))

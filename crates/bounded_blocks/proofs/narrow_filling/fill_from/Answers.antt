@@ -2,7 +2,7 @@ use Rattle.std.proofs.Common.{◌≡◌, ℕ, ◌<◌, ◌≤◌, length, map, t
 use Rattle.std.proofs.lemmas.List.{length-set, take-take}
 use Rattle.std.specs.Int.RustNames.{unsigned_abs}
 use Rattle.bounded_blocks.specs.Reading.{value_at, values}
-use Rattle.bounded_blocks.specs.Parts.{block_of, AreWithin, Reads}
+use Rattle.bounded_blocks.specs.Parts.{block_of, AreWithin, ReadsValues}
 use Rattle.bounded_blocks.specs.Windows.{HoldsRead}
 use Rattle.bounded_blocks.proofs.ReadLemmas.{all-take, one-above, values-take}
 use Rattle.bounded_blocks.proofs.ReadSteps.{single-held, before-single, holds-from}
@@ -66,7 +66,7 @@ loop-done-preserved g c =
     }
 
 -- the first values of those that were read
-first_read : (n k : ℕ) (block left : List Bool) (out : List ℤ) → n ≤ k → Reads k block (take k out) left → take n out ≡ values n block
+first_read : (n k : ℕ) (block left : List Bool) (out : List ℤ) → n ≤ k → ReadsValues k block (take k out) left → take n out ≡ values n block
 first_read n k block left out le r = sym (take-take n k out le) ∙ ap (take n) (sym r.same) ∙ values-take n k block le
 
 pub returns-clause-within : goal.returns-clause-within

@@ -11,7 +11,7 @@ use Rattle.slice_geometry.specs.Slicing.{Slicing}
 use Rattle.slice_geometry.specs.Geometry.{band_size, padded_length}
 use Rattle.slice_geometry.specs.SliceOrder.{level_of, numbered}
 use Rattle.slice_geometry.proofs.NumberedBands.{number_here, before_here}
-use Rattle.slice_encoder.specs.Ready.{IsReady}
+use Rattle.slice_encoder.specs.Ready.{IsReadyToWrite}
 use Rattle.slice_encoder.specs.Buffers.{coded_component}
 use Rattle.picture_tests.proofs.slice_encoder_tests.is_ready.Goals as goal
 
@@ -55,7 +55,7 @@ module _ (s : Slicing) (size : Size) (b : BandStack) (m : ℕ) (depth_is : b.dep
     heights = λ level orient exists. (any_band level orient (here level orient exists)).1 ∙ ap (λ (d : ℕ). subband_length d level (padded_length s.depth size.h)) (sym depth_is);
   }
 
-  ready : (matrix : Weights) (sx sy : ℕ) (kept : Raster ℤ) → m ≤ 2 ^ (7 + 3 * s.depth) → IsBand kept (band_size s.depth 0 size) (3 * m + 2) → IsReady (coded_component s size matrix b) 8 sx sy kept
+  ready : (matrix : Weights) (sx sy : ℕ) (kept : Raster ℤ) → m ≤ 2 ^ (7 + 3 * s.depth) → IsBand kept (band_size s.depth 0 size) (3 * m + 2) → IsReadyToWrite (coded_component s size matrix b) 8 sx sy kept
   ready matrix sx sy kept le plane = record {
     depth = depth_is;
     sizes = all_sizes;

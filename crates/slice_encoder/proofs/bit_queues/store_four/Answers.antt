@@ -18,6 +18,6 @@ returns-clause-text c =
     let word : c.copy_from_slice.new.self ≡ bytes_high_first 4 (f.number / (1 * 2 ^ k % 18446744073709551616)) = c.copy_from_slice.ensures.after ∙ c.to_be_bytes.ensures in
     let inside : f.whole ≤ length bytes = omega (arith, c.requires.queue.inside) in
     let here = four_stored bytes c.copy_from_slice.new.self (drop (f.whole + 4 - f.whole) (drop f.whole bytes)) f.whole f.count f.number inside c.requires.many
-        (word ∙ ap (λ (u : ℕ). bytes_high_first 4 (f.number / u)) (unit_is k (omega (arith, c.requires.queue.few))))
+    (word ∙ ap (λ (u : ℕ). bytes_high_first 4 (f.number / u)) (unit_is k (omega (arith, c.requires.queue.few))))
     in
     rw (unit_is k (omega (arith, c.requires.queue.few))) here

@@ -21,7 +21,7 @@ loop-place-preserved c =
     let first = size_counts q row a.first_sizes.now vs c.requires.row c.requires.entries c.requires.first_sizes p in_first in
     let second = size_counts q row a.second_sizes.now ws c.requires.row c.requires.entries c.requires.second_sizes p in_second in
     let more : (x y : ℕ) → x ≡ code_length q (get_or vs p (pos 0)) → y ≡ code_length q (get_or ws p (pos 0))
-        → c.loop-place.bits + (x + y) ≡ length (codes_of (quantised q (take (p + 1) vs))) + length (codes_of (quantised q (take (p + 1) ws))) =
+    → c.loop-place.bits + (x + y) ≡ length (codes_of (quantised q (take (p + 1) vs))) + length (codes_of (quantised q (take (p + 1) ws))) =
     λ x y x_is y_is. omega (
       arith,
       c.loop-place.invariant.bits,

@@ -5,7 +5,7 @@ use Rattle.bounded_blocks.proofs.Needs.{need-most}
 use Rattle.slice_encoder.specs.Trials.{CodedComponent, luma_list, colour_list}
 use Rattle.slice_encoder.specs.Tries.{tried}
 use Rattle.slice_encoder.specs.Choice.{needs_fit}
-use Rattle.slice_encoder.specs.TrialLaws.{AreSmall}
+use Rattle.slice_encoder.specs.TrialLaws.{AreSmallValues}
 use Rattle.slice_encoder.specs.Sources.{trio_seen}
 use Rattle.slice_encoder.specs.Buffers.{coded_component}
 use Rattle.bounded_blocks.proofs.CodeLengths.{length-codes_of-most}
@@ -76,8 +76,8 @@ need_behind-luma_need-requires-clause-small c =
     let shallow = c.depth-depth.ensures.allowed.depth in
     let lumas = luma_list l (tried l a.job.sx a.job.sy a.index (at old.luma)) a.index a.job.sx a.job.sy in
     let luma_is : take c.list_luma-lumas.result c.list_luma-lumas.new.out ≡ lumas = c.list_luma-lumas.ensures.listed ∙ ap (λ (g : Grid). luma_list l g a.index a.job.sx a.job.sy) (grid_is l shape.luma_depth a.job.sx a.job.sy a.index old.luma c.requires.index shallow shape.luma_depth_fits.most ready.luma a.kept.now.luma was.luma) in
-    let luma_all : AreSmall lumas = luma_small l shape.luma_depth a.job.sx a.job.sy a.index old.luma c.requires.index shallow shape.luma_depth_fits.most ready.luma in
-    subst (λ (vs : List ℤ). AreSmall vs) (sym luma_is) luma_all
+    let luma_all : AreSmallValues lumas = luma_small l shape.luma_depth a.job.sx a.job.sy a.index old.luma c.requires.index shallow shape.luma_depth_fits.most ready.luma in
+    subst (λ (vs : List ℤ). AreSmallValues vs) (sym luma_is) luma_all
 
 pub need_behind-colour_need-requires-clause-small : goal.need_behind-colour_need-requires-clause-small
 need_behind-colour_need-requires-clause-small c =
@@ -95,8 +95,8 @@ need_behind-colour_need-requires-clause-small c =
     ∙ ap (λ (g : Grid). colour_list c1 c2 g (at a.kept.now.c2) a.index a.job.sx a.job.sy) (grid_is c1 shape.colour_depth a.job.sx a.job.sy a.index old.c1 c.requires.index shallow shape.colour_depth_fits.most ready.c1 a.kept.now.c1 was.c1)
     ∙ ap (λ (g : Grid). colour_list c1 c2 (tried c1 a.job.sx a.job.sy a.index (at old.c1)) g a.index a.job.sx a.job.sy) (grid_is c2 shape.colour_depth a.job.sx a.job.sy a.index old.c2 c.requires.index shallow shape.colour_depth_fits.most ready.c2 a.kept.now.c2 was.c2)
     in
-    let colour_all : AreSmall colours = colour_small c1 c2 (tried c1 a.job.sx a.job.sy a.index (at old.c1)) (tried c2 a.job.sx a.job.sy a.index (at old.c2)) a.index a.job.sx a.job.sy (all_small c1 shape.colour_depth a.job.sx a.job.sy a.index old.c1 c.requires.index shallow shape.colour_depth_fits.most ready.c1) (all_small c2 shape.colour_depth a.job.sx a.job.sy a.index old.c2 c.requires.index shallow shape.colour_depth_fits.most ready.c2) in
-    subst (λ (vs : List ℤ). AreSmall vs) (sym colour_is) colour_all
+    let colour_all : AreSmallValues colours = colour_small c1 c2 (tried c1 a.job.sx a.job.sy a.index (at old.c1)) (tried c2 a.job.sx a.job.sy a.index (at old.c2)) a.index a.job.sx a.job.sy (all_small c1 shape.colour_depth a.job.sx a.job.sy a.index old.c1 c.requires.index shallow shape.colour_depth_fits.most ready.c1) (all_small c2 shape.colour_depth a.job.sx a.job.sy a.index old.c2 c.requires.index shallow shape.colour_depth_fits.most ready.c2) in
+    subst (λ (vs : List ℤ). AreSmallValues vs) (sym colour_is) colour_all
 
 pub need_behind-luma_need-requires-clause-inside : goal.need_behind-luma_need-requires-clause-inside
 need_behind-luma_need-requires-clause-inside c =
@@ -155,7 +155,7 @@ do_fit-requires-clause-luma_small c =
     let shallow = c.depth-depth.ensures.allowed.depth in
     let lumas = luma_list l (tried l a.job.sx a.job.sy a.index (at old.luma)) a.index a.job.sx a.job.sy in
     let luma_is : take c.list_luma-lumas.result c.list_luma-lumas.new.out ≡ lumas = c.list_luma-lumas.ensures.listed ∙ ap (λ (g : Grid). luma_list l g a.index a.job.sx a.job.sy) (grid_is l shape.luma_depth a.job.sx a.job.sy a.index old.luma c.requires.index shallow shape.luma_depth_fits.most ready.luma a.kept.now.luma was.luma) in
-    let luma_all : AreSmall lumas = luma_small l shape.luma_depth a.job.sx a.job.sy a.index old.luma c.requires.index shallow shape.luma_depth_fits.most ready.luma in
+    let luma_all : AreSmallValues lumas = luma_small l shape.luma_depth a.job.sx a.job.sy a.index old.luma c.requires.index shallow shape.luma_depth_fits.most ready.luma in
     omega (arith, c.need_behind-luma_need.ensures, ap need luma_is, need-most (codes_of lumas), length-codes_of-most lumas luma_all, length_luma l (tried l a.job.sx a.job.sy a.index (at old.luma)) a.index a.job.sx a.job.sy, c.requires.room.luma, c.requires.room.few_luma)
 
 pub do_fit-requires-clause-colour_small : goal.do_fit-requires-clause-colour_small
@@ -174,7 +174,7 @@ do_fit-requires-clause-colour_small c =
     ∙ ap (λ (g : Grid). colour_list c1 c2 g (at a.kept.now.c2) a.index a.job.sx a.job.sy) (grid_is c1 shape.colour_depth a.job.sx a.job.sy a.index old.c1 c.requires.index shallow shape.colour_depth_fits.most ready.c1 a.kept.now.c1 was.c1)
     ∙ ap (λ (g : Grid). colour_list c1 c2 (tried c1 a.job.sx a.job.sy a.index (at old.c1)) g a.index a.job.sx a.job.sy) (grid_is c2 shape.colour_depth a.job.sx a.job.sy a.index old.c2 c.requires.index shallow shape.colour_depth_fits.most ready.c2 a.kept.now.c2 was.c2)
     in
-    let colour_all : AreSmall colours = colour_small c1 c2 (tried c1 a.job.sx a.job.sy a.index (at old.c1)) (tried c2 a.job.sx a.job.sy a.index (at old.c2)) a.index a.job.sx a.job.sy (all_small c1 shape.colour_depth a.job.sx a.job.sy a.index old.c1 c.requires.index shallow shape.colour_depth_fits.most ready.c1) (all_small c2 shape.colour_depth a.job.sx a.job.sy a.index old.c2 c.requires.index shallow shape.colour_depth_fits.most ready.c2) in
+    let colour_all : AreSmallValues colours = colour_small c1 c2 (tried c1 a.job.sx a.job.sy a.index (at old.c1)) (tried c2 a.job.sx a.job.sy a.index (at old.c2)) a.index a.job.sx a.job.sy (all_small c1 shape.colour_depth a.job.sx a.job.sy a.index old.c1 c.requires.index shallow shape.colour_depth_fits.most ready.c1) (all_small c2 shape.colour_depth a.job.sx a.job.sy a.index old.c2 c.requires.index shallow shape.colour_depth_fits.most ready.c2) in
     omega (arith, c.need_behind-colour_need.ensures, ap need colour_is, need-most (codes_of colours), length-codes_of-most colours colour_all, length_colour c1 c2 (tried c1 a.job.sx a.job.sy a.index (at old.c1)) (tried c2 a.job.sx a.job.sy a.index (at old.c2)) a.index a.job.sx a.job.sy, c.requires.room.colour, c.requires.room.few_colour)
 
 pub returns : goal.returns
@@ -187,14 +187,14 @@ returns c = λ old ready was.
     let shallow = c.depth-depth.ensures.allowed.depth in
     let lumas = luma_list l (tried l a.job.sx a.job.sy a.index (at old.luma)) a.index a.job.sx a.job.sy in
     let luma_is : take c.list_luma-lumas.result c.list_luma-lumas.new.out ≡ lumas = c.list_luma-lumas.ensures.listed ∙ ap (λ (g : Grid). luma_list l g a.index a.job.sx a.job.sy) (grid_is l shape.luma_depth a.job.sx a.job.sy a.index old.luma c.requires.index shallow shape.luma_depth_fits.most ready.luma a.kept.now.luma was.luma) in
-    let luma_all : AreSmall lumas = luma_small l shape.luma_depth a.job.sx a.job.sy a.index old.luma c.requires.index shallow shape.luma_depth_fits.most ready.luma in
+    let luma_all : AreSmallValues lumas = luma_small l shape.luma_depth a.job.sx a.job.sy a.index old.luma c.requires.index shallow shape.luma_depth_fits.most ready.luma in
     let colours = colour_list c1 c2 (tried c1 a.job.sx a.job.sy a.index (at old.c1)) (tried c2 a.job.sx a.job.sy a.index (at old.c2)) a.index a.job.sx a.job.sy in
     let colour_is : take c.list_colour-colours.result c.list_colour-colours.new.out ≡ colours =
     c.list_colour-colours.ensures.listed
     ∙ ap (λ (g : Grid). colour_list c1 c2 g (at a.kept.now.c2) a.index a.job.sx a.job.sy) (grid_is c1 shape.colour_depth a.job.sx a.job.sy a.index old.c1 c.requires.index shallow shape.colour_depth_fits.most ready.c1 a.kept.now.c1 was.c1)
     ∙ ap (λ (g : Grid). colour_list c1 c2 (tried c1 a.job.sx a.job.sy a.index (at old.c1)) g a.index a.job.sx a.job.sy) (grid_is c2 shape.colour_depth a.job.sx a.job.sy a.index old.c2 c.requires.index shallow shape.colour_depth_fits.most ready.c2 a.kept.now.c2 was.c2)
     in
-    let colour_all : AreSmall colours = colour_small c1 c2 (tried c1 a.job.sx a.job.sy a.index (at old.c1)) (tried c2 a.job.sx a.job.sy a.index (at old.c2)) a.index a.job.sx a.job.sy (all_small c1 shape.colour_depth a.job.sx a.job.sy a.index old.c1 c.requires.index shallow shape.colour_depth_fits.most ready.c1) (all_small c2 shape.colour_depth a.job.sx a.job.sy a.index old.c2 c.requires.index shallow shape.colour_depth_fits.most ready.c2) in
+    let colour_all : AreSmallValues colours = colour_small c1 c2 (tried c1 a.job.sx a.job.sy a.index (at old.c1)) (tried c2 a.job.sx a.job.sy a.index (at old.c2)) a.index a.job.sx a.job.sy (all_small c1 shape.colour_depth a.job.sx a.job.sy a.index old.c1 c.requires.index shallow shape.colour_depth_fits.most ready.c1) (all_small c2 shape.colour_depth a.job.sx a.job.sy a.index old.c2 c.requires.index shallow shape.colour_depth_fits.most ready.c2) in
     let luma_need : c.need_behind-luma_need.result ≡ need lumas = c.need_behind-luma_need.ensures ∙ ap need luma_is in
     let colour_need : c.need_behind-colour_need.result ≡ need colours = c.need_behind-colour_need.ensures ∙ ap need colour_is in
     record {

@@ -6,7 +6,7 @@ use Rattle.planes.specs.Subbands.{BandStack}
 use Rattle.slice_geometry.specs.SliceOrder.{area, numbered}
 use Rattle.bounded_blocks.specs.Writing.{codes_of}
 use Rattle.slice_encoder.specs.Trials.{CodedComponent}
-use Rattle.slice_encoder.specs.TrialLaws.{AreSmall}
+use Rattle.slice_encoder.specs.TrialLaws.{AreSmallValues}
 use Rattle.slice_encoder.specs.Listing.{CanList, pair_part}
 use Rattle.slice_encoder.specs.Sources.{band_seen, trio_seen}
 use Rattle.slice_encoder.specs.Buffers.{coded_component}
@@ -39,7 +39,7 @@ total_length-requires-clause-small c =
     let count : 2 * ((r.x1 - r.x0) * (r.y1 - r.y0)) ≡ 0 + 2 * area r = omega arith in
     let part = pair_part_here c1 c2 a.kept.now.c1 a.kept.now.c2 a.index a.job.sx a.job.sy 0 0 c.quantiser-quantiser.result r (band_seen c.band-first.result) (band_seen c.band-second.result) refl refl c.band_rect-rect.ensures (c.band-first.ensures ∙ ap (λ (b : BandStack). numbered b 0) c.c1.ensures) (c.band-second.ensures ∙ ap (λ (b : BandStack). numbered b 0) c.c2.ensures) c.quantiser-quantiser.ensures in
     let is : take (2 * ((r.x1 - r.x0) * (r.y1 - r.y0))) c.list_pair.new.out ≡ pair_part c1 c2 a.kept.now.c1 a.kept.now.c2 a.index a.job.sx a.job.sy 0 = ap (λ (n : ℕ). take n c.list_pair.new.out) count ∙ c.list_pair.ensures.listed ∙ part in
-    subst (λ (vs : List ℤ). AreSmall vs) (sym is) c.requires.small
+    subst (λ (vs : List ℤ). AreSmallValues vs) (sym is) c.requires.small
 
 pub total_length-requires-clause-few : goal.total_length-requires-clause-few
 total_length-requires-clause-few c =

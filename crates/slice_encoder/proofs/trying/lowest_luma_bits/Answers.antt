@@ -4,7 +4,7 @@ use Rattle.planes.specs.Subbands.{BandStack}
 use Rattle.slice_geometry.specs.SliceOrder.{area, numbered}
 use Rattle.bounded_blocks.specs.Writing.{codes_of}
 use Rattle.slice_encoder.specs.Trials.{CodedComponent}
-use Rattle.slice_encoder.specs.TrialLaws.{AreSmall}
+use Rattle.slice_encoder.specs.TrialLaws.{AreSmallValues}
 use Rattle.slice_encoder.specs.Listing.{band_part}
 use Rattle.slice_encoder.specs.Sources.{band_seen, trio_seen}
 use Rattle.slice_encoder.specs.Buffers.{coded_component}
@@ -25,7 +25,7 @@ total_length-requires-clause-small c =
     let count : (r.x1 - r.x0) * (r.y1 - r.y0) ≡ 0 + area r = omega arith in
     let part = part_here coded a.kept.now a.index a.job.sx a.job.sy 0 0 c.quantiser-quantiser.result r (band_seen c.band-lowest.result) refl c.band_rect-rect.ensures (c.band-lowest.ensures ∙ ap (λ (b : BandStack). numbered b 0) c.luma.ensures) c.quantiser-quantiser.ensures in
     let is : take ((r.x1 - r.x0) * (r.y1 - r.y0)) c.list_rect.new.out ≡ band_part coded a.kept.now a.index a.job.sx a.job.sy 0 = ap (λ (n : ℕ). take n c.list_rect.new.out) count ∙ c.list_rect.ensures.listed ∙ part in
-    subst (λ (vs : List ℤ). AreSmall vs) (sym is) c.requires.small
+    subst (λ (vs : List ℤ). AreSmallValues vs) (sym is) c.requires.small
 
 pub total_length-requires-clause-few : goal.total_length-requires-clause-few
 total_length-requires-clause-few c =

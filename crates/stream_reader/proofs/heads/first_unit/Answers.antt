@@ -3,7 +3,7 @@ use Rattle.std.proofs.lemmas.List.{take_rest}
 use Rattle.std.proofs.lemmas.Result.{err_from_is_err_and}
 use Rattle.bit_codes.specs.Bits.{cursor_at}
 use Rattle.field_rows.specs.Rows.{read}
-use Rattle.sequence_header.specs.Header.{reason_of, header_rows, fault_of}
+use Rattle.sequence_header.specs.Header.{reason_of, header_rows, header_fault}
 use Rattle.stream_rows.specs.declared.reason.Reason.{Reason}
 use Rattle.stream_rows.specs.Units.{Past, unit_head}
 use Rattle.stream_reader.specs.Heads.{HeadAt, IsFirstUnit}
@@ -25,7 +25,7 @@ slice_bounds-read-start c = c.in_ok-info.ensures.0
 pub returns-in-Err : goal.returns-in-Err
 returns-in-Err c =
     let bytes = c.args.bytes.now in
-    let h = subst (λ (l : List ℕ). read reason_of header_rows (cursor_at l 0) ≡ Err (fault_of c.in-Err.fault)) (take_rest bytes 13) c.in-Err.ensures.exact in
+    let h = subst (λ (l : List ℕ). read reason_of header_rows (cursor_at l 0) ≡ Err (header_fault c.in-Err.fault)) (take_rest bytes 13) c.in-Err.ensures.exact in
     subst (λ (r : Reason). IsFirstUnit bytes (Err (record { place = 13 + c.in-Err.fault.bit / 8; reason = r }))) (sym c.header_reason.ensures)
     (first_payload_refused bytes c.in_ok-info.info c.in-Err.fault.bit c.in-Err.fault.reason (subst (λ (z : Past). HeadAt (unit_head z) z.place bytes (Ok c.in_ok-info.info)) c.new.ensures c.in_ok-info.ensures) h)
 

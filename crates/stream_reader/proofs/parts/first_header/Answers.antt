@@ -1,7 +1,7 @@
 use Rattle.std.proofs.Common.{◌+◌, ◌∙◌, sym, subst, arith}
 use Rattle.run_theory.specs.Begun.{Begun}
 use Rattle.stream_rows.specs.Units.{First, units, first_payload}
-use Rattle.stream_reader.specs.Turns.{Takes, IsFirst}
+use Rattle.stream_reader.specs.Turns.{Takes, IsFirstHeader}
 use Rattle.stream_reader.proofs.HeaderTurns.{behind_due, behind_refused, behind_takes}
 use Rattle.stream_reader.proofs.HeldTurns.{drop_most}
 use Rattle.stream_reader.proofs.parts.first_header.Goals as goal
@@ -27,7 +27,7 @@ returns-then-not-leads_behind-clause-unit g c = λ held0 rest0 b.
 
 pub returns-clause-unit : goal.returns-clause-unit
 returns-clause-unit g c = λ held0 rest0 b.
-    subst (λ (f : First). Takes c.args.earlier.now held0 rest0 (g.S.Source.rest c.read_header.new.src) c.advance.new.self.room c.advance.new.self.held (IsFirst f)) (sym c.new.ensures)
+    subst (λ (f : First). Takes c.args.earlier.now held0 rest0 (g.S.Source.rest c.read_header.new.src) c.advance.new.self.room c.advance.new.self.held (IsFirstHeader f)) (sym c.new.ensures)
     (behind_takes c.args.next c.in-Ok.read.1 c.advance.new.self.held c.advance.new.self.room _
     (c.in-Ok.ensures.unit c.args.earlier.now held0 rest0 c.args.next (omega (arith, c.place-place.ensures.value))
     (subst (λ p. Begun units c.args.earlier.now held0 rest0 (g.S.Source.rest c.args.src.now) (p + 13) c.args.window.now.held (first_payload c.args.earlier.now c.args.next)) (sym c.place-place.ensures.value) b))

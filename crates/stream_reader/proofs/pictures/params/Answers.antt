@@ -18,13 +18,13 @@ returns-in-Ok-clause-part g c = λ z others held0 rest0 b.
 
 pub returns-then-not-is_truncated-clause-part : goal.returns-then-not-is_truncated-clause-part
 returns-then-not-is_truncated-clause-part g c = λ z others held0 rest0 b.
-    params_refused others c.len-held.result c.front.result.now (params.fault_of c.in-Err.fault) c.loop-params.window.room c.transform_reason.result _
+    params_refused others c.len-held.result c.front.result.now (params.params_fault c.in-Err.fault) c.loop-params.window.room c.transform_reason.result _
     (c.loop-params.invariant.begun z others held0 rest0 b) c.front.ensures.value c.in-Err.ensures.exact (sym c.is_truncated.ensures ∙ c.if-not-is_truncated.true) c.loop-params.invariant.total c.transform_reason.ensures refl
 
 pub loop-params-preserved : goal.loop-params-preserved
 loop-params-preserved g c =
     let all = c.len-held.ensures in
-    let fault = params.fault_of c.in-Err.fault in
+    let fault = params.params_fault c.in-Err.fault in
     let cut : is_truncated (transform_reason fault.reason) ≡ true = ap is_truncated (sym c.transform_reason.ensures) ∙ sym c.is_truncated.ensures ∙ c.if-not-is_truncated.false in
     let whole = c.front.ensures.value ∙ take_all c.len-held.result c.loop-params.window.held (omega (arith, c.len-held.ensures)) in
     record {
@@ -39,7 +39,7 @@ loop-params-preserved g c =
 pub returns-in-Err-read_on-clause-part : goal.returns-in-Err-read_on-clause-part
 returns-in-Err-read_on-clause-part g c = λ z others held0 rest0 b.
     let all = c.len-held.ensures in
-    let fault = params.fault_of c.in-Err.fault in
+    let fault = params.params_fault c.in-Err.fault in
     let cut : is_truncated (transform_reason fault.reason) ≡ true = ap is_truncated (sym c.transform_reason.ensures) ∙ sym c.is_truncated.ensures ∙ c.if-not-is_truncated.false in
     c.in-Err-read_on.ensures.more z held0 rest0 c.args.place (params_then others) _ (c.loop-params.invariant.begun z others held0 rest0 b)
     (params_short c.loop-params.window.held c.args.place others c.len-held.result c.front.result.now fault c.front.ensures.value all c.in-Err.ensures.exact) cut (told_at c.args.place fault.place c.transform_reason.ensures) c.loop-params.invariant.total
@@ -49,14 +49,14 @@ returns-in-Ok-clause-held g c = drop_most c.in-Ok.size 8192 c.loop-params.window
 
 pub returns-in-Err-read_on-clause-held : goal.returns-in-Err-read_on-clause-held
 returns-in-Err-read_on-clause-held g c =
-    let fault = params.fault_of c.in-Err.fault in
+    let fault = params.params_fault c.in-Err.fault in
     let cut : is_truncated (transform_reason fault.reason) ≡ true = ap is_truncated (sym c.transform_reason.ensures) ∙ sym c.is_truncated.ensures ∙ c.if-not-is_truncated.false in
     let whole = c.front.ensures.value ∙ take_all c.len-held.result c.loop-params.window.held (omega (arith, c.len-held.ensures)) in
     got_most 8192 c.read_on.ensures.got c.loop-params.invariant.few (omega (arith, params_cut c.front.result.now fault c.in-Err.ensures.exact cut, ap (λ (l : List ℕ). length l) whole))
 
 pub loop-params-smaller : goal.loop-params-smaller
 loop-params-smaller g c =
-    let fault = params.fault_of c.in-Err.fault in
+    let fault = params.params_fault c.in-Err.fault in
     let cut : is_truncated (transform_reason fault.reason) ≡ true = ap is_truncated (sym c.transform_reason.ensures) ∙ sym c.is_truncated.ensures ∙ c.if-not-is_truncated.false in
     let whole = c.front.ensures.value ∙ take_all c.len-held.result c.loop-params.window.held (omega (arith, c.len-held.ensures)) in
     omega (arith, params_cut c.front.result.now fault c.in-Err.ensures.exact cut, ap (λ (l : List ℕ). length l) whole, c.in-Ok-read_on.ensures.longer)

@@ -5,14 +5,14 @@ use Rattle.field_rows.specs.Rows.{Fault, read, numbers}
 use Rattle.bit_codes.specs.Bits.{Cursor}
 use Rattle.transform_params.specs.declared.faults.TransformReason.{TransformReason}
 use Rattle.field_rows.proofs.Counted.{goes_on, ends_at, is_done}
-use Rattle.transform_params.specs.Params.{reason_of, fault_of}
+use Rattle.transform_params.specs.Params.{reason_of, params_fault}
 use Rattle.transform_params.proofs.reading.entries.Goals as goal
 
 pub returns-in_err-entries : goal.returns-in_err-entries
 returns-in_err-entries c =
     let p = err_from_is_err_and c.from_residual.result c.from_residual.ensures.1 in
     let l = c.loop-i in
-    rw (p.1, p.2) (ends_at reason_of (take l.i l.entries) c.args.count l.i l.r (fault_of c.in_err-entries.field-0.0) (read reason_of (numbers c.args.count) c.args.r.now) c.loop-i-test.true c.in_err-entries.ensures l.invariant.so_far)
+    rw (p.1, p.2) (ends_at reason_of (take l.i l.entries) c.args.count l.i l.r (params_fault c.in_err-entries.field-0.0) (read reason_of (numbers c.args.count) c.args.r.now) c.loop-i-test.true c.in_err-entries.ensures l.invariant.so_far)
 
 pub loop-i-preserved : goal.loop-i-preserved
 loop-i-preserved c =

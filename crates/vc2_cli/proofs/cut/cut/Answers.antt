@@ -8,8 +8,8 @@ use Rattle.stream_cut.specs.Cut as cutter
 use Rattle.stream_cut.specs.Cutter as cutter_runs
 use Rattle.stream_cut.specs.Cutter.{run_of}
 use Rattle.vc2_cli.specs.declared.status.Ending.{Ending}
-use Rattle.vc2_cli.specs.Cut.{cut_machine}
-use Rattle.vc2_cli.specs.Endings.{IsDone, MayGoOn}
+use Rattle.vc2_cli.specs.Cut.{cut_command_machine}
+use Rattle.vc2_cli.specs.Endings.{IsDone, MayEndOtherwise}
 use Rattle.vc2_cli.proofs.Cutting.{cut_runs, cut_soon, unmade_soon}
 use Rattle.vc2_cli.proofs.cut.cut.Goals as goal
 
@@ -23,8 +23,8 @@ returns-in-Ok-clause-runs g c =
     let out = change g.K.Sink.written g.K.Sink.faults c.args.out.now c.cut-came.new.out in
     let new = c.cut-came.new.self in
     let came = run_of new.shapes new.total c.cut-came.result in
-    subst (λ (r : Result Ending Halt). Runs (cut_machine settings) IsDone src out r) (sym c.outcome_of-result.ensures)
-    (cut_runs settings src out came (subst (λ (f : Frames). Runs (cutter.cut_machine f) cutter_runs.IsWhole src out came) c.in-Ok.ensures.new.frames_are c.cut-came.ensures.runs))
+    subst (λ (r : Result Ending Halt). Runs (cut_command_machine settings) IsDone src out r) (sym c.outcome_of-result.ensures)
+    (cut_runs settings src out came (subst (λ (f : Frames). Runs (cutter.cut_machine f) cutter_runs.IsCutToTheEnd src out came) c.in-Ok.ensures.new.frames_are c.cut-came.ensures.runs))
 
 pub returns-in-Ok-clause-soon : goal.returns-in-Ok-clause-soon
 returns-in-Ok-clause-soon g c =
@@ -32,13 +32,13 @@ returns-in-Ok-clause-soon g c =
     let rest = g.S.Source.rest in
     let new = c.cut-came.new.self in
     let came = run_of new.shapes new.total c.cut-came.result in
-    subst (λ (r : Result Ending Halt). Soon MayGoOn (cut_machine settings) 4096 (rest c.args.src.now) (rest c.cut-came.new.src) r) (sym c.outcome_of-result.ensures)
+    subst (λ (r : Result Ending Halt). Soon MayEndOtherwise (cut_command_machine settings) 4096 (rest c.args.src.now) (rest c.cut-came.new.src) r) (sym c.outcome_of-result.ensures)
     (cut_soon settings (rest c.args.src.now) (rest c.cut-came.new.src) came
     (subst (λ (f : Frames). Soon cutter_runs.MayGoOn (cutter.cut_machine f) 4096 (rest c.args.src.now) (rest c.cut-came.new.src) came) c.in-Ok.ensures.new.frames_are c.cut-came.ensures.soon))
 
 pub returns-in-Err-clause-runs : goal.returns-in-Err-clause-runs
 returns-in-Err-clause-runs g c =
-    runs_unbegun (cut_machine c.args.settings.now) IsDone (g.S.Source.rest c.args.src.now) (g.K.Sink.written c.args.out.now) (g.S.Source.faults c.args.src.now) (g.K.Sink.faults c.args.out.now)
+    runs_unbegun (cut_command_machine c.args.settings.now) IsDone (g.S.Source.rest c.args.src.now) (g.K.Sink.written c.args.out.now) (g.S.Source.faults c.args.src.now) (g.K.Sink.faults c.args.out.now)
 
 pub returns-in-Err-clause-soon : goal.returns-in-Err-clause-soon
 returns-in-Err-clause-soon g c = unmade_soon c.args.settings.now (g.S.Source.rest c.args.src.now)

@@ -5,11 +5,11 @@ use Rattle.vc2_cli.specs.Weave.{order_of}
 use Rattle.vc2_cli.specs.Frames.{frames_machine}
 use Rattle.vc2_cli.proofs.Framing.{frames_laws, frames_opens}
 use Rattle.unit_reader.proofs.Exits.{none_soon}
-use Rattle.vc2_cli.specs.Endings.{IsDone, MayGoOn}
+use Rattle.vc2_cli.specs.Endings.{IsDone, MayEndOtherwise}
 use Rattle.vc2_cli.proofs.frames.frames.Goals as goal
 
 pub returns-in-Err-clause-soon : goal.returns-in-Err-clause-soon
-returns-in-Err-clause-soon g c = none_soon MayGoOn (frames_machine (order_of c.args.top)) (frames_laws (order_of c.args.top)) (frames_opens (order_of c.args.top)) (g.S.Source.rest c.args.src.now) _
+returns-in-Err-clause-soon g c = none_soon MayEndOtherwise (frames_machine (order_of c.args.top)) (frames_laws (order_of c.args.top)) (frames_opens (order_of c.args.top)) (g.S.Source.rest c.args.src.now) _
 
 pub returns-in-Ok-clause-runs : goal.returns-in-Ok-clause-runs
 returns-in-Ok-clause-runs g c =

@@ -19,11 +19,11 @@ use Rattle.vc2_cli.proofs.Replaying.{replay_laws}
 use Rattle.vc2_cli.specs.Encode.{encode_machine}
 use Rattle.vc2_cli.proofs.EncodeTurns.{encode_laws}
 use Rattle.vc2_cli.proofs.EncodeReplies.{some_size}
-use Rattle.vc2_cli.specs.Weave.{order_of, weave_machine, split_machine}
+use Rattle.vc2_cli.specs.Weave.{order_of, weave_command_machine, split_command_machine}
 use Rattle.vc2_cli.proofs.Weaving.{weave_laws, split_laws}
 use Rattle.vc2_cli.specs.Frames.{frames_machine}
 use Rattle.vc2_cli.proofs.Framing.{frames_laws}
-use Rattle.vc2_cli.specs.Cut.{cut_machine}
+use Rattle.vc2_cli.specs.Cut.{cut_command_machine}
 use Rattle.vc2_cli.proofs.Cutting.{cut_laws}
 use Rattle.vc2_cli.proofs.Told.{units_run, video_runs, header_runs, trial_runs}
 use Rattle.vc2_cli.proofs.top.perform.Goals as goal
@@ -86,20 +86,20 @@ pub returns-in-Weave : goal.returns-in-Weave
 returns-in-Weave g c =
     let src = change g.S.Source.rest g.S.Source.faults c.args.src.now c.weave.new.src in
     let out = change g.K.Sink.written g.K.Sink.faults c.args.out.now c.weave.new.out in
-    subst (λ (a : Command). Does (seen a) src out c.weave.result) (sym c.in-Weave.is) (does _ src out c.weave.result (video_runs (weave_machine c.in-Weave.video) (weave_laws c.in-Weave.video (c.requires.weave c.in-Weave.video (ap seen c.in-Weave.is))) src out c.weave.result c.weave.ensures) tt)
+    subst (λ (a : Command). Does (seen a) src out c.weave.result) (sym c.in-Weave.is) (does _ src out c.weave.result (video_runs (weave_command_machine c.in-Weave.video) (weave_laws c.in-Weave.video (c.requires.weave c.in-Weave.video (ap seen c.in-Weave.is))) src out c.weave.result c.weave.ensures) tt)
 
 pub returns-in-Split : goal.returns-in-Split
 returns-in-Split g c =
     let src = change g.S.Source.rest g.S.Source.faults c.args.src.now c.split.new.src in
     let out = change g.K.Sink.written g.K.Sink.faults c.args.out.now c.split.new.out in
-    subst (λ (a : Command). Does (seen a) src out c.split.result) (sym c.in-Split.is) (does _ src out c.split.result (video_runs (split_machine c.in-Split.video) (split_laws c.in-Split.video (c.requires.split c.in-Split.video (ap seen c.in-Split.is))) src out c.split.result c.split.ensures) tt)
+    subst (λ (a : Command). Does (seen a) src out c.split.result) (sym c.in-Split.is) (does _ src out c.split.result (video_runs (split_command_machine c.in-Split.video) (split_laws c.in-Split.video (c.requires.split c.in-Split.video (ap seen c.in-Split.is))) src out c.split.result c.split.ensures) tt)
 
 pub returns-in-Cut : goal.returns-in-Cut
 returns-in-Cut g c =
     let src = change g.S.Source.rest g.S.Source.faults c.args.src.now c.cut.new.src in
     let out = change g.K.Sink.written g.K.Sink.faults c.args.out.now c.cut.new.out in
     let settings = c.in-Cut.settings in
-    subst (λ (a : Command). Does (seen a) src out c.cut.result) (sym c.in-Cut.is) (does _ src out c.cut.result (units_run (cut_machine settings) (cut_laws settings) src out c.cut.result c.cut.ensures.runs c.cut.ensures.soon) tt)
+    subst (λ (a : Command). Does (seen a) src out c.cut.result) (sym c.in-Cut.is) (does _ src out c.cut.result (units_run (cut_command_machine settings) (cut_laws settings) src out c.cut.result c.cut.ensures.runs c.cut.ensures.soon) tt)
 
 pub returns-in-Trial : goal.returns-in-Trial
 returns-in-Trial g c =

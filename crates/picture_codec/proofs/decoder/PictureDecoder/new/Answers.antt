@@ -1,6 +1,6 @@
 use Rattle.std.proofs.Common.{◌≡◌, ap, sym, subst, arith}
 use Rattle.slice_geometry.specs.declared.PictureShape.{PictureShape}
-use Rattle.picture_codec.specs.Decoding.{IsSound}
+use Rattle.picture_codec.specs.Decoding.{IsDecoderSound}
 use Rattle.picture_codec.proofs.Steps.{taken_none}
 use Rattle.picture_codec.proofs.decoder.PictureDecoder.new.Goals as goal
 
@@ -10,7 +10,7 @@ invariant_of-result c =
     let shape = c.args.shape.now in
     let bands = c.in_ok-new-2.field-0 in
     let same_shape : c.in_ok-new.field-0.shape ≡ shape = ap (λ p. p.shape) c.in_ok-new.ensures in
-    subst (λ (sh : PictureShape). IsSound s sh 0 bands c.in_ok-rooms.rooms) (sym same_shape)
+    subst (λ (sh : PictureShape). IsDecoderSound s sh 0 bands c.in_ok-rooms.rooms) (sym same_shape)
     (record {
       taken = record {
         luma = taken_none s shape.luma bands.luma c.in_ok-new-2.ensures.0;

@@ -2,7 +2,7 @@ use Rattle.std.proofs.Common.{◌≡◌, ◌+◌, ◌/◌, length, ap, subst, ar
 use Rattle.sequence_header.specs.Bytes.{header_bits, header_len}
 use Rattle.sequence_header.proofs.Indices.{rate_index, aspect_index, signal_index, colour_index}
 use Rattle.sequence_header.specs.declared.parts.HeaderParts.{HeaderParts}
-use Rattle.sequence_header.specs.Checking.{IsLawful}
+use Rattle.sequence_header.specs.Checking.{IsLawfulHeader}
 use Rattle.sequence_header.proofs.WroteText.{HaveKinds, header_kinds}
 use Rattle.sequence_header.proofs.Sums.{length-header_bits}
 use Rattle.sequence_header.proofs.header.SequenceHeader.byte_len.Goals as goal
@@ -39,5 +39,5 @@ returns-clause-lawful c =
       colour = c.colour_bits.ensures.kinds;
       coding = c.coding_bits.ensures.kinds _ _;
     } in
-    let here : IsLawful c.self.inside.parts = record { passes = c.self.invariant; kinds = header_kinds c.self.inside.parts c.self.invariant kinds } in
-    subst (λ (p : HeaderParts). IsLawful p) c.self.view_is here
+    let here : IsLawfulHeader c.self.inside.parts = record { passes = c.self.invariant; kinds = header_kinds c.self.inside.parts c.self.invariant kinds } in
+    subst (λ (p : HeaderParts). IsLawfulHeader p) c.self.view_is here

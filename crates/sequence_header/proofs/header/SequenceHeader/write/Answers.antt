@@ -1,7 +1,7 @@
 use Rattle.std.proofs.Common.{ℕ, List, sym, ap, subst, ◌∙◌, arith}
 use Rattle.bit_codes.specs.Bits.{bits_of}
 use Rattle.field_rows.proofs.Filled.{bytes_by_bits}
-use Rattle.sequence_header.specs.Bytes.{header_text, IsReadBack}
+use Rattle.sequence_header.specs.Bytes.{header_text, IsHeaderReadBack}
 use Rattle.sequence_header.proofs.WroteText.{header_back}
 use Rattle.sequence_header.proofs.header.SequenceHeader.write.Goals as goal
 
@@ -11,4 +11,4 @@ returns-clause-bytes c =
     bytes_by_bits c.bytes-1.given.0 (header_text c.args.self.now) (λ i. omega (arith, c.type_inv.bytes i)) (ap bits_of tie ∙ c.put.ensures.text)
 
 pub returns-clause-read_back : goal.returns-clause-read_back
-returns-clause-read_back c = subst (λ (l : List ℕ). IsReadBack l c.args.self.now) (sym (returns-clause-bytes c)) (header_back c.args.self.now c.byte_len-length.ensures.lawful)
+returns-clause-read_back c = subst (λ (l : List ℕ). IsHeaderReadBack l c.args.self.now) (sym (returns-clause-bytes c)) (header_back c.args.self.now c.byte_len-length.ensures.lawful)

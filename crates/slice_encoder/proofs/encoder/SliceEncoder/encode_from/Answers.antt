@@ -5,9 +5,9 @@ use Rattle.bit_codes.specs.Bits.{bits_of}
 use Rattle.slice_geometry.specs.declared.SliceHead.{SliceHead}
 use Rattle.slice_encoder.specs.Trials.{CodedPicture}
 use Rattle.slice_encoder.specs.Tries.{AreTried, tried_lists}
-use Rattle.slice_encoder.specs.Choice.{IsLeast, slice_bits}
-use Rattle.slice_encoder.specs.TrialLaws.{AreSmall}
-use Rattle.slice_encoder.specs.Ready.{AreReady, coded_picture}
+use Rattle.slice_encoder.specs.Choice.{IsLeastIndex, slice_bits}
+use Rattle.slice_encoder.specs.TrialLaws.{AreSmallValues}
+use Rattle.slice_encoder.specs.Ready.{AreReadyToWrite, coded_picture}
 use Rattle.slice_encoder.specs.Sources.{trio_seen}
 use Rattle.slice_encoder.specs.Encoded.{IsEncoded, SliceEncoderSeen}
 use Rattle.slice_encoder.proofs.Encoding.{encoded_after, bits_as}
@@ -21,14 +21,14 @@ put_slice-requires-clause-luma_small c =
     let found = c.find_least-found in
     let e = c.self.inside in
     let is : take found.result.trying.luma c.deref.result.now ≡ _ = ap (take found.result.trying.luma) (c.deref.ensures.value ∙ front (e.luma.len) found.new.luma _ (omega (arith, found.auto.luma, c.deref_mut.ensures.len))) ∙ found.ensures.holds.luma in
-    subst (λ (vs : List ℤ). AreSmall vs) (sym is) found.ensures.holds.luma_small
+    subst (λ (vs : List ℤ). AreSmallValues vs) (sym is) found.ensures.holds.luma_small
 
 pub put_slice-requires-clause-colour_small : goal.put_slice-requires-clause-colour_small
 put_slice-requires-clause-colour_small c =
     let found = c.find_least-found in
     let e = c.self.inside in
     let is : take found.result.trying.colour c.deref-2.result.now ≡ _ = ap (take found.result.trying.colour) (c.deref-2.ensures.value ∙ front (e.colour.len) found.new.colour _ (omega (arith, found.auto.colour, c.deref_mut-2.ensures.len))) ∙ found.ensures.holds.colour in
-    subst (λ (vs : List ℤ). AreSmall vs) (sym is) found.ensures.holds.colour_small
+    subst (λ (vs : List ℤ). AreSmallValues vs) (sym is) found.ensures.holds.colour_small
 
 pub returns-clause-slice : goal.returns-clause-slice
 returns-clause-slice c =
@@ -47,7 +47,7 @@ returns-clause-slice c =
     in
     subst (λ (s : SliceEncoderSeen). IsEncoded (tried_lists (coded_picture s.slicing s.shape a.matrix.now (trio_seen a.coefficients)) a.kept.now a.sx a.sy) c.put_slice.new.bytes head) c.self.view_is
     (record {
-      least = subst (λ (n : ℕ). IsLeast n (tried_lists own a.kept.now a.sx a.sy) found.result.index) same_length found.ensures.least;
+      least = subst (λ (n : ℕ). IsLeastIndex n (tried_lists own a.kept.now a.sx a.sy) found.result.index) same_length found.ensures.least;
       luma_bits = holds.luma_need;
       bits = subst (λ (n : ℕ). bits_of c.put_slice.new.bytes ≡ slice_bits n found.result.index (tried_lists own a.kept.now a.sx a.sy found.result.index)) same_length (bits_as (bits_of c.put_slice.new.bytes) (length a.bytes.now) found.result.index _ (tried_lists own a.kept.now a.sx a.sy found.result.index) same_lists c.put_slice.ensures);
     })
@@ -94,7 +94,7 @@ gather-requires-clause-room c = grind (arith, common_steps)
 pub gather-requires-clause-given : goal.gather-requires-clause-given
 gather-requires-clause-given c =
     let a = c.args in
-    let ready = subst (λ (s : SliceEncoderSeen). AreReady (coded_picture s.slicing s.shape a.matrix.now (trio_seen a.coefficients)) a.sx a.sy a.kept.now) (sym c.self.view_is) c.requires.ready in
+    let ready = subst (λ (s : SliceEncoderSeen). AreReadyToWrite (coded_picture s.slicing s.shape a.matrix.now (trio_seen a.coefficients)) a.sx a.sy a.kept.now) (sym c.self.view_is) c.requires.ready in
     record {
       entries = ready.entries;
       luma_bits = grind (arith, common_steps);

@@ -2,7 +2,7 @@ use Rattle.std.proofs.Common.{◌≡◌, ◌∙◌, ap, subst, arith, sym}
 use Rattle.std.proofs.lemmas.Grind.{common_steps}
 use Rattle.slice_encoder.specs.Trials.{CodedPicture, Lists}
 use Rattle.slice_encoder.specs.Tries.{AreTried, tried_lists}
-use Rattle.slice_encoder.specs.Ready.{AreReady, coded_picture}
+use Rattle.slice_encoder.specs.Ready.{AreReadyToWrite, coded_picture}
 use Rattle.slice_encoder.specs.Encoded.{SliceEncoderSeen, share_of, trial_of}
 use Rattle.slice_encoder.proofs.Continues.{lists_go_on, go_on}
 use Rattle.slice_encoder.proofs.Encoding.{sizes_of, trial_is}
@@ -51,7 +51,7 @@ gather-requires-clause-room c = grind (arith, common_steps)
 pub gather-requires-clause-given : goal.gather-requires-clause-given
 gather-requires-clause-given c =
     let a = c.args in
-    let ready = subst (λ (s : SliceEncoderSeen). AreReady (coded_picture s.slicing s.shape a.matrix.now a.coefficients.now) a.sx a.sy a.kept.now) (sym c.self.view_is) c.requires.ready in
+    let ready = subst (λ (s : SliceEncoderSeen). AreReadyToWrite (coded_picture s.slicing s.shape a.matrix.now a.coefficients.now) a.sx a.sy a.kept.now) (sym c.self.view_is) c.requires.ready in
     record {
       entries = ready.entries;
       luma_bits = grind (arith, common_steps);

@@ -2,7 +2,7 @@ use Rattle.std.proofs.Common.{◌≡◌, ◌∙◌, ℕ, ◌+◌, ◌-◌, lengt
 use Rattle.std.specs.Prelude.{slice_index}
 use Rattle.slice_geometry.specs.SliceOrder.{level_of, orient_of}
 use Rattle.quant_factors.specs.Weights.{band_quantiser}
-use Rattle.slice_encoder.specs.Gathering.{GatheredSeen, IsSound, quantised, quantised_piece}
+use Rattle.slice_encoder.specs.Gathering.{GatheredSeen, IsGatheredSound, quantised, quantised_piece}
 use Rattle.slice_encoder.proofs.Gathers.{band_listed}
 use Rattle.slice_encoder.proofs.gathered.Gathered.list.Goals as goal
 
@@ -13,7 +13,7 @@ loop-k-preserved c =
     let l = c.loop-k in
     let k = l.k in
     let same_depth : c.self.inside.depth ≡ g.depth = ap (λ (v : GatheredSeen). v.depth) c.self.view_is in
-    let sound : IsSound g = subst IsSound c.self.view_is c.self.invariant.0 in
+    let sound : IsGatheredSound g = subst IsGatheredSound c.self.view_is c.self.invariant.0 in
     let rise = sound.rise k l.invariant.some (omega (arith, same_depth, c.loop-k-test.true)) in
     let back : k + 1 - 1 ≡ k = omega arith in
     let place : l.place + length c.band-band.result.now ≡ slice_index g.ends k = omega (arith, l.invariant.place, c.band-band.ensures.count, rise) in

@@ -2,7 +2,7 @@ use Rattle.std.proofs.Common.{◌≡◌, ◌∙◌, ℕ, ◌+◌, ◌-◌, ◌*�
 use Rattle.std.specs.Prelude.{slice_index}
 use Rattle.slice_geometry.specs.SliceOrder.{level_of, orient_of}
 use Rattle.quant_factors.specs.Weights.{band_quantiser}
-use Rattle.slice_encoder.specs.Gathering.{GatheredSeen, IsSound, quantised, quantised_piece, quantised_pair, in_turn, reach}
+use Rattle.slice_encoder.specs.Gathering.{GatheredSeen, IsGatheredSound, quantised, quantised_piece, quantised_pair, in_turn, reach}
 use Rattle.slice_encoder.proofs.Gathers.{reach_band}
 use Rattle.slice_encoder.proofs.gathered.Gathered.reach_pairs.Goals as goal
 
@@ -16,7 +16,7 @@ loop-passed-preserved c =
     let k : ℕ = 3 * c.self.inside.depth - l.passed in
     let n : ℕ = 3 * g.depth in
     let here : k ≡ n - l.passed = omega (arith, same_depth) in
-    let sound : IsSound g = subst IsSound c.self.view_is c.self.invariant.0 in
+    let sound : IsGatheredSound g = subst IsGatheredSound c.self.view_is c.self.invariant.0 in
     let lower : n - (l.passed + 1) ≡ n - l.passed - 1 = omega arith in
     let rise = sound.rise (n - l.passed) (omega (arith, same_depth, c.loop-passed-test.true)) (omega arith) in
     let count = c.band.ensures.count ∙ ap (λ (j : ℕ). slice_index g.ends j - slice_index g.ends (j - 1)) here in

@@ -1,6 +1,6 @@
 use Rattle.std.proofs.Common.{ℕ, ◌-◌, ◌*◌, ◌≤◌, List, take, drop, sym, ap, subst, arith}
 use Rattle.std.specs.Prelude.{slice_index}
-use Rattle.slice_encoder.specs.Gathering.{GatheredSeen, IsSound, IsMeasured, AreSizes, piece_of}
+use Rattle.slice_encoder.specs.Gathering.{GatheredSeen, IsGatheredSound, IsMeasured, AreSizes, piece_of}
 use Rattle.slice_encoder.proofs.Sizes.{piece_sizes, band_sizes}
 use Rattle.slice_encoder.proofs.gathered.Gathered.sizes.Goals as goal
 
@@ -9,7 +9,7 @@ returns-then-self c =
     let inside = c.self.inside in
     let k = c.args.k in
     let g : GatheredSeen = record { depth = inside.depth; ends = inside.ends; values = inside.values.items } in
-    let sound : IsSound g = c.self.invariant.0 in
+    let sound : IsGatheredSound g = c.self.invariant.0 in
     let measured : IsMeasured g inside.short inside.sizes.items = c.self.invariant.1 in
     let most : k ≤ 3 * inside.depth = omega (arith, c.requires.most, ap (λ (v : GatheredSeen). v.depth) c.self.view_is) in
     let from = slice_index g.ends (k - 1) in

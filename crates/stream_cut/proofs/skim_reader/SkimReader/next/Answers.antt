@@ -1,5 +1,5 @@
 use Rattle.std.proofs.Common.{◌≡◌, false, None, sym, subst}
-use Rattle.stream_cut.specs.SkimReader.{SkimReaderSeen, NextSkimmed, seen_by}
+use Rattle.stream_cut.specs.SkimReader.{SkimReaderSeen, NextSkimmed, skim_seen}
 use Rattle.stream_cut.proofs.SkimReads.{next_told}
 use Rattle.stream_cut.proofs.skim_reader.SkimReader.next.Goals as goal
 
@@ -7,6 +7,6 @@ pub returns-clause-next : goal.returns-clause-next
 returns-clause-next g c =
     let i = c.self.inside in
     let rest = g.S.Source.rest in
-    subst (λ (o : SkimReaderSeen). o.stop ≡ None → o.ended ≡ false → NextSkimmed o (seen_by c.next.new.self) (rest c.args.src.now) (rest c.next.new.src) c.answer_of.result) c.self.view_is
-    (λ stop ended. subst (NextSkimmed (seen_by i.reader) (seen_by c.next.new.self) (rest c.args.src.now) (rest c.next.new.src)) (sym c.answer_of.ensures)
+    subst (λ (o : SkimReaderSeen). o.stop ≡ None → o.ended ≡ false → NextSkimmed o (skim_seen c.next.new.self) (rest c.args.src.now) (rest c.next.new.src) c.answer_of.result) c.self.view_is
+    (λ stop ended. subst (NextSkimmed (skim_seen i.reader) (skim_seen c.next.new.self) (rest c.args.src.now) (rest c.next.new.src)) (sym c.answer_of.ensures)
     (next_told i.reader c.next.new.self (rest c.args.src.now) (rest c.next.new.src) c.next.result (c.next.ensures.next stop ended)))

@@ -4,7 +4,7 @@ use Rattle.std.proofs.lemmas.List.{length-drop}
 use Rattle.transform_params.specs.Views.{params_of}
 use Rattle.transform_params.specs.ParameterFields.{unit_length}
 use Rattle.stream_writer.specs.EncodedStream.{header_length}
-use Rattle.stream_writer.specs.WriterInside.{Holds}
+use Rattle.stream_writer.specs.WriterInside.{HoldsHeader}
 use Rattle.stream_writer.proofs.EncodedUnits.{length-header_unit}
 use Rattle.stream_writer.proofs.DueBytes.{same_room, first_holds}
 use Rattle.stream_writer.proofs.due_units.DueUnits.new.Goals as goal
@@ -24,4 +24,4 @@ invariant_of-result c =
     let small : unit_length p < 2 ^ 32 = omega (arith, c.unit_len.ensures.value, c.unit_len.type_inv) in
     let holds = first_holds parts p b unit behind front many others small (omega (arith, all)) (omega (arith, c.byte_len-front.ensures.length)) c.write_header_unit.ensures in
     let room : length x ≡ c.in-Ok.made.len = omega (arith, holds.long, all, c.as_mut_slice.ensures.len, c.in-Ok.ensures.len, c.byte_len-front.ensures.length) in
-    (subst (λ l. Holds parts p l front) (sym (same_room x c.in-Ok.made.items c.in-Ok.made.len room)) holds, c.requires)
+    (subst (λ l. HoldsHeader parts p l front) (sym (same_room x c.in-Ok.made.items c.in-Ok.made.len room)) holds, c.requires)

@@ -8,7 +8,7 @@ use Rattle.transform_params.specs.ParameterFields.{unit_length}
 use Rattle.picture_codec.specs.Encoding.{slices_of}
 use Rattle.stream_rows.specs.Streams.{frame_under}
 use Rattle.stream_writer.specs.EncodedStream.{header_length, header_unit, picture_unit, end_unit, units_with}
-use Rattle.stream_writer.specs.WriterInside.{DueSeen, Holds, Encodes}
+use Rattle.stream_writer.specs.WriterInside.{DueSeen, HoldsHeader, Encodes}
 use Rattle.stream_rows.proofs.Frames.{frame_is}
 use Rattle.stream_writer.proofs.SameShapes.{one_shape}
 use Rattle.stream_writer.proofs.DueBytes.{end_holds, put_all, put_holds, put_last, front_is}
@@ -17,7 +17,7 @@ use Rattle.stream_writer.proofs.due_units.DueUnits.put.Goals as goal
 pub copy_from_slice-requires : goal.copy_from_slice-requires
 copy_from_slice-requires c =
     let b0 = c.as_mut_slice-units.result.now in
-    let h0 = subst (λ l. Holds c.self.inside.header (params_of c.self.inside.params) l c.self.inside.from) (sym c.as_mut_slice-units.ensures.value) c.self.invariant.0 in
+    let h0 = subst (λ l. HoldsHeader c.self.inside.header (params_of c.self.inside.params) l c.self.inside.from) (sym c.as_mut_slice-units.ensures.value) c.self.invariant.0 in
     length-take-le 13 b0 (omega (arith, h0.long)) ∙ sym (ap (λ (l : List ℕ). length l) c.end_unit.ensures)
 
 pub write_picture_unit-requires-clause-shape : goal.write_picture_unit-requires-clause-shape
@@ -39,11 +39,11 @@ invariant_of-self c =
     let b = end ++ drop 13 b0 in
     let unit = c.write_picture_unit.new.unit in
     let n_is : n ≡ header_length parts = c.header_len-header_len.ensures.value ∙ ap (λ (w : DueSeen). header_length w.parts) (sym c.self.view_is) in
-    let h0 : Holds parts p b0 from = subst (λ l. Holds parts p l from) (sym c.as_mut_slice-units.ensures.value) c.self.invariant.0 in
-    let h : Holds parts p b from = end_holds parts p b0 end from h0 (c.copy_from_slice.ensures.len ∙ length-take-le 13 b0 (omega (arith, h0.long))) in
+    let h0 : HoldsHeader parts p b0 from = subst (λ l. HoldsHeader parts p l from) (sym c.as_mut_slice-units.ensures.value) c.self.invariant.0 in
+    let h : HoldsHeader parts p b from = end_holds parts p b0 end from h0 (c.copy_from_slice.ensures.len ∙ length-take-le 13 b0 (omega (arith, h0.long))) in
     let many : length unit ≡ unit_length p = omega (arith, c.write_picture_unit.auto.unit, length-take (length b - (13 + n)) (drop (13 + n) b), length-drop (13 + n) b, h.long, n_is) in
     let room : length b ≡ c.self.inside.buffer.len = omega (arith, h.long, c.self.invariant.0.long, c.self.inside.buffer.ok.0) in (
-      subst (λ l. Holds parts p l 0) (sym (put_all parts p n n_is b unit from h many c.self.inside.buffer.items c.self.inside.buffer.len room)) (put_holds parts p n n_is b unit from h many 0 (omega arith)),
+      subst (λ l. HoldsHeader parts p l 0) (sym (put_all parts p n n_is b unit from h many c.self.inside.buffer.items c.self.inside.buffer.len room)) (put_holds parts p n n_is b unit from h many 0 (omega arith)),
       subst (λ e. Encodes parts p e) (sym c.write_picture_unit.ensures.same_encoder) c.self.invariant.1,
     )
 
@@ -59,9 +59,9 @@ returns-then-begins c =
     let unit = c.write_picture_unit.new.unit in
     let slices = slices_of (frame_under parts) p c.args.picture.now.samples in
     let n_is : n ≡ header_length parts = c.header_len-header_len.ensures.value ∙ ap (λ (w : DueSeen). header_length w.parts) (sym c.self.view_is) in
-    let h0 : Holds parts p b0 from = subst (λ l. Holds parts p l from) (sym c.as_mut_slice-units.ensures.value) c.self.invariant.0 in
+    let h0 : HoldsHeader parts p b0 from = subst (λ l. HoldsHeader parts p l from) (sym c.as_mut_slice-units.ensures.value) c.self.invariant.0 in
     let thirteen : length end ≡ 13 = c.copy_from_slice.ensures.len ∙ length-take-le 13 b0 (omega (arith, h0.long)) in
-    let h : Holds parts p b from = end_holds parts p b0 end from h0 thirteen in
+    let h : HoldsHeader parts p b from = end_holds parts p b0 end from h0 thirteen in
     let many : length unit ≡ unit_length p = omega (arith, c.write_picture_unit.auto.unit, length-take (length b - (13 + n)) (drop (13 + n) b), length-drop (13 + n) b, h.long, n_is) in
     let room : length b ≡ c.self.inside.buffer.len = omega (arith, h.long, c.self.invariant.0.long, c.self.inside.buffer.ok.0) in
     let is_unit : unit ≡ picture_unit p (header_length parts) c.args.number slices =
@@ -85,10 +85,10 @@ invariant_of-self-2 c =
     let b = c.as_mut_slice-units.result.now in
     let unit = c.write_picture_unit-2.new.unit in
     let n_is : n ≡ header_length parts = c.header_len-header_len.ensures.value ∙ ap (λ (w : DueSeen). header_length w.parts) (sym c.self.view_is) in
-    let h : Holds parts p b from = subst (λ l. Holds parts p l from) (sym c.as_mut_slice-units.ensures.value) c.self.invariant.0 in
+    let h : HoldsHeader parts p b from = subst (λ l. HoldsHeader parts p l from) (sym c.as_mut_slice-units.ensures.value) c.self.invariant.0 in
     let many : length unit ≡ unit_length p = omega (arith, c.write_picture_unit-2.auto.unit, length-take (length b - (13 + n)) (drop (13 + n) b), length-drop (13 + n) b, h.long, n_is) in
     let room : length b ≡ c.self.inside.buffer.len = omega (arith, h.long, c.self.invariant.0.long, c.self.inside.buffer.ok.0) in (
-      subst (λ l. Holds parts p l (13 + n)) (sym (put_all parts p n n_is b unit from h many c.self.inside.buffer.items c.self.inside.buffer.len room)) (put_holds parts p n n_is b unit from h many (13 + n) (omega arith)),
+      subst (λ l. HoldsHeader parts p l (13 + n)) (sym (put_all parts p n n_is b unit from h many c.self.inside.buffer.items c.self.inside.buffer.len room)) (put_holds parts p n n_is b unit from h many (13 + n) (omega arith)),
       subst (λ e. Encodes parts p e) (sym c.write_picture_unit-2.ensures.same_encoder) c.self.invariant.1,
     )
 
@@ -102,7 +102,7 @@ returns c =
     let unit = c.write_picture_unit-2.new.unit in
     let slices = slices_of (frame_under parts) p c.args.picture.now.samples in
     let n_is : n ≡ header_length parts = c.header_len-header_len.ensures.value ∙ ap (λ (w : DueSeen). header_length w.parts) (sym c.self.view_is) in
-    let h : Holds parts p b from = subst (λ l. Holds parts p l from) (sym c.as_mut_slice-units.ensures.value) c.self.invariant.0 in
+    let h : HoldsHeader parts p b from = subst (λ l. HoldsHeader parts p l from) (sym c.as_mut_slice-units.ensures.value) c.self.invariant.0 in
     let many : length unit ≡ unit_length p = omega (arith, c.write_picture_unit-2.auto.unit, length-take (length b - (13 + n)) (drop (13 + n) b), length-drop (13 + n) b, h.long, n_is) in
     let room : length b ≡ c.self.inside.buffer.len = omega (arith, h.long, c.self.invariant.0.long, c.self.inside.buffer.ok.0) in
     let is_unit : unit ≡ picture_unit p c.args.previous c.args.number slices =
