@@ -5,6 +5,7 @@ pub mod Valued
 pub mod Rect
 pub mod Subbands
 pub mod Inside
+pub mod LendingParts
 pub mod LendingRows
 pub mod Lending
 pub mod LendingBands

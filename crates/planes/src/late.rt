@@ -1,13 +1,12 @@
 //! The memory of planes and bands that may never be needed: it is taken at once, and touched only when they are made.
 
-ghost use Rattle.std.specs.Prelude.{◌≡◌, ℕ, ◌+◌, ◌*◌, ◌/◌, ◌%◌, ◌^◌, ◌<◌, ◌≤◌, length, map, replicate, slice_index_or, pos, IfOk, [], vec_capacity};
-ghost use Rattle.std.specs.List.{All};
+ghost use Rattle.std.specs.Prelude.{◌≡◌, ℕ, ◌+◌, ◌*◌, ◌/◌, ◌%◌, ◌^◌, ◌<◌, ◌≤◌, length, replicate, slice_index_or, pos, IfOk, [], vec_capacity};
 ghost use Rattle.planes.specs.Raster.{height, zeros};
 ghost use Rattle.planes.specs.Subbands.{no_band, band_of, subband_length, AreZeroBands};
-ghost use Rattle.planes.specs.Late.{HasRoomAlone};
 
 use crate::band_set::band_length;
-use crate::{Bands, NoMemory, Plane};
+use crate::row_store::start_of;
+use crate::{Bands, NoMemory, Number, Plane};
 use std::alloc::Global;
 use std::marker::Model;
 
@@ -15,56 +14,32 @@ use std::marker::Model;
 #[derive(Drop)]
 pub struct LatePlane {
     w: u32,
-    rows: Vec<Vec<i64>>,
+    h: u32,
+    room: Vec<i64>,
+    spare: Vec<i64>,
 }
 
 impl Model for LatePlane {
-    ghost use Rattle.std.specs.Prelude.{ℤ, length};
+    ghost use Rattle.std.specs.Prelude.{ℤ};
     ghost use Rattle.planes.specs.Raster.{Raster, zeros};
     ghost use Rattle.planes.specs.Late.{HasRoomAlone};
 
     ghost Value = { Raster ℤ };
 
-    ghost view = { λ p. zeros p.w (length p.rows.items) };
+    ghost view = { λ p. zeros p.w p.h };
 
-    ghost invariant = { λ p. HasRoomAlone p.w p.rows.items };
+    ghost invariant = { λ p. HasRoomAlone p.w p.h p.room p.spare };
 }
 
-// Rows with room for w numbers each, and none in them.
-fn roomy_rows(alloc: Global, w: usize, h: usize) -> Result<Vec<Vec<i64>>, NoMemory>
-    ensures every { IfOk result (λ rows. All (λ r. (r.items ≡ []) × (w ≤ vec_capacity r))
-        rows.items) }
-    ensures count { IfOk result (λ rows. length rows.items ≡ h) }
+// Puts so many zeros where there is room for them.
+fn touch(room: &mut Vec<i64>, count: usize)
+    requires none { room.old.items ≡ [] }
+    requires fits { count ≤ vec_capacity room.old }
+    ensures { room.new.items ≡ replicate count (pos 0) }
 {
-    let mut rows = Vec::with_capacity(alloc, h)?;
-    for _y in 0..h {
-        rows.push(Vec::with_capacity(alloc, w)?)?;
-    }
-    Ok(rows)
-}
-
-// Puts w zeros into a row that has room for them.
-fn touch(row: &mut Vec<i64>, w: usize)
-    requires none { row.old.items ≡ [] }
-    requires room { w ≤ vec_capacity row.old }
-    ensures { row.new.items ≡ replicate w (pos 0) }
-{
-    match row.resize(w, 0) {
+    match room.resize(count, 0) {
         Ok(()) => {}
         Err(_) => unreachable!(),
-    }
-}
-
-// Does so in each row.
-fn touch_all(rows: &mut Vec<Vec<i64>>, w: usize)
-    requires { All (λ r. (r.items ≡ []) × (w ≤ vec_capacity r)) rows.old.items }
-    ensures zero { map (λ r. r.items) rows.new.items
-        ≡ replicate (length rows.old.items) (replicate w (pos 0)) }
-    ensures every { All (λ r. length r.items ≡ w) rows.new.items }
-    ensures count { length rows.new.items ≡ length rows.old.items }
-{
-    for y in 0..rows.len() {
-        touch(&mut rows[y], w);
     }
 }
 
@@ -75,8 +50,9 @@ impl LatePlane {
         requires h_fits { h ≤ 8208 }
         ensures { IfOk result (λ p. p ≡ zeros w h) }
     {
-        let rows = roomy_rows(alloc, w as usize, h as usize)?;
-        Ok(LatePlane { w, rows })
+        let room = Vec::with_capacity(alloc, start_of(h, w))?;
+        let spare = i64::zeros(alloc, w as usize)?;
+        Ok(LatePlane { w, h, room, spare })
     }
 
     /// Makes the plane, in the place of one without rows. No memory is left then.
@@ -85,8 +61,11 @@ impl LatePlane {
         ensures made { plane.new ≡ self.old }
         ensures left { height self.new ≡ 0 }
     {
-        touch_all(&mut self.rows, self.w as usize);
-        plane.take_rows(self.w, &mut self.rows);
+        touch(&mut self.room, start_of(self.h, self.w));
+        let w = plane.w();
+        plane.take(self.w, self.h, &mut self.room, &mut self.spare);
+        self.w = w;
+        self.h = 0;
     }
 }
 

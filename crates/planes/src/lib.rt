@@ -1,10 +1,11 @@
-//! Planes of signed numbers, and the subbands of a transform as planes. Rows are lent, and never copied.
+//! Planes of signed numbers, and the subbands of a transform as planes. Rows are lent; one that is
+//! written beside others is copied out of its place meanwhile.
 #![tactic(auto)]
 
-ghost use Rattle.std.specs.Prelude.{◌≡◌, ◌≢◌, ◌↔◌, ℕ, ◌-◌, ◌<◌, ◌≤◌, min, length, map, replicate, slice_index_or, pos, IfOk, true, []};
+ghost use Rattle.std.specs.Prelude.{◌≡◌, ◌≢◌, ◌↔◌, ℕ, ◌-◌, ◌*◌, ◌<◌, ◌≤◌, min, length, slice_index_or, pos, IfOk, true, []};
 ghost use Rattle.std.specs.Borrow.{sem};
-ghost use Rattle.std.specs.List.{All};
 ghost use Rattle.planes.specs.Raster.{height, row_of, at, with_place, filled_with, IsEdgeFilled};
+ghost use Rattle.planes.specs.Inside.{rows_of};
 ghost use Rattle.planes.specs.Lending.{LendsRow};
 ghost use Rattle.planes.specs.Bounded.{IsWithin, IsPlaneWithin};
 
@@ -12,14 +13,15 @@ mod band_set;
 mod late;
 mod narrow_bands;
 mod number;
+mod number_list;
 mod row_store;
 mod short_copies;
 
 pub use band_set::Bands;
 pub use late::{LateBands, LatePlane};
 pub use number::Number;
-use row_store::Rows;
 pub use row_store::Three;
+use row_store::{Rows, start_of};
 use std::alloc::{AllocError, AllocFailed, Global};
 use std::marker::Model;
 
@@ -62,7 +64,7 @@ pub struct Rect {
 
 /// A plane of signed numbers, of 64 bits where no other width is named, row by row. Contracts see its width and its rows.
 ///
-/// A plane of w by h takes the bytes of w * h numbers, and a few words a row.
+/// A plane of w by h takes the bytes of (h + 1) * w numbers, and a few words.
 #[derive(Drop)]
 pub struct Plane<T = i64> {
     rows: Rows<T>,
@@ -117,19 +119,6 @@ pub struct ThreePlanes {
     pub c2: Plane,
 }
 
-fn zero_rows<T: Number>(alloc: Global, w: usize, h: usize) -> Result<Vec<Vec<T>>, NoMemory>
-    ensures zero { IfOk result (λ rows. map (λ r. r.items) rows.items
-        ≡ replicate h (replicate w T.none)) }
-    ensures every { IfOk result (λ rows. All (λ r. length r.items ≡ w) rows.items) }
-    ensures count { IfOk result (λ rows. length rows.items ≡ h) }
-{
-    let mut rows = Vec::with_capacity(alloc, h)?;
-    for _y in 0..h {
-        rows.push(T::zeros(alloc, w)?)?;
-    }
-    Ok(rows)
-}
-
 // Gives each place from w on the number of the last place before w.
 fn fill_right(row: &mut [i64], w: usize)
     requires some { 1 ≤ w }
@@ -172,9 +161,10 @@ impl<T: Number> Plane<T> {
         requires h_fits { h ≤ 8208 }
         ensures { IfOk result (λ p. p ≡ filled_with T.none w h) }
     {
-        let rows = zero_rows(alloc, w as usize, h as usize)?;
+        let numbers = T::zeros(alloc, start_of(h, w))?;
+        let spare = T::zeros(alloc, w as usize)?;
         Ok(Plane {
-            rows: Rows::from_rows(w, rows, Vec::new(alloc)),
+            rows: Rows::new(w, h, numbers, spare),
         })
     }
 
@@ -253,16 +243,18 @@ impl<T: Number> Plane<T> {
 }
 
 impl Plane<i64> {
-    // Takes these rows in the place of none.
-    pub(crate) fn take_rows(&mut self, w: u32, rows: &mut Vec<Vec<i64>>)
+    // Takes these numbers, row after row, in the place of none, and a spare row for its own.
+    pub(crate) fn take(&mut self, w: u32, h: u32, numbers: &mut Vec<i64>, spare: &mut Vec<i64>)
         requires width { w ≤ 8208 }
-        requires count { length rows.old.items ≤ 8208 }
-        requires every { All (λ r. length r.items ≡ w) rows.old.items }
+        requires fits { h ≤ 8208 }
+        requires count { length numbers.old.items ≡ h * w }
+        requires spare_width { length spare.old.items ≡ w }
         requires none { height self.old ≡ 0 }
-        ensures value { self.new ≡ record { w = w; rows = map (λ r. r.items) rows.old.items } }
-        ensures left { rows.new.items ≡ [] }
+        ensures value { self.new ≡ record { w = w; rows = rows_of w h numbers.old.items } }
+        ensures left { numbers.new.items ≡ [] }
+        ensures spare_left { length spare.new.items ≡ self.old.w }
     {
-        self.rows.take_rows(w, rows);
+        self.rows.take(w, h, numbers, spare);
     }
 
     /// Gives each place beyond the first w columns and h rows the number of the nearest place within them.
