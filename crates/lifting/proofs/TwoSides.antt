@@ -6,7 +6,9 @@ use Rattle.std.proofs.lemmas.Bool.Decides.{nat_tests}
 use Rattle.std.proofs.lemmas.Grind.{common_steps}
 use Rattle.std.proofs.Math.ListN.{get_or-append}
 use Rattle.std.proofs.lemmas.List.{get_or-append_right, get_or-take, get_or-drop}
-use Rattle.planes.specs.Valued.{valued, EachValued}
+use Rattle.planes.specs.Raster.{Raster, height, row_of, with_row}
+use Rattle.planes.specs.Valued.{valued, EachValued, grid_of}
+use Rattle.planes.proofs.RasterLemmas.{row_of-with_row_same}
 use Rattle.planes.specs.Numbers.{Within}
 use Rattle.lifting.specs.Lines.{Line}
 use Rattle.lifting.specs.Places.{beside}
@@ -45,3 +47,14 @@ two_sides value none w left right a b el pa pb x lx = elim (cases_lt x w) [
       let is : nat_lt x w ≡ false = grind (arith, nat_tests) in
       ap value (get_or-append_right left right w x none el late) ∙ pb (x - w) (omega arith) ∙ ap (λ r. if r then a x else b (x - w)) (sym is)
 ]
+
+-- a row of a plane, as it is lent, and as it was written over
+pub row_small : {X : Type 0} (value : X → ℤ) (none : X) (m w y : ℕ) (p : Raster X) (row : List X) → row ≡ row_of p y → LineWithin w m (grid_of value none p y) → LineWithin w m (valued value none row)
+row_small value none m w y p row is small = subst (λ (r : List _). LineWithin w m (valued value none r)) (sym is) small
+
+pub row_put : {X : Type 0} (value : X → ℤ) (none : X) (p : Raster X) (y : ℕ) (row new : List X) → y < height p → row ≡ row_of p y → length new ≡ length row
+    → (x : ℕ) → grid_of value none (with_row p y new) y x ≡ valued value none new x
+row_put value none p y row new lt is same x = ap (λ (r : List _). valued value none r x) (row_of-with_row_same p y new lt (same ∙ ap length is))
+
+pub back_len : {X : Type 0} (w : ℕ) (xs : List X) → 2 * w ≤ length xs → w ≤ length (take (length xs - w) (drop w xs))
+back_len w xs le = grind (arith, common_steps)

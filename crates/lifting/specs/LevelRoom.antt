@@ -13,7 +13,3 @@ pub record HaveLevelRoom {X : Type 0} (b : BandsOf X) (levels w h : ℕ) (plane 
   pub rows : lowest b.depth h * 2 ^ levels ≤ height plane
   pub scratch_columns : lowest b.depth w * 2 ^ levels ≤ scratch.w
   pub scratch_rows : lowest b.depth h * 2 ^ levels ≤ height scratch
-
--- a plane has room for the level of a band
-abbrev pub HasTwice : {X : Type 0} → Raster X → Raster X → Type 0
-HasTwice plane band = (2 * band.w ≤ plane.w) × (2 * height band ≤ height plane)

@@ -33,6 +33,10 @@ pub record IsShownArea (area : SampleArea) (w h : ℕ) (samples : List ℕ) : Ty
   pub across : area.w ≤ w
   pub down : area.h ≤ h
 
+-- an area's samples, each in 1 to `most` bits
+abbrev pub HoldsArea : ℕ → SampleArea → List ℕ → Type 0
+HoldsArea most area samples = (1 ≤ area.depth) × (area.depth ≤ most) × (length samples ≡ area.h * area.w) × (area.h * area.w ≤ 2 ^ 30)
+
 -- the bands of a component of w by h: all magnitudes are at most 2 ^ 18
 abbrev pub AreNarrowIn : BandStack → ℕ → ℕ → Type 0
 AreNarrowIn b w h = AreIn (λ v. v) (pos 0) (2 ^ 18) b w h
@@ -45,5 +49,6 @@ AreSmallIn b w h = BandsWithin (lowest b.depth h) (lowest b.depth w) b.depth (2 
 abbrev pub synthesis_in : {X : Type 0} → (X → ℤ) → X → Wavelet → BandsOf X → ℕ → ℕ → Grid
 synthesis_in value none k b w h = synthesis k (lowest b.depth h) (lowest b.depth w) (coefficients_in value none b) b.depth
 
+-- the same of 64 bits
 abbrev pub synthesis_of : Wavelet → BandStack → ℕ → ℕ → Grid
 synthesis_of k b w h = synthesis_in (λ v. v) (pos 0) k b w h

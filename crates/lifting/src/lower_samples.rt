@@ -14,7 +14,7 @@ ghost use Rattle.lifting.specs.LowerSamples.{rounded};
 
 use crate::samples::Sampled;
 use crate::synthesis::synth_levels_of;
-use crate::synthesis_samples::{sample_lowest, synth_samples_of};
+use crate::synthesis_samples::{Size, sample_lowest, synth_samples_of};
 use crate::{LowerLevel, SampleArea, Wavelet};
 use planes::{Bands, NarrowBands, NarrowPlane, Plane};
 
@@ -50,10 +50,11 @@ fn round_plane<T: Sampled>(plane: &mut Plane<T>, shift: u32)
     }
 }
 
-/// The samples of a component at a lower level, from its bands: synthesis of the first levels as `synth_levels` has it, and of
-/// the first columns and rows each number rounded by the level's shift, clipped to the area's bits and offset to begin at 0.
+/// The samples of a component at a lower level, from its bands: synthesis of the first levels, and of the first columns and rows
+/// each number rounded by the level's shift, clipped to the area's bits and offset to begin at 0.
 ///
-/// The sizes are as `synth_levels` asks them, and the plane has the size of the level. Both rooms hold any values afterwards.
+/// The bands are those of a component of padded size w by h. The plane has the size of the level, and the scratch room for it.
+/// Both hold any values afterwards.
 pub fn synth_lower_samples(
     wavelet: Wavelet,
     bands: &Bands,
@@ -85,7 +86,8 @@ pub fn synth_lower_samples(
 {
     // A depth is at most 4.
     let _ = bands.depth();
-    synth_lower_samples_of(wavelet, bands, level, w, h, plane, scratch, samples, area);
+    let size = Size { w, h };
+    synth_lower_samples_of(wavelet, bands, level, size, plane, scratch, samples, area);
 }
 
 /// The same as `synth_lower_samples` in 32 bits, from bands whose magnitudes are at most 2^18.
@@ -120,7 +122,8 @@ pub fn synth_lower_samples_narrow(
 {
     // A depth is at most 4.
     let _ = bands.depth();
-    synth_lower_samples_of(wavelet, bands, level, w, h, plane, scratch, samples, area);
+    let size = Size { w, h };
+    synth_lower_samples_of(wavelet, bands, level, size, plane, scratch, samples, area);
 }
 
 // The same at any width.
@@ -128,8 +131,7 @@ fn synth_lower_samples_of<T: Sampled>(
     wavelet: Wavelet,
     bands: &Bands<T>,
     level: LowerLevel,
-    w: u32,
-    h: u32,
+    size: Size,
     plane: &mut Plane<T>,
     scratch: &mut Plane<T>,
     samples: &mut [u16],
@@ -137,17 +139,18 @@ fn synth_lower_samples_of<T: Sampled>(
 )
     requires few { level.levels ≤ bands.now.depth }
     requires shift { level.shift ≤ 4 }
-    requires room { HaveLevelRoom bands.now level.levels w h plane.old scratch.old }
-    requires columns { plane.old.w ≡ lowest bands.now.depth w * 2 ^ level.levels }
-    requires rows { height plane.old ≡ lowest bands.now.depth h * 2 ^ level.levels }
-    requires has_room { FitIn T.value T.none wavelet T.reach bands.now w h }
+    requires room { HaveLevelRoom bands.now level.levels size.w size.h plane.old scratch.old }
+    requires columns { plane.old.w ≡ lowest bands.now.depth size.w * 2 ^ level.levels }
+    requires rows { height plane.old ≡ lowest bands.now.depth size.h * 2 ^ level.levels }
+    requires has_room { FitIn T.value T.none wavelet T.reach bands.now size.w size.h }
     requires made { let depth = bands.now.depth in
-        GridWithin (lowest depth h * 2 ^ level.levels) (lowest depth w * 2 ^ level.levels) T.reach
-        (synthesis wavelet (lowest depth h) (lowest depth w)
+        GridWithin (lowest depth size.h * 2 ^ level.levels) (lowest depth size.w * 2 ^ level.levels)
+        T.reach
+        (synthesis wavelet (lowest depth size.h) (lowest depth size.w)
         (coefficients_in T.value T.none bands.now) level.levels) }
     requires bits { area.depth ≤ T.depths }
-    requires shown { IsShownArea area (lowest bands.now.depth w * 2 ^ level.levels)
-        (lowest bands.now.depth h * 2 ^ level.levels) samples.old }
+    requires shown { IsShownArea area (lowest bands.now.depth size.w * 2 ^ level.levels)
+        (lowest bands.now.depth size.h * 2 ^ level.levels) samples.old }
     ensures same_width { plane.new.w ≡ plane.old.w }
     ensures same_height { height plane.new ≡ height plane.old }
     ensures same_width_scratch { scratch.new.w ≡ scratch.old.w }
@@ -155,17 +158,17 @@ fn synth_lower_samples_of<T: Sampled>(
     ensures count { length samples.new ≡ length samples.old }
     ensures samples { let depth = bands.now.depth in
         AreSamplesOf area.w area.h area.depth samples.new
-        (λ y x. rounded level.shift (synthesis wavelet (lowest depth h) (lowest depth w)
+        (λ y x. rounded level.shift (synthesis wavelet (lowest depth size.h) (lowest depth size.w)
         (coefficients_in T.value T.none bands.now) level.levels y x)) }
 {
     // A plane's width and height are at most 8208.
     let _ = plane.h();
     let whole = level.levels == bands.depth() && level.shift == 0;
-    if whole && w > 0 && h > 0 && scratch.h() >= 3 {
-        synth_samples_of(wavelet, bands, w, h, plane, scratch, samples, area);
+    if whole && size.w > 0 && size.h > 0 && scratch.h() >= 3 {
+        synth_samples_of(wavelet, bands, size, plane, scratch, samples, area);
         return;
     }
-    synth_levels_of(wavelet, bands, level.levels, w, h, plane, scratch);
+    synth_levels_of(wavelet, bands, level.levels, size.w, size.h, plane, scratch);
     round_plane(plane, level.shift);
     sample_lowest(samples, area, plane);
 }

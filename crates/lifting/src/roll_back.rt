@@ -130,22 +130,35 @@ fn copy_from<T: Analysed>(dst: &mut [T], row: &[T], x0: usize, w: usize)
     dst[..w].copy_from_slice(&row[x0..x0 + w]);
 }
 
-// Row y of a band: the w places from x0 on of row r of the scratch.
-fn put_row<T: Analysed>(band: &mut Plane<T>, y: u32, scratch: &Plane<T>, r: u32, x0: u32, w: u32)
-    requires short { w ≤ 4104 }
-    requires left { x0 ≤ w }
+// The w places from x0 on of row r.
+#[derive(Clone, Copy)]
+struct Part {
+    r: u32,
+    x0: u32,
+    w: u32,
+}
+
+// A part of the scratch as row y of a band.
+fn put_row<T: Analysed>(band: &mut Plane<T>, y: u32, scratch: &Plane<T>, part: Part)
+    requires short { part.w ≤ 4104 }
+    requires left { part.x0 ≤ part.w }
     requires y_inside { y < height band.old }
-    requires r_inside { r < height scratch.now }
-    requires fits { w ≤ band.old.w }
-    requires fits_scratch { 2 * w ≤ scratch.now.w }
+    requires r_inside { part.r < height scratch.now }
+    requires fits { part.w ≤ band.old.w }
+    requires fits_scratch { 2 * part.w ≤ scratch.now.w }
     ensures same_width { band.new.w ≡ band.old.w }
     ensures same_height { height band.new ≡ height band.old }
     ensures row { let grid = grid_of T.value T.none in
-        (x : ℕ) → x < w → grid band.new y x ≡ grid scratch.now r (x0 + x) }
+        (x : ℕ) → x < part.w → grid band.new y x ≡ grid scratch.now part.r (part.x0 + x) }
     ensures others { (j x : ℕ) → j ≢ y
         → grid_of T.value T.none band.new j x ≡ grid_of T.value T.none band.old j x }
 {
-    copy_from(band.row_mut(y), scratch.row(r), x0 as usize, w as usize);
+    copy_from(
+        band.row_mut(y),
+        scratch.row(part.r),
+        part.x0 as usize,
+        part.w as usize,
+    );
 }
 
 fn deal_row<T: Analysed>(
@@ -154,27 +167,26 @@ fn deal_row<T: Analysed>(
     orient: u32,
     y: u32,
     scratch: &Plane<T>,
-    r: u32,
-    x0: u32,
-    w: u32,
+    part: Part,
 )
     requires exists { BandExists bands.old.depth level orient }
-    requires short { w ≤ 4104 }
-    requires left { x0 ≤ w }
+    requires short { part.w ≤ 4104 }
+    requires left { part.x0 ≤ part.w }
     requires y_inside { y < height (band_of bands.old level orient) }
-    requires r_inside { r < height scratch.now }
-    requires fits { w ≤ (band_of bands.old level orient).w }
-    requires fits_scratch { 2 * w ≤ scratch.now.w }
+    requires r_inside { part.r < height scratch.now }
+    requires fits { part.w ≤ (band_of bands.old level orient).w }
+    requires fits_scratch { 2 * part.w ≤ scratch.now.w }
     ensures same_sizes { SameSizes bands.old bands.new }
     ensures row { let grid = grid_of T.value T.none in
-        (x : ℕ) → x < w → grid (band_of bands.new level orient) y x ≡ grid scratch.now r (x0 + x) }
+        (x : ℕ) → x < part.w → grid (band_of bands.new level orient) y x
+        ≡ grid scratch.now part.r (part.x0 + x) }
     ensures rows { let grid = grid_of T.value T.none in
         (j x : ℕ) → j ≢ y
         → grid (band_of bands.new level orient) j x ≡ grid (band_of bands.old level orient) j x }
     ensures others { (l o : ℕ) → band_index l o ≢ band_index level orient
         → band_of bands.new l o ≡ band_of bands.old l o }
 {
-    put_row(bands.band_mut(level, orient), y, scratch, r, x0, w);
+    put_row(bands.band_mut(level, orient), y, scratch, part);
 }
 
 // Row y of the bands of a level: LL goes to the plane.
@@ -224,10 +236,10 @@ fn deal_two<T: Analysed>(
     ensures others { OtherLevelsStay level bands.old bands.new }
 {
     let (even, odd) = (2 * y % 4, (2 * y + 1) % 4);
-    put_row(plane, y, scratch, even, 0, w);
-    deal_row(bands, level, 1, y, scratch, even, w, w);
-    deal_row(bands, level, 2, y, scratch, odd, 0, w);
-    deal_row(bands, level, 3, y, scratch, odd, w, w);
+    put_row(plane, y, scratch, Part { r: even, x0: 0, w });
+    deal_row(bands, level, 1, y, scratch, Part { r: even, x0: w, w });
+    deal_row(bands, level, 2, y, scratch, Part { r: odd, x0: 0, w });
+    deal_row(bands, level, 3, y, scratch, Part { r: odd, x0: w, w });
 }
 
 /// A level: the plane's first 2w columns and 2h rows hold it, and then its first w and h hold LL.
@@ -240,10 +252,6 @@ pub(crate) fn roll_back<T: Analysed>(
     h: u32,
     wavelet: Wavelet,
 )
-    requires some_columns { 1 ≤ w }
-    requires some_rows { 1 ≤ h }
-    requires short { w ≤ 4104 }
-    requires low { h ≤ 4104 }
     requires some_level { 1 ≤ level }
     requires level_inside { level ≤ bands.old.depth }
     requires fits { 2 * w ≤ plane.old.w }
@@ -266,6 +274,11 @@ pub(crate) fn roll_back<T: Analysed>(
         bands.new }
     ensures others { OtherLevelsStay level bands.old bands.new }
 {
+    // A plane's sizes are at most 8208, so that places of rows are small numbers.
+    let _ = (plane.w(), plane.h());
+    if w == 0 || h == 0 {
+        return;
+    }
     put_sides(scratch, 0, plane, 0, w, wavelet);
     for y in 0..h {
         put_two(scratch, plane, y, w, h, wavelet);

@@ -4,74 +4,62 @@ ghost use Rattle.std.specs.Prelude.{◌≡◌, ◌≢◌, ℕ, ◌+◌, ◌-◌,
 ghost use Rattle.planes.specs.Raster.{height};
 ghost use Rattle.planes.specs.Valued.{grid_of};
 ghost use Rattle.planes.specs.Subbands.{HaveSizes};
-ghost use Rattle.lifting.specs.Transform.{interleaved, synthesis_level, synthesis};
+ghost use Rattle.lifting.specs.Transform.{synthesis};
 ghost use Rattle.lifting.specs.Ranges.{GridWithin, SameInside};
 ghost use Rattle.lifting.specs.Bands.{coefficients_in, lowest};
 ghost use Rattle.lifting.specs.Fits.{FitIn};
 ghost use Rattle.lifting.specs.Carried.{AreShortIn};
 ghost use Rattle.lifting.specs.Clipping.{sample_of, AreSamplesOf};
-ghost use Rattle.lifting.specs.SampleRoom.{HaveRoom, IsShownArea, AreNarrowIn, AreSmallIn, synthesis_of, synthesis_in};
+ghost use Rattle.lifting.specs.SampleRoom.{HoldsArea, HaveRoom, IsShownArea, AreNarrowIn, AreSmallIn, synthesis_of, synthesis_in};
 
 use crate::roll_samples::roll_samples;
 use crate::samples::{Sampled, sample_band};
-use crate::synthesis::synth_levels_of;
+use crate::synthesis::{level_of, synth_levels_of};
 use crate::{SampleArea, Wavelet};
 use planes::{Bands, NarrowBands, NarrowPlane, Plane};
+
+/// The padded size of a component.
+#[derive(Clone, Copy)]
+pub(crate) struct Size {
+    pub w: u32,
+    pub h: u32,
+}
 
 // The samples of the last level, from the levels below it in the plane.
 fn synth_last<T: Sampled>(
     wavelet: Wavelet,
     bands: &Bands<T>,
-    w: u32,
-    h: u32,
+    size: Size,
     plane: &Plane<T>,
     scratch: &mut Plane<T>,
     samples: &mut [u16],
     area: SampleArea,
 )
     requires some { 1 ≤ bands.now.depth }
-    requires room { HaveRoom bands.now w h plane.now scratch.old }
-    requires has_room { FitIn T.value T.none wavelet T.reach bands.now w h }
+    requires room { HaveRoom bands.now size.w size.h plane.now scratch.old }
+    requires has_room { FitIn T.value T.none wavelet T.reach bands.now size.w size.h }
     requires below { let n = bands.now.depth - 1 in
-        SameInside (lowest bands.now.depth h * 2 ^ n) (lowest bands.now.depth w * 2 ^ n)
+        SameInside (lowest bands.now.depth size.h * 2 ^ n) (lowest bands.now.depth size.w * 2 ^ n)
         (grid_of T.value T.none plane.now)
-        (synthesis wavelet (lowest bands.now.depth h) (lowest bands.now.depth w)
+        (synthesis wavelet (lowest bands.now.depth size.h) (lowest bands.now.depth size.w)
         (coefficients_in T.value T.none bands.now) n) }
     requires bits { area.depth ≤ T.depths }
-    requires shown { IsShownArea area w h samples.old }
+    requires shown { IsShownArea area size.w size.h samples.old }
     ensures same_width_scratch { scratch.new.w ≡ scratch.old.w }
     ensures same_height_scratch { height scratch.new ≡ height scratch.old }
     ensures count { length samples.new ≡ length samples.old }
     ensures samples { AreSamplesOf area.w area.h area.depth samples.new
-        (synthesis_in T.value T.none wavelet bands.now w h) }
+        (synthesis_in T.value T.none wavelet bands.now size.w size.h) }
 {
     // A plane's width and height are at most 8208, a depth at most 4.
     let (_, _, depth) = (scratch.w(), plane.h(), bands.depth());
-    let (hl, lh, hh) = (
-        bands.band(depth, 1),
-        bands.band(depth, 2),
-        bands.band(depth, 3),
-    );
-    roll_samples(
-        samples,
-        area,
-        plane,
-        scratch,
-        hl,
-        lh,
-        hh,
-        w / 2,
-        h / 2,
-        wavelet,
-    );
+    let level = level_of(wavelet, bands, depth);
+    roll_samples(samples, area, plane, scratch, &level);
 }
 
 // Row y of the samples, from that row of a band.
 fn sample_row_of<T: Sampled>(samples: &mut [u16], area: SampleArea, y: u32, band: &Plane<T>)
-    requires some_bits { 1 ≤ area.depth }
-    requires bits { area.depth ≤ T.depths }
-    requires count { length samples.old ≡ area.h * area.w }
-    requires few { area.h * area.w ≤ 2 ^ 30 }
+    requires shown { HoldsArea T.depths area samples.old }
     requires down { y < area.h }
     requires high { area.h ≤ height band.now }
     requires fits { area.w ≤ band.now.w }
@@ -88,10 +76,7 @@ fn sample_row_of<T: Sampled>(samples: &mut [u16], area: SampleArea, y: u32, band
 
 // The samples of the lowest band, where there is no level.
 pub(crate) fn sample_lowest<T: Sampled>(samples: &mut [u16], area: SampleArea, band: &Plane<T>)
-    requires some_bits { 1 ≤ area.depth }
-    requires bits { area.depth ≤ T.depths }
-    requires count { length samples.old ≡ area.h * area.w }
-    requires few { area.h * area.w ≤ 2 ^ 30 }
+    requires shown { HoldsArea T.depths area samples.old }
     requires high { area.h ≤ height band.now }
     requires fits { area.w ≤ band.now.w }
     ensures count { length samples.new ≡ length samples.old }
@@ -133,7 +118,7 @@ pub fn synth_samples(
 {
     // A depth is at most 4.
     let _ = bands.depth();
-    synth_samples_of(wavelet, bands, w, h, plane, scratch, samples, area);
+    synth_samples_of(wavelet, bands, Size { w, h }, plane, scratch, samples, area);
 }
 
 /// The samples of a component as `synth_samples` has them, from bands whose magnitudes are at most 2^18, in 32 bits.
@@ -162,7 +147,7 @@ pub fn synth_samples_narrow(
 {
     // A depth is at most 4.
     let _ = bands.depth();
-    synth_samples_of(wavelet, bands, w, h, plane, scratch, samples, area);
+    synth_samples_of(wavelet, bands, Size { w, h }, plane, scratch, samples, area);
 }
 
 /// The samples of a component as `synth_samples` has them, in 16 bits, from bands whose greatest magnitudes serve `fits_short`.
@@ -191,36 +176,43 @@ pub fn synth_samples_short(
     ensures samples { AreSamplesOf area.w area.h area.depth samples.new
         (synthesis_of wavelet bands.now w h) }
 {
-    synth_samples_of(wavelet, bands, w, h, plane, scratch, samples, area);
+    synth_samples_of(wavelet, bands, Size { w, h }, plane, scratch, samples, area);
 }
 
 /// The same at any width.
 pub(crate) fn synth_samples_of<T: Sampled>(
     wavelet: Wavelet,
     bands: &Bands<T>,
-    w: u32,
-    h: u32,
+    size: Size,
     plane: &mut Plane<T>,
     scratch: &mut Plane<T>,
     samples: &mut [u16],
     area: SampleArea,
 )
-    requires room { HaveRoom bands.now w h plane.old scratch.old }
-    requires has_room { FitIn T.value T.none wavelet T.reach bands.now w h }
+    requires room { HaveRoom bands.now size.w size.h plane.old scratch.old }
+    requires has_room { FitIn T.value T.none wavelet T.reach bands.now size.w size.h }
     requires bits { area.depth ≤ T.depths }
-    requires shown { IsShownArea area w h samples.old }
+    requires shown { IsShownArea area size.w size.h samples.old }
     ensures same_width { plane.new.w ≡ plane.old.w }
     ensures same_height { height plane.new ≡ height plane.old }
     ensures same_width_scratch { scratch.new.w ≡ scratch.old.w }
     ensures same_height_scratch { height scratch.new ≡ height scratch.old }
     ensures count { length samples.new ≡ length samples.old }
     ensures samples { AreSamplesOf area.w area.h area.depth samples.new
-        (synthesis_in T.value T.none wavelet bands.now w h) }
+        (synthesis_in T.value T.none wavelet bands.now size.w size.h) }
 {
     if bands.depth() == 0 {
         sample_lowest(samples, area, bands.band(0, 0));
     } else {
-        synth_levels_of(wavelet, bands, bands.depth() - 1, w, h, plane, scratch);
-        synth_last(wavelet, bands, w, h, plane, scratch, samples, area);
+        synth_levels_of(
+            wavelet,
+            bands,
+            bands.depth() - 1,
+            size.w,
+            size.h,
+            plane,
+            scratch,
+        );
+        synth_last(wavelet, bands, size, plane, scratch, samples, area);
     }
 }

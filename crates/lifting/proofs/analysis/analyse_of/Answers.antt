@@ -25,8 +25,8 @@ loop-j-init G c = record {
   dealt = λ n lt le. absurd (omega arith);
 }
 
-pub analyse_down-requires-clause-small : goal.analyse_down-requires-clause-small
-analyse_down-requires-clause-small G c =
+pub roll_back-requires-clause-small : goal.roll_back-requires-clause-small
+roll_back-requires-clause-small G c =
     let q = c.requires.sizes in
     let b = c.args.bands.now in
     let p = c.args.plane.now in
@@ -51,7 +51,7 @@ loop-j-preserved G c =
     let s = c.args.scratch.now in
     let j = c.loop-j.j in
     let i = c.loop-j.invariant in
-    let done = c.analyse_down.ensures in
+    let done = c.roll_back.ensures in
     let n : ℕ = b.depth - (j + 1) in
     let inside : j < b.depth = omega (arith, c.depth-depth.ensures.value, c.loop-j-test.true) in
     let level : c.depth-depth.result - j ≡ n + 1 = omega (arith, c.depth-depth.ensures.value) in
@@ -64,11 +64,11 @@ loop-j-preserved G c =
       same_height = done.same_height ∙ i.same_height;
       same_width_scratch = done.same_width_scratch ∙ i.same_width_scratch;
       same_height_scratch = done.same_height_scratch ∙ i.same_height_scratch;
-      same_sizes = same_sizes_after b c.loop-j.bands c.analyse_down.new.bands i.same_sizes done.same_sizes;
-      left = left_next c.args.wavelet h w b.depth (grid_of G.T.Number.value G.T.Number.none p) j n c.h-h.result c.w-w.result (grid_of G.T.Number.value G.T.Number.none c.loop-j.plane) (omega arith) inside eh ew i.left (grid_of G.T.Number.value G.T.Number.none c.analyse_down.new.plane) done.left;
+      same_sizes = same_sizes_after b c.loop-j.bands c.roll_back.new.bands i.same_sizes done.same_sizes;
+      left = left_next c.args.wavelet h w b.depth (grid_of G.T.Number.value G.T.Number.none p) j n c.h-h.result c.w-w.result (grid_of G.T.Number.value G.T.Number.none c.loop-j.plane) (omega arith) inside eh ew i.left (grid_of G.T.Number.value G.T.Number.none c.roll_back.new.plane) done.left;
       dealt =
           dealt_next c.args.wavelet h w b.depth (grid_of G.T.Number.value G.T.Number.none p) j n c.h-h.result c.w-w.result (grid_of G.T.Number.value G.T.Number.none c.loop-j.plane) (omega arith) inside eh ew i.left
-          G.T.Number.value G.T.Number.none c.loop-j.bands c.analyse_down.new.bands _ (omega (arith, level)) i.same_sizes.depth done.others done.dealt i.dealt;
+          G.T.Number.value G.T.Number.none c.loop-j.bands c.roll_back.new.bands _ (omega (arith, level)) i.same_sizes.depth done.others done.dealt i.dealt;
     }
 
 pub copy_corner-requires-clause-fits : goal.copy_corner-requires-clause-fits

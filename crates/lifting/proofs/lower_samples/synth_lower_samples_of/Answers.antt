@@ -8,6 +8,6 @@ round_plane-requires-clause-small G c y x ly lx =
     let b = c.args.bands.now in
     let n : ℕ = c.args.level.levels in
     let q = c.synth_levels_of.ensures in
-    let y_in : y < lowest b.depth c.args.h * 2 ^ n = omega (arith, ly, q.same_height, c.requires.rows) in
-    let x_in : x < lowest b.depth c.args.w * 2 ^ n = omega (arith, lx, q.same_width, c.requires.columns) in
+    let y_in : y < lowest b.depth c.args.size.h * 2 ^ n = omega (arith, ly, q.same_height, c.requires.rows) in
+    let x_in : x < lowest b.depth c.args.size.w * 2 ^ n = omega (arith, lx, q.same_width, c.requires.columns) in
     subst (Within G.T.Number.reach) (sym (q.levels y x y_in x_in)) (c.requires.made y x y_in x_in)

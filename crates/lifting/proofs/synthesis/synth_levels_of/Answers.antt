@@ -1,10 +1,11 @@
-use Rattle.std.proofs.Common.{◌≡◌, ◌∙◌, ap, subst, refl, ℕ, ◌*◌, ◌^◌, ◌<◌, arith}
+use Rattle.std.proofs.Common.{rules, ◌≡◌, ◌∙◌, ap, subst, refl, ℕ, ◌*◌, ◌^◌, ◌<◌, arith}
 use Rattle.planes.specs.Valued.{grid_of}
 use Rattle.planes.specs.Raster.{Raster}
 use Rattle.lifting.specs.Bands.{lowest, coefficients_in}
 use Rattle.lifting.specs.Ranges.{SameInside}
 use Rattle.lifting.specs.Transform.{synthesis}
-use Rattle.lifting.proofs.Levels.{next_in_room, lowest_in_levels, lowest_columns, lowest_rows, columns_of, rows_of, level_up, next_fits}
+use Rattle.lifting.proofs.Levels.{next_in_room, lowest_in_levels, lowest_columns, lowest_rows, level_columns, level_rows, level_bands, level_up, next_fits}
+use Rattle.lifting.proofs.RollingUp.{low_of_grid}
 use Rattle.lifting.proofs.synthesis.synth_levels_of.Goals as goal
 
 pub copy_corner-requires-clause-fits : goal.copy_corner-requires-clause-fits
@@ -38,23 +39,29 @@ loop-n-init G c =
           ∙ ap (λ (r : Raster G.row.T.Denot). grid_of G.T.Number.value G.T.Number.none r y x) c.band-lowest.ensures;
     }
 
-pub synth_up-requires-clause-fits : goal.synth_up-requires-clause-fits
-synth_up-requires-clause-fits G c =
-    let i = c.loop-n.invariant in
-    next_in_room c.args.bands.now c.args.levels c.args.w c.args.h c.args.plane.now c.args.scratch.now c.requires.room c.requires.few c.loop-n.n (omega (arith, c.loop-n-test.true))
-    c.band-hl.result.now c.band-hl.ensures c.loop-n.plane c.loop-n.scratch i.same_width i.same_height i.same_width_scratch i.same_height_scratch
-
-pub synth_up-requires-clause-has_room : goal.synth_up-requires-clause-has_room
-synth_up-requires-clause-has_room G c =
+pub roll_up-requires : goal.roll_up-requires
+roll_up-requires G c κs within =
     let q = c.requires.room in
     let b = c.args.bands.now in
     let w : ℕ = c.args.w in
     let h : ℕ = c.args.h in
     let n = c.loop-n.n in
-    let in_all : n < b.depth = omega (arith, c.requires.few, c.loop-n-test.true) in
-    next_fits G.T.Number.value G.T.Number.none c.args.wavelet (lowest b.depth h) (lowest b.depth w) b n c.loop-n.plane c.band-hl.result.now c.band-lh.result.now c.band-hh.result.now c.band-hl.ensures c.band-lh.ensures c.band-hh.ensures
-    (rows_of b w h q.whole_columns q.whole_rows q.bands n 1 in_all (omega arith) (omega arith) c.band-hl.result.now c.band-hl.ensures) (columns_of b w h q.whole_columns q.whole_rows q.bands n 1 in_all (omega arith) (omega arith) c.band-hl.result.now c.band-hl.ensures)
-    c.loop-n.invariant.levels G.T.Number.reach b.depth c.requires.has_room in_all
+    let lt : n < c.args.levels = omega (arith, c.loop-n-test.true) in
+    let in_all : n < b.depth = omega (arith, c.requires.few) in
+    let i = c.loop-n.invariant in
+    let l = c.level_of.result in
+    let room = next_in_room b c.args.levels w h c.args.plane.now c.args.scratch.now q c.requires.few n lt c.args.wavelet l c.level_of.ensures c.loop-n.plane c.loop-n.scratch (i.same_width, i.same_height) (i.same_width_scratch, i.same_height_scratch) in (
+      search rules,
+      (
+        level_bands b w h q.whole_columns q.whole_rows q.bands c.args.wavelet n in_all l c.level_of.ensures,
+        (
+          next_fits G.T.Number.value G.T.Number.none c.args.wavelet (lowest b.depth h) (lowest b.depth w) b n c.loop-n.plane l c.level_of.ensures
+              (level_rows b w h q.whole_columns q.whole_rows q.bands c.args.wavelet n in_all l c.level_of.ensures) (level_columns b w h q.whole_columns q.whole_rows q.bands c.args.wavelet n in_all l c.level_of.ensures)
+              i.levels G.T.Number.reach b.depth c.requires.has_room in_all,
+          (low_of_grid G.T.Number.value G.T.Number.none c.loop-n.plane l, (room.0, (room.1, (room.2, room.3)))),
+        ),
+      ),
+    )
 
 pub loop-n-preserved : goal.loop-n-preserved
 loop-n-preserved G c =
@@ -63,17 +70,19 @@ loop-n-preserved G c =
     let w : ℕ = c.args.w in
     let h : ℕ = c.args.h in
     let n = c.loop-n.n in
-    let lt : n < c.args.levels = omega (arith, c.loop-n-test.true) in
-    let in_all : n < b.depth = omega (arith, c.requires.few) in
+    let in_all : n < b.depth = omega (arith, c.requires.few, c.loop-n-test.true) in
+    let l = c.level_of.result in
+    let i = c.loop-n.invariant in
+    let up = c.roll_up.ensures in
     record {
-      same_width = c.synth_up.ensures.same_width ∙ c.loop-n.invariant.same_width;
-      same_height = c.synth_up.ensures.same_height ∙ c.loop-n.invariant.same_height;
-      same_width_scratch = c.synth_up.ensures.same_width_scratch ∙ c.loop-n.invariant.same_width_scratch;
-      same_height_scratch = c.synth_up.ensures.same_height_scratch ∙ c.loop-n.invariant.same_height_scratch;
+      same_width = up.same_size.0 ∙ i.same_width;
+      same_height = up.same_size.1 ∙ i.same_height;
+      same_width_scratch = up.same_size_scratch.0 ∙ i.same_width_scratch;
+      same_height_scratch = up.same_size_scratch.1 ∙ i.same_height_scratch;
       levels =
-          level_up G.T.Number.value G.T.Number.none c.args.wavelet (lowest b.depth h) (lowest b.depth w) b n c.loop-n.plane c.band-hl.result.now c.band-lh.result.now c.band-hh.result.now c.band-hl.ensures c.band-lh.ensures c.band-hh.ensures
-          (rows_of b w h q.whole_columns q.whole_rows q.bands n 1 in_all (omega arith) (omega arith) c.band-hl.result.now c.band-hl.ensures) (columns_of b w h q.whole_columns q.whole_rows q.bands n 1 in_all (omega arith) (omega arith) c.band-hl.result.now c.band-hl.ensures)
-          c.loop-n.invariant.levels c.synth_up.new.plane c.synth_up.ensures.level;
+          level_up G.T.Number.value G.T.Number.none c.args.wavelet (lowest b.depth h) (lowest b.depth w) b n c.loop-n.plane l c.level_of.ensures
+          (level_rows b w h q.whole_columns q.whole_rows q.bands c.args.wavelet n in_all l c.level_of.ensures) (level_columns b w h q.whole_columns q.whole_rows q.bands c.args.wavelet n in_all l c.level_of.ensures)
+          i.levels (grid_of G.T.Number.value G.T.Number.none c.roll_up.new.plane) up.level;
     }
 
 pub returns-clause-levels : goal.returns-clause-levels

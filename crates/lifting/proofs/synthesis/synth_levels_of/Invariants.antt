@@ -4,7 +4,11 @@ use Rattle.planes.specs.Raster.{height}
 use Rattle.lifting.specs.Bands.{lowest, coefficients_in}
 use Rattle.lifting.specs.Ranges.{SameInside}
 use Rattle.lifting.specs.Transform.{synthesis}
+use Rattle.lifting.specs.Turns.{level_grid}
 use Rattle.lifting.proofs.synthesis.synth_levels_of.Given as goal
+
+abbrev pub ghost-roll_up : goal.ghost-roll_up
+ghost-roll_up g a = level_grid g.T.Number.value g.T.Number.none a.plane.now a.level.now
 
 abbrev pub invariant-loop-n : goal.invariant-loop-n
 invariant-loop-n G l =

@@ -12,14 +12,14 @@ sample_lowest-requires-clause-high G c =
     let q = c.requires.room in
     let b = c.args.bands.now in
     let none : b.depth ≡ 0 = omega (arith, c.depth.ensures.value, c.if-depth-eq0.true) in
-    omega (arith, c.requires.shown.down, whole_at_zero c.args.h b.depth none, lowest_rows b c.args.w c.args.h q.whole_columns q.whole_rows q.bands c.band.result.now c.band.ensures)
+    omega (arith, c.requires.shown.down, whole_at_zero c.args.size.h b.depth none, lowest_rows b c.args.size.w c.args.size.h q.whole_columns q.whole_rows q.bands c.band.result.now c.band.ensures)
 
 pub sample_lowest-requires-clause-fits : goal.sample_lowest-requires-clause-fits
 sample_lowest-requires-clause-fits G c =
     let q = c.requires.room in
     let b = c.args.bands.now in
     let none : b.depth ≡ 0 = omega (arith, c.depth.ensures.value, c.if-depth-eq0.true) in
-    omega (arith, c.requires.shown.across, whole_at_zero c.args.w b.depth none, lowest_columns b c.args.w c.args.h q.whole_columns q.whole_rows q.bands c.band.result.now c.band.ensures)
+    omega (arith, c.requires.shown.across, whole_at_zero c.args.size.w b.depth none, lowest_columns b c.args.size.w c.args.size.h q.whole_columns q.whole_rows q.bands c.band.result.now c.band.ensures)
 
 pub returns-then-depth-eq0-clause-samples : goal.returns-then-depth-eq0-clause-samples
 unfolding synthesis
@@ -29,8 +29,8 @@ returns-then-depth-eq0-clause-samples G c y x ly lx =
     let none : 0 ≡ b.depth = omega (arith, c.depth.ensures.value, c.if-depth-eq0.true) in
     c.sample_lowest.ensures.samples y x ly lx
     ∙ ap (λ (p : Raster G.row.T.Denot). out (grid_of G.T.Number.value G.T.Number.none p y x)) c.band.ensures
-    ∙ ap (λ (d : ℕ). out (synthesis c.args.wavelet (lowest b.depth c.args.h) (lowest b.depth c.args.w) (coefficients_in G.T.Number.value G.T.Number.none b) d y x)) none
+    ∙ ap (λ (d : ℕ). out (synthesis c.args.wavelet (lowest b.depth c.args.size.h) (lowest b.depth c.args.size.w) (coefficients_in G.T.Number.value G.T.Number.none b) d y x)) none
 
 pub synth_levels_of-requires-clause-room : goal.synth_levels_of-requires-clause-room
 synth_levels_of-requires-clause-room G c =
-    lower_levels_fit c.args.bands.now c.args.plane.now c.args.scratch.now c.args.w c.args.h c.requires.room (omega (arith, c.depth.ensures.value, c.if-depth-eq0.false)) _ (omega (arith, c.depth-else-depth-eq0.ensures.value))
+    lower_levels_fit c.args.bands.now c.args.plane.now c.args.scratch.now c.args.size.w c.args.size.h c.requires.room (omega (arith, c.depth.ensures.value, c.if-depth-eq0.false)) _ (omega (arith, c.depth-else-depth-eq0.ensures.value))

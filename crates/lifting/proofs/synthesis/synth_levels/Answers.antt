@@ -1,6 +1,0 @@
-use Rattle.std.proofs.Common.{arith}
-use Rattle.lifting.proofs.Fitting.{wide_fits}
-use Rattle.lifting.proofs.synthesis.synth_levels.Goals as goal
-
-pub synth_levels_of-requires-clause-has_room : goal.synth_levels_of-requires-clause-has_room
-synth_levels_of-requires-clause-has_room c = wide_fits c.args.wavelet _ _ c.args.bands.now.depth _ (omega (arith, c.depth.ensures)) c.requires.small
