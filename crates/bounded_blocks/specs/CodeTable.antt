@@ -24,6 +24,7 @@ Begin codes bits =
 abbrev pub codes_of : List ℤ → Head → Codes
 codes_of values head = record { values = values; count = head.count; length = head.length }
 
+-- the entry of no code
 abbrev pub no_head : Head
 no_head = record { count = 0; length = 0 }
 

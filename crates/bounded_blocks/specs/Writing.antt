@@ -26,6 +26,7 @@ pub record NeedSeen : Type 0 where
   pub total : ℕ
   pub bits : ℕ
 
+-- the length of their codes, and how many bits a block has to hold
 abbrev pub count_of : List ℤ → NeedSeen
 count_of vs = record { total = length (codes_of vs); bits = need vs }
 

@@ -20,7 +20,8 @@ fn held_at<T: Held>(bytes: &[u8], place: u64, end: u64) -> Option<(T, u64)>
     ensures some { let found = value_at (block_of bytes.now place end) in
         IfSome result (λ read. (T.value read.0 ≡ found.0) × (unsigned_abs found.0 ≤ T.most)
         × (found.1 ≡ block_of bytes.now read.1 end) × (read.1 ≤ end)) }
-    ensures none { IfNone result (T.most < unsigned_abs (value_at (block_of bytes.now place end)).0) }
+    ensures none { IfNone result
+        (T.most < unsigned_abs (value_at (block_of bytes.now place end)).0) }
 {
     let (value, next) = any_sint_at(bytes, place, end);
     match value {
@@ -49,7 +50,8 @@ fn put_eight<T: Held>(out: &mut [T], at: usize, values: &[i8; 8])
     requires room { at + 8 ≤ length out.old }
     requires low { AreWithin 127 values.now }
     ensures length { length out.new ≡ length out.old }
-    ensures values { take (at + 8) (map T.value out.new) ≡ take at (map T.value out.old) ++ values.now }
+    ensures values { take (at + 8) (map T.value out.new) ≡ take at (map T.value out.old)
+        ++ values.now }
 {
     let eight = [
         T::of_byte(values[0]),
@@ -155,7 +157,8 @@ pub(crate) fn fill_from<T: Held>(
     requires order { start ≤ end }
     requires inside { end ≤ 8 * length bytes.now }
     requires spare { count + SPARE ≤ length out.old }
-    ensures within { (result ≡ true) ↔ AreWithin T.most (values count (block_of bytes.now start end)) }
+    ensures within { (result ≡ true)
+        ↔ AreWithin T.most (values count (block_of bytes.now start end)) }
     ensures read { result ≡ true →
         take count (map T.value out.new) ≡ values count (block_of bytes.now start end) }
 {

@@ -62,7 +62,7 @@ fn are_short(values: &[i32]) -> bool
 
 // Whether no magnitude in a plane passes `MAX_SHORT`.
 fn is_short_plane(plane: &NarrowPlane) -> bool
-    ensures { result ≡ true → IsPlaneWithin MAX_SHORT plane.now }
+    ensures { (result ≡ true) ↔ IsPlaneWithin MAX_SHORT plane.now }
 {
     for y in 0..plane.h() {
         if !are_short(plane.row(y)) {
@@ -145,6 +145,7 @@ impl ShortBands {
         requires sound { IsShortSound self.now }
         requires sizes { AgreeInSizes (short_stack self.now) bands.old }
         requires room { self.now.slices.across * self.now.slices.sw ≤ length row.old }
+        ensures answer { (result ≡ true) ↔ IsPlaneWithin MAX_SHORT self.now.lowest }
         ensures same { result ≡ true → ShowTheSame (short_stack self.now) bands.new }
         ensures left { result ≡ false → bands.new ≡ bands.old }
     {

@@ -17,6 +17,7 @@ pub record Part : Type 0 where
   pub matrix : Weights
   pub qindex : ℕ
 
+-- the part of all that it is made of
 abbrev pub part_of : Slicing → Size → ℕ → ℕ → Weights → ℕ → Part
 part_of s size sx sy matrix qindex = record { slicing = s; size = size; sx = sx; sy = sy; matrix = matrix; qindex = qindex }
 
@@ -24,6 +25,7 @@ part_of s size sx sy matrix qindex = record { slicing = s; size = size; sx = sx;
 abbrev pub rect_of : Part → ℕ → Rect
 rect_of p k = level_rect p.slicing p.size p.sx p.sy (level_of k)
 
+-- and their quantiser there
 abbrev pub index_of : Part → ℕ → ℕ
 index_of p k = band_quantiser p.matrix p.qindex (level_of k) (orient_of k)
 

@@ -21,6 +21,7 @@ behind block (q ∷ quantisers) = behind (value_at block).1 quantisers
 abbrev pub next_values : List Bool → ℕ → ℕ → List ℤ
 next_values block n q = dealt block (replicate n q)
 
+-- what is left of the block behind them
 abbrev pub behind_next : List Bool → ℕ → ℕ → List Bool
 behind_next block n q = behind block (replicate n q)
 

@@ -26,6 +26,7 @@ pub record IsReady (s : Slicing) (size : Size) (sx sy : ℕ) (b : BandStack) : T
   pub sizes : HaveSizes b (padded_length s.depth size.w) (padded_length s.depth size.h)
   pub outside : AllLookedAtOutside (λ y x. Within (reach y x) (at (band_of b 0 0) y x)) (level_rect s size sx sy 0)
 
+-- the bands of all three components are
 pub record AreReady (s : Slicing) (shape : PictureShape) (sx sy : ℕ) (bands : Trio) : Type 0 where
   pub luma : IsReady s shape.luma sx sy bands.luma
   pub c1 : IsReady s shape.colour sx sy bands.c1
@@ -49,6 +50,7 @@ pub record KeepsOthers (s : Slicing) (size : Size) (sx sy : ℕ) (old new : Band
   pub bands : (level orient : ℕ) → BandExists s.depth level orient
       → KeepsOutside (level_rect s size sx sy level) (band_of old level orient) (band_of new level orient)
 
+-- all other places of all three components are
 pub record AllKeepOthers (s : Slicing) (shape : PictureShape) (sx sy : ℕ) (old new : Trio) : Type 0 where
   pub luma : KeepsOthers s shape.luma sx sy old.luma new.luma
   pub c1 : KeepsOthers s shape.colour sx sy old.c1 new.c1

@@ -14,6 +14,7 @@ pub record IsLowRect (r : Rect) : Type 0 where
   pub narrow : r.x1 ≤ 8192
   pub low : r.y1 ≤ 8192
 
+-- a rectangle with no place
 abbrev pub no_rect : Rect
 no_rect = record { x0 = 0; x1 = 0; y0 = 0; y1 = 0 }
 

@@ -3,6 +3,7 @@ pub mod Dealing
 pub mod Levels
 pub mod Restored
 pub mod Components
+pub mod Jobs
 pub mod RestoredBands
 pub mod Decoded
 pub mod Read

@@ -23,6 +23,7 @@ use Rattle.slice_decoder.specs.Components.{Part, quantisers_before, BandsHold, B
 abbrev pub trio_of : NarrowTrio → Trio
 trio_of b = record { luma = b.luma; c1 = b.c1; c2 = b.c2 }
 
+-- no magnitude in the bands of any component passes 2 ^ 18
 pub record AreNarrowBands (b : NarrowTrio) : Type 0 where
   pub luma : AreBandsWithin (pos (2 ^ 18)) b.luma
   pub c1 : AreBandsWithin (pos (2 ^ 18)) b.c1
@@ -51,6 +52,7 @@ pub record StopsAtPlace (each from : ℕ) (s : Slicing) (size : Size) (sx sy : �
   pub passes : IsNarrow (slice_index_or values (each * place_number s size sx sy 0 0 y x + from) (pos 0)
       +ℤ prediction (at (band_of b 0 0)) y x) → ⊥
 
+-- restoring stops at some place
 abbrev pub StopsSlice : (each from : ℕ) → Slicing → Size → ℕ → ℕ → List ℤ → BandStack → Type 0
 StopsSlice each from s size sx sy values b = (y : ℕ) × (x : ℕ) × StopsAtPlace each from s size sx sy values b y x
 
@@ -73,14 +75,13 @@ BothAnswer most room luma colour luma_block colour_block old new true =
 BothAnswer most room luma colour luma_block colour_block old new false =
     NeedMore most room (block_values 1 luma luma_block) ⊎ NeedMore most room (block_values 2 colour colour_block)
 
--- what reading both blocks leaves, before the lowest subbands are restored
-pub record IsReadNarrow (room : ℕ) (luma colour : Part) (luma_block colour_block : List Bool) (old new : NarrowTrio)
+-- What reading both blocks leaves, before the lowest subbands are restored, where no magnitude may pass `most`.
+pub record AreRead (most : ℤ) (room : ℕ) (luma colour : Part) (luma_block colour_block : List Bool) (old new : Trio)
     (fit : Bool) : Type 0 where
-  pub answer : BothAnswer (pos (2 ^ 18)) room luma colour luma_block colour_block (trio_of old) (trio_of new) fit
+  pub answer : BothAnswer most room luma colour luma_block colour_block old new fit
   pub luma_keeps : BandsKeep luma old.luma new.luma
   pub c1_keeps : BandsKeep colour old.c1 new.c1
   pub c2_keeps : BandsKeep colour old.c2 new.c2
-  pub narrow : AreNarrowBands new
 
 -- all that stays where the lowest of a component's subbands is restored in a rectangle
 pub record LowestKeeps (rect : Rect) (old new : BandStack) : Type 0 where
@@ -89,17 +90,19 @@ pub record LowestKeeps (rect : Rect) (old new : BandStack) : Type 0 where
   pub others : (k : ℕ) → 1 ≤ k → numbered new k ≡ numbered old k
 
 -- restoring the rectangles of all three components, or where it stops
-pub record AreRestored (luma_rect colour_rect : Rect) (old new : NarrowTrio) : Type 0 where
+pub record AreRestored (luma_rect colour_rect : Rect) (old new : Trio) : Type 0 where
   pub luma : RestoresRect luma_rect (numbered old.luma 0) (numbered new.luma 0)
   pub c1 : RestoresRect colour_rect (numbered old.c1 0) (numbered new.c1 0)
   pub c2 : RestoresRect colour_rect (numbered old.c2 0) (numbered new.c2 0)
 
-abbrev pub OneStops : Rect → Rect → NarrowTrio → NarrowTrio → Type 0
+-- restoring one of the three stops at a place
+abbrev pub OneStops : Rect → Rect → Trio → Trio → Type 0
 OneStops luma colour old new =
     IsStopped luma (numbered old.luma 0) (numbered new.luma 0) ⊎ IsStopped colour (numbered old.c1 0) (numbered new.c1 0)
     ⊎ IsStopped colour (numbered old.c2 0) (numbered new.c2 0)
 
-pub record AllKeepLowest (luma_rect colour_rect : Rect) (old new : NarrowTrio) : Type 0 where
+-- all that stays in the three components
+pub record AllKeepLowest (luma_rect colour_rect : Rect) (old new : Trio) : Type 0 where
   pub luma : LowestKeeps luma_rect old.luma new.luma
   pub c1 : LowestKeeps colour_rect old.c1 new.c1
   pub c2 : LowestKeeps colour_rect old.c2 new.c2

@@ -5,6 +5,7 @@ use Rattle.slice_decoder.specs.Slice.{are_small}
 use Rattle.slice_decoder.specs.Dealing.{dealt}
 use Rattle.slice_decoder.specs.Components.{Part, quantisers_before, BandsHold, BandsKeep}
 
+-- The answer says whether all values are small, and the bands hold them then. All other places stay.
 pub record IsRead (luma colour : Part) (luma_block colour_block : List Bool) (old new : Trio) (good : Bool) : Type 0 where
   pub small : good ≡ (are_small (dealt luma_block (quantisers_before 1 luma (3 * luma.slicing.depth + 1)))
       && are_small (dealt colour_block (quantisers_before 2 colour (3 * colour.slicing.depth + 1))))

@@ -6,6 +6,7 @@ use Rattle.quant_factors.specs.Factors.{factor_of, inverse_of}
 abbrev pub restored_at : List ℤ → List ℕ → ℕ → ℤ
 restored_at values quantisers k = inverse_of (slice_index_or values k (pos 0)) (slice_index_or quantisers k 0)
 
+-- no magnitude from one place to another passes a bound
 abbrev pub AllWithin : ℕ → (ℕ → ℤ) → ℕ → ℕ → Type 0
 AllWithin most f from to = (k : ℕ) → from ≤ k → k < to → unsigned_abs (f k) ≤ most
 

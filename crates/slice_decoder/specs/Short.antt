@@ -1,7 +1,6 @@
 -- A slice in bands of 16 bits, whose slices lie as the layout cuts a component.
-use Rattle.std.specs.Prelude.{◌≡◌, ℕ, ◌*◌, Bool, List, ℤ}
+use Rattle.std.specs.Prelude.{◌≡◌, ◌*◌}
 use Rattle.planes.specs.declared.Trio.{Trio}
-use Rattle.planes.specs.declared.NarrowTrio.{NarrowTrio}
 use Rattle.slice_bands.specs.declared.short_bands.ShortBands.{ShortBands}
 use Rattle.slice_bands.specs.declared.short_bands.ShortTrio.{ShortTrio}
 use Rattle.slice_bands.specs.ShortBands.{short_stack, IsShortSound}
@@ -9,8 +8,6 @@ use Rattle.slice_geometry.specs.declared.Size.{Size}
 use Rattle.slice_geometry.specs.declared.PictureShape.{PictureShape}
 use Rattle.slice_geometry.specs.Slicing.{Slicing}
 use Rattle.slice_geometry.specs.Geometry.{padded_length}
-use Rattle.slice_decoder.specs.Components.{Part, BandsKeep}
-use Rattle.slice_decoder.specs.Narrow.{BothAnswer}
 
 -- the same bands, as all contracts see them
 abbrev pub shown_trio : ShortTrio → Trio
@@ -25,19 +22,8 @@ pub record IsCut (s : Slicing) (size : Size) (b : ShortBands) : Type 0 where
   pub height : b.slices.down * b.slices.sh ≡ padded_length s.depth size.h
   pub sound : IsShortSound b
 
+-- the slices of all three components lie so
 pub record AreCut (s : Slicing) (shape : PictureShape) (b : ShortTrio) : Type 0 where
   pub luma : IsCut s shape.luma b.luma
   pub c1 : IsCut s shape.colour b.c1
   pub c2 : IsCut s shape.colour b.c2
-
--- what reading both blocks leaves, before the lowest subbands are restored, where no magnitude may pass `most`
-pub record AreRead (most : ℤ) (room : ℕ) (luma colour : Part) (luma_block colour_block : List Bool) (old new : Trio)
-    (fit : Bool) : Type 0 where
-  pub answer : BothAnswer most room luma colour luma_block colour_block old new fit
-  pub luma_keeps : BandsKeep luma old.luma new.luma
-  pub c1_keeps : BandsKeep colour old.c1 new.c1
-  pub c2_keeps : BandsKeep colour old.c2 new.c2
-
--- and as those of 32 bits are seen
-abbrev pub narrow_of : Trio → NarrowTrio
-narrow_of b = record { luma = b.luma; c1 = b.c1; c2 = b.c2 }

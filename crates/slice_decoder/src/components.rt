@@ -1,30 +1,22 @@
 // The values of a block, dealt out to the subbands of one component, or of the two colour components in turn.
 
 ghost use Rattle.std.specs.Prelude.{◌≡◌, ◌+◌, ◌*◌, ◌<◌, ◌≤◌, true};
-ghost use Rattle.planes.specs.Subbands.{orient_number, HaveSizes};
+ghost use Rattle.planes.specs.Subbands.{orient_number};
 ghost use Rattle.slice_geometry.specs.Shape.{IsSize};
-ghost use Rattle.slice_geometry.specs.Geometry.{padded_length};
 ghost use Rattle.slice_decoder.specs.Slice.{are_small};
 ghost use Rattle.slice_decoder.specs.Dealing.{dealt};
-ghost use Rattle.slice_decoder.specs.Components.{part_of, quantisers_before, BandsHold, BandsKeep};
+ghost use Rattle.slice_decoder.specs.Components.{BandsKeep};
+ghost use Rattle.slice_decoder.specs.Jobs.{part_in, IsPartJob, AreSizedBands, AllHold};
+ghost use Rattle.slice_decoder.specs.RestoredBands.{quantisers};
 ghost use Rattle.slice_geometry.specs.SliceOrder.{level_of, orient_of};
 
 use crate::bands::{fill_rect, fill_rects};
-use crate::levels::{count_places, level_rects};
-use crate::placing::{put_colour, put_luma};
+use crate::jobs::PartJob;
+use crate::levels::count_places;
+use crate::placing::put_values;
 use crate::restoring::read_values;
 use bounded_blocks::Block;
 use planes::{Bands, Orient};
-use quant_factors::Matrix;
-use slice_geometry::{Layout, Size};
-
-/// Which slice is read: its column and row, and its quantisation index.
-#[derive(Clone, Copy)]
-pub struct Place {
-    pub sx: u32,
-    pub sy: u32,
-    pub qindex: u32,
-}
 
 // The level of band number k, and the number of its orientation.
 pub fn band_numbered(k: u32) -> (u32, u32)
@@ -50,34 +42,22 @@ pub fn orient_numbered(number: u32) -> Orient
 }
 
 // Fills a component's subbands with the next values, row by row. It answers false where a magnitude passes 2^36.
-fn luma_by_rows(
-    block: &mut Block<'_>,
-    bands: &mut Bands,
-    layout: &Layout,
-    size: Size,
-    matrix: &Matrix,
-    place: Place,
-) -> bool
-    requires size { IsSize size.w size.h }
-    requires across { place.sx < layout.now.slices_x }
-    requires down { place.sy < layout.now.slices_y }
-    requires qindex { place.qindex ≤ 127 }
-    requires depth { bands.old.depth ≡ layout.now.depth }
-    requires entries { matrix.now.depth ≡ layout.now.depth }
-    requires sizes { HaveSizes bands.old (padded_length layout.now.depth size.w)
-        (padded_length layout.now.depth size.h) }
-    ensures small { let part = part_of layout.now size place.sx place.sy matrix.now place.qindex in
-        result ≡ are_small (dealt block.old (quantisers_before 1 part (3 * layout.now.depth + 1))) }
-    ensures holds { let part = part_of layout.now size place.sx place.sy matrix.now place.qindex in
-        result ≡ true
-        → BandsHold 1 0 part (3 * layout.now.depth + 1) block.old bands.old bands.new }
-    ensures keeps { let part = part_of layout.now size place.sx place.sy matrix.now place.qindex in
-        BandsKeep part bands.old bands.new }
+fn luma_by_rows(block: &mut Block<'_>, bands: &mut Bands, job: PartJob<'_>) -> bool
+    requires size { IsSize job.size.w job.size.h }
+    requires job { IsPartJob job }
+    requires sizes { AreSizedBands (part_in job) bands.old }
+    ensures small { result ≡ are_small (dealt block.old (quantisers 1 (part_in job.entry))) }
+    ensures holds { result ≡ true → AllHold 1 0 (part_in job.entry) block.old bands.old bands.new }
+    ensures keeps { BandsKeep (part_in job.entry) bands.old bands.new }
 {
-    for k in 0..3 * layout.depth() + 1 {
+    for k in 0..3 * job.layout.depth() + 1 {
         let (level, orient) = band_numbered(k);
-        let rect = layout.band_rect(size, level, place.sx, place.sy);
-        let index = matrix.quantiser(place.qindex, level, orient_numbered(orient));
+        let rect = job
+            .layout
+            .band_rect(job.size, level, job.place.sx, job.place.sy);
+        let index = job
+            .matrix
+            .quantiser(job.place.qindex, level, orient_numbered(orient));
         if !fill_rect(block, bands.band_mut(level, orient), rect, index) {
             return false;
         }
@@ -91,42 +71,28 @@ fn colour_by_rows(
     block: &mut Block<'_>,
     first: &mut Bands,
     second: &mut Bands,
-    layout: &Layout,
-    size: Size,
-    matrix: &Matrix,
-    place: Place,
+    job: PartJob<'_>,
 ) -> bool
-    requires size { IsSize size.w size.h }
-    requires across { place.sx < layout.now.slices_x }
-    requires down { place.sy < layout.now.slices_y }
-    requires qindex { place.qindex ≤ 127 }
-    requires first_depth { first.old.depth ≡ layout.now.depth }
-    requires second_depth { second.old.depth ≡ layout.now.depth }
-    requires entries { matrix.now.depth ≡ layout.now.depth }
-    requires first_sizes { HaveSizes first.old (padded_length layout.now.depth size.w)
-        (padded_length layout.now.depth size.h) }
-    requires second_sizes { HaveSizes second.old (padded_length layout.now.depth size.w)
-        (padded_length layout.now.depth size.h) }
-    ensures small { let part = part_of layout.now size place.sx place.sy matrix.now place.qindex in
-        result ≡ are_small (dealt block.old (quantisers_before 2 part (3 * layout.now.depth + 1))) }
-    ensures first { let part = part_of layout.now size place.sx place.sy matrix.now place.qindex in
-        result ≡ true
-        → BandsHold 2 0 part (3 * layout.now.depth + 1) block.old first.old first.new }
-    ensures second { let part = part_of layout.now size place.sx place.sy matrix.now place.qindex in
-        result ≡ true
-        → BandsHold 2 1 part (3 * layout.now.depth + 1) block.old second.old second.new }
-    ensures first_keeps { let part = part_of layout.now size place.sx place.sy matrix.now
-        place.qindex in
-        BandsKeep part first.old first.new }
-    ensures second_keeps { let part = part_of layout.now size place.sx place.sy matrix.now
-        place.qindex in
-        BandsKeep part second.old second.new }
+    requires size { IsSize job.size.w job.size.h }
+    requires job { IsPartJob job }
+    requires first_sizes { AreSizedBands (part_in job) first.old }
+    requires second_sizes { AreSizedBands (part_in job) second.old }
+    ensures small { result ≡ are_small (dealt block.old (quantisers 2 (part_in job.entry))) }
+    ensures first { result ≡ true → AllHold 2 0 (part_in job.entry) block.old first.old first.new }
+    ensures second { result ≡ true
+        → AllHold 2 1 (part_in job.entry) block.old second.old second.new }
+    ensures first_keeps { BandsKeep (part_in job.entry) first.old first.new }
+    ensures second_keeps { BandsKeep (part_in job.entry) second.old second.new }
 {
     let mut buffer = [0; 128];
-    for k in 0..3 * layout.depth() + 1 {
+    for k in 0..3 * job.layout.depth() + 1 {
         let (level, orient) = band_numbered(k);
-        let rect = layout.band_rect(size, level, place.sx, place.sy);
-        let index = matrix.quantiser(place.qindex, level, orient_numbered(orient));
+        let rect = job
+            .layout
+            .band_rect(job.size, level, job.place.sx, job.place.sy);
+        let index = job
+            .matrix
+            .quantiser(job.place.qindex, level, orient_numbered(orient));
         let one = first.band_mut(level, orient);
         let two = second.band_mut(level, orient);
         if !fill_rects(block, one, two, rect, index, &mut buffer) {
@@ -141,38 +107,25 @@ fn colour_by_rows(
 pub fn read_luma(
     block: &mut Block<'_>,
     bands: &mut Bands,
-    layout: &Layout,
-    size: Size,
-    matrix: &Matrix,
-    place: Place,
+    job: PartJob<'_>,
     buffer: &mut [i64],
 ) -> bool
-    requires size { IsSize size.w size.h }
-    requires across { place.sx < layout.now.slices_x }
-    requires down { place.sy < layout.now.slices_y }
-    requires qindex { place.qindex ≤ 127 }
-    requires depth { bands.old.depth ≡ layout.now.depth }
-    requires entries { matrix.now.depth ≡ layout.now.depth }
-    requires sizes { HaveSizes bands.old (padded_length layout.now.depth size.w)
-        (padded_length layout.now.depth size.h) }
-    ensures small { let part = part_of layout.now size place.sx place.sy matrix.now place.qindex in
-        result ≡ are_small (dealt block.old (quantisers_before 1 part (3 * layout.now.depth + 1))) }
-    ensures holds { let part = part_of layout.now size place.sx place.sy matrix.now place.qindex in
-        result ≡ true
-        → BandsHold 1 0 part (3 * layout.now.depth + 1) block.old bands.old bands.new }
-    ensures keeps { let part = part_of layout.now size place.sx place.sy matrix.now place.qindex in
-        BandsKeep part bands.old bands.new }
+    requires size { IsSize job.size.w job.size.h }
+    requires job { IsPartJob job }
+    requires sizes { AreSizedBands (part_in job) bands.old }
+    ensures small { result ≡ are_small (dealt block.old (quantisers 1 (part_in job.entry))) }
+    ensures holds { result ≡ true → AllHold 1 0 (part_in job.entry) block.old bands.old bands.new }
+    ensures keeps { BandsKeep (part_in job.entry) bands.old bands.new }
 {
-    let rects = level_rects(layout, size, place);
-    let count = count_places(&rects, layout, size, place);
+    let count = count_places(job);
     if count > buffer.len() {
-        return luma_by_rows(block, bands, layout, size, matrix, place);
+        return luma_by_rows(block, bands, job);
     }
     let values = &mut buffer[..count];
-    if !read_values(block, values, 1, &rects, layout, size, matrix, place) {
+    if !read_values(block, values, 1, job) {
         return false;
     }
-    put_luma(values, bands, &rects, layout, size, place);
+    put_values::<1>(values, 0, bands, job);
     true
 }
 
@@ -182,47 +135,29 @@ pub fn read_colour(
     block: &mut Block<'_>,
     first: &mut Bands,
     second: &mut Bands,
-    layout: &Layout,
-    size: Size,
-    matrix: &Matrix,
-    place: Place,
+    job: PartJob<'_>,
     buffer: &mut [i64],
 ) -> bool
-    requires size { IsSize size.w size.h }
-    requires across { place.sx < layout.now.slices_x }
-    requires down { place.sy < layout.now.slices_y }
-    requires qindex { place.qindex ≤ 127 }
-    requires first_depth { first.old.depth ≡ layout.now.depth }
-    requires second_depth { second.old.depth ≡ layout.now.depth }
-    requires entries { matrix.now.depth ≡ layout.now.depth }
-    requires first_sizes { HaveSizes first.old (padded_length layout.now.depth size.w)
-        (padded_length layout.now.depth size.h) }
-    requires second_sizes { HaveSizes second.old (padded_length layout.now.depth size.w)
-        (padded_length layout.now.depth size.h) }
-    ensures small { let part = part_of layout.now size place.sx place.sy matrix.now place.qindex in
-        result ≡ are_small (dealt block.old (quantisers_before 2 part (3 * layout.now.depth + 1))) }
-    ensures first { let part = part_of layout.now size place.sx place.sy matrix.now place.qindex in
-        result ≡ true
-        → BandsHold 2 0 part (3 * layout.now.depth + 1) block.old first.old first.new }
-    ensures second { let part = part_of layout.now size place.sx place.sy matrix.now place.qindex in
-        result ≡ true
-        → BandsHold 2 1 part (3 * layout.now.depth + 1) block.old second.old second.new }
-    ensures first_keeps { let part = part_of layout.now size place.sx place.sy matrix.now
-        place.qindex in
-        BandsKeep part first.old first.new }
-    ensures second_keeps { let part = part_of layout.now size place.sx place.sy matrix.now
-        place.qindex in
-        BandsKeep part second.old second.new }
+    requires size { IsSize job.size.w job.size.h }
+    requires job { IsPartJob job }
+    requires first_sizes { AreSizedBands (part_in job) first.old }
+    requires second_sizes { AreSizedBands (part_in job) second.old }
+    ensures small { result ≡ are_small (dealt block.old (quantisers 2 (part_in job.entry))) }
+    ensures first { result ≡ true → AllHold 2 0 (part_in job.entry) block.old first.old first.new }
+    ensures second { result ≡ true
+        → AllHold 2 1 (part_in job.entry) block.old second.old second.new }
+    ensures first_keeps { BandsKeep (part_in job.entry) first.old first.new }
+    ensures second_keeps { BandsKeep (part_in job.entry) second.old second.new }
 {
-    let rects = level_rects(layout, size, place);
-    let count = 2 * count_places(&rects, layout, size, place);
+    let count = 2 * count_places(job);
     if count > buffer.len() {
-        return colour_by_rows(block, first, second, layout, size, matrix, place);
+        return colour_by_rows(block, first, second, job);
     }
     let values = &mut buffer[..count];
-    if !read_values(block, values, 2, &rects, layout, size, matrix, place) {
+    if !read_values(block, values, 2, job) {
         return false;
     }
-    put_colour(values, first, second, &rects, layout, size, place);
+    put_values::<2>(values, 0, first, job);
+    put_values::<2>(values, 1, second, job);
     true
 }

@@ -4,10 +4,11 @@ ghost use Rattle.std.specs.Prelude.{◌≡◌, ℕ, ◌+◌, ◌*◌, ◌/◌, �
 ghost use Rattle.slice_geometry.specs.Shape.{IsSize};
 ghost use Rattle.slice_geometry.specs.declared.Size.{Size};
 ghost use Rattle.slice_geometry.specs.Slicing.{Slicing};
-ghost use Rattle.slice_geometry.specs.SliceOrder.{area, place_count, level_rect};
+ghost use Rattle.slice_geometry.specs.SliceOrder.{area, level_rect};
 ghost use Rattle.slice_decoder.specs.Levels.{IsLowRect, AreRects};
+ghost use Rattle.slice_decoder.specs.Jobs.{part_in, places_of};
 
-use crate::components::Place;
+use crate::jobs::{PartJob, Place};
 use planes::Rect;
 use slice_geometry::{Layout, Size};
 
@@ -65,14 +66,14 @@ pub fn lowest_of(rects: &[Rect; 5]) -> Rect
 }
 
 // How many places the slice has.
-pub fn count_places(rects: &[Rect; 5], layout: &Layout, size: Size, place: Place) -> usize
-    requires { AreRects layout.now size place.sx place.sy rects.now }
-    ensures count { result ≡ place_count layout.now size place.sx place.sy }
+pub fn count_places(job: PartJob<'_>) -> usize
+    requires { AreRects job.layout.now job.size job.place.sx job.place.sy job.rects.now }
+    ensures count { result ≡ places_of (part_in job.entry) }
     ensures few { result ≤ 2 ^ 30 }
 {
-    let mut count = area_of(rects[0]);
-    for level in 0..layout.depth() {
-        count += 3 * area_of(rects[level as usize + 1]);
+    let mut count = area_of(job.rects[0]);
+    for level in 0..job.layout.depth() {
+        count += 3 * area_of(job.rects[level as usize + 1]);
     }
     count
 }

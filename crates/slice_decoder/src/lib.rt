@@ -8,7 +8,8 @@ ghost use Rattle.bounded_blocks.specs.Parts.{block_of};
 ghost use Rattle.dc_prediction.specs.Restoring.{CanRestore, RestoresRect};
 ghost use Rattle.slice_geometry.specs.Slicing as slicing;
 ghost use Rattle.slice_decoder.specs.Slice.{slice_at};
-ghost use Rattle.slice_decoder.specs.Components.{part_of};
+ghost use Rattle.slice_decoder.specs.Jobs.{part_in, IsPartJob, AreSizedBands};
+ghost use Rattle.slice_geometry.specs.Shape.{IsSize};
 ghost use Rattle.slice_geometry.specs.SliceOrder.{numbered};
 ghost use Rattle.slice_decoder.specs.Read.{IsRead};
 ghost use Rattle.slice_decoder.specs.Decoded.{AreReady, AllKeepOthers, IsDecoded, IsRefused};
@@ -17,6 +18,7 @@ mod ahead;
 mod bands;
 mod components;
 mod dealing;
+mod jobs;
 mod levels;
 mod narrow;
 mod narrow_placing;
@@ -31,8 +33,10 @@ mod short_slice;
 pub use ahead::read_ahead;
 use bit_codes::BitReader;
 use bounded_blocks::Block;
-use components::{Place, read_colour, read_luma};
+use components::{read_colour, read_luma};
 use dc_prediction::restore_rect;
+use jobs::{PartJob, Place};
+use levels::{level_rects, lowest_of};
 pub use narrow_slice::decode_narrow;
 use planes::{Bands, Rect, Trio};
 use quant_factors::Matrix;
@@ -93,10 +97,8 @@ const ROOM: usize = 256;
 
 // Reads the values of both blocks into the subbands. It answers false where a magnitude passes 2^36.
 fn read_blocks(
-    layout: &Layout,
-    shape: &PictureShape,
-    matrix: &Matrix,
-    place: Place,
+    luma_job: PartJob<'_>,
+    colour_job: PartJob<'_>,
     bytes: &[u8],
     luma_bits: u32,
     bands: &mut Trio,
@@ -104,17 +106,15 @@ fn read_blocks(
     requires some { 1 ≤ length bytes.now }
     requires most { length bytes.now ≤ 2 ^ 28 }
     requires fits { luma_bits + 7 + slicing.length_bits (length bytes.now) ≤ 8 * length bytes.now }
-    requires across { place.sx < layout.now.slices_x }
-    requires down { place.sy < layout.now.slices_y }
-    requires qindex { place.qindex ≤ 127 }
-    requires entries { matrix.now.depth ≡ layout.now.depth }
-    requires ready { AreReady layout.now shape.now place.sx place.sy bands.old }
+    requires luma_job { IsPartJob luma_job }
+    requires colour_job { IsPartJob colour_job }
+    requires luma_size { IsSize luma_job.size.w luma_job.size.h }
+    requires colour_size { IsSize colour_job.size.w colour_job.size.h }
+    requires luma_sizes { AreSizedBands (part_in luma_job) bands.old.luma }
+    requires c1_sizes { AreSizedBands (part_in colour_job) bands.old.c1 }
+    requires c2_sizes { AreSizedBands (part_in colour_job) bands.old.c2 }
     ensures { let start = 7 + slicing.length_bits (length bytes.now) in
-        let luma_part = part_of layout.now shape.now.luma place.sx place.sy matrix.now place.qindex
-        in
-        let colour_part = part_of layout.now shape.now.colour place.sx place.sy matrix.now
-        place.qindex in
-        IsRead luma_part colour_part
+        IsRead (part_in luma_job.entry) (part_in colour_job.entry)
         (block_of bytes.now start (start + luma_bits))
         (block_of bytes.now (start + luma_bits) (8 * length bytes.now))
         bands.old bands.new result }
@@ -124,24 +124,9 @@ fn read_blocks(
     let mut luma = Block::new(bytes, start, u64::from(luma_bits));
     let mut colour = Block::new(bytes, middle, 8 * bytes.len() as u64 - middle);
     let mut buffer = [0; ROOM];
-    read_luma(
-        &mut luma,
-        &mut bands.luma,
-        layout,
-        shape.luma,
-        matrix,
-        place,
-        &mut buffer,
-    ) && read_colour(
-        &mut colour,
-        &mut bands.c1,
-        &mut bands.c2,
-        layout,
-        shape.colour,
-        matrix,
-        place,
-        &mut buffer,
-    )
+    let (c1, c2) = (&mut bands.c1, &mut bands.c2);
+    read_luma(&mut luma, &mut bands.luma, luma_job, &mut buffer)
+        && read_colour(&mut colour, c1, c2, colour_job, &mut buffer)
 }
 
 /// Decodes the slice in column sx and row sy from its bytes, 1 to 2^28 of them: its values stand dequantised at their
@@ -184,11 +169,27 @@ pub fn decode_slice(
         sy,
         qindex: head.qindex,
     };
-    if !read_blocks(layout, shape, matrix, place, bytes, head.luma_bits, bands) {
+    let luma_rects = level_rects(layout, shape.luma, place);
+    let colour_rects = level_rects(layout, shape.colour, place);
+    let luma_job = PartJob {
+        layout,
+        size: shape.luma,
+        matrix,
+        place,
+        rects: &luma_rects,
+    };
+    let colour_job = PartJob {
+        layout,
+        size: shape.colour,
+        matrix,
+        place,
+        rects: &colour_rects,
+    };
+    if !read_blocks(luma_job, colour_job, bytes, head.luma_bits, bands) {
         return Err(SliceFault::CoefficientTooLarge);
     }
-    let luma = layout.band_rect(shape.luma, 0, sx, sy);
-    let colour = layout.band_rect(shape.colour, 0, sx, sy);
+    let luma = lowest_of(&luma_rects);
+    let colour = lowest_of(&colour_rects);
     restore(&mut bands.luma, luma);
     restore(&mut bands.c1, colour);
     restore(&mut bands.c2, colour);

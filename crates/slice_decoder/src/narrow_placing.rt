@@ -2,17 +2,15 @@
 
 ghost use Rattle.std.specs.Prelude.{◌≡◌, ℕ, ◌+◌, ◌-◌, ◌*◌, ◌<◌, ◌≤◌, length, drop, slice_index_or, pos};
 ghost use Rattle.planes.specs.Raster.{height};
-ghost use Rattle.planes.specs.Subbands.{HaveSizes};
-ghost use Rattle.slice_geometry.specs.Geometry.{padded_length};
-ghost use Rattle.slice_geometry.specs.SliceOrder.{area, place_count, numbered};
+ghost use Rattle.slice_geometry.specs.SliceOrder.{area};
 ghost use Rattle.slice_decoder.specs.Dealing.{StaysBeside, HoldsRect};
-ghost use Rattle.slice_decoder.specs.Levels.{AreRects, BandsTake};
+ghost use Rattle.slice_decoder.specs.Jobs.{part_in, IsPartJob, AreSizedBands, AllTake, RestStays, places_of};
 ghost use Rattle.dc_prediction.specs.Restoring.{IsNarrow};
 
-use crate::components::{Place, band_numbered};
+use crate::components::band_numbered;
+use crate::jobs::PartJob;
 use crate::levels::area_of;
 use planes::{NarrowBands, NarrowPlane, Rect};
-use slice_geometry::{Layout, Size};
 use std::simd::prelude::*;
 
 // Puts four numbers at the places from x on.
@@ -321,31 +319,18 @@ pub fn put_rects(
 
 // Puts the values of a slice at its places in a component's subbands.
 #[inline(never)]
-pub fn put_luma(
-    values: &[i32],
-    bands: &mut NarrowBands,
-    rects: &[Rect; 5],
-    layout: &Layout,
-    size: Size,
-    place: Place,
-)
-    requires rects { AreRects layout.now size place.sx place.sy rects.now }
-    requires across { place.sx < layout.now.slices_x }
-    requires down { place.sy < layout.now.slices_y }
-    requires depth { bands.old.depth ≡ layout.now.depth }
-    requires sizes { HaveSizes bands.old (padded_length layout.now.depth size.w)
-        (padded_length layout.now.depth size.h) }
-    requires count { length values.now ≡ 1 * place_count layout.now size place.sx place.sy }
+pub fn put_luma(values: &[i32], bands: &mut NarrowBands, job: PartJob<'_>)
+    requires job { IsPartJob job }
+    requires sizes { AreSizedBands (part_in job) bands.old }
+    requires count { length values.now ≡ 1 * places_of (part_in job) }
     requires narrow { (k : ℕ) → IsNarrow (slice_index_or values.now k (pos 0)) }
-    ensures takes { BandsTake 1 0 layout.now size place.sx place.sy
-        (3 * layout.now.depth + 1) values.now bands.old bands.new }
-    ensures rest { (k : ℕ) → 3 * layout.now.depth + 1 ≤ k
-        → numbered bands.new k ≡ numbered bands.old k }
+    ensures takes { AllTake 1 0 (part_in job.entry) values.now bands.old bands.new }
+    ensures rest { RestStays (part_in job.entry) bands.old bands.new }
 {
     let mut from = 0;
-    for k in 0..3 * layout.depth() + 1 {
+    for k in 0..3 * job.layout.depth() + 1 {
         let (level, orient) = band_numbered(k);
-        let rect = rects[level as usize];
+        let rect = job.rects[level as usize];
         put_rect(values, from, bands.band_mut(level, orient), rect);
         from += area_of(rect);
     }
@@ -357,35 +342,22 @@ pub fn put_colour(
     values: &[i32],
     first: &mut NarrowBands,
     second: &mut NarrowBands,
-    rects: &[Rect; 5],
-    layout: &Layout,
-    size: Size,
-    place: Place,
+    job: PartJob<'_>,
 )
-    requires rects { AreRects layout.now size place.sx place.sy rects.now }
-    requires across { place.sx < layout.now.slices_x }
-    requires down { place.sy < layout.now.slices_y }
-    requires first_depth { first.old.depth ≡ layout.now.depth }
-    requires second_depth { second.old.depth ≡ layout.now.depth }
-    requires first_sizes { HaveSizes first.old (padded_length layout.now.depth size.w)
-        (padded_length layout.now.depth size.h) }
-    requires second_sizes { HaveSizes second.old (padded_length layout.now.depth size.w)
-        (padded_length layout.now.depth size.h) }
-    requires count { length values.now ≡ 2 * place_count layout.now size place.sx place.sy }
+    requires job { IsPartJob job }
+    requires first_sizes { AreSizedBands (part_in job) first.old }
+    requires second_sizes { AreSizedBands (part_in job) second.old }
+    requires count { length values.now ≡ 2 * places_of (part_in job) }
     requires narrow { (k : ℕ) → IsNarrow (slice_index_or values.now k (pos 0)) }
-    ensures first { BandsTake 2 0 layout.now size place.sx place.sy
-        (3 * layout.now.depth + 1) values.now first.old first.new }
-    ensures second { BandsTake 2 1 layout.now size place.sx place.sy
-        (3 * layout.now.depth + 1) values.now second.old second.new }
-    ensures first_rest { (k : ℕ) → 3 * layout.now.depth + 1 ≤ k
-        → numbered first.new k ≡ numbered first.old k }
-    ensures second_rest { (k : ℕ) → 3 * layout.now.depth + 1 ≤ k
-        → numbered second.new k ≡ numbered second.old k }
+    ensures first { AllTake 2 0 (part_in job.entry) values.now first.old first.new }
+    ensures second { AllTake 2 1 (part_in job.entry) values.now second.old second.new }
+    ensures first_rest { RestStays (part_in job.entry) first.old first.new }
+    ensures second_rest { RestStays (part_in job.entry) second.old second.new }
 {
     let mut from = 0;
-    for k in 0..3 * layout.depth() + 1 {
+    for k in 0..3 * job.layout.depth() + 1 {
         let (level, orient) = band_numbered(k);
-        let rect = rects[level as usize];
+        let rect = job.rects[level as usize];
         let one = first.band_mut(level, orient);
         let two = second.band_mut(level, orient);
         put_rects(values, from, one, two, rect);

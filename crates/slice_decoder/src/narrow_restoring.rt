@@ -4,19 +4,17 @@ ghost use Rattle.bounded_blocks.specs.declared.TheConstants.{MAX_NARROW, SPARE};
 ghost use Rattle.std.specs.Prelude.{◌≡◌, ℕ, ℤ, List, ◌+◌, ◌-◌, ◌*◌, ◌^◌, ◌<◌, ◌≤◌, true, false, length, slice_index_or, pos, unsigned_abs, MatchOption};
 ghost use Rattle.quant_factors.specs.Factors.{factor_of, offset_of, restored_of, inverse_of, signed};
 ghost use Rattle.quant_factors.specs.Weights.{band_quantiser};
-ghost use Rattle.slice_geometry.specs.SliceOrder.{place_count, level_of, orient_of};
-ghost use Rattle.slice_decoder.specs.Components.{Part, part_of, quantisers_before};
+ghost use Rattle.slice_geometry.specs.SliceOrder.{level_of, orient_of};
+ghost use Rattle.slice_decoder.specs.Components.{Part};
 ghost use Rattle.slice_decoder.specs.Dealing.{dealt, StaysBeside};
-ghost use Rattle.slice_decoder.specs.Levels.{AreRects};
+ghost use Rattle.slice_decoder.specs.Jobs.{part_in, IsPartJob, places_of};
 ghost use Rattle.slice_decoder.specs.Restored.{restored_at, StayWithin, AreLow};
-ghost use Rattle.slice_decoder.specs.RestoredBands.{IsBand, AreBands, IsRestoredTo, OnePasses};
+ghost use Rattle.slice_decoder.specs.RestoredBands.{quantisers, IsBand, AreBands, IsRestoredTo, OnePasses};
 
-use crate::components::Place;
+use crate::jobs::PartJob;
 use crate::levels::area_of;
 use bounded_blocks::{Block, CodeTable, MAX_NARROW};
-use planes::Rect;
 use quant_factors::{Dequantised, Matrix, factor, inverse, offset};
-use slice_geometry::{Layout, Size};
 
 // The least magnitude that has all bits of these: none of theirs is above it.
 fn all_magnitudes(values: &[i32]) -> u32
@@ -248,40 +246,26 @@ fn restore_level(
 
 // Dequantises the values of a slice in one component, or of two that take them in turn: so many a place. It answers
 // false where a magnitude passes 2^18.
-fn restore_block(
-    values: &mut [i32],
-    each: usize,
-    rects: &[Rect; 5],
-    layout: &Layout,
-    size: Size,
-    matrix: &Matrix,
-    place: Place,
-) -> bool
+fn restore_block(values: &mut [i32], each: usize, job: PartJob<'_>) -> bool
     requires few { each ≤ 2 }
-    requires rects { AreRects layout.now size place.sx place.sy rects.now }
-    requires qindex { place.qindex ≤ 127 }
-    requires entries { matrix.now.depth ≡ layout.now.depth }
-    requires count { length values.old ≡ each * place_count layout.now size place.sx place.sy }
+    requires job { IsPartJob job }
+    requires count { length values.old ≡ each * places_of (part_in job) }
     requires narrow { (k : ℕ) → unsigned_abs (slice_index_or values.old k (pos 0)) ≤ MAX_NARROW }
-    ensures within { let quantisers = quantisers_before each
-        (part_of layout.now size place.sx place.sy matrix.now place.qindex)
-        (3 * layout.now.depth + 1) in
-        StayWithin MAX_NARROW result (restored_at values.old quantisers) 0 (length values.old) }
-    ensures values { let quantisers = quantisers_before each
-        (part_of layout.now size place.sx place.sy matrix.now place.qindex)
-        (3 * layout.now.depth + 1) in
-        result ≡ true → (k : ℕ) → k < length values.old
-        → slice_index_or values.new k (pos 0) ≡ restored_at values.old quantisers k }
+    ensures within { StayWithin MAX_NARROW result (restored_at values.old
+        (quantisers each (part_in job.entry))) 0 (length values.old) }
+    ensures values { result ≡ true → (k : ℕ)
+        → k < length values.old → slice_index_or values.new k (pos 0)
+        ≡ restored_at values.old (quantisers each (part_in job.entry)) k }
 {
-    let is_low = are_low(values, place.qindex);
-    let mut from = each * area_of(rects[0]);
-    if !restore_band(values, 0, from, 0, matrix, place.qindex, is_low) {
+    let is_low = are_low(values, job.place.qindex);
+    let mut from = each * area_of(job.rects[0]);
+    if !restore_band(values, 0, from, 0, job.matrix, job.place.qindex, is_low) {
         return false;
     }
-    for level in 0..layout.depth() {
-        let count = each * area_of(rects[level as usize + 1]);
+    for level in 0..job.layout.depth() {
+        let count = each * area_of(job.rects[level as usize + 1]);
         let k = 3 * level + 1;
-        if !restore_level(values, from, count, k, matrix, place.qindex, is_low) {
+        if !restore_level(values, from, count, k, job.matrix, job.place.qindex, is_low) {
             return false;
         }
         from += 3 * count;
@@ -297,40 +281,19 @@ pub fn read_values(
     buffer: &mut [i32],
     count: usize,
     each: usize,
-    rects: &[Rect; 5],
-    layout: &Layout,
-    size: Size,
-    matrix: &Matrix,
-    place: Place,
+    job: PartJob<'_>,
 ) -> bool
     requires few { each ≤ 2 }
-    requires rects { AreRects layout.now size place.sx place.sy rects.now }
-    requires qindex { place.qindex ≤ 127 }
-    requires entries { matrix.now.depth ≡ layout.now.depth }
-    requires count { count ≡ each * place_count layout.now size place.sx place.sy }
+    requires job { IsPartJob job }
+    requires count { count ≡ each * places_of (part_in job) }
     requires room { count + SPARE ≤ length buffer.old }
-    ensures within { let quantisers = quantisers_before each
-        (part_of layout.now size place.sx place.sy matrix.now place.qindex)
-        (3 * layout.now.depth + 1) in
-        StayWithin MAX_NARROW result (λ k. slice_index_or (dealt block.now quantisers) k (pos 0)) 0
-        count }
-    ensures values { let quantisers = quantisers_before each
-        (part_of layout.now size place.sx place.sy matrix.now place.qindex)
-        (3 * layout.now.depth + 1) in
-        result ≡ true → (k : ℕ) → k < count
-        → slice_index_or buffer.new k (pos 0)
-        ≡ slice_index_or (dealt block.now quantisers) k (pos 0) }
+    ensures within { StayWithin MAX_NARROW result (λ k. slice_index_or
+        (dealt block.now (quantisers each (part_in job.entry))) k (pos 0)) 0 count }
+    ensures values { result ≡ true → (k : ℕ) → k < count → slice_index_or buffer.new k (pos 0)
+        ≡ slice_index_or (dealt block.now (quantisers each (part_in job.entry))) k (pos 0) }
 {
     if !block.narrow_values(codes, count, buffer) {
         return false;
     }
-    restore_block(
-        &mut buffer[..count],
-        each,
-        rects,
-        layout,
-        size,
-        matrix,
-        place,
-    )
+    restore_block(&mut buffer[..count], each, job)
 }

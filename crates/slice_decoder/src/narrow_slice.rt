@@ -1,6 +1,6 @@
 //! One slice into bands of 32 bits.
 
-ghost use Rattle.std.specs.Prelude.{◌≡◌, ◌+◌, ◌*◌, ◌^◌, ◌<◌, ◌≤◌, ℕ, true, false, length, pos, MatchResult, MatchOption};
+ghost use Rattle.std.specs.Prelude.{◌≡◌, ◌+◌, ◌*◌, ◌^◌, ◌<◌, ◌≤◌, true, false, length, pos, MatchResult, MatchOption};
 ghost use Rattle.planes.specs.Raster.{height};
 ghost use Rattle.planes.specs.Bounded.{AreBandsWithin};
 ghost use Rattle.bounded_blocks.specs.Parts.{block_of};
@@ -8,13 +8,12 @@ ghost use Rattle.dc_prediction.specs.Restoring.{RestoresRect, IsStopped};
 ghost use Rattle.slice_geometry.specs.Slicing as slicing;
 ghost use Rattle.slice_geometry.specs.SliceOrder.{numbered};
 ghost use Rattle.slice_decoder.specs.Slice.{slice_at};
-ghost use Rattle.slice_decoder.specs.Components.{part_of};
+ghost use Rattle.slice_decoder.specs.Jobs.{part_in, IsPartJob, AreSizedBands};
 ghost use Rattle.slice_decoder.specs.Decoded.{AreReady, AllKeepOthers, IsDecoded, IsRefused};
-ghost use Rattle.slice_decoder.specs.Levels.{AreRects};
-ghost use Rattle.slice_decoder.specs.Narrow.{trio_of, AreNarrowBands, NeedsWide, IsReadNarrow, LowestKeeps, AreRestored, OneStops, AllKeepLowest};
+ghost use Rattle.slice_decoder.specs.Narrow.{trio_of, AreNarrowBands, NeedsWide, AreRead, LowestKeeps, AreRestored, OneStops, AllKeepLowest};
 
 use crate::ahead::read_ahead;
-use crate::components::Place;
+use crate::jobs::{PartJob, Place};
 use crate::levels::{level_rects, lowest_of};
 use crate::narrow::{read_colour, read_luma};
 use crate::{SliceFault, head_of};
@@ -26,12 +25,8 @@ use slice_geometry::{Layout, PictureShape, SliceHead, length_bits};
 
 // Reads the values of both blocks into the subbands. It answers false where these don't serve.
 fn read_blocks(
-    layout: &Layout,
-    shape: &PictureShape,
-    luma_rects: &[Rect; 5],
-    colour_rects: &[Rect; 5],
-    matrix: &Matrix,
-    place: Place,
+    luma_job: PartJob<'_>,
+    colour_job: PartJob<'_>,
     bytes: &[u8],
     codes: &CodeTable,
     luma_bits: u32,
@@ -41,54 +36,29 @@ fn read_blocks(
     requires some { 1 ≤ length bytes.now }
     requires most { length bytes.now ≤ 2 ^ 28 }
     requires fits { luma_bits + 7 + slicing.length_bits (length bytes.now) ≤ 8 * length bytes.now }
-    requires across { place.sx < layout.now.slices_x }
-    requires down { place.sy < layout.now.slices_y }
-    requires qindex { place.qindex ≤ 127 }
-    requires entries { matrix.now.depth ≡ layout.now.depth }
-    requires luma_rects { AreRects layout.now shape.now.luma place.sx place.sy luma_rects.now }
-    requires colour_rects { AreRects layout.now shape.now.colour place.sx place.sy
-        colour_rects.now }
-    requires ready { AreReady layout.now shape.now place.sx place.sy (trio_of bands.old) }
+    requires luma_job { IsPartJob luma_job }
+    requires colour_job { IsPartJob colour_job }
+    requires luma_sizes { AreSizedBands (part_in luma_job) bands.old.luma }
+    requires c1_sizes { AreSizedBands (part_in colour_job) bands.old.c1 }
+    requires c2_sizes { AreSizedBands (part_in colour_job) bands.old.c2 }
     requires narrow { AreNarrowBands bands.old }
-    ensures { let start = 7 + slicing.length_bits (length bytes.now) in
-        let luma_part = part_of layout.now shape.now.luma place.sx place.sy matrix.now place.qindex
-        in
-        let colour_part = part_of layout.now shape.now.colour place.sx place.sy matrix.now
-        place.qindex in
-        IsReadNarrow (length buffer.old) luma_part colour_part
+    ensures read { let start = 7 + slicing.length_bits (length bytes.now) in
+        AreRead (pos (2 ^ 18)) (length buffer.old) (part_in luma_job.entry)
+        (part_in colour_job.entry)
         (block_of bytes.now start (start + luma_bits))
         (block_of bytes.now (start + luma_bits) (8 * length bytes.now))
-        bands.old bands.new result }
+        (trio_of bands.old) (trio_of bands.new) result }
+    ensures narrow { AreNarrowBands bands.new }
 {
     let start = 7 + u64::from(length_bits(bytes.len() as u32));
     let middle = start + u64::from(luma_bits);
     let luma = Block::new(bytes, start, u64::from(luma_bits));
     let colour = Block::new(bytes, middle, 8 * bytes.len() as u64 - middle);
-    if !read_luma(
-        &luma,
-        codes,
-        &mut bands.luma,
-        luma_rects,
-        layout,
-        shape.luma,
-        matrix,
-        place,
-        buffer,
-    ) {
+    if !read_luma(&luma, codes, &mut bands.luma, luma_job, buffer) {
         return false;
     }
-    read_colour(
-        &colour,
-        codes,
-        &mut bands.c1,
-        &mut bands.c2,
-        colour_rects,
-        layout,
-        shape.colour,
-        matrix,
-        place,
-        buffer,
-    )
+    let (c1, c2) = (&mut bands.c1, &mut bands.c2);
+    read_colour(&colour, codes, c1, c2, colour_job, buffer)
 }
 
 // Restores the residuals of a rectangle in the lowest of a component's subbands, up to a value that would pass 2^18.
@@ -115,9 +85,11 @@ fn restore_all(bands: &mut NarrowTrio, luma: Rect, colour: Rect) -> bool
     requires c2_x { colour.x1 ≤ (numbered bands.old.c2 0).w }
     requires c2_y { colour.y1 ≤ height (numbered bands.old.c2 0) }
     requires narrow { AreNarrowBands bands.old }
-    ensures restored { result ≡ true → AreRestored luma colour bands.old bands.new }
-    ensures stopped { result ≡ false → OneStops luma colour bands.old bands.new }
-    ensures keeps { AllKeepLowest luma colour bands.old bands.new }
+    ensures restored { result ≡ true → AreRestored luma colour (trio_of bands.old)
+        (trio_of bands.new) }
+    ensures stopped { result ≡ false
+        → OneStops luma colour (trio_of bands.old) (trio_of bands.new) }
+    ensures keeps { AllKeepLowest luma colour (trio_of bands.old) (trio_of bands.new) }
     ensures narrow { AreNarrowBands bands.new }
 {
     if !restore(&mut bands.luma, luma) {
@@ -179,13 +151,23 @@ pub fn decode_narrow(
     read_ahead(bands, layout, shape, sx, sy, buffer);
     let luma_rects = level_rects(layout, shape.luma, place);
     let colour_rects = level_rects(layout, shape.colour, place);
-    if !read_blocks(
+    let luma_job = PartJob {
         layout,
-        shape,
-        &luma_rects,
-        &colour_rects,
+        size: shape.luma,
         matrix,
         place,
+        rects: &luma_rects,
+    };
+    let colour_job = PartJob {
+        layout,
+        size: shape.colour,
+        matrix,
+        place,
+        rects: &colour_rects,
+    };
+    if !read_blocks(
+        luma_job,
+        colour_job,
         bytes,
         codes,
         head.luma_bits,

@@ -1,25 +1,24 @@
 //! A slice into bands of 16 bits, whose slices lie as the layout cuts a component.
 
-ghost use Rattle.std.specs.Prelude.{◌≡◌, ℕ, ◌+◌, ◌-◌, ◌*◌, ◌^◌, ◌<◌, ◌≤◌, length, drop, slice_index_or, pos};
+ghost use Rattle.std.specs.Prelude.{◌≡◌, ℕ, ◌+◌, ◌-◌, ◌*◌, ◌<◌, ◌≤◌, length, drop, slice_index_or, pos};
 ghost use Rattle.planes.specs.Bounded.{IsWithin};
 ghost use Rattle.planes.specs.Raster.{height};
 ghost use Rattle.slice_bands.specs.declared.short.TheConstants.{MAX_SHORT};
 ghost use Rattle.slice_bands.specs.ShortBands.{short_stack};
-ghost use Rattle.slice_geometry.specs.SliceOrder.{area, place_count, numbered};
-ghost use Rattle.slice_decoder.specs.Components.{part_of, BandsHold, BandsKeep};
+ghost use Rattle.slice_geometry.specs.SliceOrder.{area};
+ghost use Rattle.slice_decoder.specs.Components.{BandsKeep};
 ghost use Rattle.slice_decoder.specs.Dealing.{StaysBeside, HoldsRect};
-ghost use Rattle.slice_decoder.specs.Levels.{AreRects, BandsTake};
+ghost use Rattle.slice_decoder.specs.Jobs.{part_in, IsPartJob, AllHold, AllTake, RestStays, places_of};
 ghost use Rattle.slice_decoder.specs.Narrow.{block_values, Answers};
 ghost use Rattle.slice_decoder.specs.Short.{IsCut};
 
-use crate::components::Place;
+use crate::jobs::{PartJob, Place};
 use crate::levels::{count_places, lowest_of};
 use crate::short_restoring::read_values;
 use bounded_blocks::{Block, CodeTable, SPARE};
 use planes::{NarrowPlane, Rect};
-use quant_factors::Matrix;
 use slice_bands::ShortBands;
-use slice_geometry::{Layout, Size};
+use slice_geometry::Layout;
 
 // The number of a slice.
 fn number_of(layout: &Layout, place: Place) -> usize
@@ -74,71 +73,30 @@ fn put_lowest<const EACH: usize>(values: &[i16], from: usize, plane: &mut Narrow
     }
 }
 
-// Puts the values of a slice at its places in a component's subbands.
-fn put_luma(
+// Puts the values of a slice at its places in a component's subbands: of EACH that a place has, the one that is counted by
+// `from`.
+#[inline(always)]
+fn put_values<const EACH: usize>(
     values: &[i16],
+    from: usize,
     bands: &mut ShortBands,
-    rects: &[Rect; 5],
-    layout: &Layout,
-    size: Size,
-    place: Place,
+    job: PartJob<'_>,
 )
-    requires rects { AreRects layout.now size place.sx place.sy rects.now }
-    requires across { place.sx < layout.now.slices_x }
-    requires down { place.sy < layout.now.slices_y }
-    requires cut { IsCut layout.now size bands.old }
-    requires count { length values.now ≡ 1 * place_count layout.now size place.sx place.sy }
+    requires few { from < EACH }
+    requires job { IsPartJob job }
+    requires cut { IsCut job.layout.now job.size bands.old }
+    requires count { length values.now ≡ EACH * places_of (part_in job) }
     requires short { (k : ℕ) → k < length values.now
         → IsWithin MAX_SHORT (slice_index_or values.now k (pos 0)) }
-    ensures takes { BandsTake 1 0 layout.now size place.sx place.sy
-        (3 * layout.now.depth + 1) values.now (short_stack bands.old) (short_stack bands.new) }
-    ensures rest { (k : ℕ) → 3 * layout.now.depth + 1 ≤ k
-        → numbered (short_stack bands.new) k ≡ numbered (short_stack bands.old) k }
-    ensures cut { IsCut layout.now size bands.new }
+    ensures takes { AllTake EACH from (part_in job.entry) values.now (short_stack bands.old)
+        (short_stack bands.new) }
+    ensures rest { RestStays (part_in job.entry) (short_stack bands.old) (short_stack bands.new) }
+    ensures cut { IsCut job.entry.layout.now job.entry.size bands.new }
 {
     bands.slices.shows();
-    let n = number_of(layout, place);
-    put_lowest::<1>(values, 0, &mut bands.lowest, lowest_of(rects));
-    bands.slices.put_every::<1>(n, values, 0);
-}
-
-// Puts the values of a slice at its places in the subbands of the two colour components, which take them in turn.
-fn put_colour(
-    values: &[i16],
-    first: &mut ShortBands,
-    second: &mut ShortBands,
-    rects: &[Rect; 5],
-    layout: &Layout,
-    size: Size,
-    place: Place,
-)
-    requires rects { AreRects layout.now size place.sx place.sy rects.now }
-    requires across { place.sx < layout.now.slices_x }
-    requires down { place.sy < layout.now.slices_y }
-    requires first_cut { IsCut layout.now size first.old }
-    requires second_cut { IsCut layout.now size second.old }
-    requires count { length values.now ≡ 2 * place_count layout.now size place.sx place.sy }
-    requires short { (k : ℕ) → k < length values.now
-        → IsWithin MAX_SHORT (slice_index_or values.now k (pos 0)) }
-    ensures first { BandsTake 2 0 layout.now size place.sx place.sy
-        (3 * layout.now.depth + 1) values.now (short_stack first.old) (short_stack first.new) }
-    ensures second { BandsTake 2 1 layout.now size place.sx place.sy
-        (3 * layout.now.depth + 1) values.now (short_stack second.old) (short_stack second.new) }
-    ensures first_rest { (k : ℕ) → 3 * layout.now.depth + 1 ≤ k
-        → numbered (short_stack first.new) k ≡ numbered (short_stack first.old) k }
-    ensures second_rest { (k : ℕ) → 3 * layout.now.depth + 1 ≤ k
-        → numbered (short_stack second.new) k ≡ numbered (short_stack second.old) k }
-    ensures first_cut { IsCut layout.now size first.new }
-    ensures second_cut { IsCut layout.now size second.new }
-{
-    first.slices.shows();
-    second.slices.shows();
-    let n = number_of(layout, place);
-    let rect = lowest_of(rects);
-    put_lowest::<2>(values, 0, &mut first.lowest, rect);
-    put_lowest::<2>(values, 1, &mut second.lowest, rect);
-    first.slices.put_every::<2>(n, values, 0);
-    second.slices.put_every::<2>(n, values, 1);
+    let n = number_of(job.layout, job.place);
+    put_lowest::<EACH>(values, from, &mut bands.lowest, lowest_of(job.rects));
+    bands.slices.put_every::<EACH>(n, values, from);
 }
 
 /// Reads the values of a block into a component's subbands. It answers false where these don't serve: there are more
@@ -147,38 +105,26 @@ pub fn read_luma(
     block: &Block<'_>,
     codes: &CodeTable,
     bands: &mut ShortBands,
-    rects: &[Rect; 5],
-    layout: &Layout,
-    size: Size,
-    matrix: &Matrix,
-    place: Place,
+    job: PartJob<'_>,
     buffer: &mut [i16],
 ) -> bool
-    requires rects { AreRects layout.now size place.sx place.sy rects.now }
-    requires across { place.sx < layout.now.slices_x }
-    requires down { place.sy < layout.now.slices_y }
-    requires qindex { place.qindex ≤ 127 }
-    requires entries { matrix.now.depth ≡ layout.now.depth }
-    requires cut { IsCut layout.now size bands.old }
-    ensures answer { let part = part_of layout.now size place.sx place.sy matrix.now place.qindex in
-        Answers MAX_SHORT (length buffer.old) (block_values 1 part block.now)
-        (BandsHold 1 0 part (3 * layout.now.depth + 1) block.now (short_stack bands.old)
-        (short_stack bands.new)) result }
-    ensures keeps { let part = part_of layout.now size place.sx place.sy matrix.now place.qindex in
-        BandsKeep part (short_stack bands.old) (short_stack bands.new) }
-    ensures cut { IsCut layout.now size bands.new }
+    requires job { IsPartJob job }
+    requires cut { IsCut job.layout.now job.size bands.old }
+    ensures answer { Answers MAX_SHORT (length buffer.old)
+        (block_values 1 (part_in job.entry) block.now)
+        (AllHold 1 0 (part_in job.entry) block.now (short_stack bands.old) (short_stack bands.new))
+        result }
+    ensures keeps { BandsKeep (part_in job.entry) (short_stack bands.old) (short_stack bands.new) }
+    ensures cut { IsCut job.entry.layout.now job.entry.size bands.new }
 {
-    let count = count_places(rects, layout, size, place);
+    let count = count_places(job);
     if count + SPARE > buffer.len() {
         return false;
     }
-    if !read_values(
-        block, codes, buffer, count, 1, rects, layout, size, matrix, place,
-    ) {
+    if !read_values(block, codes, buffer, count, 1, job) {
         return false;
     }
-    let values = &buffer[..count];
-    put_luma(values, bands, rects, layout, size, place);
+    put_values::<1>(&buffer[..count], 0, bands, job);
     true
 }
 
@@ -189,45 +135,33 @@ pub fn read_colour(
     codes: &CodeTable,
     first: &mut ShortBands,
     second: &mut ShortBands,
-    rects: &[Rect; 5],
-    layout: &Layout,
-    size: Size,
-    matrix: &Matrix,
-    place: Place,
+    job: PartJob<'_>,
     buffer: &mut [i16],
 ) -> bool
-    requires rects { AreRects layout.now size place.sx place.sy rects.now }
-    requires across { place.sx < layout.now.slices_x }
-    requires down { place.sy < layout.now.slices_y }
-    requires qindex { place.qindex ≤ 127 }
-    requires entries { matrix.now.depth ≡ layout.now.depth }
-    requires first_cut { IsCut layout.now size first.old }
-    requires second_cut { IsCut layout.now size second.old }
-    ensures answer { let part = part_of layout.now size place.sx place.sy matrix.now place.qindex in
-        Answers MAX_SHORT (length buffer.old) (block_values 2 part block.now)
-        (BandsHold 2 0 part (3 * layout.now.depth + 1) block.now (short_stack first.old)
-        (short_stack first.new)
-        × BandsHold 2 1 part (3 * layout.now.depth + 1) block.now (short_stack second.old)
+    requires job { IsPartJob job }
+    requires first_cut { IsCut job.layout.now job.size first.old }
+    requires second_cut { IsCut job.layout.now job.size second.old }
+    ensures answer { Answers MAX_SHORT (length buffer.old)
+        (block_values 2 (part_in job.entry) block.now)
+        (AllHold 2 0 (part_in job.entry) block.now (short_stack first.old) (short_stack first.new)
+        × AllHold 2 1 (part_in job.entry) block.now (short_stack second.old)
         (short_stack second.new)) result }
-    ensures first_keeps { let part = part_of layout.now size place.sx place.sy matrix.now
-        place.qindex in
-        BandsKeep part (short_stack first.old) (short_stack first.new) }
-    ensures second_keeps { let part = part_of layout.now size place.sx place.sy matrix.now
-        place.qindex in
-        BandsKeep part (short_stack second.old) (short_stack second.new) }
-    ensures first_cut { IsCut layout.now size first.new }
-    ensures second_cut { IsCut layout.now size second.new }
+    ensures first_keeps { BandsKeep (part_in job.entry) (short_stack first.old)
+        (short_stack first.new) }
+    ensures second_keeps { BandsKeep (part_in job.entry) (short_stack second.old)
+        (short_stack second.new) }
+    ensures first_cut { IsCut job.entry.layout.now job.entry.size first.new }
+    ensures second_cut { IsCut job.entry.layout.now job.entry.size second.new }
 {
-    let count = 2 * count_places(rects, layout, size, place);
+    let count = 2 * count_places(job);
     if count + SPARE > buffer.len() {
         return false;
     }
-    if !read_values(
-        block, codes, buffer, count, 2, rects, layout, size, matrix, place,
-    ) {
+    if !read_values(block, codes, buffer, count, 2, job) {
         return false;
     }
     let values = &buffer[..count];
-    put_colour(values, first, second, rects, layout, size, place);
+    put_values::<2>(values, 0, first, job);
+    put_values::<2>(values, 1, second, job);
     true
 }

@@ -3,21 +3,19 @@
 ghost use Rattle.std.specs.Prelude.{◌≡◌, ◌↔◌, ℕ, ℤ, List, ◌+◌, ◌-◌, ◌*◌, ◌/◌, ◌^◌, ◌<◌, ◌≤◌, true, false, length, slice_index_or, pos, unsigned_abs};
 ghost use Rattle.bounded_blocks.specs.declared.TheConstants.{MAX_SHORT, SPARE};
 ghost use Rattle.quant_factors.specs.Factors.{inverse_of, signed};
-ghost use Rattle.slice_geometry.specs.SliceOrder.{place_count};
-ghost use Rattle.slice_decoder.specs.Components.{Part, part_of, quantisers_before};
+ghost use Rattle.slice_decoder.specs.Components.{Part};
 ghost use Rattle.slice_decoder.specs.Dealing.{dealt, StaysBeside};
-ghost use Rattle.slice_decoder.specs.Levels.{AreRects};
+ghost use Rattle.slice_decoder.specs.Jobs.{part_in, IsPartJob, places_of};
 ghost use Rattle.slice_decoder.specs.Restored.{restored_at, StayWithin};
-ghost use Rattle.slice_decoder.specs.RestoredBands.{IsBand, IsRestoredTo, OnePasses};
+ghost use Rattle.slice_decoder.specs.RestoredBands.{quantisers, IsBand, IsRestoredTo, OnePasses};
 ghost use Rattle.slice_decoder.specs.Steps.{IsStep, restored_by};
 
-use crate::components::{Place, band_numbered};
+use crate::components::band_numbered;
+use crate::jobs::PartJob;
 use crate::levels::area_of;
 use crate::narrow_restoring::index_of_band;
 use bounded_blocks::{Block, CodeTable};
-use planes::Rect;
 use quant_factors::{Matrix, factor, offset};
-use slice_geometry::{Layout, Size};
 
 // The greatest magnitude that each index restores to less than 2^14; at all later ones it is 0.
 pub(crate) const LIMITS: [u16; 54] = [
@@ -95,8 +93,9 @@ fn restore_one(v: i16, step: Step) -> i16
 // Dequantises the values of one band. It answers false where a magnitude passes 2^14 - 1: all are looked at, with no branch
 // for each.
 #[inline(always)]
-fn restore_run(values: &mut [i16], index: u32) -> bool
+fn restore_run(values: &mut [i16], count: usize, index: u32) -> bool
     requires index { index ≤ 127 }
+    requires long { count ≡ length values.old }
     ensures within { StayWithin MAX_SHORT result
         (λ k. inverse_of (slice_index_or values.old k (pos 0)) index) 0 (length values.old) }
     ensures values { result ≡ true → (k : ℕ) → k < length values.old →
@@ -105,11 +104,29 @@ fn restore_run(values: &mut [i16], index: u32) -> bool
 {
     let step = step_of(index);
     let mut all = true;
-    for k in 0..values.len() {
+    for k in 0..count {
         all = all & is_low(values[k], step.limit);
         values[k] = restore_one(values[k], step);
     }
     all
+}
+
+// The same. The counts that many slices have are told to the compiler, which needs no loop for a few values then.
+#[inline(always)]
+fn restore_sized(values: &mut [i16], index: u32) -> bool
+    requires index { index ≤ 127 }
+    ensures within { StayWithin MAX_SHORT result
+        (λ k. inverse_of (slice_index_or values.old k (pos 0)) index) 0 (length values.old) }
+    ensures values { result ≡ true → (k : ℕ) → k < length values.old →
+        slice_index_or values.new k (pos 0)
+        ≡ inverse_of (slice_index_or values.old k (pos 0)) index }
+{
+    match values.len() {
+        32 => restore_run(values, 32, index),
+        8 => restore_run(values, 8, index),
+        2 => restore_run(values, 2, index),
+        n => restore_run(values, n, index),
+    }
 }
 
 // Dequantises the values from one place to another.
@@ -125,7 +142,7 @@ fn restore_part(values: &mut [i16], from: usize, to: usize, index: u32) -> bool
         ≡ inverse_of (slice_index_or values.old k (pos 0)) index }
     ensures outside { StaysBeside from to values.old values.new }
 {
-    restore_run(&mut values[from..to], index)
+    restore_sized(&mut values[from..to], index)
 }
 
 // Dequantises the values of band k, so many from one place on. It answers false where a magnitude passes 2^14 - 1.
@@ -155,33 +172,21 @@ fn restore_band(
 
 // Dequantises the values of a slice in one component, or of two that take them in turn: so many a place. It answers
 // false where a magnitude passes 2^14 - 1.
-fn restore_block(
-    values: &mut [i16],
-    each: usize,
-    rects: &[Rect; 5],
-    layout: &Layout,
-    size: Size,
-    matrix: &Matrix,
-    place: Place,
-) -> bool
+fn restore_block(values: &mut [i16], each: usize, job: PartJob<'_>) -> bool
     requires few { each ≤ 2 }
-    requires rects { AreRects layout.now size place.sx place.sy rects.now }
-    requires qindex { place.qindex ≤ 127 }
-    requires entries { matrix.now.depth ≡ layout.now.depth }
-    requires count { length values.old ≡ each * place_count layout.now size place.sx place.sy }
-    ensures within { let part = part_of layout.now size place.sx place.sy matrix.now place.qindex in
-        let quantisers = quantisers_before each part (3 * layout.now.depth + 1) in
-        StayWithin MAX_SHORT result (restored_at values.old quantisers) 0 (length values.old) }
-    ensures values { let part = part_of layout.now size place.sx place.sy matrix.now place.qindex in
-        let quantisers = quantisers_before each part (3 * layout.now.depth + 1) in
-        result ≡ true → (k : ℕ) → k < length values.old →
-        slice_index_or values.new k (pos 0) ≡ restored_at values.old quantisers k }
+    requires job { IsPartJob job }
+    requires count { length values.old ≡ each * places_of (part_in job) }
+    ensures within { StayWithin MAX_SHORT result (restored_at values.old
+        (quantisers each (part_in job.entry))) 0 (length values.old) }
+    ensures values { result ≡ true → (k : ℕ)
+        → k < length values.old → slice_index_or values.new k (pos 0)
+        ≡ restored_at values.old (quantisers each (part_in job.entry)) k }
 {
     let mut from = 0;
-    for k in 0..3 * layout.depth() + 1 {
+    for k in 0..3 * job.layout.depth() + 1 {
         let (level, _) = band_numbered(k);
-        let count = each * area_of(rects[level as usize]);
-        if !restore_band(values, from, count, k, matrix, place.qindex) {
+        let count = each * area_of(job.rects[level as usize]);
+        if !restore_band(values, from, count, k, job.matrix, job.place.qindex) {
             return false;
         }
         from += count;
@@ -197,38 +202,19 @@ pub fn read_values(
     buffer: &mut [i16],
     count: usize,
     each: usize,
-    rects: &[Rect; 5],
-    layout: &Layout,
-    size: Size,
-    matrix: &Matrix,
-    place: Place,
+    job: PartJob<'_>,
 ) -> bool
     requires few { each ≤ 2 }
-    requires rects { AreRects layout.now size place.sx place.sy rects.now }
-    requires qindex { place.qindex ≤ 127 }
-    requires entries { matrix.now.depth ≡ layout.now.depth }
-    requires count { count ≡ each * place_count layout.now size place.sx place.sy }
+    requires job { IsPartJob job }
+    requires count { count ≡ each * places_of (part_in job) }
     requires room { count + SPARE ≤ length buffer.old }
-    ensures within { let part = part_of layout.now size place.sx place.sy matrix.now place.qindex in
-        let quantisers = quantisers_before each part (3 * layout.now.depth + 1) in
-        StayWithin MAX_SHORT result
-        (λ k. slice_index_or (dealt block.now quantisers) k (pos 0)) 0 count }
-    ensures values { let part = part_of layout.now size place.sx place.sy matrix.now place.qindex in
-        let quantisers = quantisers_before each part (3 * layout.now.depth + 1) in
-        result ≡ true → (k : ℕ) → k < count →
-        slice_index_or buffer.new k (pos 0)
-        ≡ slice_index_or (dealt block.now quantisers) k (pos 0) }
+    ensures within { StayWithin MAX_SHORT result (λ k. slice_index_or
+        (dealt block.now (quantisers each (part_in job.entry))) k (pos 0)) 0 count }
+    ensures values { result ≡ true → (k : ℕ) → k < count → slice_index_or buffer.new k (pos 0)
+        ≡ slice_index_or (dealt block.now (quantisers each (part_in job.entry))) k (pos 0) }
 {
     if !block.short_values(codes, count, buffer) {
         return false;
     }
-    restore_block(
-        &mut buffer[..count],
-        each,
-        rects,
-        layout,
-        size,
-        matrix,
-        place,
-    )
+    restore_block(&mut buffer[..count], each, job)
 }

@@ -1,6 +1,6 @@
 //! One slice into bands of 16 bits.
 
-ghost use Rattle.std.specs.Prelude.{◌≡◌, ◌+◌, ◌*◌, ◌^◌, ◌<◌, ◌≤◌, ℕ, true, false, length, pos, MatchResult, MatchOption};
+ghost use Rattle.std.specs.Prelude.{◌≡◌, ◌+◌, ◌*◌, ◌^◌, ◌<◌, ◌≤◌, true, false, length, MatchResult, MatchOption};
 ghost use Rattle.planes.specs.Raster.{height};
 ghost use Rattle.bounded_blocks.specs.Parts.{block_of};
 ghost use Rattle.dc_prediction.specs.Restoring.{RestoresRect, IsStopped};
@@ -12,13 +12,12 @@ ghost use Rattle.slice_geometry.specs.Slicing as slicing;
 ghost use Rattle.slice_geometry.specs.Slicing.{Slicing};
 ghost use Rattle.slice_geometry.specs.SliceOrder.{numbered};
 ghost use Rattle.slice_decoder.specs.Slice.{slice_at};
-ghost use Rattle.slice_decoder.specs.Components.{part_of};
+ghost use Rattle.slice_decoder.specs.Jobs.{part_in, IsPartJob};
 ghost use Rattle.slice_decoder.specs.Decoded.{AreReady, AllKeepOthers, IsDecoded, IsRefused};
-ghost use Rattle.slice_decoder.specs.Levels.{AreRects};
-ghost use Rattle.slice_decoder.specs.Narrow.{NeedsWide, LowestKeeps, AreRestored, OneStops, AllKeepLowest};
-ghost use Rattle.slice_decoder.specs.Short.{shown_trio, narrow_of, IsCut, AreCut, AreRead};
+ghost use Rattle.slice_decoder.specs.Narrow.{NeedsWide, AreRead, LowestKeeps, AreRestored, OneStops, AllKeepLowest};
+ghost use Rattle.slice_decoder.specs.Short.{shown_trio, IsCut, AreCut};
 
-use crate::components::Place;
+use crate::jobs::{PartJob, Place};
 use crate::levels::{level_rects, lowest_of};
 use crate::short::{read_colour, read_luma};
 use crate::{SliceFault, head_of};
@@ -31,12 +30,8 @@ use slice_geometry::{Layout, PictureShape, SliceHead, length_bits};
 
 // Reads the values of both blocks into the subbands. It answers false where these don't serve.
 fn read_blocks(
-    layout: &Layout,
-    shape: &PictureShape,
-    luma_rects: &[Rect; 5],
-    colour_rects: &[Rect; 5],
-    matrix: &Matrix,
-    place: Place,
+    luma_job: PartJob<'_>,
+    colour_job: PartJob<'_>,
     bytes: &[u8],
     codes: &CodeTable,
     luma_bits: u32,
@@ -46,54 +41,29 @@ fn read_blocks(
     requires some { 1 ≤ length bytes.now }
     requires most { length bytes.now ≤ 2 ^ 28 }
     requires fits { luma_bits + 7 + slicing.length_bits (length bytes.now) ≤ 8 * length bytes.now }
-    requires across { place.sx < layout.now.slices_x }
-    requires down { place.sy < layout.now.slices_y }
-    requires qindex { place.qindex ≤ 127 }
-    requires entries { matrix.now.depth ≡ layout.now.depth }
-    requires luma_rects { AreRects layout.now shape.now.luma place.sx place.sy luma_rects.now }
-    requires colour_rects { AreRects layout.now shape.now.colour place.sx place.sy
-        colour_rects.now }
-    requires cut { AreCut layout.now shape.now bands.old }
+    requires luma_job { IsPartJob luma_job }
+    requires colour_job { IsPartJob colour_job }
+    requires luma_cut { IsCut luma_job.layout.now luma_job.size bands.old.luma }
+    requires c1_cut { IsCut colour_job.layout.now colour_job.size bands.old.c1 }
+    requires c2_cut { IsCut colour_job.layout.now colour_job.size bands.old.c2 }
     ensures read { let start = 7 + slicing.length_bits (length bytes.now) in
-        let luma_part = part_of layout.now shape.now.luma place.sx place.sy matrix.now place.qindex
-        in
-        let colour_part = part_of layout.now shape.now.colour place.sx place.sy matrix.now
-        place.qindex in
-        AreRead MAX_SHORT (length buffer.old) luma_part colour_part
+        AreRead MAX_SHORT (length buffer.old) (part_in luma_job.entry) (part_in colour_job.entry)
         (block_of bytes.now start (start + luma_bits))
         (block_of bytes.now (start + luma_bits) (8 * length bytes.now))
         (shown_trio bands.old) (shown_trio bands.new) result }
-    ensures cut { AreCut layout.now shape.now bands.new }
+    ensures luma_cut { IsCut luma_job.entry.layout.now luma_job.entry.size bands.new.luma }
+    ensures c1_cut { IsCut colour_job.entry.layout.now colour_job.entry.size bands.new.c1 }
+    ensures c2_cut { IsCut colour_job.entry.layout.now colour_job.entry.size bands.new.c2 }
 {
     let start = 7 + u64::from(length_bits(bytes.len() as u32));
     let middle = start + u64::from(luma_bits);
     let luma = Block::new(bytes, start, u64::from(luma_bits));
     let colour = Block::new(bytes, middle, 8 * bytes.len() as u64 - middle);
-    if !read_luma(
-        &luma,
-        codes,
-        &mut bands.luma,
-        luma_rects,
-        layout,
-        shape.luma,
-        matrix,
-        place,
-        buffer,
-    ) {
+    if !read_luma(&luma, codes, &mut bands.luma, luma_job, buffer) {
         return false;
     }
-    read_colour(
-        &colour,
-        codes,
-        &mut bands.c1,
-        &mut bands.c2,
-        colour_rects,
-        layout,
-        shape.colour,
-        matrix,
-        place,
-        buffer,
-    )
+    let (c1, c2) = (&mut bands.c1, &mut bands.c2);
+    read_colour(&colour, codes, c1, c2, colour_job, buffer)
 }
 
 // Restores the residuals of a rectangle in the lowest of a component's subbands, up to a value that would pass 2^18.
@@ -124,13 +94,13 @@ fn restore_all(bands: &mut ShortTrio, luma: Rect, colour: Rect) -> bool
     requires c1_sound { IsShortSound bands.old.c1 }
     requires c2_sound { IsShortSound bands.old.c2 }
     ensures restored { result ≡ true
-        → AreRestored luma colour (narrow_of (shown_trio bands.old))
-        (narrow_of (shown_trio bands.new)) }
+        → AreRestored luma colour (shown_trio bands.old)
+        (shown_trio bands.new) }
     ensures stopped { result ≡ false
-        → OneStops luma colour (narrow_of (shown_trio bands.old))
-        (narrow_of (shown_trio bands.new)) }
-    ensures keeps { AllKeepLowest luma colour (narrow_of (shown_trio bands.old))
-        (narrow_of (shown_trio bands.new)) }
+        → OneStops luma colour (shown_trio bands.old)
+        (shown_trio bands.new) }
+    ensures keeps { AllKeepLowest luma colour (shown_trio bands.old)
+        (shown_trio bands.new) }
     ensures cut { (s : Slicing) (shape : PictureShape) → AreCut s shape bands.old
         → AreCut s shape bands.new }
 {
@@ -192,13 +162,23 @@ pub fn decode_short(
     };
     let luma_rects = level_rects(layout, shape.luma, place);
     let colour_rects = level_rects(layout, shape.colour, place);
-    if !read_blocks(
+    let luma_job = PartJob {
         layout,
-        shape,
-        &luma_rects,
-        &colour_rects,
+        size: shape.luma,
         matrix,
         place,
+        rects: &luma_rects,
+    };
+    let colour_job = PartJob {
+        layout,
+        size: shape.colour,
+        matrix,
+        place,
+        rects: &colour_rects,
+    };
+    if !read_blocks(
+        luma_job,
+        colour_job,
         bytes,
         codes,
         head.luma_bits,

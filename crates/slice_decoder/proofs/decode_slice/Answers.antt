@@ -52,7 +52,7 @@ restore-requires c =
     let colour_block : List Bool = block_of c.args.bytes.now (start + c.head_of-head.result.luma_bits) (8 * length c.args.bytes.now) in
     let good = c.if-not-read_blocks.false in
     let all = sym (sym good ∙ c.read_blocks.ensures.small) in
-    can-restore 1 0 luma luma_block c.args.bands.now.luma c.read_blocks.new.bands.luma c.band_rect-luma.result (omega arith) c.band_rect-luma.ensures c.depth-depth.ensures.allowed.depth c.args.shape.now.luma_fits c.requires.across c.requires.down c.requires.ready.luma (c.read_blocks.ensures.luma_holds good) (and-left _ _ all)
+    can-restore 1 0 luma luma_block c.args.bands.now.luma c.read_blocks.new.bands.luma c.lowest_of-luma.result (omega arith) (c.lowest_of-luma.ensures c.args.layout.now c.args.shape.now.luma c.args.sx c.args.sy c.level_rects-luma_rects.ensures) c.depth-depth.ensures.allowed.depth c.args.shape.now.luma_fits c.requires.across c.requires.down c.requires.ready.luma (c.read_blocks.ensures.luma_holds good) (and-left _ _ all)
 
 pub restore-requires-2 : goal.restore-requires-2
 restore-requires-2 c =
@@ -63,7 +63,7 @@ restore-requires-2 c =
     let colour_block : List Bool = block_of c.args.bytes.now (start + c.head_of-head.result.luma_bits) (8 * length c.args.bytes.now) in
     let good = c.if-not-read_blocks.false in
     let all = sym (sym good ∙ c.read_blocks.ensures.small) in
-    can-restore 2 0 colour colour_block c.args.bands.now.c1 c.read_blocks.new.bands.c1 c.band_rect-colour.result (omega arith) c.band_rect-colour.ensures c.depth-depth.ensures.allowed.depth c.args.shape.now.colour_fits c.requires.across c.requires.down c.requires.ready.c1 (c.read_blocks.ensures.c1_holds good) (and-right _ _ all)
+    can-restore 2 0 colour colour_block c.args.bands.now.c1 c.read_blocks.new.bands.c1 c.lowest_of-colour.result (omega arith) (c.lowest_of-colour.ensures c.args.layout.now c.args.shape.now.colour c.args.sx c.args.sy c.level_rects-colour_rects.ensures) c.depth-depth.ensures.allowed.depth c.args.shape.now.colour_fits c.requires.across c.requires.down c.requires.ready.c1 (c.read_blocks.ensures.c1_holds good) (and-right _ _ all)
 
 pub restore-requires-3 : goal.restore-requires-3
 restore-requires-3 c =
@@ -74,7 +74,7 @@ restore-requires-3 c =
     let colour_block : List Bool = block_of c.args.bytes.now (start + c.head_of-head.result.luma_bits) (8 * length c.args.bytes.now) in
     let good = c.if-not-read_blocks.false in
     let all = sym (sym good ∙ c.read_blocks.ensures.small) in
-    can-restore 2 1 colour colour_block c.args.bands.now.c2 c.read_blocks.new.bands.c2 c.band_rect-colour.result (omega arith) c.band_rect-colour.ensures c.depth-depth.ensures.allowed.depth c.args.shape.now.colour_fits c.requires.across c.requires.down c.requires.ready.c2 (c.read_blocks.ensures.c2_holds good) (and-right _ _ all)
+    can-restore 2 1 colour colour_block c.args.bands.now.c2 c.read_blocks.new.bands.c2 c.lowest_of-colour.result (omega arith) (c.lowest_of-colour.ensures c.args.layout.now c.args.shape.now.colour c.args.sx c.args.sy c.level_rects-colour_rects.ensures) c.depth-depth.ensures.allowed.depth c.args.shape.now.colour_fits c.requires.across c.requires.down c.requires.ready.c2 (c.read_blocks.ensures.c2_holds good) (and-right _ _ all)
 
 pub returns-clause-decoded : goal.returns-clause-decoded
 returns-clause-decoded c =
@@ -96,9 +96,9 @@ returns-clause-decoded c =
       luma_bits = c.head_of-head.ensures.luma_bits;
       fits = fits_in;
       small = both-small _ _ _ _ true are.of_luma are.of_colour (sym good ∙ read.small);
-      luma = holds-slice 1 0 luma luma_block c.args.bands.now.luma c.read_blocks.new.bands.luma c.restore.new.bands c.band_rect-luma.result _ (omega arith) c.band_rect-luma.ensures are.of_luma (read.luma_holds good) c.restore.ensures.restored c.restore.ensures.others;
-      c1 = holds-slice 2 0 colour colour_block c.args.bands.now.c1 c.read_blocks.new.bands.c1 c.restore-2.new.bands c.band_rect-colour.result _ (omega arith) c.band_rect-colour.ensures are.of_colour (read.c1_holds good) c.restore-2.ensures.restored c.restore-2.ensures.others;
-      c2 = holds-slice 2 1 colour colour_block c.args.bands.now.c2 c.read_blocks.new.bands.c2 c.restore-3.new.bands c.band_rect-colour.result _ (omega arith) c.band_rect-colour.ensures are.of_colour (read.c2_holds good) c.restore-3.ensures.restored c.restore-3.ensures.others;
+      luma = holds-slice 1 0 luma luma_block c.args.bands.now.luma c.read_blocks.new.bands.luma c.restore.new.bands c.lowest_of-luma.result _ (omega arith) (c.lowest_of-luma.ensures c.args.layout.now c.args.shape.now.luma c.args.sx c.args.sy c.level_rects-luma_rects.ensures) are.of_luma (read.luma_holds good) c.restore.ensures.restored c.restore.ensures.others;
+      c1 = holds-slice 2 0 colour colour_block c.args.bands.now.c1 c.read_blocks.new.bands.c1 c.restore-2.new.bands c.lowest_of-colour.result _ (omega arith) (c.lowest_of-colour.ensures c.args.layout.now c.args.shape.now.colour c.args.sx c.args.sy c.level_rects-colour_rects.ensures) are.of_colour (read.c1_holds good) c.restore-2.ensures.restored c.restore-2.ensures.others;
+      c2 = holds-slice 2 1 colour colour_block c.args.bands.now.c2 c.read_blocks.new.bands.c2 c.restore-3.new.bands c.lowest_of-colour.result _ (omega arith) (c.lowest_of-colour.ensures c.args.layout.now c.args.shape.now.colour c.args.sx c.args.sy c.level_rects-colour_rects.ensures) are.of_colour (read.c2_holds good) c.restore-3.ensures.restored c.restore-3.ensures.others;
     }
 
 pub returns-clause-others : goal.returns-clause-others
@@ -108,11 +108,38 @@ returns-clause-others c =
     let start : ℕ = 7 + length_bits (length c.args.bytes.now) in
     let luma_block : List Bool = block_of c.args.bytes.now start (start + c.head_of-head.result.luma_bits) in
     let colour_block : List Bool = block_of c.args.bytes.now (start + c.head_of-head.result.luma_bits) (8 * length c.args.bytes.now) in
-    let luma_keeps : BandsKeep luma c.args.bands.now.luma c.restore.new.bands = bands-restored luma c.args.bands.now.luma c.read_blocks.new.bands.luma c.restore.new.bands c.band_rect-luma.result c.band_rect-luma.ensures c.read_blocks.ensures.luma_keeps c.restore.ensures.depth c.restore.ensures.restored c.restore.ensures.others in
-    let c1_keeps : BandsKeep colour c.args.bands.now.c1 c.restore-2.new.bands = bands-restored colour c.args.bands.now.c1 c.read_blocks.new.bands.c1 c.restore-2.new.bands c.band_rect-colour.result c.band_rect-colour.ensures c.read_blocks.ensures.c1_keeps c.restore-2.ensures.depth c.restore-2.ensures.restored c.restore-2.ensures.others in
-    let c2_keeps : BandsKeep colour c.args.bands.now.c2 c.restore-3.new.bands = bands-restored colour c.args.bands.now.c2 c.read_blocks.new.bands.c2 c.restore-3.new.bands c.band_rect-colour.result c.band_rect-colour.ensures c.read_blocks.ensures.c2_keeps c.restore-3.ensures.depth c.restore-3.ensures.restored c.restore-3.ensures.others in
+    let luma_keeps : BandsKeep luma c.args.bands.now.luma c.restore.new.bands = bands-restored luma c.args.bands.now.luma c.read_blocks.new.bands.luma c.restore.new.bands c.lowest_of-luma.result (c.lowest_of-luma.ensures c.args.layout.now c.args.shape.now.luma c.args.sx c.args.sy c.level_rects-luma_rects.ensures) c.read_blocks.ensures.luma_keeps c.restore.ensures.depth c.restore.ensures.restored c.restore.ensures.others in
+    let c1_keeps : BandsKeep colour c.args.bands.now.c1 c.restore-2.new.bands = bands-restored colour c.args.bands.now.c1 c.read_blocks.new.bands.c1 c.restore-2.new.bands c.lowest_of-colour.result (c.lowest_of-colour.ensures c.args.layout.now c.args.shape.now.colour c.args.sx c.args.sy c.level_rects-colour_rects.ensures) c.read_blocks.ensures.c1_keeps c.restore-2.ensures.depth c.restore-2.ensures.restored c.restore-2.ensures.others in
+    let c2_keeps : BandsKeep colour c.args.bands.now.c2 c.restore-3.new.bands = bands-restored colour c.args.bands.now.c2 c.read_blocks.new.bands.c2 c.restore-3.new.bands c.lowest_of-colour.result (c.lowest_of-colour.ensures c.args.layout.now c.args.shape.now.colour c.args.sx c.args.sy c.level_rects-colour_rects.ensures) c.read_blocks.ensures.c2_keeps c.restore-3.ensures.depth c.restore-3.ensures.restored c.restore-3.ensures.others in
     record {
       luma = keeps-others luma c.args.bands.now.luma c.restore.new.bands luma_keeps;
       c1 = keeps-others colour c.args.bands.now.c1 c.restore-2.new.bands c1_keeps;
       c2 = keeps-others colour c.args.bands.now.c2 c.restore-3.new.bands c2_keeps;
     }
+
+pub read_blocks-requires-clause-luma_job : goal.read_blocks-requires-clause-luma_job
+read_blocks-requires-clause-luma_job c = record {
+  rects = c.level_rects-luma_rects.ensures;
+  across = c.requires.across;
+  down = c.requires.down;
+  qindex = c.head_of-head.ensures.small;
+  entries = c.requires.entries;
+}
+
+pub read_blocks-requires-clause-colour_job : goal.read_blocks-requires-clause-colour_job
+read_blocks-requires-clause-colour_job c = record {
+  rects = c.level_rects-colour_rects.ensures;
+  across = c.requires.across;
+  down = c.requires.down;
+  qindex = c.head_of-head.ensures.small;
+  entries = c.requires.entries;
+}
+
+pub read_blocks-requires-clause-luma_sizes : goal.read_blocks-requires-clause-luma_sizes
+read_blocks-requires-clause-luma_sizes c = record { depth = c.requires.ready.luma.depth; sizes = c.requires.ready.luma.sizes }
+
+pub read_blocks-requires-clause-c1_sizes : goal.read_blocks-requires-clause-c1_sizes
+read_blocks-requires-clause-c1_sizes c = record { depth = c.requires.ready.c1.depth; sizes = c.requires.ready.c1.sizes }
+
+pub read_blocks-requires-clause-c2_sizes : goal.read_blocks-requires-clause-c2_sizes
+read_blocks-requires-clause-c2_sizes c = record { depth = c.requires.ready.c2.depth; sizes = c.requires.ready.c2.sizes }

@@ -1,4 +1,5 @@
 use Rattle.std.proofs.Common.{◌≡◌, ◌+◌, ◌*◌, ◌<◌, length, refl, sym, ◌∙◌, arith}
+use Rattle.slice_decoder.specs.Jobs.{part_in}
 use Rattle.slice_decoder.specs.Components.{Part, rect_of, index_of}
 use Rattle.quant_factors.proofs.Quantisers.{index_here}
 use Rattle.slice_decoder.proofs.Stacks.{bands-small, bands-left, bands-stopped, bands-keep, bands-hold}
@@ -23,66 +24,66 @@ loop-k-init c = record {
 
 pub fill_rects-requires-clause-down : goal.fill_rects-requires-clause-down
 fill_rects-requires-clause-down c =
-    let part : Part = record { slicing = c.args.layout.now; size = c.args.size; sx = c.args.place.sx; sy = c.args.place.sy; matrix = c.args.matrix.now; qindex = c.args.place.qindex } in
+    let part : Part = part_in c.args.job in
     let rect_is : c.band_rect-rect.result ≡ rect_of part c.loop-k.k = rect_here part.slicing part.size part.sx part.sy c.loop-k.k c.band_numbered-level.result.0 c.band_rect-rect.result c.band_numbered-level.ensures.level c.band_rect-rect.ensures in
     let number_is = number_here c.loop-k.k c.band_numbered-level.result.0 c.band_numbered-level.result.1 c.band_numbered-level.ensures.level c.band_numbered-level.ensures.orient in
     let first_is = before_here c.loop-k.first c.loop-k.k c.band_numbered-level.result.0 c.band_numbered-level.result.1 c.band_mut-one.result.now number_is c.band_mut-one.ensures.value in
-    let below : c.loop-k.k < 3 * c.args.layout.now.depth + 1 = omega (arith, c.loop-k-test.true, c.depth.ensures.value) in
-    let inside : FitsIn c.band_rect-rect.result c.band_mut-one.result.now = fits part.slicing part.size part.sx part.sy c.loop-k.k c.band_rect-rect.result c.args.first.now c.band_mut-one.result.now rect_is (first_is ∙ c.loop-k.invariant.first_rest c.loop-k.k (omega arith)) below c.requires.first_depth c.requires.across c.requires.down c.requires.first_sizes in
+    let below : c.loop-k.k < 3 * c.args.job.layout.now.depth + 1 = omega (arith, c.loop-k-test.true, c.depth.ensures.value) in
+    let inside : FitsIn c.band_rect-rect.result c.band_mut-one.result.now = fits part.slicing part.size part.sx part.sy c.loop-k.k c.band_rect-rect.result c.args.first.now c.band_mut-one.result.now rect_is (first_is ∙ c.loop-k.invariant.first_rest c.loop-k.k (omega arith)) below c.requires.first_sizes.depth c.requires.job.across c.requires.job.down c.requires.first_sizes.sizes in
     inside.down
 
 pub fill_rects-requires-clause-first_x_inside : goal.fill_rects-requires-clause-first_x_inside
 fill_rects-requires-clause-first_x_inside c =
-    let part : Part = record { slicing = c.args.layout.now; size = c.args.size; sx = c.args.place.sx; sy = c.args.place.sy; matrix = c.args.matrix.now; qindex = c.args.place.qindex } in
+    let part : Part = part_in c.args.job in
     let rect_is : c.band_rect-rect.result ≡ rect_of part c.loop-k.k = rect_here part.slicing part.size part.sx part.sy c.loop-k.k c.band_numbered-level.result.0 c.band_rect-rect.result c.band_numbered-level.ensures.level c.band_rect-rect.ensures in
     let number_is = number_here c.loop-k.k c.band_numbered-level.result.0 c.band_numbered-level.result.1 c.band_numbered-level.ensures.level c.band_numbered-level.ensures.orient in
     let first_is = before_here c.loop-k.first c.loop-k.k c.band_numbered-level.result.0 c.band_numbered-level.result.1 c.band_mut-one.result.now number_is c.band_mut-one.ensures.value in
-    let below : c.loop-k.k < 3 * c.args.layout.now.depth + 1 = omega (arith, c.loop-k-test.true, c.depth.ensures.value) in
-    let inside : FitsIn c.band_rect-rect.result c.band_mut-one.result.now = fits part.slicing part.size part.sx part.sy c.loop-k.k c.band_rect-rect.result c.args.first.now c.band_mut-one.result.now rect_is (first_is ∙ c.loop-k.invariant.first_rest c.loop-k.k (omega arith)) below c.requires.first_depth c.requires.across c.requires.down c.requires.first_sizes in
+    let below : c.loop-k.k < 3 * c.args.job.layout.now.depth + 1 = omega (arith, c.loop-k-test.true, c.depth.ensures.value) in
+    let inside : FitsIn c.band_rect-rect.result c.band_mut-one.result.now = fits part.slicing part.size part.sx part.sy c.loop-k.k c.band_rect-rect.result c.args.first.now c.band_mut-one.result.now rect_is (first_is ∙ c.loop-k.invariant.first_rest c.loop-k.k (omega arith)) below c.requires.first_sizes.depth c.requires.job.across c.requires.job.down c.requires.first_sizes.sizes in
     inside.x_inside
 
 pub fill_rects-requires-clause-first_y_inside : goal.fill_rects-requires-clause-first_y_inside
 fill_rects-requires-clause-first_y_inside c =
-    let part : Part = record { slicing = c.args.layout.now; size = c.args.size; sx = c.args.place.sx; sy = c.args.place.sy; matrix = c.args.matrix.now; qindex = c.args.place.qindex } in
+    let part : Part = part_in c.args.job in
     let rect_is : c.band_rect-rect.result ≡ rect_of part c.loop-k.k = rect_here part.slicing part.size part.sx part.sy c.loop-k.k c.band_numbered-level.result.0 c.band_rect-rect.result c.band_numbered-level.ensures.level c.band_rect-rect.ensures in
     let number_is = number_here c.loop-k.k c.band_numbered-level.result.0 c.band_numbered-level.result.1 c.band_numbered-level.ensures.level c.band_numbered-level.ensures.orient in
     let first_is = before_here c.loop-k.first c.loop-k.k c.band_numbered-level.result.0 c.band_numbered-level.result.1 c.band_mut-one.result.now number_is c.band_mut-one.ensures.value in
-    let below : c.loop-k.k < 3 * c.args.layout.now.depth + 1 = omega (arith, c.loop-k-test.true, c.depth.ensures.value) in
-    let inside : FitsIn c.band_rect-rect.result c.band_mut-one.result.now = fits part.slicing part.size part.sx part.sy c.loop-k.k c.band_rect-rect.result c.args.first.now c.band_mut-one.result.now rect_is (first_is ∙ c.loop-k.invariant.first_rest c.loop-k.k (omega arith)) below c.requires.first_depth c.requires.across c.requires.down c.requires.first_sizes in
+    let below : c.loop-k.k < 3 * c.args.job.layout.now.depth + 1 = omega (arith, c.loop-k-test.true, c.depth.ensures.value) in
+    let inside : FitsIn c.band_rect-rect.result c.band_mut-one.result.now = fits part.slicing part.size part.sx part.sy c.loop-k.k c.band_rect-rect.result c.args.first.now c.band_mut-one.result.now rect_is (first_is ∙ c.loop-k.invariant.first_rest c.loop-k.k (omega arith)) below c.requires.first_sizes.depth c.requires.job.across c.requires.job.down c.requires.first_sizes.sizes in
     inside.y_inside
 
 pub fill_rects-requires-clause-second_x_inside : goal.fill_rects-requires-clause-second_x_inside
 fill_rects-requires-clause-second_x_inside c =
-    let part : Part = record { slicing = c.args.layout.now; size = c.args.size; sx = c.args.place.sx; sy = c.args.place.sy; matrix = c.args.matrix.now; qindex = c.args.place.qindex } in
+    let part : Part = part_in c.args.job in
     let rect_is : c.band_rect-rect.result ≡ rect_of part c.loop-k.k = rect_here part.slicing part.size part.sx part.sy c.loop-k.k c.band_numbered-level.result.0 c.band_rect-rect.result c.band_numbered-level.ensures.level c.band_rect-rect.ensures in
     let number_is = number_here c.loop-k.k c.band_numbered-level.result.0 c.band_numbered-level.result.1 c.band_numbered-level.ensures.level c.band_numbered-level.ensures.orient in
     let second_is = before_here c.loop-k.second c.loop-k.k c.band_numbered-level.result.0 c.band_numbered-level.result.1 c.band_mut-two.result.now number_is c.band_mut-two.ensures.value in
-    let below : c.loop-k.k < 3 * c.args.layout.now.depth + 1 = omega (arith, c.loop-k-test.true, c.depth.ensures.value) in
-    let inside : FitsIn c.band_rect-rect.result c.band_mut-two.result.now = fits part.slicing part.size part.sx part.sy c.loop-k.k c.band_rect-rect.result c.args.second.now c.band_mut-two.result.now rect_is (second_is ∙ c.loop-k.invariant.second_rest c.loop-k.k (omega arith)) below c.requires.second_depth c.requires.across c.requires.down c.requires.second_sizes in
+    let below : c.loop-k.k < 3 * c.args.job.layout.now.depth + 1 = omega (arith, c.loop-k-test.true, c.depth.ensures.value) in
+    let inside : FitsIn c.band_rect-rect.result c.band_mut-two.result.now = fits part.slicing part.size part.sx part.sy c.loop-k.k c.band_rect-rect.result c.args.second.now c.band_mut-two.result.now rect_is (second_is ∙ c.loop-k.invariant.second_rest c.loop-k.k (omega arith)) below c.requires.second_sizes.depth c.requires.job.across c.requires.job.down c.requires.second_sizes.sizes in
     inside.x_inside
 
 pub fill_rects-requires-clause-second_y_inside : goal.fill_rects-requires-clause-second_y_inside
 fill_rects-requires-clause-second_y_inside c =
-    let part : Part = record { slicing = c.args.layout.now; size = c.args.size; sx = c.args.place.sx; sy = c.args.place.sy; matrix = c.args.matrix.now; qindex = c.args.place.qindex } in
+    let part : Part = part_in c.args.job in
     let rect_is : c.band_rect-rect.result ≡ rect_of part c.loop-k.k = rect_here part.slicing part.size part.sx part.sy c.loop-k.k c.band_numbered-level.result.0 c.band_rect-rect.result c.band_numbered-level.ensures.level c.band_rect-rect.ensures in
     let number_is = number_here c.loop-k.k c.band_numbered-level.result.0 c.band_numbered-level.result.1 c.band_numbered-level.ensures.level c.band_numbered-level.ensures.orient in
     let second_is = before_here c.loop-k.second c.loop-k.k c.band_numbered-level.result.0 c.band_numbered-level.result.1 c.band_mut-two.result.now number_is c.band_mut-two.ensures.value in
-    let below : c.loop-k.k < 3 * c.args.layout.now.depth + 1 = omega (arith, c.loop-k-test.true, c.depth.ensures.value) in
-    let inside : FitsIn c.band_rect-rect.result c.band_mut-two.result.now = fits part.slicing part.size part.sx part.sy c.loop-k.k c.band_rect-rect.result c.args.second.now c.band_mut-two.result.now rect_is (second_is ∙ c.loop-k.invariant.second_rest c.loop-k.k (omega arith)) below c.requires.second_depth c.requires.across c.requires.down c.requires.second_sizes in
+    let below : c.loop-k.k < 3 * c.args.job.layout.now.depth + 1 = omega (arith, c.loop-k-test.true, c.depth.ensures.value) in
+    let inside : FitsIn c.band_rect-rect.result c.band_mut-two.result.now = fits part.slicing part.size part.sx part.sy c.loop-k.k c.band_rect-rect.result c.args.second.now c.band_mut-two.result.now rect_is (second_is ∙ c.loop-k.invariant.second_rest c.loop-k.k (omega arith)) below c.requires.second_sizes.depth c.requires.job.across c.requires.job.down c.requires.second_sizes.sizes in
     inside.y_inside
 
 pub returns-then-not-fill_rects-clause-small : goal.returns-then-not-fill_rects-clause-small
 returns-then-not-fill_rects-clause-small c =
-    let part : Part = record { slicing = c.args.layout.now; size = c.args.size; sx = c.args.place.sx; sy = c.args.place.sy; matrix = c.args.matrix.now; qindex = c.args.place.qindex } in
+    let part : Part = part_in c.args.job in
     let rect_is : c.band_rect-rect.result ≡ rect_of part c.loop-k.k = rect_here part.slicing part.size part.sx part.sy c.loop-k.k c.band_numbered-level.result.0 c.band_rect-rect.result c.band_numbered-level.ensures.level c.band_rect-rect.ensures in
     let number_is = number_here c.loop-k.k c.band_numbered-level.result.0 c.band_numbered-level.result.1 c.band_numbered-level.ensures.level c.band_numbered-level.ensures.orient in
     let index_is : c.quantiser-index.result ≡ index_of part c.loop-k.k = index_here part.matrix part.qindex c.band_numbered-level.result.0 _ c.band_numbered-level.result.1 _ _ c.quantiser-index.result c.band_numbered-level.ensures.level c.band_numbered-level.ensures.orient c.orient_numbered.ensures c.quantiser-index.ensures in
     let large = bands-small 2 part c.loop-k.k c.args.block.now c.loop-k.block c.quantiser-index.result c.band_rect-rect.result _ rect_is index_is c.loop-k.invariant.small c.loop-k.invariant.left (sym c.if-not-fill_rects.true ∙ c.fill_rects.ensures.small) in
-    bands-stopped 2 part c.loop-k.k (3 * c.args.layout.now.depth + 1) c.args.block.now (omega (arith, c.loop-k-test.true, c.depth.ensures.value)) large
+    bands-stopped 2 part c.loop-k.k (3 * c.args.job.layout.now.depth + 1) c.args.block.now (omega (arith, c.loop-k-test.true, c.depth.ensures.value)) large
 
 pub returns-then-not-fill_rects-clause-first_keeps : goal.returns-then-not-fill_rects-clause-first_keeps
 returns-then-not-fill_rects-clause-first_keeps c =
-    let part : Part = record { slicing = c.args.layout.now; size = c.args.size; sx = c.args.place.sx; sy = c.args.place.sy; matrix = c.args.matrix.now; qindex = c.args.place.qindex } in
+    let part : Part = part_in c.args.job in
     let rect_is : c.band_rect-rect.result ≡ rect_of part c.loop-k.k = rect_here part.slicing part.size part.sx part.sy c.loop-k.k c.band_numbered-level.result.0 c.band_rect-rect.result c.band_numbered-level.ensures.level c.band_rect-rect.ensures in
     let number_is = number_here c.loop-k.k c.band_numbered-level.result.0 c.band_numbered-level.result.1 c.band_numbered-level.ensures.level c.band_numbered-level.ensures.orient in
     let first_is = before_here c.loop-k.first c.loop-k.k c.band_numbered-level.result.0 c.band_numbered-level.result.1 c.band_mut-one.result.now number_is c.band_mut-one.ensures.value in
@@ -91,7 +92,7 @@ returns-then-not-fill_rects-clause-first_keeps c =
 
 pub returns-then-not-fill_rects-clause-second_keeps : goal.returns-then-not-fill_rects-clause-second_keeps
 returns-then-not-fill_rects-clause-second_keeps c =
-    let part : Part = record { slicing = c.args.layout.now; size = c.args.size; sx = c.args.place.sx; sy = c.args.place.sy; matrix = c.args.matrix.now; qindex = c.args.place.qindex } in
+    let part : Part = part_in c.args.job in
     let rect_is : c.band_rect-rect.result ≡ rect_of part c.loop-k.k = rect_here part.slicing part.size part.sx part.sy c.loop-k.k c.band_numbered-level.result.0 c.band_rect-rect.result c.band_numbered-level.ensures.level c.band_rect-rect.ensures in
     let number_is = number_here c.loop-k.k c.band_numbered-level.result.0 c.band_numbered-level.result.1 c.band_numbered-level.ensures.level c.band_numbered-level.ensures.orient in
     let second_is = before_here c.loop-k.second c.loop-k.k c.band_numbered-level.result.0 c.band_numbered-level.result.1 c.band_mut-two.result.now number_is c.band_mut-two.ensures.value in
@@ -100,7 +101,7 @@ returns-then-not-fill_rects-clause-second_keeps c =
 
 pub loop-k-preserved : goal.loop-k-preserved
 loop-k-preserved c =
-    let part : Part = record { slicing = c.args.layout.now; size = c.args.size; sx = c.args.place.sx; sy = c.args.place.sy; matrix = c.args.matrix.now; qindex = c.args.place.qindex } in
+    let part : Part = part_in c.args.job in
     let rect_is : c.band_rect-rect.result ≡ rect_of part c.loop-k.k = rect_here part.slicing part.size part.sx part.sy c.loop-k.k c.band_numbered-level.result.0 c.band_rect-rect.result c.band_numbered-level.ensures.level c.band_rect-rect.ensures in
     let number_is = number_here c.loop-k.k c.band_numbered-level.result.0 c.band_numbered-level.result.1 c.band_numbered-level.ensures.level c.band_numbered-level.ensures.orient in
     let first_is = before_here c.loop-k.first c.loop-k.k c.band_numbered-level.result.0 c.band_numbered-level.result.1 c.band_mut-one.result.now number_is c.band_mut-one.ensures.value in

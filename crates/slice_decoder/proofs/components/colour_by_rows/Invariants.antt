@@ -1,13 +1,14 @@
 use Rattle.std.proofs.Common.{◌≡◌, ℕ, ◌≤◌, true, length}
 use Rattle.slice_decoder.specs.Slice.{are_small}
 use Rattle.slice_decoder.specs.Dealing.{dealt, behind}
+use Rattle.slice_decoder.specs.Jobs.{part_in}
 use Rattle.slice_decoder.specs.Components.{Part, quantisers_before, BandsHold, BandsKeep}
 use Rattle.slice_geometry.specs.SliceOrder.{numbered}
 use Rattle.slice_decoder.proofs.components.colour_by_rows.Given as goal
 
 abbrev pub invariant-loop-k : goal.invariant-loop-k
 invariant-loop-k l =
-    let part : Part = record { slicing = l.layout; size = l.size; sx = l.place.sx; sy = l.place.sy; matrix = l.matrix; qindex = l.place.qindex } in
+    let part : Part = part_in l.job in
     record {
       room : length l.buffer ≡ 128;
       small : are_small (dealt l.fn.block (quantisers_before 2 part l.k)) ≡ true;

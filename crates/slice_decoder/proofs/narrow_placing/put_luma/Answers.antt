@@ -18,73 +18,73 @@ loop-k-init c = record {
 
 pub put_rect-requires-clause-x_inside : goal.put_rect-requires-clause-x_inside
 put_rect-requires-clause-x_inside c =
-    let s = c.args.layout.now in
-    let size = c.args.size in
-    let sx = c.args.place.sx in
-    let sy = c.args.place.sy in
+    let s = c.args.job.layout.now in
+    let size = c.args.job.size in
+    let sx = c.args.job.place.sx in
+    let sy = c.args.job.place.sy in
     let l = c.loop-k in
     let i = l.invariant in
-    let below : l.k < 3 * c.args.layout.now.depth + 1 = omega (arith, c.loop-k-test.true, c.depth.ensures.value) in
-    let rect : Rect = get_or c.args.rects.now c.band_numbered-level.result.0 no_rect in
-    let rect_is : get_or c.args.rects.now c.band_numbered-level.result.0 no_rect ≡ level_rect c.args.layout.now c.args.size c.args.place.sx c.args.place.sy (level_of c.loop-k.k) = rect_of_level c.args.layout.now c.args.size c.args.place.sx c.args.place.sy c.args.rects.now l.k c.band_numbered-level.result.0 c.requires.rects c.band_numbered-level.ensures.level below in
+    let below : l.k < 3 * c.args.job.layout.now.depth + 1 = omega (arith, c.loop-k-test.true, c.depth.ensures.value) in
+    let rect : Rect = get_or c.args.job.rects.now c.band_numbered-level.result.0 no_rect in
+    let rect_is : get_or c.args.job.rects.now c.band_numbered-level.result.0 no_rect ≡ level_rect c.args.job.layout.now c.args.job.size c.args.job.place.sx c.args.job.place.sy (level_of c.loop-k.k) = rect_of_level c.args.job.layout.now c.args.job.size c.args.job.place.sx c.args.job.place.sy c.args.job.rects.now l.k c.band_numbered-level.result.0 c.requires.job.rects c.band_numbered-level.ensures.level below in
     let number_is = number_here l.k c.band_numbered-level.result.0 c.band_numbered-level.result.1 c.band_numbered-level.ensures.level c.band_numbered-level.ensures.orient in
     let before_is = before_here l.bands l.k c.band_numbered-level.result.0 c.band_numbered-level.result.1 c.band_mut.result.now number_is c.band_mut.ensures.value in
-    let inside : FitsIn (get_or c.args.rects.now c.band_numbered-level.result.0 no_rect) c.band_mut.result.now = fits s size sx sy l.k (get_or c.args.rects.now c.band_numbered-level.result.0 no_rect) c.args.bands.now c.band_mut.result.now rect_is (before_is ∙ i.rest l.k (omega arith)) below c.requires.depth c.requires.across c.requires.down c.requires.sizes in
+    let inside : FitsIn (get_or c.args.job.rects.now c.band_numbered-level.result.0 no_rect) c.band_mut.result.now = fits s size sx sy l.k (get_or c.args.job.rects.now c.band_numbered-level.result.0 no_rect) c.args.bands.now c.band_mut.result.now rect_is (before_is ∙ i.rest l.k (omega arith)) below c.requires.sizes.depth c.requires.job.across c.requires.job.down c.requires.sizes.sizes in
     inside.x_inside
 
 pub put_rect-requires-clause-y_inside : goal.put_rect-requires-clause-y_inside
 put_rect-requires-clause-y_inside c =
-    let s = c.args.layout.now in
-    let size = c.args.size in
-    let sx = c.args.place.sx in
-    let sy = c.args.place.sy in
+    let s = c.args.job.layout.now in
+    let size = c.args.job.size in
+    let sx = c.args.job.place.sx in
+    let sy = c.args.job.place.sy in
     let l = c.loop-k in
     let i = l.invariant in
-    let below : l.k < 3 * c.args.layout.now.depth + 1 = omega (arith, c.loop-k-test.true, c.depth.ensures.value) in
-    let rect : Rect = get_or c.args.rects.now c.band_numbered-level.result.0 no_rect in
-    let rect_is : get_or c.args.rects.now c.band_numbered-level.result.0 no_rect ≡ level_rect c.args.layout.now c.args.size c.args.place.sx c.args.place.sy (level_of c.loop-k.k) = rect_of_level c.args.layout.now c.args.size c.args.place.sx c.args.place.sy c.args.rects.now l.k c.band_numbered-level.result.0 c.requires.rects c.band_numbered-level.ensures.level below in
+    let below : l.k < 3 * c.args.job.layout.now.depth + 1 = omega (arith, c.loop-k-test.true, c.depth.ensures.value) in
+    let rect : Rect = get_or c.args.job.rects.now c.band_numbered-level.result.0 no_rect in
+    let rect_is : get_or c.args.job.rects.now c.band_numbered-level.result.0 no_rect ≡ level_rect c.args.job.layout.now c.args.job.size c.args.job.place.sx c.args.job.place.sy (level_of c.loop-k.k) = rect_of_level c.args.job.layout.now c.args.job.size c.args.job.place.sx c.args.job.place.sy c.args.job.rects.now l.k c.band_numbered-level.result.0 c.requires.job.rects c.band_numbered-level.ensures.level below in
     let number_is = number_here l.k c.band_numbered-level.result.0 c.band_numbered-level.result.1 c.band_numbered-level.ensures.level c.band_numbered-level.ensures.orient in
     let before_is = before_here l.bands l.k c.band_numbered-level.result.0 c.band_numbered-level.result.1 c.band_mut.result.now number_is c.band_mut.ensures.value in
-    let inside : FitsIn (get_or c.args.rects.now c.band_numbered-level.result.0 no_rect) c.band_mut.result.now = fits s size sx sy l.k (get_or c.args.rects.now c.band_numbered-level.result.0 no_rect) c.args.bands.now c.band_mut.result.now rect_is (before_is ∙ i.rest l.k (omega arith)) below c.requires.depth c.requires.across c.requires.down c.requires.sizes in
+    let inside : FitsIn (get_or c.args.job.rects.now c.band_numbered-level.result.0 no_rect) c.band_mut.result.now = fits s size sx sy l.k (get_or c.args.job.rects.now c.band_numbered-level.result.0 no_rect) c.args.bands.now c.band_mut.result.now rect_is (before_is ∙ i.rest l.k (omega arith)) below c.requires.sizes.depth c.requires.job.across c.requires.job.down c.requires.sizes.sizes in
     inside.y_inside
 
 pub put_rect-requires-clause-room : goal.put_rect-requires-clause-room
 put_rect-requires-clause-room c =
-    let s = c.args.layout.now in
-    let size = c.args.size in
-    let sx = c.args.place.sx in
-    let sy = c.args.place.sy in
+    let s = c.args.job.layout.now in
+    let size = c.args.job.size in
+    let sx = c.args.job.place.sx in
+    let sy = c.args.job.place.sy in
     let l = c.loop-k in
     let i = l.invariant in
-    let below : l.k < 3 * c.args.layout.now.depth + 1 = omega (arith, c.loop-k-test.true, c.depth.ensures.value) in
-    let rect : Rect = get_or c.args.rects.now c.band_numbered-level.result.0 no_rect in
-    let rect_is : get_or c.args.rects.now c.band_numbered-level.result.0 no_rect ≡ level_rect c.args.layout.now c.args.size c.args.place.sx c.args.place.sy (level_of c.loop-k.k) = rect_of_level c.args.layout.now c.args.size c.args.place.sx c.args.place.sy c.args.rects.now l.k c.band_numbered-level.result.0 c.requires.rects c.band_numbered-level.ensures.level below in
+    let below : l.k < 3 * c.args.job.layout.now.depth + 1 = omega (arith, c.loop-k-test.true, c.depth.ensures.value) in
+    let rect : Rect = get_or c.args.job.rects.now c.band_numbered-level.result.0 no_rect in
+    let rect_is : get_or c.args.job.rects.now c.band_numbered-level.result.0 no_rect ≡ level_rect c.args.job.layout.now c.args.job.size c.args.job.place.sx c.args.job.place.sy (level_of c.loop-k.k) = rect_of_level c.args.job.layout.now c.args.job.size c.args.job.place.sx c.args.job.place.sy c.args.job.rects.now l.k c.band_numbered-level.result.0 c.requires.job.rects c.band_numbered-level.ensures.level below in
     omega (arith, room_here 1 s size sx sy l.k l.from (area rect) (length c.args.values.now) i.from (ap area rect_is) c.requires.count below)
 
 pub overflow_add-from : goal.overflow_add-from
 overflow_add-from c =
-    let s = c.args.layout.now in
-    let size = c.args.size in
-    let sx = c.args.place.sx in
-    let sy = c.args.place.sy in
+    let s = c.args.job.layout.now in
+    let size = c.args.job.size in
+    let sx = c.args.job.place.sx in
+    let sy = c.args.job.place.sy in
     let l = c.loop-k in
     let i = l.invariant in
-    let below : l.k < 3 * c.args.layout.now.depth + 1 = omega (arith, c.loop-k-test.true, c.depth.ensures.value) in
-    let rect : Rect = get_or c.args.rects.now c.band_numbered-level.result.0 no_rect in
-    let rect_is : get_or c.args.rects.now c.band_numbered-level.result.0 no_rect ≡ level_rect c.args.layout.now c.args.size c.args.place.sx c.args.place.sy (level_of c.loop-k.k) = rect_of_level c.args.layout.now c.args.size c.args.place.sx c.args.place.sy c.args.rects.now l.k c.band_numbered-level.result.0 c.requires.rects c.band_numbered-level.ensures.level below in
-    omega (arith, room_here 1 s size sx sy l.k l.from c.area_of-from.result (length c.args.values.now) i.from (c.area_of-from.ensures.area ∙ ap area rect_is) c.requires.count below, c.requires.count, count_few s size sx sy c.args.rects.now c.requires.rects)
+    let below : l.k < 3 * c.args.job.layout.now.depth + 1 = omega (arith, c.loop-k-test.true, c.depth.ensures.value) in
+    let rect : Rect = get_or c.args.job.rects.now c.band_numbered-level.result.0 no_rect in
+    let rect_is : get_or c.args.job.rects.now c.band_numbered-level.result.0 no_rect ≡ level_rect c.args.job.layout.now c.args.job.size c.args.job.place.sx c.args.job.place.sy (level_of c.loop-k.k) = rect_of_level c.args.job.layout.now c.args.job.size c.args.job.place.sx c.args.job.place.sy c.args.job.rects.now l.k c.band_numbered-level.result.0 c.requires.job.rects c.band_numbered-level.ensures.level below in
+    omega (arith, room_here 1 s size sx sy l.k l.from c.area_of-from.result (length c.args.values.now) i.from (c.area_of-from.ensures.area ∙ ap area rect_is) c.requires.count below, c.requires.count, count_few s size sx sy c.args.job.rects.now c.requires.job.rects)
 
 pub loop-k-preserved : goal.loop-k-preserved
 loop-k-preserved c =
-    let s = c.args.layout.now in
-    let size = c.args.size in
-    let sx = c.args.place.sx in
-    let sy = c.args.place.sy in
+    let s = c.args.job.layout.now in
+    let size = c.args.job.size in
+    let sx = c.args.job.place.sx in
+    let sy = c.args.job.place.sy in
     let l = c.loop-k in
     let i = l.invariant in
-    let below : l.k < 3 * c.args.layout.now.depth + 1 = omega (arith, c.loop-k-test.true, c.depth.ensures.value) in
-    let rect : Rect = get_or c.args.rects.now c.band_numbered-level.result.0 no_rect in
-    let rect_is : get_or c.args.rects.now c.band_numbered-level.result.0 no_rect ≡ level_rect c.args.layout.now c.args.size c.args.place.sx c.args.place.sy (level_of c.loop-k.k) = rect_of_level c.args.layout.now c.args.size c.args.place.sx c.args.place.sy c.args.rects.now l.k c.band_numbered-level.result.0 c.requires.rects c.band_numbered-level.ensures.level below in
+    let below : l.k < 3 * c.args.job.layout.now.depth + 1 = omega (arith, c.loop-k-test.true, c.depth.ensures.value) in
+    let rect : Rect = get_or c.args.job.rects.now c.band_numbered-level.result.0 no_rect in
+    let rect_is : get_or c.args.job.rects.now c.band_numbered-level.result.0 no_rect ≡ level_rect c.args.job.layout.now c.args.job.size c.args.job.place.sx c.args.job.place.sy (level_of c.loop-k.k) = rect_of_level c.args.job.layout.now c.args.job.size c.args.job.place.sx c.args.job.place.sy c.args.job.rects.now l.k c.band_numbered-level.result.0 c.requires.job.rects c.band_numbered-level.ensures.level below in
     let number_is = number_here l.k c.band_numbered-level.result.0 c.band_numbered-level.result.1 c.band_numbered-level.ensures.level c.band_numbered-level.ensures.orient in
     let before_is = before_here l.bands l.k c.band_numbered-level.result.0 c.band_numbered-level.result.1 c.band_mut.result.now number_is c.band_mut.ensures.value in
     let there : l.k < length l.bands.bands = omega (arith, c.band_mut.ensures.there, number_is) in

@@ -5,7 +5,7 @@ use Rattle.slice_decoder.proofs.narrow_placing.put_luma.Given as goal
 
 abbrev pub invariant-loop-k : goal.invariant-loop-k
 invariant-loop-k l = record {
-  from : l.from ≡ 1 * places_in l.layout l.fn.size l.fn.place.sx l.fn.place.sy l.k;
-  takes : BandsTake 1 0 l.layout l.fn.size l.fn.place.sx l.fn.place.sy l.k l.values l.fn.bands l.bands;
+  from : l.from ≡ 1 * places_in l.job.layout.now l.job.size l.job.place.sx l.job.place.sy l.k;
+  takes : BandsTake 1 0 l.job.layout.now l.job.size l.job.place.sx l.job.place.sy l.k l.values l.fn.bands l.bands;
   rest : (k : ℕ) → l.k ≤ k → numbered l.bands k ≡ numbered l.fn.bands k;
 }

@@ -2,15 +2,16 @@ use Rattle.std.proofs.Common.{◌≡◌, ℕ, ◌+◌, ◌*◌, ◌^◌, ◌<◌
 use Rattle.std.proofs.lemmas.List.{length-take-le, get_or_append_left}
 use Rattle.bounded_blocks.specs.Parts.{AreWithin}
 use Rattle.slice_decoder.specs.Dealing.{dealt}
-use Rattle.slice_decoder.specs.Components.{Part, part_of, quantisers_before}
+use Rattle.slice_decoder.specs.Jobs.{part_in}
+use Rattle.slice_decoder.specs.Components.{Part, quantisers_before}
 use Rattle.slice_decoder.specs.Restored.{restored_at, StayWithin}
 use Rattle.slice_decoder.proofs.Restores.{count_is, dealt-at, within-at, stay-same, wide-dealt}
 use Rattle.slice_decoder.proofs.narrow_restoring.read_values.Goals as goal
 
 pub returns-then-not-narrow_values-clause-within : goal.returns-then-not-narrow_values-clause-within
 returns-then-not-narrow_values-clause-within c =
-    let part : Part = part_of c.args.layout.now c.args.size c.args.place.sx c.args.place.sy c.args.matrix.now c.args.place.qindex in
-    wide-dealt (2 ^ 18) c.args.each part c.args.count (3 * c.args.layout.now.depth + 1) c.args.block.now c.requires.qindex
+    let part : Part = part_in c.args.job in
+    wide-dealt (2 ^ 18) c.args.each part c.args.count (3 * c.args.job.layout.now.depth + 1) c.args.block.now c.requires.job.qindex
     (count_is c.args.each part c.args.count c.requires.count)
     (λ all. absurd (let yes = c.narrow_values.ensures.within.1 all in cc))
 
@@ -21,8 +22,8 @@ restore_block-requires-clause-narrow c k =
 
 pub returns-clause-within : goal.returns-clause-within
 returns-clause-within c =
-    let part : Part = part_of c.args.layout.now c.args.size c.args.place.sx c.args.place.sy c.args.matrix.now c.args.place.qindex in
-    let qs = quantisers_before c.args.each part (3 * c.args.layout.now.depth + 1) in
+    let part : Part = part_in c.args.job in
+    let qs = quantisers_before c.args.each part (3 * c.args.job.layout.now.depth + 1) in
     let n = c.args.count in
     let out = c.narrow_values.new.out in
     let read = c.narrow_values.ensures.read c.if-not-narrow_values.false in
@@ -33,8 +34,8 @@ returns-clause-within c =
 
 pub returns-clause-values : goal.returns-clause-values
 returns-clause-values c good k lt =
-    let part : Part = part_of c.args.layout.now c.args.size c.args.place.sx c.args.place.sy c.args.matrix.now c.args.place.qindex in
-    let qs = quantisers_before c.args.each part (3 * c.args.layout.now.depth + 1) in
+    let part : Part = part_in c.args.job in
+    let qs = quantisers_before c.args.each part (3 * c.args.job.layout.now.depth + 1) in
     let n = c.args.count in
     let out = c.narrow_values.new.out in
     let read = c.narrow_values.ensures.read c.if-not-narrow_values.false in

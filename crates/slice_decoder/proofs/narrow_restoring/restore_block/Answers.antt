@@ -5,7 +5,8 @@ use Rattle.slice_geometry.specs.SliceOrder.{place_count}
 use Rattle.slice_geometry.specs.declared.Size.{Size}
 use Rattle.slice_geometry.specs.Slicing.{Slicing}
 use Rattle.slice_decoder.specs.Levels.{places_in}
-use Rattle.slice_decoder.specs.Components.{Part, part_of, quantisers_before}
+use Rattle.slice_decoder.specs.Jobs.{part_in}
+use Rattle.slice_decoder.specs.Components.{Part, quantisers_before}
 use Rattle.slice_decoder.specs.Restored.{restored_at}
 use Rattle.slice_decoder.specs.RestoredBands.{IsBand, AreBands}
 use Rattle.slice_decoder.proofs.LevelLemmas.{count_few, places_all}
@@ -15,25 +16,25 @@ use Rattle.slice_decoder.proofs.narrow_restoring.restore_block.Goals as goal
 
 pub restore_band-requires-clause-inside : goal.restore_band-requires-clause-inside
 restore_band-requires-clause-inside c =
-    let part : Part = part_of c.args.layout.now c.args.size c.args.place.sx c.args.place.sy c.args.matrix.now c.args.place.qindex in
+    let part : Part = part_in c.args.job in
     let first : IsBand part.matrix part.qindex c.args.each part 0 (c.args.each * c.area_of.result) =
-    is-band c.args.each part c.args.rects.now 0 0 c.area_of.result c.requires.rects c.requires.entries (omega arith) (omega arith) c.area_of.ensures.area in
+    is-band c.args.each part c.args.job.rects.now 0 0 c.area_of.result c.requires.job.rects c.requires.job.entries (omega arith) (omega arith) c.area_of.ensures.area in
     let room = band_room part.matrix part.qindex c.args.each part 0 0 (c.args.each * c.area_of.result) (length c.args.values.now) first (omega arith)
     (none-restored (2 ^ 18) c.args.each part c.args.values.now).from_is c.requires.count in
     room.0
 
 pub returns-then-not-restore_band-clause-within : goal.returns-then-not-restore_band-clause-within
 returns-then-not-restore_band-clause-within c =
-    let part : Part = part_of c.args.layout.now c.args.size c.args.place.sx c.args.place.sy c.args.matrix.now c.args.place.qindex in
+    let part : Part = part_in c.args.job in
     let first : IsBand part.matrix part.qindex c.args.each part 0 (c.args.each * c.area_of.result) =
-    is-band c.args.each part c.args.rects.now 0 0 c.area_of.result c.requires.rects c.requires.entries (omega arith) (omega arith) c.area_of.ensures.area in
+    is-band c.args.each part c.args.job.rects.now 0 0 c.area_of.result c.requires.job.rects c.requires.job.entries (omega arith) (omega arith) c.area_of.ensures.area in
     c.restore_band.ensures.stopped c.if-not-restore_band.true c.args.each part c.args.values.now first (none-restored (2 ^ 18) c.args.each part c.args.values.now)
 
 pub loop-level-init : goal.loop-level-init
 loop-level-init c =
-    let part : Part = part_of c.args.layout.now c.args.size c.args.place.sx c.args.place.sy c.args.matrix.now c.args.place.qindex in
+    let part : Part = part_in c.args.job in
     let first : IsBand part.matrix part.qindex c.args.each part 0 (c.args.each * c.area_of.result) =
-    is-band c.args.each part c.args.rects.now 0 0 c.area_of.result c.requires.rects c.requires.entries (omega arith) (omega arith) c.area_of.ensures.area in
+    is-band c.args.each part c.args.job.rects.now 0 0 c.area_of.result c.requires.job.rects c.requires.job.entries (omega arith) (omega arith) c.area_of.ensures.area in
     let count : ℕ = c.args.each * c.area_of.result in
     let one : 0 + 1 ≡ 1 = omega arith in
     let from : 0 + count ≡ count = omega arith in
@@ -44,12 +45,12 @@ loop-level-init c =
 
 pub restore_level-requires-clause-inside : goal.restore_level-requires-clause-inside
 restore_level-requires-clause-inside c =
-    let part : Part = part_of c.args.layout.now c.args.size c.args.place.sx c.args.place.sy c.args.matrix.now c.args.place.qindex in
+    let part : Part = part_in c.args.job in
     let l = c.loop-level in
     let n = c.area_of-in-loop-level.result in
-    let lt : l.level < c.args.layout.now.depth = omega (arith, c.loop-level-test.true, l.auto.level-end, c.depth-level-end.ensures.value) in
+    let lt : l.level < c.args.job.layout.now.depth = omega (arith, c.loop-level-test.true, l.auto.level-end, c.depth-level-end.ensures.value) in
     let are : AreBands part.matrix part.qindex c.args.each part (3 * l.level + 1) (c.args.each * n) =
-    are-bands c.args.each part c.args.rects.now l.level n c.requires.rects c.requires.entries lt c.area_of-in-loop-level.ensures.area in
+    are-bands c.args.each part c.args.job.rects.now l.level n c.requires.job.rects c.requires.job.entries lt c.area_of-in-loop-level.ensures.area in
     let held = l.invariant.held in
     omega (
       arith,
@@ -69,41 +70,41 @@ overflow_mul-from-in-loop-level c =
 
 pub returns-then-not-restore_level-clause-within : goal.returns-then-not-restore_level-clause-within
 returns-then-not-restore_level-clause-within c =
-    let part : Part = part_of c.args.layout.now c.args.size c.args.place.sx c.args.place.sy c.args.matrix.now c.args.place.qindex in
+    let part : Part = part_in c.args.job in
     let l = c.loop-level in
     let n = c.area_of-in-loop-level.result in
-    let lt : l.level < c.args.layout.now.depth = omega (arith, c.loop-level-test.true, l.auto.level-end, c.depth-level-end.ensures.value) in
+    let lt : l.level < c.args.job.layout.now.depth = omega (arith, c.loop-level-test.true, l.auto.level-end, c.depth-level-end.ensures.value) in
     let are : AreBands part.matrix part.qindex c.args.each part (3 * l.level + 1) (c.args.each * n) =
-    are-bands c.args.each part c.args.rects.now l.level n c.requires.rects c.requires.entries lt c.area_of-in-loop-level.ensures.area in
+    are-bands c.args.each part c.args.job.rects.now l.level n c.requires.job.rects c.requires.job.entries lt c.area_of-in-loop-level.ensures.area in
     c.restore_level.ensures.stopped c.if-not-restore_level.true c.args.each part c.args.values.now are l.invariant.held
 
 pub overflow_add-from : goal.overflow_add-from
 overflow_add-from c =
-    let part : Part = part_of c.args.layout.now c.args.size c.args.place.sx c.args.place.sy c.args.matrix.now c.args.place.qindex in
+    let part : Part = part_in c.args.job in
     let l = c.loop-level in
     let n = c.area_of-in-loop-level.result in
-    let lt : l.level < c.args.layout.now.depth = omega (arith, c.loop-level-test.true, l.auto.level-end, c.depth-level-end.ensures.value) in
+    let lt : l.level < c.args.job.layout.now.depth = omega (arith, c.loop-level-test.true, l.auto.level-end, c.depth-level-end.ensures.value) in
     let are : AreBands part.matrix part.qindex c.args.each part (3 * l.level + 1) (c.args.each * n) =
-    are-bands c.args.each part c.args.rects.now l.level n c.requires.rects c.requires.entries lt c.area_of-in-loop-level.ensures.area in
-    let s = c.args.layout.now in
-    let count : ℕ = place_count s c.args.size c.args.place.sx c.args.place.sy in
+    are-bands c.args.each part c.args.job.rects.now l.level n c.requires.job.rects c.requires.job.entries lt c.area_of-in-loop-level.ensures.area in
+    let s = c.args.job.layout.now in
+    let count : ℕ = place_count s c.args.job.size c.args.job.place.sx c.args.job.place.sy in
     let most : c.args.each * count ≤ 2 * count = mul-le-mul_right count c.requires.few in
     omega (
       arith,
       bands_room part.matrix part.qindex c.args.each part (3 * l.level + 1) l.from (c.args.each * n) (length c.args.values.now) are (omega (arith, lt)) l.invariant.held.from_is c.requires.count,
       c.requires.count,
       most,
-      count_few s c.args.size c.args.place.sx c.args.place.sy c.args.rects.now c.requires.rects,
+      count_few s c.args.job.size c.args.job.place.sx c.args.job.place.sy c.args.job.rects.now c.requires.job.rects,
     )
 
 pub loop-level-preserved : goal.loop-level-preserved
 loop-level-preserved c =
-    let part : Part = part_of c.args.layout.now c.args.size c.args.place.sx c.args.place.sy c.args.matrix.now c.args.place.qindex in
+    let part : Part = part_in c.args.job in
     let l = c.loop-level in
     let n = c.area_of-in-loop-level.result in
-    let lt : l.level < c.args.layout.now.depth = omega (arith, c.loop-level-test.true, l.auto.level-end, c.depth-level-end.ensures.value) in
+    let lt : l.level < c.args.job.layout.now.depth = omega (arith, c.loop-level-test.true, l.auto.level-end, c.depth-level-end.ensures.value) in
     let are : AreBands part.matrix part.qindex c.args.each part (3 * l.level + 1) (c.args.each * n) =
-    are-bands c.args.each part c.args.rects.now l.level n c.requires.rects c.requires.entries lt c.area_of-in-loop-level.ensures.area in
+    are-bands c.args.each part c.args.job.rects.now l.level n c.requires.job.rects c.requires.job.entries lt c.area_of-in-loop-level.ensures.area in
     let next : 3 * l.level + 1 + 3 ≡ 3 * (l.level + 1) + 1 = omega arith in
     let from : ℕ = l.from + 3 * (c.args.each * n) in
     record {
@@ -118,16 +119,16 @@ all_places each s size sx sy k from n from_is k_is n_is =
 
 pub returns-clause-within : goal.returns-clause-within
 returns-clause-within c =
-    let part : Part = part_of c.args.layout.now c.args.size c.args.place.sx c.args.place.sy c.args.matrix.now c.args.place.qindex in
+    let part : Part = part_in c.args.job in
     let l = c.loop-level in
-    let whole : length c.args.values.now ≡ l.from = all_places c.args.each c.args.layout.now c.args.size c.args.place.sx c.args.place.sy (3 * l.level + 1) l.from
+    let whole : length c.args.values.now ≡ l.from = all_places c.args.each c.args.job.layout.now c.args.job.size c.args.job.place.sx c.args.job.place.sy (3 * l.level + 1) l.from
     (length c.args.values.now) l.invariant.held.from_is (omega (arith, c.loop-level-test.false, l.auto.level-end, c.depth-level-end.ensures.value)) c.requires.count in
-    all-stay (2 ^ 18) (restored_at c.args.values.now (quantisers_before c.args.each part (3 * c.args.layout.now.depth + 1))) 0 (length c.args.values.now)
+    all-stay (2 ^ 18) (restored_at c.args.values.now (quantisers_before c.args.each part (3 * c.args.job.layout.now.depth + 1))) 0 (length c.args.values.now)
     (λ k low lt. l.invariant.held.within k low (omega (arith, lt, whole)))
 
 pub returns-clause-values : goal.returns-clause-values
 returns-clause-values c good k lt =
     let l = c.loop-level in
-    let whole : length c.args.values.now ≡ l.from = all_places c.args.each c.args.layout.now c.args.size c.args.place.sx c.args.place.sy (3 * l.level + 1) l.from
+    let whole : length c.args.values.now ≡ l.from = all_places c.args.each c.args.job.layout.now c.args.job.size c.args.job.place.sx c.args.job.place.sy (3 * l.level + 1) l.from
     (length c.args.values.now) l.invariant.held.from_is (omega (arith, c.loop-level-test.false, l.auto.level-end, c.depth-level-end.ensures.value)) c.requires.count in
     l.invariant.held.done k (omega (arith, lt, whole))

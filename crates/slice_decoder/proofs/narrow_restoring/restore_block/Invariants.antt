@@ -1,9 +1,10 @@
 use Rattle.std.proofs.Common.{◌+◌, ◌*◌, ◌^◌}
+use Rattle.slice_decoder.specs.Jobs.{part_in}
 use Rattle.slice_decoder.specs.Components.{Part}
 use Rattle.slice_decoder.specs.RestoredBands.{IsRestoredTo}
 use Rattle.slice_decoder.proofs.narrow_restoring.restore_block.Given as goal
 
 abbrev pub invariant-loop-level : goal.invariant-loop-level
 invariant-loop-level l =
-    let part : Part = record { slicing = l.layout; size = l.fn.size; sx = l.fn.place.sx; sy = l.fn.place.sy; matrix = l.matrix; qindex = l.fn.place.qindex } in
+    let part : Part = part_in l.job in
     record { held : IsRestoredTo (2 ^ 18) l.each part (3 * l.level + 1) l.from l.fn.values l.values }

@@ -34,7 +34,7 @@ returns-then-not-read_blocks-clause-decoded c =
     in
     let room : ℕ = length c.args.buffer.now in
     let same = c.read_ahead.auto.kept in
-    elim c.if-not-read_blocks.ensures.answer [
+    elim c.if-not-read_blocks.ensures.read.answer [
       | inl lumas ↦ inl (subst (λ (vs : List ℤ). NeedMore (pos (2 ^ 18)) room vs) (sym are.of_luma) (elim lumas [ inl few ↦ inl (omega (arith, few, same)) | inr apart ↦ inr apart ]))
       | inr colours ↦ inr (inl (subst (λ (vs : List ℤ). NeedMore (pos (2 ^ 18)) room vs) (sym are.of_colour) (elim colours [ inl few ↦ inl (omega (arith, few, same)) | inr apart ↦ inr apart ])))
     ]
@@ -44,9 +44,9 @@ returns-then-not-read_blocks-clause-others c =
     let luma : Part = part_of c.args.layout.now c.args.shape.now.luma c.args.sx c.args.sy c.args.matrix.now c.head_of-head.result.qindex in
     let colour : Part = part_of c.args.layout.now c.args.shape.now.colour c.args.sx c.args.sy c.args.matrix.now c.head_of-head.result.qindex in
     record {
-      luma = keeps-others luma c.args.bands.now.luma c.read_blocks.new.bands.luma c.read_blocks.ensures.luma_keeps;
-      c1 = keeps-others colour c.args.bands.now.c1 c.read_blocks.new.bands.c1 c.read_blocks.ensures.c1_keeps;
-      c2 = keeps-others colour c.args.bands.now.c2 c.read_blocks.new.bands.c2 c.read_blocks.ensures.c2_keeps;
+      luma = keeps-others luma c.args.bands.now.luma c.read_blocks.new.bands.luma c.read_blocks.ensures.read.luma_keeps;
+      c1 = keeps-others colour c.args.bands.now.c1 c.read_blocks.new.bands.c1 c.read_blocks.ensures.read.c1_keeps;
+      c2 = keeps-others colour c.args.bands.now.c2 c.read_blocks.new.bands.c2 c.read_blocks.ensures.read.c2_keeps;
     }
 
 pub restore_all-requires-clause-luma_x : goal.restore_all-requires-clause-luma_x
@@ -56,7 +56,7 @@ restore_all-requires-clause-luma_x c =
     let inside : FitsIn rect (numbered old 0) = fits c.args.layout.now c.args.shape.now.luma c.args.sx c.args.sy 0 rect old (numbered old 0)
     (c.lowest_of-luma.ensures c.args.layout.now c.args.shape.now.luma c.args.sx c.args.sy c.level_rects-luma_rects.ensures) refl
     (omega arith) c.requires.ready.luma.depth c.requires.across c.requires.down c.requires.ready.luma.sizes in
-    omega (arith, inside.x_inside, (c.read_blocks.ensures.luma_keeps.bands 0).same_width)
+    omega (arith, inside.x_inside, (c.read_blocks.ensures.read.luma_keeps.bands 0).same_width)
 
 pub restore_all-requires-clause-luma_y : goal.restore_all-requires-clause-luma_y
 restore_all-requires-clause-luma_y c =
@@ -65,7 +65,7 @@ restore_all-requires-clause-luma_y c =
     let inside : FitsIn rect (numbered old 0) = fits c.args.layout.now c.args.shape.now.luma c.args.sx c.args.sy 0 rect old (numbered old 0)
     (c.lowest_of-luma.ensures c.args.layout.now c.args.shape.now.luma c.args.sx c.args.sy c.level_rects-luma_rects.ensures) refl
     (omega arith) c.requires.ready.luma.depth c.requires.across c.requires.down c.requires.ready.luma.sizes in
-    omega (arith, inside.y_inside, (c.read_blocks.ensures.luma_keeps.bands 0).same_height)
+    omega (arith, inside.y_inside, (c.read_blocks.ensures.read.luma_keeps.bands 0).same_height)
 
 pub restore_all-requires-clause-c1_x : goal.restore_all-requires-clause-c1_x
 restore_all-requires-clause-c1_x c =
@@ -74,7 +74,7 @@ restore_all-requires-clause-c1_x c =
     let inside : FitsIn rect (numbered old 0) = fits c.args.layout.now c.args.shape.now.colour c.args.sx c.args.sy 0 rect old (numbered old 0)
     (c.lowest_of-colour.ensures c.args.layout.now c.args.shape.now.colour c.args.sx c.args.sy c.level_rects-colour_rects.ensures) refl
     (omega arith) c.requires.ready.c1.depth c.requires.across c.requires.down c.requires.ready.c1.sizes in
-    omega (arith, inside.x_inside, (c.read_blocks.ensures.c1_keeps.bands 0).same_width)
+    omega (arith, inside.x_inside, (c.read_blocks.ensures.read.c1_keeps.bands 0).same_width)
 
 pub restore_all-requires-clause-c1_y : goal.restore_all-requires-clause-c1_y
 restore_all-requires-clause-c1_y c =
@@ -83,7 +83,7 @@ restore_all-requires-clause-c1_y c =
     let inside : FitsIn rect (numbered old 0) = fits c.args.layout.now c.args.shape.now.colour c.args.sx c.args.sy 0 rect old (numbered old 0)
     (c.lowest_of-colour.ensures c.args.layout.now c.args.shape.now.colour c.args.sx c.args.sy c.level_rects-colour_rects.ensures) refl
     (omega arith) c.requires.ready.c1.depth c.requires.across c.requires.down c.requires.ready.c1.sizes in
-    omega (arith, inside.y_inside, (c.read_blocks.ensures.c1_keeps.bands 0).same_height)
+    omega (arith, inside.y_inside, (c.read_blocks.ensures.read.c1_keeps.bands 0).same_height)
 
 pub restore_all-requires-clause-c2_x : goal.restore_all-requires-clause-c2_x
 restore_all-requires-clause-c2_x c =
@@ -92,7 +92,7 @@ restore_all-requires-clause-c2_x c =
     let inside : FitsIn rect (numbered old 0) = fits c.args.layout.now c.args.shape.now.colour c.args.sx c.args.sy 0 rect old (numbered old 0)
     (c.lowest_of-colour.ensures c.args.layout.now c.args.shape.now.colour c.args.sx c.args.sy c.level_rects-colour_rects.ensures) refl
     (omega arith) c.requires.ready.c2.depth c.requires.across c.requires.down c.requires.ready.c2.sizes in
-    omega (arith, inside.x_inside, (c.read_blocks.ensures.c2_keeps.bands 0).same_width)
+    omega (arith, inside.x_inside, (c.read_blocks.ensures.read.c2_keeps.bands 0).same_width)
 
 pub restore_all-requires-clause-c2_y : goal.restore_all-requires-clause-c2_y
 restore_all-requires-clause-c2_y c =
@@ -101,7 +101,7 @@ restore_all-requires-clause-c2_y c =
     let inside : FitsIn rect (numbered old 0) = fits c.args.layout.now c.args.shape.now.colour c.args.sx c.args.sy 0 rect old (numbered old 0)
     (c.lowest_of-colour.ensures c.args.layout.now c.args.shape.now.colour c.args.sx c.args.sy c.level_rects-colour_rects.ensures) refl
     (omega arith) c.requires.ready.c2.depth c.requires.across c.requires.down c.requires.ready.c2.sizes in
-    omega (arith, inside.y_inside, (c.read_blocks.ensures.c2_keeps.bands 0).same_height)
+    omega (arith, inside.y_inside, (c.read_blocks.ensures.read.c2_keeps.bands 0).same_height)
 
 pub returns-then-not-restore_all-clause-decoded : goal.returns-then-not-restore_all-clause-decoded
 returns-then-not-restore_all-clause-decoded c =
@@ -118,7 +118,7 @@ returns-then-not-restore_all-clause-decoded c =
     let colour_block : List Bool = block_of c.args.bytes.now (start + c.head_of-head.result.luma_bits) (8 * length c.args.bytes.now) in
     let old = c.args.bands.now in
     let mid = c.read_blocks.new.bands in
-    let answer = c.if-not-read_blocks.ensures.answer in
+    let answer = c.if-not-read_blocks.ensures.read.answer in
     let new = c.restore_all.new.bands in
     elim (c.restore_all.ensures.stopped c.if-not-restore_all.true) [
       | inl at_luma ↦ inr (inr (inl (slice-stops 1 0 luma luma_block old.luma mid.luma new.luma c.lowest_of-luma.result _ (omega arith)
@@ -141,11 +141,11 @@ returns-then-not-restore_all-clause-others c =
     let keeps = c.restore_all.ensures.keeps in
     record {
       luma = keeps-others luma old.luma new.luma (bands-lowest luma old.luma mid.luma new.luma c.lowest_of-luma.result
-          (c.lowest_of-luma.ensures c.args.layout.now c.args.shape.now.luma c.args.sx c.args.sy c.level_rects-luma_rects.ensures) c.read_blocks.ensures.luma_keeps keeps.luma);
+          (c.lowest_of-luma.ensures c.args.layout.now c.args.shape.now.luma c.args.sx c.args.sy c.level_rects-luma_rects.ensures) c.read_blocks.ensures.read.luma_keeps keeps.luma);
       c1 = keeps-others colour old.c1 new.c1 (bands-lowest colour old.c1 mid.c1 new.c1 c.lowest_of-colour.result
-          (c.lowest_of-colour.ensures c.args.layout.now c.args.shape.now.colour c.args.sx c.args.sy c.level_rects-colour_rects.ensures) c.read_blocks.ensures.c1_keeps keeps.c1);
+          (c.lowest_of-colour.ensures c.args.layout.now c.args.shape.now.colour c.args.sx c.args.sy c.level_rects-colour_rects.ensures) c.read_blocks.ensures.read.c1_keeps keeps.c1);
       c2 = keeps-others colour old.c2 new.c2 (bands-lowest colour old.c2 mid.c2 new.c2 c.lowest_of-colour.result
-          (c.lowest_of-colour.ensures c.args.layout.now c.args.shape.now.colour c.args.sx c.args.sy c.level_rects-colour_rects.ensures) c.read_blocks.ensures.c2_keeps keeps.c2);
+          (c.lowest_of-colour.ensures c.args.layout.now c.args.shape.now.colour c.args.sx c.args.sy c.level_rects-colour_rects.ensures) c.read_blocks.ensures.read.c2_keeps keeps.c2);
     }
 
 pub returns-clause-decoded : goal.returns-clause-decoded
@@ -163,7 +163,7 @@ returns-clause-decoded c =
     let colour_block : List Bool = block_of c.args.bytes.now (start + c.head_of-head.result.luma_bits) (8 * length c.args.bytes.now) in
     let old = c.args.bands.now in
     let mid = c.read_blocks.new.bands in
-    let answer = c.if-not-read_blocks.ensures.answer in
+    let answer = c.if-not-read_blocks.ensures.read.answer in
     let new = c.restore_all.new.bands in
     let done = c.restore_all.ensures.restored c.if-not-restore_all.false in
     let keeps = c.restore_all.ensures.keeps in
@@ -190,9 +190,36 @@ returns-clause-others c =
     let keeps = c.restore_all.ensures.keeps in
     record {
       luma = keeps-others luma old.luma new.luma (bands-lowest luma old.luma mid.luma new.luma c.lowest_of-luma.result
-          (c.lowest_of-luma.ensures c.args.layout.now c.args.shape.now.luma c.args.sx c.args.sy c.level_rects-luma_rects.ensures) c.read_blocks.ensures.luma_keeps keeps.luma);
+          (c.lowest_of-luma.ensures c.args.layout.now c.args.shape.now.luma c.args.sx c.args.sy c.level_rects-luma_rects.ensures) c.read_blocks.ensures.read.luma_keeps keeps.luma);
       c1 = keeps-others colour old.c1 new.c1 (bands-lowest colour old.c1 mid.c1 new.c1 c.lowest_of-colour.result
-          (c.lowest_of-colour.ensures c.args.layout.now c.args.shape.now.colour c.args.sx c.args.sy c.level_rects-colour_rects.ensures) c.read_blocks.ensures.c1_keeps keeps.c1);
+          (c.lowest_of-colour.ensures c.args.layout.now c.args.shape.now.colour c.args.sx c.args.sy c.level_rects-colour_rects.ensures) c.read_blocks.ensures.read.c1_keeps keeps.c1);
       c2 = keeps-others colour old.c2 new.c2 (bands-lowest colour old.c2 mid.c2 new.c2 c.lowest_of-colour.result
-          (c.lowest_of-colour.ensures c.args.layout.now c.args.shape.now.colour c.args.sx c.args.sy c.level_rects-colour_rects.ensures) c.read_blocks.ensures.c2_keeps keeps.c2);
+          (c.lowest_of-colour.ensures c.args.layout.now c.args.shape.now.colour c.args.sx c.args.sy c.level_rects-colour_rects.ensures) c.read_blocks.ensures.read.c2_keeps keeps.c2);
     }
+
+pub read_blocks-requires-clause-luma_job : goal.read_blocks-requires-clause-luma_job
+read_blocks-requires-clause-luma_job c = record {
+  rects = c.level_rects-luma_rects.ensures;
+  across = c.requires.across;
+  down = c.requires.down;
+  qindex = c.head_of-head.ensures.small;
+  entries = c.requires.entries;
+}
+
+pub read_blocks-requires-clause-colour_job : goal.read_blocks-requires-clause-colour_job
+read_blocks-requires-clause-colour_job c = record {
+  rects = c.level_rects-colour_rects.ensures;
+  across = c.requires.across;
+  down = c.requires.down;
+  qindex = c.head_of-head.ensures.small;
+  entries = c.requires.entries;
+}
+
+pub read_blocks-requires-clause-luma_sizes : goal.read_blocks-requires-clause-luma_sizes
+read_blocks-requires-clause-luma_sizes c = record { depth = c.requires.ready.luma.depth; sizes = c.requires.ready.luma.sizes }
+
+pub read_blocks-requires-clause-c1_sizes : goal.read_blocks-requires-clause-c1_sizes
+read_blocks-requires-clause-c1_sizes c = record { depth = c.requires.ready.c1.depth; sizes = c.requires.ready.c1.sizes }
+
+pub read_blocks-requires-clause-c2_sizes : goal.read_blocks-requires-clause-c2_sizes
+read_blocks-requires-clause-c2_sizes c = record { depth = c.requires.ready.c2.depth; sizes = c.requires.ready.c2.sizes }

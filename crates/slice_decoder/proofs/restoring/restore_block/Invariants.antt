@@ -1,4 +1,5 @@
 use Rattle.std.proofs.Common.{◌≡◌, ℕ, ◌+◌, ◌*◌, ◌^◌, ◌<◌, ◌≤◌, length, get_or, pos}
+use Rattle.slice_decoder.specs.Jobs.{part_in}
 use Rattle.slice_decoder.specs.Components.{Part, quantisers_before}
 use Rattle.slice_decoder.specs.Levels.{places_in}
 use Rattle.slice_decoder.specs.Restored.{restored_at, AllWithin}
@@ -6,11 +7,11 @@ use Rattle.slice_decoder.proofs.restoring.restore_block.Given as goal
 
 abbrev pub invariant-loop-k : goal.invariant-loop-k
 invariant-loop-k l =
-    let part : Part = record { slicing = l.layout; size = l.fn.size; sx = l.fn.place.sx; sy = l.fn.place.sy; matrix = l.matrix; qindex = l.fn.place.qindex } in
+    let part : Part = part_in l.job in
     record {
-      from : l.from ≡ l.each * places_in l.layout l.fn.size l.fn.place.sx l.fn.place.sy l.k;
+      from : l.from ≡ l.each * places_in l.job.layout.now l.job.size l.job.place.sx l.job.place.sy l.k;
       length : length l.values ≡ length l.fn.values;
-      small : AllWithin (2 ^ 36) (restored_at l.fn.values (quantisers_before l.each part (3 * l.layout.depth + 1))) 0 l.from;
-      done : (j : ℕ) → j < l.from → get_or l.values j (pos 0) ≡ restored_at l.fn.values (quantisers_before l.each part (3 * l.layout.depth + 1)) j;
+      small : AllWithin (2 ^ 36) (restored_at l.fn.values (quantisers_before l.each part (3 * l.job.layout.now.depth + 1))) 0 l.from;
+      done : (j : ℕ) → j < l.from → get_or l.values j (pos 0) ≡ restored_at l.fn.values (quantisers_before l.each part (3 * l.job.layout.now.depth + 1)) j;
       rest : (j : ℕ) → l.from ≤ j → get_or l.values j (pos 0) ≡ get_or l.fn.values j (pos 0);
     }

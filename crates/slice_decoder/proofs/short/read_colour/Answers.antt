@@ -1,6 +1,7 @@
 use Rattle.std.proofs.Common.{◌≡◌, ℕ, ◌+◌, ◌-◌, ◌*◌, ◌^◌, ◌<◌, length, take, get_or, pos, ◌∙◌, inl, arith}
 use Rattle.std.proofs.lemmas.List.{length-take-le, get_or-take}
-use Rattle.slice_decoder.specs.Components.{Part, part_of, quantisers_before}
+use Rattle.slice_decoder.specs.Jobs.{part_in}
+use Rattle.slice_decoder.specs.Components.{Part, quantisers_before}
 use Rattle.slice_decoder.specs.Narrow.{block_values}
 use Rattle.slice_decoder.proofs.Dealt.{length-dealt}
 use Rattle.slice_decoder.proofs.LevelLemmas.{length-places, places_all}
@@ -12,41 +13,41 @@ use Rattle.slice_decoder.proofs.short.read_colour.Goals as goal
 
 pub returns-then-count-buffer-clause-answer : goal.returns-then-count-buffer-clause-answer
 returns-then-count-buffer-clause-answer c =
-    let part : Part = part_of c.args.layout.now c.args.size c.args.place.sx c.args.place.sy c.args.matrix.now c.args.place.qindex in
-    let total : ℕ = 3 * c.args.layout.now.depth + 1 in
-    inl (omega (arith, c.if-count-buffer.true, c.count_places-count.ensures.count, length-dealt c.args.block.now (quantisers_before 2 part total), length-places 2 part total, places_all c.args.layout.now c.args.size c.args.place.sx c.args.place.sy))
+    let part : Part = part_in c.args.job in
+    let total : ℕ = 3 * c.args.job.layout.now.depth + 1 in
+    inl (omega (arith, c.if-count-buffer.true, c.count_places-count.ensures.count, length-dealt c.args.block.now (quantisers_before 2 part total), length-places 2 part total, places_all c.args.job.layout.now c.args.job.size c.args.job.place.sx c.args.job.place.sy))
 
 pub returns-then-count-buffer-clause-first_keeps : goal.returns-then-count-buffer-clause-first_keeps
 returns-then-count-buffer-clause-first_keeps c =
-    nothing-read (part_of c.args.layout.now c.args.size c.args.place.sx c.args.place.sy c.args.matrix.now c.args.place.qindex) (short_stack c.args.first.now)
+    nothing-read (part_in c.args.job) (short_stack c.args.first.now)
 
 pub returns-then-not-read_values-clause-first_keeps : goal.returns-then-not-read_values-clause-first_keeps
 returns-then-not-read_values-clause-first_keeps c =
-    nothing-read (part_of c.args.layout.now c.args.size c.args.place.sx c.args.place.sy c.args.matrix.now c.args.place.qindex) (short_stack c.args.first.now)
+    nothing-read (part_in c.args.job) (short_stack c.args.first.now)
 
 pub returns-then-count-buffer-clause-second_keeps : goal.returns-then-count-buffer-clause-second_keeps
 returns-then-count-buffer-clause-second_keeps c =
-    nothing-read (part_of c.args.layout.now c.args.size c.args.place.sx c.args.place.sy c.args.matrix.now c.args.place.qindex) (short_stack c.args.second.now)
+    nothing-read (part_in c.args.job) (short_stack c.args.second.now)
 
 pub returns-then-not-read_values-clause-second_keeps : goal.returns-then-not-read_values-clause-second_keeps
 returns-then-not-read_values-clause-second_keeps c =
-    nothing-read (part_of c.args.layout.now c.args.size c.args.place.sx c.args.place.sy c.args.matrix.now c.args.place.qindex) (short_stack c.args.second.now)
+    nothing-read (part_in c.args.job) (short_stack c.args.second.now)
 
 pub returns-then-not-read_values-clause-answer : goal.returns-then-not-read_values-clause-answer
 returns-then-not-read_values-clause-answer c =
-    let part : Part = part_of c.args.layout.now c.args.size c.args.place.sx c.args.place.sy c.args.matrix.now c.args.place.qindex in
+    let part : Part = part_in c.args.job in
     short-needs-more (length c.args.buffer.now) _ (block_values 2 part c.args.block.now) c.read_values.result c.if-not-read_values.true c.read_values.ensures.within
 
 pub returns-clause-answer : goal.returns-clause-answer
 returns-clause-answer c =
-    let part : Part = part_of c.args.layout.now c.args.size c.args.place.sx c.args.place.sy c.args.matrix.now c.args.place.qindex in
-    let total : ℕ = 3 * c.args.layout.now.depth + 1 in
+    let part : Part = part_in c.args.job in
+    let total : ℕ = 3 * c.args.job.layout.now.depth + 1 in
     let n : ℕ = (2 * c.count_places-count.result) in
     let count : n ≡ length (quantisers_before 2 part total) =
     omega (
       arith,
       length-places 2 part total,
-      places_all c.args.layout.now c.args.size c.args.place.sx c.args.place.sy,
+      places_all c.args.job.layout.now c.args.job.size c.args.job.place.sx c.args.job.place.sy,
       c.count_places-count.ensures.count,
     ) in
     let agree : (j : ℕ) → j < length (quantisers_before 2 part total)
@@ -56,30 +57,40 @@ returns-clause-answer c =
       all-small (2 ^ 14 - 1) (block_values 2 part c.args.block.now) n c.read_values.result (omega arith) c.if-not-read_values.false
           (omega (arith, count, length-dealt c.args.block.now (quantisers_before 2 part total))) c.read_values.ensures.within,
       (
-        takes-hold 2 0 part total c.args.block.now (take n c.read_values.new.buffer) (short_stack c.args.first.now) (short_stack c.put_colour.new.first)
-            (omega arith) agree c.put_colour.ensures.first,
-        takes-hold 2 1 part total c.args.block.now (take n c.read_values.new.buffer) (short_stack c.args.second.now) (short_stack c.put_colour.new.second)
-            (omega arith) agree c.put_colour.ensures.second,
+        takes-hold 2 0 part total c.args.block.now (take n c.read_values.new.buffer) (short_stack c.args.first.now) (short_stack c.put_values.new.bands)
+            (omega arith) agree c.put_values.ensures.takes,
+        takes-hold 2 1 part total c.args.block.now (take n c.read_values.new.buffer) (short_stack c.args.second.now) (short_stack c.put_values-2.new.bands)
+            (omega arith) agree c.put_values-2.ensures.takes,
       ),
     )
 
 pub returns-clause-first_keeps : goal.returns-clause-first_keeps
 returns-clause-first_keeps c =
-    let part : Part = part_of c.args.layout.now c.args.size c.args.place.sx c.args.place.sy c.args.matrix.now c.args.place.qindex in
-    let total : ℕ = 3 * c.args.layout.now.depth + 1 in
-    takes-keep 2 0 part total (take (2 * c.count_places-count.result) c.read_values.new.buffer) (short_stack c.args.first.now) (short_stack c.put_colour.new.first)
-    c.put_colour.ensures.first c.put_colour.ensures.first_rest
+    let part : Part = part_in c.args.job in
+    let total : ℕ = 3 * c.args.job.layout.now.depth + 1 in
+    takes-keep 2 0 part total (take (2 * c.count_places-count.result) c.read_values.new.buffer) (short_stack c.args.first.now) (short_stack c.put_values.new.bands)
+    c.put_values.ensures.takes c.put_values.ensures.rest
 
 pub returns-clause-second_keeps : goal.returns-clause-second_keeps
 returns-clause-second_keeps c =
-    let part : Part = part_of c.args.layout.now c.args.size c.args.place.sx c.args.place.sy c.args.matrix.now c.args.place.qindex in
-    let total : ℕ = 3 * c.args.layout.now.depth + 1 in
-    takes-keep 2 1 part total (take (2 * c.count_places-count.result) c.read_values.new.buffer) (short_stack c.args.second.now) (short_stack c.put_colour.new.second)
-    c.put_colour.ensures.second c.put_colour.ensures.second_rest
+    let part : Part = part_in c.args.job in
+    let total : ℕ = 3 * c.args.job.layout.now.depth + 1 in
+    takes-keep 2 1 part total (take (2 * c.count_places-count.result) c.read_values.new.buffer) (short_stack c.args.second.now) (short_stack c.put_values-2.new.bands)
+    c.put_values-2.ensures.takes c.put_values-2.ensures.rest
 
-pub put_colour-requires-clause-short : goal.put_colour-requires-clause-short
-put_colour-requires-clause-short c =
-    let part : Part = part_of c.args.layout.now c.args.size c.args.place.sx c.args.place.sy c.args.matrix.now c.args.place.qindex in
+pub put_values-requires-clause-short : goal.put_values-requires-clause-short
+put_values-requires-clause-short c =
+    let part : Part = part_in c.args.job in
+    let n : ℕ = 2 * c.count_places-count.result in
+    let out = c.read_values.new.buffer in
+    let good = c.if-not-read_values.false in
+    let long : length (take n out) ≡ n = length-take-le n out (omega (arith, c.read_values.auto.buffer, c.if-count-buffer.false)) in
+    short-values n (block_values 2 part c.args.block.now) (take n out) c.read_values.result good c.read_values.ensures.within long
+    (λ k lt. get_or-take n out k (pos 0) lt ∙ c.read_values.ensures.values good k lt)
+
+pub put_values-requires-2-clause-short : goal.put_values-requires-2-clause-short
+put_values-requires-2-clause-short c =
+    let part : Part = part_in c.args.job in
     let n : ℕ = 2 * c.count_places-count.result in
     let out = c.read_values.new.buffer in
     let good = c.if-not-read_values.false in

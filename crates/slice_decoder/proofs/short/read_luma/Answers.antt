@@ -1,6 +1,7 @@
 use Rattle.std.proofs.Common.{◌≡◌, ℕ, ◌+◌, ◌-◌, ◌*◌, ◌^◌, ◌<◌, length, take, get_or, pos, ◌∙◌, inl, arith}
 use Rattle.std.proofs.lemmas.List.{length-take-le, get_or-take}
-use Rattle.slice_decoder.specs.Components.{Part, part_of, quantisers_before}
+use Rattle.slice_decoder.specs.Jobs.{part_in}
+use Rattle.slice_decoder.specs.Components.{Part, quantisers_before}
 use Rattle.slice_decoder.specs.Narrow.{block_values}
 use Rattle.slice_decoder.proofs.Dealt.{length-dealt}
 use Rattle.slice_decoder.proofs.LevelLemmas.{length-places, places_all}
@@ -12,33 +13,33 @@ use Rattle.slice_decoder.proofs.short.read_luma.Goals as goal
 
 pub returns-then-count-buffer-clause-answer : goal.returns-then-count-buffer-clause-answer
 returns-then-count-buffer-clause-answer c =
-    let part : Part = part_of c.args.layout.now c.args.size c.args.place.sx c.args.place.sy c.args.matrix.now c.args.place.qindex in
-    let total : ℕ = 3 * c.args.layout.now.depth + 1 in
-    inl (omega (arith, c.if-count-buffer.true, c.count_places-count.ensures.count, length-dealt c.args.block.now (quantisers_before 1 part total), length-places 1 part total, places_all c.args.layout.now c.args.size c.args.place.sx c.args.place.sy))
+    let part : Part = part_in c.args.job in
+    let total : ℕ = 3 * c.args.job.layout.now.depth + 1 in
+    inl (omega (arith, c.if-count-buffer.true, c.count_places-count.ensures.count, length-dealt c.args.block.now (quantisers_before 1 part total), length-places 1 part total, places_all c.args.job.layout.now c.args.job.size c.args.job.place.sx c.args.job.place.sy))
 
 pub returns-then-count-buffer-clause-keeps : goal.returns-then-count-buffer-clause-keeps
 returns-then-count-buffer-clause-keeps c =
-    nothing-read (part_of c.args.layout.now c.args.size c.args.place.sx c.args.place.sy c.args.matrix.now c.args.place.qindex) (short_stack c.args.bands.now)
+    nothing-read (part_in c.args.job) (short_stack c.args.bands.now)
 
 pub returns-then-not-read_values-clause-keeps : goal.returns-then-not-read_values-clause-keeps
 returns-then-not-read_values-clause-keeps c =
-    nothing-read (part_of c.args.layout.now c.args.size c.args.place.sx c.args.place.sy c.args.matrix.now c.args.place.qindex) (short_stack c.args.bands.now)
+    nothing-read (part_in c.args.job) (short_stack c.args.bands.now)
 
 pub returns-then-not-read_values-clause-answer : goal.returns-then-not-read_values-clause-answer
 returns-then-not-read_values-clause-answer c =
-    let part : Part = part_of c.args.layout.now c.args.size c.args.place.sx c.args.place.sy c.args.matrix.now c.args.place.qindex in
+    let part : Part = part_in c.args.job in
     short-needs-more (length c.args.buffer.now) _ (block_values 1 part c.args.block.now) c.read_values.result c.if-not-read_values.true c.read_values.ensures.within
 
 pub returns-clause-answer : goal.returns-clause-answer
 returns-clause-answer c =
-    let part : Part = part_of c.args.layout.now c.args.size c.args.place.sx c.args.place.sy c.args.matrix.now c.args.place.qindex in
-    let total : ℕ = 3 * c.args.layout.now.depth + 1 in
+    let part : Part = part_in c.args.job in
+    let total : ℕ = 3 * c.args.job.layout.now.depth + 1 in
     let n : ℕ = c.count_places-count.result in
     let count : n ≡ length (quantisers_before 1 part total) =
     omega (
       arith,
       length-places 1 part total,
-      places_all c.args.layout.now c.args.size c.args.place.sx c.args.place.sy,
+      places_all c.args.job.layout.now c.args.job.size c.args.job.place.sx c.args.job.place.sy,
       c.count_places-count.ensures.count,
     ) in
     let agree : (j : ℕ) → j < length (quantisers_before 1 part total)
@@ -47,20 +48,20 @@ returns-clause-answer c =
     ∙ c.read_values.ensures.values c.if-not-read_values.false j (omega (arith, lt, count)) in (
       all-small (2 ^ 14 - 1) (block_values 1 part c.args.block.now) n c.read_values.result (omega arith) c.if-not-read_values.false
           (omega (arith, count, length-dealt c.args.block.now (quantisers_before 1 part total))) c.read_values.ensures.within,
-      takes-hold 1 0 part total c.args.block.now (take n c.read_values.new.buffer) (short_stack c.args.bands.now) (short_stack c.put_luma.new.bands)
-          (omega arith) agree c.put_luma.ensures.takes,
+      takes-hold 1 0 part total c.args.block.now (take n c.read_values.new.buffer) (short_stack c.args.bands.now) (short_stack c.put_values.new.bands)
+          (omega arith) agree c.put_values.ensures.takes,
     )
 
 pub returns-clause-keeps : goal.returns-clause-keeps
 returns-clause-keeps c =
-    let part : Part = part_of c.args.layout.now c.args.size c.args.place.sx c.args.place.sy c.args.matrix.now c.args.place.qindex in
-    let total : ℕ = 3 * c.args.layout.now.depth + 1 in
-    takes-keep 1 0 part total (take c.count_places-count.result c.read_values.new.buffer) (short_stack c.args.bands.now) (short_stack c.put_luma.new.bands) c.put_luma.ensures.takes
-    c.put_luma.ensures.rest
+    let part : Part = part_in c.args.job in
+    let total : ℕ = 3 * c.args.job.layout.now.depth + 1 in
+    takes-keep 1 0 part total (take c.count_places-count.result c.read_values.new.buffer) (short_stack c.args.bands.now) (short_stack c.put_values.new.bands) c.put_values.ensures.takes
+    c.put_values.ensures.rest
 
-pub put_luma-requires-clause-short : goal.put_luma-requires-clause-short
-put_luma-requires-clause-short c =
-    let part : Part = part_of c.args.layout.now c.args.size c.args.place.sx c.args.place.sy c.args.matrix.now c.args.place.qindex in
+pub put_values-requires-clause-short : goal.put_values-requires-clause-short
+put_values-requires-clause-short c =
+    let part : Part = part_in c.args.job in
     let n : ℕ = c.count_places-count.result in
     let out = c.read_values.new.buffer in
     let good = c.if-not-read_values.false in

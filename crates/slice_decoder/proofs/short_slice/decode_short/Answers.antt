@@ -200,16 +200,34 @@ returns-clause-others c =
     }
 
 pub restore_all-requires-clause-luma_sound : goal.restore_all-requires-clause-luma_sound
-restore_all-requires-clause-luma_sound c = c.read_blocks.ensures.cut.luma.sound
+restore_all-requires-clause-luma_sound c = c.read_blocks.ensures.luma_cut.sound
 
 pub restore_all-requires-clause-c1_sound : goal.restore_all-requires-clause-c1_sound
-restore_all-requires-clause-c1_sound c = c.read_blocks.ensures.cut.c1.sound
+restore_all-requires-clause-c1_sound c = c.read_blocks.ensures.c1_cut.sound
 
 pub restore_all-requires-clause-c2_sound : goal.restore_all-requires-clause-c2_sound
-restore_all-requires-clause-c2_sound c = c.read_blocks.ensures.cut.c2.sound
+restore_all-requires-clause-c2_sound c = c.read_blocks.ensures.c2_cut.sound
 
 pub returns-then-not-restore_all-clause-cut : goal.returns-then-not-restore_all-clause-cut
-returns-then-not-restore_all-clause-cut c = c.restore_all.ensures.cut c.args.layout.now c.args.shape.now c.read_blocks.ensures.cut
+returns-then-not-restore_all-clause-cut c = c.restore_all.ensures.cut c.args.layout.now c.args.shape.now (record { luma = c.read_blocks.ensures.luma_cut; c1 = c.read_blocks.ensures.c1_cut; c2 = c.read_blocks.ensures.c2_cut })
 
 pub returns-clause-cut : goal.returns-clause-cut
-returns-clause-cut c = c.restore_all.ensures.cut c.args.layout.now c.args.shape.now c.read_blocks.ensures.cut
+returns-clause-cut c = c.restore_all.ensures.cut c.args.layout.now c.args.shape.now (record { luma = c.read_blocks.ensures.luma_cut; c1 = c.read_blocks.ensures.c1_cut; c2 = c.read_blocks.ensures.c2_cut })
+
+pub read_blocks-requires-clause-luma_job : goal.read_blocks-requires-clause-luma_job
+read_blocks-requires-clause-luma_job c = record {
+  rects = c.level_rects-luma_rects.ensures;
+  across = c.requires.across;
+  down = c.requires.down;
+  qindex = c.head_of-head.ensures.small;
+  entries = c.requires.entries;
+}
+
+pub read_blocks-requires-clause-colour_job : goal.read_blocks-requires-clause-colour_job
+read_blocks-requires-clause-colour_job c = record {
+  rects = c.level_rects-colour_rects.ensures;
+  across = c.requires.across;
+  down = c.requires.down;
+  qindex = c.head_of-head.ensures.small;
+  entries = c.requires.entries;
+}

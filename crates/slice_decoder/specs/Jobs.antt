@@ -1,0 +1,41 @@
+-- The part of a slice that belongs to a component, as it is handed on.
+use Rattle.std.specs.Prelude.{◌≡◌, ℕ, ◌+◌, ◌*◌, ◌<◌, ◌≤◌, Bool, List, ℤ}
+use Rattle.planes.specs.Subbands.{BandStack, HaveSizes}
+use Rattle.slice_geometry.specs.Geometry.{padded_length}
+use Rattle.slice_decoder.specs.declared.jobs.PartJob.{PartJob}
+use Rattle.slice_geometry.specs.SliceOrder.{place_count, numbered}
+use Rattle.slice_decoder.specs.Components.{Part, part_of, BandsHold}
+use Rattle.slice_decoder.specs.Levels.{AreRects, BandsTake}
+
+-- the part that is read
+abbrev pub part_in : PartJob → Part
+part_in job = part_of job.layout.now job.size job.place.sx job.place.sy job.matrix.now job.place.qindex
+
+-- what is asked of it
+pub record IsPartJob (job : PartJob) : Type 0 where
+  pub rects : AreRects job.layout.now job.size job.place.sx job.place.sy job.rects.now
+  pub across : job.place.sx < job.layout.now.slices_x
+  pub down : job.place.sy < job.layout.now.slices_y
+  pub qindex : job.place.qindex ≤ 127
+  pub entries : job.matrix.now.depth ≡ job.layout.now.depth
+
+-- bands of the sizes that its component has
+pub record AreSizedBands (p : Part) (b : BandStack) : Type 0 where
+  pub depth : b.depth ≡ p.slicing.depth
+  pub sizes : HaveSizes b (padded_length p.slicing.depth p.size.w) (padded_length p.slicing.depth p.size.h)
+
+-- how many places it has
+abbrev pub places_of : Part → ℕ
+places_of p = place_count p.slicing p.size p.sx p.sy
+
+-- all its bands hold the values of a block
+abbrev pub AllHold : (each from : ℕ) → Part → List Bool → BandStack → BandStack → Type 0
+AllHold each from p block old new = BandsHold each from p (3 * p.slicing.depth + 1) block old new
+
+-- they hold those of a list
+abbrev pub AllTake : (each from : ℕ) → Part → List ℤ → BandStack → BandStack → Type 0
+AllTake each from p values old new = BandsTake each from p.slicing p.size p.sx p.sy (3 * p.slicing.depth + 1) values old new
+
+-- what is numbered past its bands stays
+abbrev pub RestStays : Part → BandStack → BandStack → Type 0
+RestStays p old new = (k : ℕ) → 3 * p.slicing.depth + 1 ≤ k → numbered new k ≡ numbered old k
