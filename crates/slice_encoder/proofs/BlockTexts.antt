@@ -1,8 +1,15 @@
 -- Texts that are put into a block one behind the other.
-use Rattle.std.proofs.Common.{◌≡◌, ◌∙◌, refl, sym, ap, subst, ℕ, zero, suc, Bool, List, [], ◌++◌, length, take, append_assoc, arith, ℤ, pos, negsuc, of_z, to_z, w64}
+use Rattle.std.proofs.Common.{◌≡◌, ◌∙◌, refl, sym, ap, subst, ℕ, zero, suc, ◌+◌, ◌<◌, Bool, List, [], ◌++◌, length, take, drop, get_or, append_assoc, arith, ℤ, pos, negsuc, of_z, to_z, w64}
+use Rattle.std.specs.List.{All}
 use Rattle.std.proofs.lemmas.List.{append-nil, length-append}
+use Rattle.std.proofs.lemmas.List.Elements.{All-get_or}
+use Rattle.std.proofs.lemmas.Grind.{flat_map-append}
 use Rattle.std.proofs.lemmas.Int.{ints}
+use Rattle.std.proofs.Math.Seq.{take-add}
+use Rattle.bit_codes.specs.Codes.{signed_code_of}
 use Rattle.bounded_blocks.specs.Parts.{IsSmall}
+use Rattle.bounded_blocks.specs.Writing.{codes_of}
+use Rattle.bounded_blocks.proofs.CodeLengths.{codes_of-next}
 use Rattle.bounded_blocks.proofs.Put.{take-both}
 use Rattle.slice_encoder.specs.declared.block_texts.Block.{Block}
 use Rattle.slice_encoder.specs.BitQueues.{bits_so_far, IsBlock, IsPut}
@@ -37,3 +44,28 @@ put_join bytes b bytes1 b1 bytes2 b2 x y f g = record {
 pub told : (v : ℤ) → IsSmall v → to_z w64 (of_z w64 v) ≡ v
 told (pos n) small = omega (arith, ints)
 told (negsuc n) small = omega (arith, ints)
+
+-- the codes of more values, where those of the first n are put
+pub put_more : (bytes : List ℕ) (b : Block) (bytes1 : List ℕ) (b1 : Block) (bytes2 : List ℕ) (b2 : Block) (vs : List ℤ) (n k : ℕ) → IsPut bytes b bytes1 b1 (codes_of (take n vs)) → IsPut bytes1 b1 bytes2 b2 (codes_of (take k (drop n vs))) → IsPut bytes b bytes2 b2 (codes_of (take (n + k) vs))
+put_more bytes b bytes1 b1 bytes2 b2 vs n k f g =
+    subst (λ (t : List Bool). IsPut bytes b bytes2 b2 t) (sym (ap codes_of (take-add n k vs) ∙ flat_map-append signed_code_of (take n vs) (take k (drop n vs))))
+    (put_join bytes b bytes1 b1 bytes2 b2 (codes_of (take n vs)) (codes_of (take k (drop n vs))) f g)
+
+-- and those of the next two
+pub put_two : (bytes : List ℕ) (b : Block) (bytes1 : List ℕ) (b1 : Block) (bytes2 : List ℕ) (b2 : Block) (vs : List ℤ) (n : ℕ) → n + 1 < length vs → All IsSmall vs → IsPut bytes b bytes1 b1 (codes_of (take n vs))
+    → IsPut bytes1 b1 bytes2 b2 (signed_code_of (to_z w64 (of_z w64 (get_or vs n (pos 0)))) ++ signed_code_of (to_z w64 (of_z w64 (get_or vs (n + 1) (pos 0))))) → IsPut bytes b bytes2 b2 (codes_of (take (n + 2) vs))
+put_two bytes b bytes1 b1 bytes2 b2 vs n inside small f g =
+    let v = get_or vs n (pos 0) in
+    let w = get_or vs (n + 1) (pos 0) in
+    let two : n + 2 ≡ n + 1 + 1 = omega arith in
+    let codes : codes_of (take (n + 2) vs) ≡ codes_of (take n vs) ++ (signed_code_of v ++ signed_code_of w) =
+    ap (λ (k : ℕ). codes_of (take k vs)) two
+    ∙ codes_of-next vs (n + 1) inside
+    ∙ ap (λ (t : List Bool). t ++ signed_code_of w) (codes_of-next vs n (omega (arith, inside)))
+    ∙ append_assoc (codes_of (take n vs)) (signed_code_of v) (signed_code_of w)
+    in
+    let put : IsPut bytes1 b1 bytes2 b2 (signed_code_of v ++ signed_code_of w) =
+    subst (λ (z : ℤ). IsPut bytes1 b1 bytes2 b2 (signed_code_of z ++ signed_code_of w)) (told v (All-get_or IsSmall vs n (pos 0) (omega (arith, inside)) small))
+    (subst (λ (z : ℤ). IsPut bytes1 b1 bytes2 b2 (signed_code_of (to_z w64 (of_z w64 v)) ++ signed_code_of z)) (told w (All-get_or IsSmall vs (n + 1) (pos 0) inside small)) g)
+    in
+    subst (λ (t : List Bool). IsPut bytes b bytes2 b2 t) (sym codes) (put_join bytes b bytes1 b1 bytes2 b2 (codes_of (take n vs)) (signed_code_of v ++ signed_code_of w) f put)

@@ -32,6 +32,7 @@ pub record HoldsLists (l : Lists) (bytes : ℕ) (t : Trying) (lumas colours : Li
   pub colour_need : t.colour_need ≡ need l.colour
   pub fit : t.fits ≡ fits bytes l
 
+-- a component of these bands, with their layout, size and matrix
 abbrev pub coded_component : Slicing → Size → Weights → BandStack → CodedComponent
 coded_component s size matrix bands = record { slicing = s; size = size; matrix = matrix; bands = bands }
 

@@ -19,6 +19,7 @@ least_index bytes lists_at = first_fit bytes lists_at 127 0
 abbrev pub lists_of_slice : CodedPicture → ℕ → List ℕ → Lists
 lists_of_slice j n indices = last_lists j indices (n % j.slicing.slices_x) (n / j.slicing.slices_x)
 
+-- how many bytes slice n has
 abbrev pub share_of_slice : CodedPicture → ℕ → ℕ
 share_of_slice j n = slice_bytes j.slicing.a j.slicing.b n
 

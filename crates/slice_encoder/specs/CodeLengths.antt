@@ -3,6 +3,7 @@ use Rattle.std.specs.Prelude.{◌≡◌, ℕ, ◌<◌, List, [], length, ℤ, po
 use Rattle.bit_codes.specs.Codes.{signed_code_of}
 use Rattle.quant_factors.specs.Factors.{forward_of}
 
+-- how many bits the code of a coefficient takes, quantised at an index
 abbrev pub code_length : ℕ → ℤ → ℕ
 code_length index v = length (signed_code_of (forward_of v index))
 

@@ -30,6 +30,7 @@ pub record SliceEncoderSeen : Type 0 where
 
 -- ---- a trial
 
+-- how many bytes the slice in column sx and row sy has
 abbrev pub share_of : Slicing → ℕ → ℕ → ℕ
 share_of s sx sy = slice_bytes s.a s.b (slice_number s sx sy)
 

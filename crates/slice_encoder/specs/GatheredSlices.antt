@@ -10,6 +10,7 @@ use Rattle.slice_encoder.specs.declared.gathered.Reaches.{Reaches}
 use Rattle.slice_encoder.specs.Trials.{CodedPicture}
 use Rattle.slice_encoder.specs.Gathering.{AreGathered, gathered_reach, gathered_pairs_reach, behind_lowest}
 
+-- Each component's coefficients of slice (sx, sy) are gathered.
 pub record AreAllGathered (j : CodedPicture) (sx sy : ℕ) (g : GatheredSlice) : Type 0 where
   pub luma : AreGathered j.slicing j.frame.luma j.coefficients.luma sx sy g.luma
   pub c1 : AreGathered j.slicing j.frame.colour j.coefficients.c1 sx sy g.c1

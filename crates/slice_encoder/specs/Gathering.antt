@@ -17,10 +17,11 @@ use Rattle.slice_encoder.specs.Listing.{rect_values}
 
 -- ---- coefficients
 
--- those of the slice in band number k, and those in all bands before it
+-- those of the slice in band number k
 abbrev pub raw_part : Slicing → Size → BandStack → ℕ → ℕ → ℕ → List ℤ
 raw_part s size bands sx sy k = rect_values (at (numbered bands k)) (level_rect s size sx sy (level_of k))
 
+-- those of the slice in all bands before band number k
 abbrev pub raw_before : Slicing → Size → BandStack → ℕ → ℕ → ℕ → List ℤ
 raw_before s size bands sx sy k = flat_map (raw_part s size bands sx sy) (range_with_len 0 k)
 
@@ -34,6 +35,7 @@ pub record GatheredSeen : Type 0 where
 abbrev pub piece_of : GatheredSeen → ℕ → List ℤ
 piece_of g k = take (slice_index g.ends k - slice_index g.ends (k - 1)) (drop (slice_index g.ends (k - 1)) g.values)
 
+-- Its bands' values stand one behind the other, and each is that of a picture.
 pub record IsGatheredSound (g : GatheredSeen) : Type 0 where
   pub shallow : g.depth ≤ 4
   pub rise : (k : ℕ) → 1 ≤ k → k ≤ 3 * g.depth → slice_index g.ends (k - 1) ≤ slice_index g.ends k
@@ -84,6 +86,7 @@ pub record CanGatherAll (s : Slicing) (size : Size) (bands : BandStack) : Type 0
 abbrev pub quantised : ℕ → List ℤ → List ℤ
 quantised q vs = map (λ v. forward_of v q) vs
 
+-- the values of band number k, quantised at an index of the slice
 abbrev pub quantised_piece : GatheredSeen → Weights → ℕ → ℕ → List ℤ
 quantised_piece g matrix index k = quantised (band_quantiser matrix index (level_of k) (orient_of k)) (piece_of g k)
 
@@ -104,6 +107,7 @@ abbrev pub reach : List ℤ → ℕ → ℕ
 reach [] behind = behind
 reach (v ∷ vs) behind = with_code v (reach vs behind)
 
+-- how far the codes of the values outside the lowest subband reach at an index
 abbrev pub gathered_reach : GatheredSeen → Weights → ℕ → ℕ
 gathered_reach g matrix index = reach (flat_map (quantised_piece g matrix index) (range_with_len 1 (3 * g.depth))) 0
 
@@ -111,6 +115,7 @@ gathered_reach g matrix index = reach (flat_map (quantised_piece g matrix index)
 abbrev pub quantised_pair : GatheredSeen → GatheredSeen → Weights → ℕ → ℕ → List ℤ
 quantised_pair g h matrix index k = in_turn (quantised_piece g matrix index k) (quantised_piece h matrix index k)
 
+-- how far the codes of two components in turn reach, but for the lowest subbands
 abbrev pub gathered_pairs_reach : GatheredSeen → GatheredSeen → Weights → ℕ → ℕ
 gathered_pairs_reach g h matrix index = reach (flat_map (quantised_pair g h matrix index) (range_with_len 1 (3 * g.depth))) 0
 
@@ -119,6 +124,7 @@ abbrev pub high_part : CodedComponent → ℕ → ℕ → ℕ → ℕ → List �
 high_part c index sx sy k =
     quantised (band_quantiser c.matrix index (level_of k) (orient_of k)) (raw_part c.slicing c.size c.bands sx sy k)
 
+-- how far their codes reach
 abbrev pub high_reach : CodedComponent → ℕ → ℕ → ℕ → ℕ
 high_reach c index sx sy = reach (flat_map (high_part c index sx sy) (range_with_len 1 (3 * c.slicing.depth))) 0
 
@@ -126,6 +132,7 @@ high_reach c index sx sy = reach (flat_map (high_part c index sx sy) (range_with
 abbrev pub high_pair : CodedPicture → ℕ → ℕ → ℕ → ℕ → List ℤ
 high_pair j index sx sy k = in_turn (high_part (c1_of j) index sx sy k) (high_part (c2_of j) index sx sy k)
 
+-- how far the codes of both colour components in turn reach
 abbrev pub high_pairs_reach : CodedPicture → ℕ → ℕ → ℕ → ℕ
 high_pairs_reach j index sx sy = reach (flat_map (high_pair j index sx sy) (range_with_len 1 (3 * j.slicing.depth))) 0
 

@@ -8,6 +8,7 @@ pub mod RectTrials
 pub mod Listing
 pub mod TrialLaws
 pub mod LowNeeds
+pub mod Counted
 pub mod CodeLengths
 pub mod Gathering
 pub mod GatheredSlices

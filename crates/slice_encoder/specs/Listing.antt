@@ -17,16 +17,19 @@ abbrev pub band_value : Raster ℤ → Raster ℤ → ℕ → ℕ → Grid
 band_value coefficients restored level q y x =
     if level == 0 then residual_of (at coefficients y x) q (prediction (at restored) y x) else forward_of (at coefficients y x) q
 
--- the values of a rectangle, row by row, and those of two bands in turn
+-- the values of one row of a rectangle
 abbrev pub row_values : Grid → Rect → ℕ → List ℤ
 row_values g r y = map (g y) (range_with_len r.x0 (r.x1 - r.x0))
 
+-- the values of a rectangle, row by row
 abbrev pub rect_values : Grid → Rect → List ℤ
 rect_values g r = flat_map (row_values g r) (range_with_len r.y0 (r.y1 - r.y0))
 
+-- the values of two grids in turn, in one row of a rectangle
 abbrev pub pair_row : Grid → Grid → Rect → ℕ → List ℤ
 pair_row g h r y = flat_map (λ x. g y x ∷ h y x ∷ []) (range_with_len r.x0 (r.x1 - r.x0))
 
+-- the values of two grids in turn, row by row of a rectangle
 abbrev pub pair_values : Grid → Grid → Rect → List ℤ
 pair_values g h r = flat_map (pair_row g h r) (range_with_len r.y0 (r.y1 - r.y0))
 

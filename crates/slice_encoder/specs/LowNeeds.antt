@@ -19,10 +19,11 @@ counted_bits (pos zero) = 0
 counted_bits (pos (suc n)) = length (signed_code_of (pos (suc n)))
 counted_bits (negsuc n) = length (signed_code_of (negsuc n))
 
--- of the coefficients in a row of a rectangle, and in all of it, by quantiser q
+-- the same of the coefficients in a row of a rectangle, by quantiser q
 abbrev pub row_bits : Grid → ℕ → Rect → ℕ → ℕ
 row_bits g q r y = sum_by (λ x. counted_bits (forward_of (g y x) q)) (range_with_len r.x0 (r.x1 - r.x0))
 
+-- the same of all of a rectangle
 abbrev pub rect_bits : Grid → ℕ → Rect → ℕ
 rect_bits g q r = sum_by (row_bits g q r) (range_with_len r.y0 (r.y1 - r.y0))
 
@@ -31,6 +32,7 @@ abbrev pub band_bits : CodedComponent → ℕ → ℕ → ℕ → ℕ → ℕ �
 band_bits c index sx sy level orient =
     rect_bits (coefficient c level orient) (band_quantiser c.matrix index level orient) (level_rect c.slicing c.size sx sy level)
 
+-- of the slice's values in the three bands of a level
 abbrev pub level_bits : CodedComponent → ℕ → ℕ → ℕ → ℕ → ℕ
 level_bits c index sx sy level =
     band_bits c index sx sy level 1 + (band_bits c index sx sy level 2 + band_bits c index sx sy level 3)
@@ -40,6 +42,7 @@ abbrev pub bits_to : CodedComponent → ℕ → ℕ → ℕ → ℕ → ℕ
 bits_to c index sx sy zero = 0
 bits_to c index sx sy (suc level) = bits_to c index sx sy level + level_bits c index sx sy (suc level)
 
+-- of those in all levels
 abbrev pub high_bits : CodedComponent → ℕ → ℕ → ℕ → ℕ
 high_bits c index sx sy = bits_to c index sx sy c.slicing.depth
 
@@ -49,9 +52,11 @@ high_bits c index sx sy = bits_to c index sx sy c.slicing.depth
 abbrev pub low_luma : CodedPicture → ℕ → ℕ → ℕ → ℕ
 low_luma j index sx sy = high_bits (luma_of j) index sx sy - 3
 
+-- what the colour values need at least
 abbrev pub low_colour : CodedPicture → ℕ → ℕ → ℕ → ℕ
 low_colour j index sx sy = high_bits (c1_of j) index sx sy + high_bits (c2_of j) index sx sy - 3
 
+-- both bounds of a slice at an index
 abbrev pub lower_of : CodedPicture → ℕ → ℕ → ℕ → Lower
 lower_of j sx sy index = record { luma = low_luma j index sx sy; colour = low_colour j index sx sy }
 

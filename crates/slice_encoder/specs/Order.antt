@@ -7,16 +7,19 @@ use Rattle.slice_geometry.specs.declared.Size.{Size}
 use Rattle.slice_geometry.specs.Slicing.{Slicing}
 use Rattle.slice_geometry.specs.SliceOrder.{level_rect}
 
+-- a place of a slice: its level, its orientation, its row and its column
 pub record Place : Type 0 where
   pub level : ℕ
   pub orient : ℕ
   pub y : ℕ
   pub x : ℕ
 
+-- the places of one row of a rectangle in a band
 abbrev pub row_places : ℕ → ℕ → Rect → ℕ → List Place
 row_places level orient r y =
     map (λ x. record { level = level; orient = orient; y = y; x = x }) (range_with_len r.x0 (r.x1 - r.x0))
 
+-- the places of a rectangle in a band, row by row
 abbrev pub rect_places : ℕ → ℕ → Rect → List Place
 rect_places level orient r = flat_map (row_places level orient r) (range_with_len r.y0 (r.y1 - r.y0))
 

@@ -29,6 +29,7 @@ pub record IsReadyToWrite (c : CodedComponent) (d sx sy : ℕ) (kept : Raster �
   pub outside : AllLookedAtOutside (λ y x. Within (3 * most_coefficient c.slicing.depth d + 2) (at kept y x))
       (level_rect c.slicing c.size sx sy 0)
 
+-- All three components are ready for slice (sx, sy), which the picture has.
 pub record AreReadyToWrite (j : CodedPicture) (sx sy : ℕ) (kept : ThreePlanes) : Type 0 where
   pub across : sx < j.slicing.slices_x
   pub down : sy < j.slicing.slices_y
@@ -43,6 +44,7 @@ pub record IsGiven (c : CodedComponent) (d : ℕ) : Type 0 where
   pub sizes : HaveSizes c.bands (padded_length c.slicing.depth c.size.w) (padded_length c.slicing.depth c.size.h)
   pub small : AreCoefficients d c
 
+-- What of all three components stays from slice to slice.
 pub record AreGiven (j : CodedPicture) : Type 0 where
   pub entries : j.matrix.depth ≡ j.slicing.depth
   pub luma_bits : IsDepth j.frame.luma_depth

@@ -18,6 +18,7 @@ EarlierIndicesAlone = (c : CodedComponent) (indices : List ℕ) (y x : ℕ) → 
     → y < (band_size c.slicing.depth 0 c.size).h → x < (band_size c.slicing.depth 0 c.size).w
     → restored_after c indices y x ≡ restored_after c (take (slice_holding c.slicing c.size y x + 1) indices) y x
 
+-- a quantisation index is at most 127
 abbrev pub IsIndex : ℕ → Type 0
 IsIndex i = i ≤ 127
 
@@ -42,6 +43,7 @@ abbrev pub AreCoefficients : ℕ → CodedComponent → Type 0
 AreCoefficients d c = (level orient y x : ℕ) → BandExists c.slicing.depth level orient
     → Within (most_coefficient c.slicing.depth d) (coefficient c level orient y x)
 
+-- The coefficients are those of a picture of samples of these depths.
 pub record IsPicture (j : CodedPicture) : Type 0 where
   pub luma_bits : IsDepth j.frame.luma_depth
   pub colour_bits : IsDepth j.frame.colour_depth
@@ -56,6 +58,7 @@ CoarsestFits = (j : CodedPicture) (indices : List ℕ) (bytes sx sy : ℕ) → I
     → All IsIndex indices → length indices ≡ slice_number j.slicing sx sy
     → fits bytes (last_lists j (indices ++ 127 ∷ []) sx sy) ≡ true
 
+-- Each of the values has a magnitude that a stream can hold.
 abbrev pub AreSmallValues : List ℤ → Type 0
 AreSmallValues vs = All IsSmall vs
 

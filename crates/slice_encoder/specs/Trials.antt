@@ -22,6 +22,7 @@ pub record CodedComponent : Type 0 where
   pub matrix : Weights
   pub bands : BandStack
 
+-- the coefficients of a band, by row and column
 abbrev pub coefficient : CodedComponent → ℕ → ℕ → Grid
 coefficient c level orient = at (band_of c.bands level orient)
 
@@ -61,26 +62,31 @@ colour_list c1 c2 restored1 restored2 index sx sy =
 
 -- ---- a picture
 
+-- the coefficients of a picture that is to be written, and how
 pub record CodedPicture : Type 0 where
   pub slicing : Slicing
   pub frame : Frame
   pub matrix : Weights
   pub coefficients : Trio
 
+-- the luma component of a picture
 abbrev pub luma_of : CodedPicture → CodedComponent
 luma_of j = record { slicing = j.slicing; size = j.frame.luma; matrix = j.matrix; bands = j.coefficients.luma }
 
+-- the first colour component of a picture
 abbrev pub c1_of : CodedPicture → CodedComponent
 c1_of j = record { slicing = j.slicing; size = j.frame.colour; matrix = j.matrix; bands = j.coefficients.c1 }
 
+-- the second colour component of a picture
 abbrev pub c2_of : CodedPicture → CodedComponent
 c2_of j = record { slicing = j.slicing; size = j.frame.colour; matrix = j.matrix; bands = j.coefficients.c2 }
 
--- the lists of slice (sx, sy) where the restored values are these
+-- the values of a slice, as they are written
 pub record Lists : Type 0 where
   pub luma : List ℤ
   pub colour : List ℤ
 
+-- the lists of slice (sx, sy) where the restored values are these
 abbrev pub lists : CodedPicture → Grid → Grid → Grid → ℕ → ℕ → ℕ → Lists
 lists j luma c1 c2 index sx sy = record {
   luma = luma_list (luma_of j) luma index sx sy;
@@ -100,6 +106,7 @@ abbrev pub IsKept : CodedComponent → List ℕ → Raster ℤ → Type 0
 IsKept c indices p = (y x : ℕ) → y < height p → x < p.w → slice_holding c.slicing c.size y x < length indices
     → at p y x ≡ restored_after c indices y x
 
+-- The planes of all three components hold the restored values of the slices that have an index.
 pub record AreKept (j : CodedPicture) (indices : List ℕ) (kept : ThreePlanes) : Type 0 where
   pub luma : IsKept (luma_of j) indices kept.luma
   pub c1 : IsKept (c1_of j) indices kept.c1

@@ -10,6 +10,7 @@ use Rattle.slice_geometry.specs.SliceOrder.{level_rect}
 use Rattle.slice_encoder.specs.Loop.{restored_value, made}
 use Rattle.slice_encoder.specs.Trials.{CodedComponent, coefficient, CodedPicture, luma_of, c1_of, c2_of, Lists, lists, last_lists, AreKept}
 
+-- whether a place lies in a rectangle
 abbrev pub in_rect : Rect → ℕ → ℕ → Bool
 in_rect r y x = nat_le r.x0 x && (nat_lt x r.x1 && (nat_le r.y0 y && nat_lt y r.y1))
 
@@ -26,6 +27,7 @@ pub record IsTried (c : CodedComponent) (sx sy index : ℕ) (old new : Raster �
   pub same_height : height new ≡ height old
   pub places : (y x : ℕ) → at new y x ≡ tried c sx sy index (at old) y x
 
+-- The planes of all three components after a trial.
 pub record AreTried (j : CodedPicture) (sx sy index : ℕ) (old new : ThreePlanes) : Type 0 where
   pub luma : IsTried (luma_of j) sx sy index old.luma new.luma
   pub c1 : IsTried (c1_of j) sx sy index old.c1 new.c1
@@ -39,9 +41,11 @@ tried_lists j kept sx sy index =
 
 -- ---- where the values that were kept are those of earlier trials
 
+-- A kept plane is as large as the component's lowest subband.
 abbrev pub KeptHasSize : CodedComponent → Raster ℤ → Type 0
 KeptHasSize c p = let band = band_size c.slicing.depth 0 c.size in (p.w ≡ band.w) × (height p ≡ band.h)
 
+-- All three kept planes have their sizes.
 pub record KeptHaveSizes (j : CodedPicture) (kept : ThreePlanes) : Type 0 where
   pub luma : KeptHasSize (luma_of j) kept.luma
   pub c1 : KeptHasSize (c1_of j) kept.c1

@@ -1,7 +1,7 @@
 // Codes put into a block, as far as it reaches.
 
 ghost use Rattle.planes.specs.declared.TheConstants.{MAX_MAGNITUDE};
-ghost use Rattle.std.specs.Prelude.{◌≡◌, ◌+◌, ◌*◌, ◌/◌, ◌^◌, ◌<◌, ◌≤◌, ◌++◌, length, take, replicate, true, unsigned_abs};
+ghost use Rattle.std.specs.Prelude.{◌≡◌, ◌+◌, ◌*◌, ◌/◌, ◌%◌, ◌^◌, ◌<◌, ◌≤◌, ◌++◌, length, take, replicate, true, unsigned_abs};
 ghost use Rattle.std.specs.List.{All};
 ghost use Rattle.bit_codes.specs.Bits.{digits_below};
 ghost use Rattle.bit_codes.specs.Codes.{code_of, signed_code_of};
@@ -35,6 +35,22 @@ fn put_cut(bytes: &mut [u8], block: Block, number: u64, n: u32) -> Block
     }
 }
 
+// Puts the last `n` binary digits of a number, which fit.
+#[inline(always)]
+fn put_whole(bytes: &mut [u8], block: Block, number: u64, n: u32) -> Block
+    requires few { n ≤ 32 }
+    requires small { number < 2 ^ n }
+    requires block { IsBlock (length bytes.old) block }
+    requires fits { n ≤ block.left }
+    ensures { IsPut bytes.old block bytes.new result (digits_below n number) }
+{
+    let queue = put_bits(bytes, block.queue, number, n);
+    Block {
+        queue,
+        left: block.left - u64::from(n),
+    }
+}
+
 // Puts the last `n` binary digits of a number.
 #[inline(always)]
 fn put_digits(bytes: &mut [u8], block: Block, number: u64, n: u32) -> Block
@@ -46,11 +62,7 @@ fn put_digits(bytes: &mut [u8], block: Block, number: u64, n: u32) -> Block
     if u64::from(n) > block.left {
         return put_cut(bytes, block, number, n);
     }
-    let queue = put_bits(bytes, block.queue, number, n);
-    Block {
-        queue,
-        left: block.left - u64::from(n),
-    }
+    put_whole(bytes, block, number, n)
 }
 
 // Puts the code of a number below 2^37.
@@ -98,7 +110,7 @@ fn put_value(bytes: &mut [u8], block: Block, v: i64) -> Block
     put_long(bytes, block, v)
 }
 
-// Puts the codes of two values one after the other. This stays out of the loop that looks codes up.
+// Puts the codes of two values one after the other.
 #[inline(never)]
 fn put_apart(bytes: &mut [u8], block: Block, first: i64, second: i64) -> Block
     requires first_small { unsigned_abs first ≤ MAX_MAGNITUDE }
@@ -111,20 +123,41 @@ fn put_apart(bytes: &mut [u8], block: Block, first: i64, second: i64) -> Block
     put_value(bytes, between, second)
 }
 
-// Puts the codes of two values, at once where both are small.
-#[inline(always)]
-fn put_pair(bytes: &mut [u8], block: Block, first: i64, second: i64) -> Block
-    requires first_small { unsigned_abs first ≤ MAX_MAGNITUDE }
-    requires second_small { unsigned_abs second ≤ MAX_MAGNITUDE }
+/// How many values were put, and the block behind their codes.
+#[derive(Clone, Copy)]
+struct Run {
+    count: usize,
+    block: Block,
+}
+
+// Puts the codes of values two by two, up to the first two of which one isn't small or whose codes don't fit. With a call in
+// this loop the block would leave the registers.
+fn put_small_pairs(bytes: &mut [u8], block: Block, values: &[i64]) -> Run
+    requires small { All IsSmall values.now }
     requires block { IsBlock (length bytes.old) block }
-    ensures { IsPut bytes.old block bytes.new result
-        (signed_code_of first ++ signed_code_of second) }
+    ensures most { result.count ≤ 2 * (length values.now / 2) }
+    ensures even { result.count % 2 ≡ 0 }
+    ensures puts { IsPut bytes.old block bytes.new result.block
+        (codes_of (take result.count values.now)) }
 {
-    if -32 < first && first < 32 && -32 < second && second < 32 {
+    let mut block = block;
+    for pair in 0..values.len() / 2 {
+        let count = 2 * pair;
+        let first = values[count];
+        let second = values[count + 1];
+        if first <= -32 || 32 <= first || second <= -32 || 32 <= second {
+            return Run { count, block };
+        }
         let text = pair_text(first, second);
-        return put_digits(bytes, block, text.number, text.length);
+        if u64::from(text.length) > block.left {
+            return Run { count, block };
+        }
+        block = put_whole(bytes, block, text.number, text.length);
     }
-    put_apart(bytes, block, first, second)
+    Run {
+        count: values.len() / 2 * 2,
+        block,
+    }
 }
 
 // Puts the codes of values two by two, but for the last one of an odd number of them.
@@ -135,8 +168,16 @@ fn put_pairs(bytes: &mut [u8], block: Block, values: &[i64]) -> Block
         (codes_of (take (2 * (length values.now / 2)) values.now)) }
 {
     let mut block = block;
-    for pair in 0..values.len() / 2 {
-        block = put_pair(bytes, block, values[2 * pair], values[2 * pair + 1]);
+    let mut done = 0;
+    let end = values.len() / 2 * 2;
+    while done < end {
+        let run = put_small_pairs(bytes, block, &values[done..]);
+        block = run.block;
+        done += run.count;
+        if done < end {
+            block = put_apart(bytes, block, values[done], values[done + 1]);
+            done += 2;
+        }
     }
     block
 }

@@ -6,7 +6,7 @@ ghost use Rattle.planes.specs.Numbers.{Within};
 ghost use Rattle.planes.specs.Raster.{at, height};
 ghost use Rattle.quant_factors.specs.Factors.{forward_of};
 ghost use Rattle.slice_geometry.specs.Shape.{IsSize, IsDepth};
-ghost use Rattle.slice_encoder.specs.Buffers.{coded_component};
+ghost use Rattle.slice_encoder.specs.Counted.{component_of};
 ghost use Rattle.slice_encoder.specs.LowNeeds as low;
 ghost use Rattle.slice_encoder.specs.LowNeeds.{counted_bits, row_bits, rect_bits, level_bits, low_luma, low_colour, lower_of, CanCount};
 ghost use Rattle.slice_encoder.specs.Ready.{coded_picture, IsGiven, AreGiven};
@@ -78,42 +78,38 @@ fn bits_in_rect(coefficients: &Plane, rect: Rect, index: u32) -> u64
     bits
 }
 
-// The same of the slice's values in the bands of a level. The depth of its samples bounds the coefficients, in the
-// contract alone.
-fn bits_in_level(
-    layout: &Layout,
-    size: Size,
-    sample_depth: u32,
-    matrix: &Matrix,
-    sx: u32,
-    sy: u32,
-    index: u32,
-    level: u32,
-    coefficients: &Bands,
-) -> u64
+/// A component that is counted. The depth of its samples bounds the coefficients, in contracts alone.
+#[derive(Clone, Copy)]
+pub struct CountedComponent<'a> {
+    pub layout: &'a Layout,
+    pub matrix: &'a Matrix,
+    pub size: Size,
+    pub sample_depth: u32,
+    pub coefficients: &'a Bands,
+}
+
+// The same of the slice's values in the bands of a level.
+fn bits_in_level(component: CountedComponent<'_>, sx: u32, sy: u32, index: u32, level: u32) -> u64
     requires index { index ≤ 127 }
-    requires size { IsSize size.w size.h }
-    requires bits { IsDepth sample_depth }
-    requires across { sx < layout.now.slices_x }
-    requires down { sy < layout.now.slices_y }
-    requires entries { matrix.now.depth ≡ layout.now.depth }
-    requires given { IsGiven (coded_component layout.now size matrix.now coefficients.now)
-        sample_depth }
+    requires size { IsSize component.size.w component.size.h }
+    requires bits { IsDepth component.sample_depth }
+    requires across { sx < component.layout.now.slices_x }
+    requires down { sy < component.layout.now.slices_y }
+    requires entries { component.matrix.now.depth ≡ component.layout.now.depth }
+    requires given { IsGiven (component_of component) component.sample_depth }
     requires some { 1 ≤ level }
-    requires most { level ≤ layout.now.depth }
-    ensures value { result ≡ level_bits (coded_component layout.now size matrix.now
-        coefficients.now) index sx sy level }
+    requires most { level ≤ component.layout.now.depth }
+    ensures value { result ≡ level_bits (component_of component.entry) index sx sy level }
     ensures few { result ≤ 2 ^ 36 }
 {
-    let _ = sample_depth;
-    let _depth = layout.depth();
-    let rect = layout.band_rect(size, level, sx, sy);
-    let hl_band = coefficients.band(level, 1);
-    let lh_band = coefficients.band(level, 2);
-    let hh_band = coefficients.band(level, 3);
-    let first = matrix.quantiser(index, level, Orient::Hl);
-    let second = matrix.quantiser(index, level, Orient::Lh);
-    let third = matrix.quantiser(index, level, Orient::Hh);
+    let _depth = component.layout.depth();
+    let rect = component.layout.band_rect(component.size, level, sx, sy);
+    let hl_band = component.coefficients.band(level, 1);
+    let lh_band = component.coefficients.band(level, 2);
+    let hh_band = component.coefficients.band(level, 3);
+    let first = component.matrix.quantiser(index, level, Orient::Hl);
+    let second = component.matrix.quantiser(index, level, Orient::Lh);
+    let third = component.matrix.quantiser(index, level, Orient::Hh);
     let hl = bits_in_rect(hl_band, rect, first);
     let lh = bits_in_rect(lh_band, rect, second);
     let hh = bits_in_rect(hh_band, rect, third);
@@ -121,42 +117,21 @@ fn bits_in_level(
 }
 
 // The same of all of the slice's values in one component, but for its lowest subband.
-fn high_bits(
-    layout: &Layout,
-    size: Size,
-    sample_depth: u32,
-    matrix: &Matrix,
-    sx: u32,
-    sy: u32,
-    index: u32,
-    coefficients: &Bands,
-) -> u64
+fn high_bits(component: CountedComponent<'_>, sx: u32, sy: u32, index: u32) -> u64
     requires index { index ≤ 127 }
-    requires size { IsSize size.w size.h }
-    requires bits { IsDepth sample_depth }
-    requires across { sx < layout.now.slices_x }
-    requires down { sy < layout.now.slices_y }
-    requires entries { matrix.now.depth ≡ layout.now.depth }
-    requires given { IsGiven (coded_component layout.now size matrix.now coefficients.now)
-        sample_depth }
-    ensures value { result ≡ low.high_bits (coded_component layout.now size matrix.now
-        coefficients.now) index sx sy }
+    requires size { IsSize component.size.w component.size.h }
+    requires bits { IsDepth component.sample_depth }
+    requires across { sx < component.layout.now.slices_x }
+    requires down { sy < component.layout.now.slices_y }
+    requires entries { component.matrix.now.depth ≡ component.layout.now.depth }
+    requires given { IsGiven (component_of component) component.sample_depth }
+    ensures value { result ≡ low.high_bits (component_of component.entry) index sx sy }
     ensures few { result ≤ 2 ^ 38 }
 {
     let mut bits = 0;
-    for below in 0..layout.depth() {
+    for below in 0..component.layout.depth() {
         let level = below + 1;
-        bits += bits_in_level(
-            layout,
-            size,
-            sample_depth,
-            matrix,
-            sx,
-            sy,
-            index,
-            level,
-            coefficients,
-        );
+        bits += bits_in_level(component, sx, sy, index, level);
     }
     bits
 }
@@ -179,17 +154,14 @@ fn lower_luma(
         coefficients.now) index sx sy }
     ensures few { result ≤ 2 ^ 40 }
 {
-    let bits = high_bits(
+    let component = CountedComponent {
         layout,
-        shape.luma,
-        shape.luma_depth,
         matrix,
-        sx,
-        sy,
-        index,
-        &coefficients.luma,
-    );
-    bits.saturating_sub(3)
+        size: shape.luma,
+        sample_depth: shape.luma_depth,
+        coefficients: &coefficients.luma,
+    };
+    high_bits(component, sx, sy, index).saturating_sub(3)
 }
 
 // What its colour values need at least.
@@ -210,27 +182,23 @@ fn lower_colour(
         coefficients.now) index sx sy }
     ensures few { result ≤ 2 ^ 40 }
 {
-    let first = high_bits(
+    let first = CountedComponent {
         layout,
-        shape.colour,
-        shape.colour_depth,
         matrix,
-        sx,
-        sy,
-        index,
-        &coefficients.c1,
-    );
-    let second = high_bits(
+        size: shape.colour,
+        sample_depth: shape.colour_depth,
+        coefficients: &coefficients.c1,
+    };
+    let second = CountedComponent {
         layout,
-        shape.colour,
-        shape.colour_depth,
         matrix,
-        sx,
-        sy,
-        index,
-        &coefficients.c2,
-    );
-    (first + second).saturating_sub(3)
+        size: shape.colour,
+        sample_depth: shape.colour_depth,
+        coefficients: &coefficients.c2,
+    };
+    let first_bits = high_bits(first, sx, sy, index);
+    let second_bits = high_bits(second, sx, sy, index);
+    (first_bits + second_bits).saturating_sub(3)
 }
 
 // What a slice needs at least at an index.

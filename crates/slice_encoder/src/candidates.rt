@@ -13,30 +13,6 @@ use planes::Trio;
 use quant_factors::Matrix;
 use slice_geometry::{Layout, PictureShape};
 
-// Whether an index may fit.
-fn may_fit_at(
-    layout: &Layout,
-    shape: &PictureShape,
-    matrix: &Matrix,
-    sx: u32,
-    sy: u32,
-    index: u32,
-    bytes: u32,
-    coefficients: &Trio,
-) -> bool
-    requires index { index ≤ 127 }
-    requires some { 1 ≤ bytes }
-    requires most { bytes ≤ 2 ^ 28 }
-    requires across { sx < layout.now.slices_x }
-    requires down { sy < layout.now.slices_y }
-    requires given { AreGiven (coded_picture layout.now shape.now matrix.now coefficients.now) }
-    ensures { result ≡ may_fit bytes (lower_of
-        (coded_picture layout.now shape.now matrix.now coefficients.now) sx sy index) }
-{
-    let low = lower_at(layout, shape, matrix, sx, sy, index, coefficients);
-    do_fit(bytes, low.luma, low.colour)
-}
-
 // Halves the range of indices: none below its start may fit, and its end may.
 pub fn find_candidate(
     layout: &Layout,
@@ -61,7 +37,8 @@ pub fn find_candidate(
     let mut end = 127;
     while start < end {
         let middle = (start + end) / 2;
-        let may = may_fit_at(layout, shape, matrix, sx, sy, middle, bytes, coefficients);
+        let low = lower_at(layout, shape, matrix, sx, sy, middle, coefficients);
+        let may = do_fit(bytes, low.luma, low.colour);
         if may {
             end = middle;
         } else {

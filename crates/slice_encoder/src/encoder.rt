@@ -115,13 +115,12 @@ impl SliceEncoder {
             coefficients: TrioSource::Wide(coefficients),
             sx,
             sy,
+            bytes: share_of(&self.layout, sx, sy),
         };
-        let bytes = share_of(&self.layout, sx, sy);
         self.gathered.gather(job, 0);
         let trying = try_at(
             job,
             qindex,
-            bytes,
             &self.gathered,
             kept,
             &mut self.luma,
@@ -296,11 +295,11 @@ impl SliceEncoder {
             coefficients,
             sx,
             sy,
+            bytes: bytes.len() as u32,
         };
         self.gathered.gather(job, self.near);
         let found = find_least(
             job,
-            bytes.len() as u32,
             &self.gathered,
             self.near,
             kept,

@@ -4,7 +4,7 @@ use crate::sources::TrioSource;
 use quant_factors::Matrix;
 use slice_geometry::{Layout, PictureShape};
 
-/// A slice, and all that its values are made of.
+/// A slice, all that its values are made of, and how many bytes it is given.
 #[derive(Clone, Copy)]
 pub struct SliceJob<'a> {
     pub layout: &'a Layout,
@@ -13,4 +13,5 @@ pub struct SliceJob<'a> {
     pub coefficients: TrioSource<'a>,
     pub sx: u32,
     pub sy: u32,
+    pub bytes: u32,
 }

@@ -90,7 +90,6 @@ fn restore_lowest(job: SliceJob<'_>, index: u32, kept: &mut ThreePlanes)
 fn list_and_count(
     job: SliceJob<'_>,
     index: u32,
-    bytes: u32,
     gathered: &GatheredSlice,
     reaches: Reaches,
     kept: &ThreePlanes,
@@ -98,8 +97,8 @@ fn list_and_count(
     colour: &mut [i64],
 ) -> Trying
     requires index { index ≤ 127 }
-    requires some { 1 ≤ bytes }
-    requires most { bytes ≤ 2 ^ 28 }
+    requires some { 1 ≤ job.bytes }
+    requires most { job.bytes ≤ 2 ^ 28 }
     requires luma_reach { reaches.luma ≡ high_reach (luma_of (picture_of job)) index job.sx job.sy }
     requires colour_reach { reaches.colour ≡ high_pairs_reach (picture_of job) index job.sx job.sy }
     requires few_luma { reaches.luma ≤ 2 ^ 38 }
@@ -109,7 +108,7 @@ fn list_and_count(
     requires room { HasListRoom (picture_of job) job.sx job.sy (length luma.old)
         (length colour.old) }
     ensures { HoldsWhatWasTried (picture_of job.entry) job.entry.sx job.entry.sy index kept.now
-        bytes result luma.new colour.new }
+        job.entry.bytes result luma.new colour.new }
 {
     let _depth = job.layout.depth();
     let lumas = list_luma(job, index, &gathered.luma, &kept.luma, luma);
@@ -123,7 +122,7 @@ fn list_and_count(
         colour: colours,
         luma_need,
         colour_need,
-        fits: do_fit(bytes, luma_need, colour_need),
+        fits: do_fit(job.bytes, luma_need, colour_need),
     }
 }
 
@@ -131,15 +130,14 @@ fn list_and_count(
 fn may_fit_restored(
     job: SliceJob<'_>,
     index: u32,
-    bytes: u32,
     reaches: Reaches,
     kept: &ThreePlanes,
     luma: &mut [i64],
     colour: &mut [i64],
 ) -> bool
     requires index { index ≤ 127 }
-    requires some { 1 ≤ bytes }
-    requires most { bytes ≤ 2 ^ 28 }
+    requires some { 1 ≤ job.bytes }
+    requires most { job.bytes ≤ 2 ^ 28 }
     requires restored { WasTried (picture_of job) job.sx job.sy index kept.now }
     requires luma_reach { reaches.luma ≡ high_reach (luma_of (picture_of job)) index job.sx job.sy }
     requires colour_reach { reaches.colour ≡ high_pairs_reach (picture_of job) index job.sx job.sy }
@@ -148,29 +146,29 @@ fn may_fit_restored(
     requires room { HasListRoom (picture_of job) job.sx job.sy (length luma.old)
         (length colour.old) }
     ensures { result ≡ false
-        → WasRefused (picture_of job.entry) job.entry.sx job.entry.sy index kept.now bytes }
+        → WasRefused (picture_of job.entry) job.entry.sx job.entry.sy index kept.now
+        job.entry.bytes }
 {
     let _depth = job.layout.depth();
     let luma_bits = lowest_luma_bits(job, index, &kept.luma, luma);
     let colour_bits = lowest_colour_bits(job, index, kept, colour);
     let luma_low = behind(luma_bits, reaches.luma).saturating_sub(3);
     let colour_low = behind(colour_bits, reaches.colour).saturating_sub(3);
-    do_fit(bytes, luma_low, colour_low)
+    do_fit(job.bytes, luma_low, colour_low)
 }
 
 // The same, but not asked where codes reach less than half of the slice's bits: to ask would cost more than it spares.
 fn may_fit(
     job: SliceJob<'_>,
     index: u32,
-    bytes: u32,
     reaches: Reaches,
     kept: &ThreePlanes,
     luma: &mut [i64],
     colour: &mut [i64],
 ) -> bool
     requires index { index ≤ 127 }
-    requires some { 1 ≤ bytes }
-    requires most { bytes ≤ 2 ^ 28 }
+    requires some { 1 ≤ job.bytes }
+    requires most { job.bytes ≤ 2 ^ 28 }
     requires restored { WasTried (picture_of job) job.sx job.sy index kept.now }
     requires luma_reach { reaches.luma ≡ high_reach (luma_of (picture_of job)) index job.sx job.sy }
     requires colour_reach { reaches.colour ≡ high_pairs_reach (picture_of job) index job.sx job.sy }
@@ -179,19 +177,19 @@ fn may_fit(
     requires room { HasListRoom (picture_of job) job.sx job.sy (length luma.old)
         (length colour.old) }
     ensures { result ≡ false
-        → WasRefused (picture_of job.entry) job.entry.sx job.entry.sy index kept.now bytes }
+        → WasRefused (picture_of job.entry) job.entry.sx job.entry.sy index kept.now
+        job.entry.bytes }
 {
-    if reaches.luma + reaches.colour < 4 * u64::from(bytes) {
+    if reaches.luma + reaches.colour < 4 * u64::from(job.bytes) {
         return true;
     }
-    may_fit_restored(job, index, bytes, reaches, kept, luma, colour)
+    may_fit_restored(job, index, reaches, kept, luma, colour)
 }
 
 // Tries one index: its restored values are kept, and its values are listed and counted where they may fit.
 fn try_if_may(
     job: SliceJob<'_>,
     index: u32,
-    bytes: u32,
     gathered: &GatheredSlice,
     reaches: Reaches,
     kept: &mut ThreePlanes,
@@ -199,8 +197,8 @@ fn try_if_may(
     colour: &mut [i64],
 ) -> Trying
     requires index { index ≤ 127 }
-    requires some { 1 ≤ bytes }
-    requires most { bytes ≤ 2 ^ 28 }
+    requires some { 1 ≤ job.bytes }
+    requires most { job.bytes ≤ 2 ^ 28 }
     requires ready { AreReadyToWrite (picture_of job) job.sx job.sy kept.old }
     requires gathered { AreAllGathered (picture_of job) job.sx job.sy gathered.now }
     requires reaches { reaches ≡ gathered_reaches gathered.now job.matrix.now index }
@@ -210,15 +208,15 @@ fn try_if_may(
         (length colour.old) }
     ensures holds { result.fits ≡ true
         → HoldsLists (tried_lists (picture_of job.entry) kept.old job.entry.sx job.entry.sy index)
-        bytes result luma.new colour.new }
+        job.entry.bytes result luma.new colour.new }
     ensures refused { result.fits ≡ false
-        → fits bytes (tried_lists (picture_of job.entry) kept.old job.entry.sx job.entry.sy index)
-        ≡ false }
+        → fits job.entry.bytes
+        (tried_lists (picture_of job.entry) kept.old job.entry.sx job.entry.sy index) ≡ false }
     ensures kept { AreTried (picture_of job.entry) job.entry.sx job.entry.sy index kept.old
         kept.new }
 {
     restore_lowest(job, index, kept);
-    let may = may_fit(job, index, bytes, reaches, kept, luma, colour);
+    let may = may_fit(job, index, reaches, kept, luma, colour);
     if !may {
         return Trying {
             luma: 0,
@@ -228,34 +226,33 @@ fn try_if_may(
             fits: false,
         };
     }
-    list_and_count(job, index, bytes, gathered, reaches, kept, luma, colour)
+    list_and_count(job, index, gathered, reaches, kept, luma, colour)
 }
 
 // Tries one index: its restored values are kept, and its values listed and counted.
 pub fn try_at(
     job: SliceJob<'_>,
     index: u32,
-    bytes: u32,
     gathered: &GatheredSlice,
     kept: &mut ThreePlanes,
     luma: &mut [i64],
     colour: &mut [i64],
 ) -> Trying
     requires index { index ≤ 127 }
-    requires some { 1 ≤ bytes }
-    requires most { bytes ≤ 2 ^ 28 }
+    requires some { 1 ≤ job.bytes }
+    requires most { job.bytes ≤ 2 ^ 28 }
     requires ready { AreReadyToWrite (picture_of job) job.sx job.sy kept.old }
     requires gathered { AreAllGathered (picture_of job) job.sx job.sy gathered.now }
     requires room { HasListRoom (picture_of job) job.sx job.sy (length luma.old)
         (length colour.old) }
     ensures holds { HoldsLists (tried_lists (picture_of job.entry) kept.old job.entry.sx
-        job.entry.sy index) bytes result luma.new colour.new }
+        job.entry.sy index) job.entry.bytes result luma.new colour.new }
     ensures kept { AreTried (picture_of job.entry) job.entry.sx job.entry.sy index kept.old
         kept.new }
 {
     restore_lowest(job, index, kept);
     let reaches = gathered.reaches(job.matrix, index);
-    list_and_count(job, index, bytes, gathered, reaches, kept, luma, colour)
+    list_and_count(job, index, gathered, reaches, kept, luma, colour)
 }
 
 // How far codes reach at the index behind one, which may have been found with the first candidate.
@@ -283,15 +280,14 @@ fn reaches_behind(gathered: &GatheredSlice, matrix: &Matrix, first: First, index
 // Tries the indices from the first candidate on, and keeps the trial of the first that fits.
 pub fn find_least(
     job: SliceJob<'_>,
-    bytes: u32,
     gathered: &GatheredSlice,
     near: u32,
     kept: &mut ThreePlanes,
     luma: &mut [i64],
     colour: &mut [i64],
 ) -> Found
-    requires some { 1 ≤ bytes }
-    requires most { bytes ≤ 2 ^ 28 }
+    requires some { 1 ≤ job.bytes }
+    requires most { job.bytes ≤ 2 ^ 28 }
     requires ready { AreReadyToWrite (picture_of job) job.sx job.sy kept.old }
     requires gathered { AreAllGathered (picture_of job) job.sx job.sy gathered.now }
     requires near { near ≤ 127 }
@@ -300,17 +296,17 @@ pub fn find_least(
     requires room { HasListRoom (picture_of job) job.sx job.sy (length luma.old)
         (length colour.old) }
     ensures near { result.first ≤ 127 }
-    ensures least { IsLeastIndex bytes (tried_lists
+    ensures least { IsLeastIndex job.entry.bytes (tried_lists
         (picture_of job.entry) kept.old job.entry.sx job.entry.sy) result.index }
     ensures holds { HoldsLists (tried_lists (picture_of job.entry) kept.old job.entry.sx
-        job.entry.sy result.index) bytes result.trying luma.new colour.new }
+        job.entry.sy result.index) job.entry.bytes result.trying luma.new colour.new }
     ensures kept { AreTried (picture_of job.entry) job.entry.sx job.entry.sy result.index kept.old
         kept.new }
 {
-    let first = find_first(gathered, job.matrix, bytes, near);
+    let first = find_first(gathered, job.matrix, job.bytes, near);
     let mut reaches = first.reaches;
     for index in first.index..127 {
-        let trying = try_if_may(job, index, bytes, gathered, reaches, kept, luma, colour);
+        let trying = try_if_may(job, index, gathered, reaches, kept, luma, colour);
         if trying.fits {
             return Found {
                 first: first.index,
@@ -320,7 +316,7 @@ pub fn find_least(
         }
         reaches = reaches_behind(gathered, job.matrix, first, index);
     }
-    let trying = try_at(job, 127, bytes, gathered, kept, luma, colour);
+    let trying = try_at(job, 127, gathered, kept, luma, colour);
     Found {
         first: first.index,
         index: 127,

@@ -96,7 +96,7 @@ pub fn lowest_luma_bits(job: SliceJob<'_>, index: u32, kept: &Plane, out: &mut [
     let rect = job.layout.band_rect(job.shape.luma, 0, job.sx, job.sy);
     let quantiser = job.matrix.quantiser(index, 0, Orient::Ll);
     let lowest = job.coefficients.luma().band(0, 0);
-    list_rect(lowest, kept, 0, rect, quantiser, out, 0);
+    list_rect(lowest, kept, rect, quantiser, out);
     let count = (rect.x1 - rect.x0) as usize * (rect.y1 - rect.y0) as usize;
     total_length(&out[..count])
 }
@@ -124,9 +124,7 @@ pub fn lowest_colour_bits(job: SliceJob<'_>, index: u32, kept: &ThreePlanes, out
     let quantiser = job.matrix.quantiser(index, 0, Orient::Ll);
     let first = job.coefficients.c1().band(0, 0);
     let second = job.coefficients.c2().band(0, 0);
-    list_pair(
-        first, second, &kept.c1, &kept.c2, 0, rect, quantiser, out, 0,
-    );
+    list_pair(first, second, &kept.c1, &kept.c2, rect, quantiser, out);
     let count = 2 * ((rect.x1 - rect.x0) as usize * (rect.y1 - rect.y0) as usize);
     total_length(&out[..count])
 }
@@ -156,7 +154,7 @@ pub fn list_luma(
     let rect = job.layout.band_rect(job.shape.luma, 0, job.sx, job.sy);
     let quantiser = job.matrix.quantiser(index, 0, Orient::Ll);
     let lowest = job.coefficients.luma().band(0, 0);
-    list_rect(lowest, kept, 0, rect, quantiser, out, 0);
+    list_rect(lowest, kept, rect, quantiser, out);
     gathered.list(job.matrix, index, out)
 }
 
@@ -188,8 +186,6 @@ pub fn list_colour(
     let quantiser = job.matrix.quantiser(index, 0, Orient::Ll);
     let first = job.coefficients.c1().band(0, 0);
     let second = job.coefficients.c2().band(0, 0);
-    list_pair(
-        first, second, &kept.c1, &kept.c2, 0, rect, quantiser, out, 0,
-    );
+    list_pair(first, second, &kept.c1, &kept.c2, rect, quantiser, out);
     gathered.c1.list_pair(&gathered.c2, job.matrix, index, out)
 }

@@ -1,4 +1,5 @@
-use Rattle.std.proofs.Common.{◌≡◌, ◌∙◌, ℕ, ◌+◌, ◌/◌, true, sym, subst, arith}
+use Rattle.std.proofs.Common.{◌≡◌, ◌∙◌, ℕ, ◌+◌, ◌/◌, true, sym, ap, subst, arith}
+use Rattle.slice_encoder.specs.declared.bounding.Lower.{Lower}
 use Rattle.slice_encoder.specs.Trials.{CodedPicture}
 use Rattle.slice_encoder.specs.LowNeeds.{lower_of, may_fit}
 use Rattle.slice_encoder.specs.Ready.{coded_picture}
@@ -15,7 +16,7 @@ loop-start-init c =
 pub loop-start-preserved-then-may : goal.loop-start-preserved-then-may
 loop-start-preserved-then-may c =
     let l = c.loop-start in
-    record { order = omega arith; most = omega (arith, l.invariant.most); may = sym c.may_fit_at-may.ensures ∙ c.if-may.true; refuted = l.invariant.refuted }
+    record { order = omega arith; most = omega (arith, l.invariant.most); may = sym (c.do_fit-may.ensures ∙ ap (λ (l : Lower). may_fit c.args.bytes l) c.lower_at-low.ensures.value) ∙ c.if-may.true; refuted = l.invariant.refuted }
 
 pub loop-start-preserved : goal.loop-start-preserved
 loop-start-preserved c =
@@ -27,7 +28,7 @@ loop-start-preserved c =
       order = omega arith;
       most = l.invariant.most;
       may = l.invariant.may;
-      refuted = λ i lt. refuted_below j a.bytes a.sx a.sy i middle (omega arith) (omega (arith, l.invariant.most)) (sym c.may_fit_at-may.ensures ∙ c.if-may.false);
+      refuted = λ i lt. refuted_below j a.bytes a.sx a.sy i middle (omega arith) (omega (arith, l.invariant.most)) (sym (c.do_fit-may.ensures ∙ ap (λ (l : Lower). may_fit c.args.bytes l) c.lower_at-low.ensures.value) ∙ c.if-may.false);
     }
 
 pub returns : goal.returns

@@ -25,8 +25,8 @@ pub find_first-first-requires-clause-last : goal.find_first-first-requires-claus
 find_first-first-requires-clause-last c =
     let a = c.args in
     let j : CodedPicture = picture_of a.job in
-    fit_may j a.job.sx a.job.sy a.gathered.now c.requires.gathered a.bytes 127 (tried (luma_of j) a.job.sx a.job.sy 127 (at a.kept.now.luma)) (tried (c1_of j) a.job.sx a.job.sy 127 (at a.kept.now.c1)) (tried (c2_of j) a.job.sx a.job.sy 127 (at a.kept.now.c2))
-    (coarsest_tried j a.bytes a.job.sx a.job.sy a.kept.now a.job.shape.now.luma_depth_fits a.job.shape.now.colour_depth_fits c.requires.ready c.requires.steep)
+    fit_may j a.job.sx a.job.sy a.gathered.now c.requires.gathered a.job.bytes 127 (tried (luma_of j) a.job.sx a.job.sy 127 (at a.kept.now.luma)) (tried (c1_of j) a.job.sx a.job.sy 127 (at a.kept.now.c1)) (tried (c2_of j) a.job.sx a.job.sy 127 (at a.kept.now.c2))
+    (coarsest_tried j a.job.bytes a.job.sx a.job.sy a.kept.now a.job.shape.now.luma_depth_fits a.job.shape.now.colour_depth_fits c.requires.ready c.requires.steep)
 
 pub loop-index-init : goal.loop-index-init
 loop-index-init c =
@@ -40,7 +40,7 @@ loop-index-init c =
       few_colour = c.find_first-first.ensures.few_colour;
       keeps = all_keep_nothing j a.job.sx a.job.sy a.kept.now;
       refuted = λ i lt.
-          low_refutes j a.job.sx a.job.sy a.gathered.now c.requires.gathered a.bytes i (tried (luma_of j) a.job.sx a.job.sy i (at a.kept.now.luma)) (tried (c1_of j) a.job.sx a.job.sy i (at a.kept.now.c1)) (tried (c2_of j) a.job.sx a.job.sy i (at a.kept.now.c2)) (c.find_first-first.ensures.first.least i lt);
+          low_refutes j a.job.sx a.job.sy a.gathered.now c.requires.gathered a.job.bytes i (tried (luma_of j) a.job.sx a.job.sy i (at a.kept.now.luma)) (tried (c1_of j) a.job.sx a.job.sy i (at a.kept.now.c1)) (tried (c2_of j) a.job.sx a.job.sy i (at a.kept.now.c2)) (c.find_first-first.ensures.first.least i lt);
     }
 
 pub try_if_may-trying-requires-clause-ready : goal.try_if_may-trying-requires-clause-ready
@@ -65,7 +65,7 @@ returns-then-trying-clause-least c =
     let l = c.loop-index in
     record {
       most = omega arith;
-      fit = fit_again j a.bytes a.job.sx a.job.sy l.index a.kept.now l.kept c.try_if_may-trying.result c.try_if_may-trying.new.luma c.try_if_may-trying.new.colour l.invariant.keeps (c.try_if_may-trying.ensures.holds c.if-trying.true) true c.if-trying.true;
+      fit = fit_again j a.job.bytes a.job.sx a.job.sy l.index a.kept.now l.kept c.try_if_may-trying.result c.try_if_may-trying.new.luma c.try_if_may-trying.new.colour l.invariant.keeps (c.try_if_may-trying.ensures.holds c.if-trying.true) true c.if-trying.true;
       least = l.invariant.refuted;
     }
 
@@ -74,7 +74,7 @@ returns-then-trying-clause-holds c =
     let a = c.args in
     let j : CodedPicture = picture_of a.job in
     let l = c.loop-index in
-    holds_again j a.bytes a.job.sx a.job.sy l.index a.kept.now l.kept c.try_if_may-trying.result c.try_if_may-trying.new.luma c.try_if_may-trying.new.colour l.invariant.keeps (c.try_if_may-trying.ensures.holds c.if-trying.true)
+    holds_again j a.job.bytes a.job.sx a.job.sy l.index a.kept.now l.kept c.try_if_may-trying.result c.try_if_may-trying.new.luma c.try_if_may-trying.new.colour l.invariant.keeps (c.try_if_may-trying.ensures.holds c.if-trying.true)
 
 pub returns-then-trying-clause-kept : goal.returns-then-trying-clause-kept
 returns-then-trying-clause-kept c =
@@ -96,8 +96,8 @@ loop-index-preserved c =
       few_colour = c.reaches_behind-reaches.ensures.few_colour;
       keeps = all_tried_keep j a.job.sx a.job.sy l.index a.kept.now c.try_if_may-trying.new.kept (all_tried_again j a.job.sx a.job.sy l.index a.kept.now l.kept c.try_if_may-trying.new.kept l.invariant.keeps c.try_if_may-trying.ensures.kept);
       refuted =
-          refuted_more (λ i. fits a.bytes (tried_lists j a.kept.now a.job.sx a.job.sy i)) l.index l.invariant.refuted
-          (refused_again j a.bytes a.job.sx a.job.sy l.index a.kept.now l.kept l.invariant.keeps (c.try_if_may-trying.ensures.refused c.if-trying.false));
+          refuted_more (λ i. fits a.job.bytes (tried_lists j a.kept.now a.job.sx a.job.sy i)) l.index l.invariant.refuted
+          (refused_again j a.job.bytes a.job.sx a.job.sy l.index a.kept.now l.kept l.invariant.keeps (c.try_if_may-trying.ensures.refused c.if-trying.false));
     }
 
 pub try_at-trying-requires-clause-ready : goal.try_at-trying-requires-clause-ready
@@ -113,7 +113,7 @@ returns-clause-least c =
     let l = c.loop-index in
     record {
       most = omega arith;
-      fit = coarsest_tried j a.bytes a.job.sx a.job.sy a.kept.now a.job.shape.now.luma_depth_fits a.job.shape.now.colour_depth_fits c.requires.ready c.requires.steep;
+      fit = coarsest_tried j a.job.bytes a.job.sx a.job.sy a.kept.now a.job.shape.now.luma_depth_fits a.job.shape.now.colour_depth_fits c.requires.ready c.requires.steep;
       least = λ i lt. l.invariant.refuted i (omega arith);
     }
 
@@ -122,7 +122,7 @@ returns-clause-holds c =
     let a = c.args in
     let j : CodedPicture = picture_of a.job in
     let l = c.loop-index in
-    holds_again j a.bytes a.job.sx a.job.sy 127 a.kept.now l.kept c.try_at-trying.result c.try_at-trying.new.luma c.try_at-trying.new.colour l.invariant.keeps c.try_at-trying.ensures.holds
+    holds_again j a.job.bytes a.job.sx a.job.sy 127 a.kept.now l.kept c.try_at-trying.result c.try_at-trying.new.luma c.try_at-trying.new.colour l.invariant.keeps c.try_at-trying.ensures.holds
 
 pub returns-clause-kept : goal.returns-clause-kept
 returns-clause-kept c =

@@ -14,5 +14,5 @@ invariant-loop-index l = record {
   few_luma : l.reaches.luma ≤ 2 ^ 38;
   few_colour : l.reaches.colour ≤ 2 ^ 39;
   keeps : AllKeepOthers (picture_of l.job) l.job.sx l.job.sy l.fn.kept l.kept;
-  refuted : (i : ℕ) → i < l.index → fits l.bytes (tried_lists (picture_of l.job) l.fn.kept l.job.sx l.job.sy i) ≡ false;
+  refuted : (i : ℕ) → i < l.index → fits l.job.bytes (tried_lists (picture_of l.job) l.fn.kept l.job.sx l.job.sy i) ≡ false;
 }

@@ -206,5 +206,5 @@ returns c = λ old ready was.
       colour_small = colour_all;
       luma_need = luma_need;
       colour_need = colour_need;
-      fit = c.do_fit.ensures ∙ ap (λ (n : ℕ). needs_fit a.bytes n c.need_behind-colour_need.result) luma_need ∙ ap (λ (n : ℕ). needs_fit a.bytes (need lumas) n) colour_need;
+      fit = c.do_fit.ensures ∙ ap (λ (n : ℕ). needs_fit a.job.bytes n c.need_behind-colour_need.result) luma_need ∙ ap (λ (n : ℕ). needs_fit a.job.bytes (need lumas) n) colour_need;
     }

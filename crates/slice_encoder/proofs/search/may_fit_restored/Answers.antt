@@ -123,4 +123,4 @@ returns c = λ refused old ready was.
     omega (arith, luma_least, c.saturating_sub-luma_low.ensures, c.behind.ensures.value, ap (λ (n : ℕ). behind_lowest luma_bits n) c.requires.luma_reach) in
     let colour_low : c.saturating_sub-colour_low.result ≤ need (colour_list c1 c2 (tried c1 a.job.sx a.job.sy a.index (at old.c1)) (tried c2 a.job.sx a.job.sy a.index (at old.c2)) a.index a.job.sx a.job.sy) =
     omega (arith, colour_least, c.saturating_sub-colour_low.ensures, c.behind-2.ensures.value, ap (λ (n : ℕ). behind_lowest colour_bits n) c.requires.colour_reach) in
-    more_does_not_fit a.bytes c.saturating_sub-luma_low.result c.saturating_sub-colour_low.result _ _ luma_low colour_low (sym c.do_fit.ensures ∙ refused)
+    more_does_not_fit a.job.bytes c.saturating_sub-luma_low.result c.saturating_sub-colour_low.result _ _ luma_low colour_low (sym c.do_fit.ensures ∙ refused)

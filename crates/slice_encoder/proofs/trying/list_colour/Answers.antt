@@ -1,4 +1,4 @@
-use Rattle.std.proofs.Common.{◌≡◌, ◌∙◌, ◌+◌, ◌*◌, take, refl, sym, ap, subst, arith, ℤ}
+use Rattle.std.proofs.Common.{◌≡◌, ◌∙◌, ◌*◌, take, refl, sym, ap, subst, arith, ℤ}
 use Rattle.std.specs.Prelude.{slice_index}
 use Rattle.planes.specs.declared.Rect.{Rect}
 use Rattle.planes.specs.Raster.{Raster, at}
@@ -62,7 +62,7 @@ returns-clause-listed c =
     let c1 : CodedComponent = coded_component a.job.layout.now a.job.shape.now.colour a.job.matrix.now (trio_seen a.job.coefficients).c1 in
     let c2 : CodedComponent = coded_component a.job.layout.now a.job.shape.now.colour a.job.matrix.now (trio_seen a.job.coefficients).c2 in
     let first = first_end c1 a.index a.job.sx a.job.sy a.gathered.now.c1 c.requires.gathered.c1 in
-    let count : 0 + 2 * area c.band_rect-rect.result ≡ 2 * slice_index a.gathered.now.c1.ends 0 = omega (arith, first, ap area c.band_rect-rect.ensures) in
+    let count : 2 * area c.band_rect-rect.result ≡ 2 * slice_index a.gathered.now.c1.ends 0 = omega (arith, first, ap area c.band_rect-rect.ensures) in
     colour_listed j a.index a.job.sx a.job.sy a.gathered.now.c1 a.gathered.now.c2 c.requires.gathered.c1 c.requires.gathered.c2 a.kept.now.c1 a.kept.now.c2 (take c.list_pair-2.result c.list_pair-2.new.out)
-    (pair_values (band_value (band_seen c.band-first.result) a.kept.now.c1 0 c.quantiser-quantiser.result) (band_value (band_seen c.band-second.result) a.kept.now.c2 0 c.quantiser-quantiser.result) c.band_rect-rect.result) c.list_pair.new.out (0 + 2 * area c.band_rect-rect.result) c.list_pair-2.ensures.listed count c.list_pair.ensures.listed
+    (pair_values (band_value (band_seen c.band-first.result) a.kept.now.c1 0 c.quantiser-quantiser.result) (band_value (band_seen c.band-second.result) a.kept.now.c2 0 c.quantiser-quantiser.result) c.band_rect-rect.result) c.list_pair.new.out (2 * area c.band_rect-rect.result) c.list_pair-2.ensures.listed count c.list_pair.ensures.listed
     (pair_part_here c1 c2 a.kept.now.c1 a.kept.now.c2 a.index a.job.sx a.job.sy 0 0 c.quantiser-quantiser.result c.band_rect-rect.result (band_seen c.band-first.result) (band_seen c.band-second.result) refl refl c.band_rect-rect.ensures (c.band-first.ensures ∙ ap (λ (b : BandStack). numbered b 0) c.c1.ensures) (c.band-second.ensures ∙ ap (λ (b : BandStack). numbered b 0) c.c2.ensures) c.quantiser-quantiser.ensures)

@@ -1,4 +1,4 @@
-use Rattle.std.proofs.Common.{◌≡◌, ◌∙◌, ◌+◌, take, refl, ap, arith}
+use Rattle.std.proofs.Common.{◌≡◌, ◌∙◌, take, refl, ap, arith}
 use Rattle.std.specs.Prelude.{slice_index}
 use Rattle.slice_geometry.specs.SliceOrder.{area, numbered}
 use Rattle.planes.specs.Raster.{at}
@@ -35,8 +35,8 @@ returns-clause-listed c =
     let a = c.args in
     let coded : CodedComponent = coded_component a.job.layout.now a.job.shape.now.luma a.job.matrix.now (trio_seen a.job.coefficients).luma in
     let first = first_end coded a.index a.job.sx a.job.sy a.gathered.now c.requires.gathered in
-    let count : 0 + area c.band_rect-rect.result ≡ slice_index a.gathered.now.ends 0 = omega (arith, first, ap area c.band_rect-rect.ensures) in
-    luma_listed coded a.index a.job.sx a.job.sy a.gathered.now a.kept.now (take c.list.result c.list.new.out) (rect_values (band_value (band_seen c.band-lowest.result) a.kept.now 0 c.quantiser-quantiser.result) c.band_rect-rect.result) c.list_rect.new.out (0 + area c.band_rect-rect.result)
+    let count : area c.band_rect-rect.result ≡ slice_index a.gathered.now.ends 0 = omega (arith, first, ap area c.band_rect-rect.ensures) in
+    luma_listed coded a.index a.job.sx a.job.sy a.gathered.now a.kept.now (take c.list.result c.list.new.out) (rect_values (band_value (band_seen c.band-lowest.result) a.kept.now 0 c.quantiser-quantiser.result) c.band_rect-rect.result) c.list_rect.new.out (area c.band_rect-rect.result)
     c.requires.gathered c.list.ensures.listed count c.list_rect.ensures.listed (part_here coded a.kept.now a.index a.job.sx a.job.sy 0 0 c.quantiser-quantiser.result c.band_rect-rect.result (band_seen c.band-lowest.result) refl c.band_rect-rect.ensures (c.band-lowest.ensures ∙ ap (λ (b : BandStack). numbered b 0) c.luma.ensures) c.quantiser-quantiser.ensures)
 
 pub list_rect-requires-clause-can : goal.list_rect-requires-clause-can

@@ -1,4 +1,4 @@
-use Rattle.std.proofs.Common.{◌≡◌, ◌∙◌, ◌+◌, ◌-◌, ◌*◌, List, length, take, refl, sym, ap, subst, arith, ℕ, ℤ}
+use Rattle.std.proofs.Common.{◌≡◌, ◌∙◌, ◌-◌, ◌*◌, List, length, take, refl, sym, ap, subst, arith, ℕ, ℤ}
 use Rattle.std.proofs.lemmas.List.{length-take}
 use Rattle.planes.specs.declared.Rect.{Rect}
 use Rattle.planes.specs.Raster.{Raster}
@@ -36,7 +36,7 @@ total_length-requires-clause-small c =
     let c1 : CodedComponent = coded_component a.job.layout.now a.job.shape.now.colour a.job.matrix.now (trio_seen a.job.coefficients).c1 in
     let c2 : CodedComponent = coded_component a.job.layout.now a.job.shape.now.colour a.job.matrix.now (trio_seen a.job.coefficients).c2 in
     let r = c.band_rect-rect.result in
-    let count : 2 * ((r.x1 - r.x0) * (r.y1 - r.y0)) ≡ 0 + 2 * area r = omega arith in
+    let count : 2 * ((r.x1 - r.x0) * (r.y1 - r.y0)) ≡ 2 * area r = omega arith in
     let part = pair_part_here c1 c2 a.kept.now.c1 a.kept.now.c2 a.index a.job.sx a.job.sy 0 0 c.quantiser-quantiser.result r (band_seen c.band-first.result) (band_seen c.band-second.result) refl refl c.band_rect-rect.ensures (c.band-first.ensures ∙ ap (λ (b : BandStack). numbered b 0) c.c1.ensures) (c.band-second.ensures ∙ ap (λ (b : BandStack). numbered b 0) c.c2.ensures) c.quantiser-quantiser.ensures in
     let is : take (2 * ((r.x1 - r.x0) * (r.y1 - r.y0))) c.list_pair.new.out ≡ pair_part c1 c2 a.kept.now.c1 a.kept.now.c2 a.index a.job.sx a.job.sy 0 = ap (λ (n : ℕ). take n c.list_pair.new.out) count ∙ c.list_pair.ensures.listed ∙ part in
     subst (λ (vs : List ℤ). AreSmallValues vs) (sym is) c.requires.small
@@ -52,7 +52,7 @@ returns-clause-value c =
     let c1 : CodedComponent = coded_component a.job.layout.now a.job.shape.now.colour a.job.matrix.now (trio_seen a.job.coefficients).c1 in
     let c2 : CodedComponent = coded_component a.job.layout.now a.job.shape.now.colour a.job.matrix.now (trio_seen a.job.coefficients).c2 in
     let r = c.band_rect-rect.result in
-    let count : 2 * ((r.x1 - r.x0) * (r.y1 - r.y0)) ≡ 0 + 2 * area r = omega arith in
+    let count : 2 * ((r.x1 - r.x0) * (r.y1 - r.y0)) ≡ 2 * area r = omega arith in
     let part = pair_part_here c1 c2 a.kept.now.c1 a.kept.now.c2 a.index a.job.sx a.job.sy 0 0 c.quantiser-quantiser.result r (band_seen c.band-first.result) (band_seen c.band-second.result) refl refl c.band_rect-rect.ensures (c.band-first.ensures ∙ ap (λ (b : BandStack). numbered b 0) c.c1.ensures) (c.band-second.ensures ∙ ap (λ (b : BandStack). numbered b 0) c.c2.ensures) c.quantiser-quantiser.ensures in
     let is : take (2 * ((r.x1 - r.x0) * (r.y1 - r.y0))) c.list_pair.new.out ≡ pair_part c1 c2 a.kept.now.c1 a.kept.now.c2 a.index a.job.sx a.job.sy 0 = ap (λ (n : ℕ). take n c.list_pair.new.out) count ∙ c.list_pair.ensures.listed ∙ part in
     c.total_length.ensures.length ∙ ap (λ (vs : List ℤ). length (codes_of vs)) is

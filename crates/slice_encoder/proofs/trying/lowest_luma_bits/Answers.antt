@@ -1,4 +1,4 @@
-use Rattle.std.proofs.Common.{◌≡◌, ◌∙◌, ◌+◌, ◌-◌, ◌*◌, List, length, take, refl, sym, ap, subst, arith, ℕ, ℤ}
+use Rattle.std.proofs.Common.{◌≡◌, ◌∙◌, ◌-◌, ◌*◌, List, length, take, refl, sym, ap, subst, arith, ℕ, ℤ}
 use Rattle.std.proofs.lemmas.List.{length-take}
 use Rattle.planes.specs.Subbands.{BandStack}
 use Rattle.slice_geometry.specs.SliceOrder.{area, numbered}
@@ -22,7 +22,7 @@ total_length-requires-clause-small c =
     let a = c.args in
     let coded : CodedComponent = coded_component a.job.layout.now a.job.shape.now.luma a.job.matrix.now (trio_seen a.job.coefficients).luma in
     let r = c.band_rect-rect.result in
-    let count : (r.x1 - r.x0) * (r.y1 - r.y0) ≡ 0 + area r = omega arith in
+    let count : (r.x1 - r.x0) * (r.y1 - r.y0) ≡ area r = omega arith in
     let part = part_here coded a.kept.now a.index a.job.sx a.job.sy 0 0 c.quantiser-quantiser.result r (band_seen c.band-lowest.result) refl c.band_rect-rect.ensures (c.band-lowest.ensures ∙ ap (λ (b : BandStack). numbered b 0) c.luma.ensures) c.quantiser-quantiser.ensures in
     let is : take ((r.x1 - r.x0) * (r.y1 - r.y0)) c.list_rect.new.out ≡ band_part coded a.kept.now a.index a.job.sx a.job.sy 0 = ap (λ (n : ℕ). take n c.list_rect.new.out) count ∙ c.list_rect.ensures.listed ∙ part in
     subst (λ (vs : List ℤ). AreSmallValues vs) (sym is) c.requires.small
@@ -37,7 +37,7 @@ returns-clause-value c =
     let a = c.args in
     let coded : CodedComponent = coded_component a.job.layout.now a.job.shape.now.luma a.job.matrix.now (trio_seen a.job.coefficients).luma in
     let r = c.band_rect-rect.result in
-    let count : (r.x1 - r.x0) * (r.y1 - r.y0) ≡ 0 + area r = omega arith in
+    let count : (r.x1 - r.x0) * (r.y1 - r.y0) ≡ area r = omega arith in
     let part = part_here coded a.kept.now a.index a.job.sx a.job.sy 0 0 c.quantiser-quantiser.result r (band_seen c.band-lowest.result) refl c.band_rect-rect.ensures (c.band-lowest.ensures ∙ ap (λ (b : BandStack). numbered b 0) c.luma.ensures) c.quantiser-quantiser.ensures in
     let is : take ((r.x1 - r.x0) * (r.y1 - r.y0)) c.list_rect.new.out ≡ band_part coded a.kept.now a.index a.job.sx a.job.sy 0 = ap (λ (n : ℕ). take n c.list_rect.new.out) count ∙ c.list_rect.ensures.listed ∙ part in
     c.total_length.ensures.length ∙ ap (λ (vs : List ℤ). length (codes_of vs)) is

@@ -14,7 +14,7 @@ returns-clause-answer c =
     let e = c.self.inside in
     subst (λ (s : SliceEncoderSeen). record { luma_need = c.try_at-trying.result.luma_need; colour_need = c.try_at-trying.result.colour_need; fits = c.try_at-trying.result.fits }
     ≡ trial_of (share_of s.slicing a.sx a.sy) (tried_lists (coded_picture s.slicing s.shape a.matrix.now a.coefficients.now) a.kept.now a.sx a.sy a.qindex)) c.self.view_is
-    (trial_is c.share_of-bytes.result _ (tried_lists (coded_picture e.layout e.shape a.matrix.now a.coefficients.now) a.kept.now a.sx a.sy a.qindex) c.try_at-trying.result _ _ c.share_of-bytes.ensures.value c.try_at-trying.ensures.holds)
+    (trial_is c.share_of.result _ (tried_lists (coded_picture e.layout e.shape a.matrix.now a.coefficients.now) a.kept.now a.sx a.sy a.qindex) c.try_at-trying.result _ _ c.share_of.ensures.value c.try_at-trying.ensures.holds)
 
 pub returns-clause-after : goal.returns-clause-after
 returns-clause-after c = λ indices next kept.
@@ -33,8 +33,8 @@ try_at-trying-requires-clause-room c = grind (arith, common_steps)
 pub try_at-trying-requires-clause-ready : goal.try_at-trying-requires-clause-ready
 try_at-trying-requires-clause-ready c = grind (arith, common_steps)
 
-pub share_of-bytes-requires-clause-down : goal.share_of-bytes-requires-clause-down
-share_of-bytes-requires-clause-down c = grind (arith, common_steps)
+pub share_of-requires-clause-down : goal.share_of-requires-clause-down
+share_of-requires-clause-down c = grind (arith, common_steps)
 
 pub gather-requires-clause-across : goal.gather-requires-clause-across
 gather-requires-clause-across c = grind (arith, common_steps)
@@ -42,8 +42,8 @@ gather-requires-clause-across c = grind (arith, common_steps)
 pub gather-requires-clause-down : goal.gather-requires-clause-down
 gather-requires-clause-down c = grind (arith, common_steps)
 
-pub share_of-bytes-requires-clause-across : goal.share_of-bytes-requires-clause-across
-share_of-bytes-requires-clause-across c = grind (arith, common_steps)
+pub share_of-requires-clause-across : goal.share_of-requires-clause-across
+share_of-requires-clause-across c = grind (arith, common_steps)
 
 pub gather-requires-clause-room : goal.gather-requires-clause-room
 gather-requires-clause-room c = grind (arith, common_steps)
