@@ -7,32 +7,32 @@ use Rattle.slice_geometry.specs.UnitLengths.{UnitShapesSeen, ShapesInTurn}
 use Rattle.slice_geometry.proofs.Quotients.{le-div_of_le, le_of_le-div}
 use Rattle.channel_schedule.specs.declared.schedule.Rate.{Rate}
 use Rattle.channel_schedule.specs.Rates.{IsRate}
-use Rattle.channel_schedule.specs.Slices.{end_of, slots_to, arrived}
+use Rattle.channel_schedule.specs.Slices.{slot_end, slots_to, arrived}
 use Rattle.channel_schedule.specs.Courses.{course_of, count_in, AreInTime}
 use Rattle.channel_schedule.specs.Plans.{IsGreatest, lead_of}
 use Rattle.channel_schedule.proofs.Units.{end_of-most}
 
 pub lead_low : (shapes : UnitShapesSeen) (rate : Rate) (idle : ℕ) (k : ℕ) → ShapesInTurn 0 shapes.units shapes.total → shapes.total ≤ 2 ^ 40 → rate.den < 2 ^ 32 → lead_of shapes rate idle k ≤ 2 ^ 72
 lead_low shapes rate idle k in_turn most narrow =
-    let most_end : end_of shapes.units shapes.total k ≤ 2 ^ 40 = omega (arith, end_of-most shapes.units 0 shapes.total k in_turn) in
-    let most : end_of shapes.units shapes.total k * rate.den ≤ 2 ^ 40 * rate.den = mul-le-mul_right rate.den most_end in
+    let most_end : slot_end shapes.units shapes.total k ≤ 2 ^ 40 = omega (arith, end_of-most shapes.units 0 shapes.total k in_turn) in
+    let most : slot_end shapes.units shapes.total k * rate.den ≤ 2 ^ 40 * rate.den = mul-le-mul_right rate.den most_end in
     omega (arith, most)
 
 -- a slice is in time where the delay makes up for its lead
 pub in_time-lead : (shapes : UnitShapesSeen) (rate : Rate) (idle : ℕ) (delay k : ℕ) → IsRate rate → ShapesInTurn 0 shapes.units shapes.total → lead_of shapes rate idle k ≤ delay * rate.num
-    → end_of shapes.units shapes.total k ≤ arrived shapes.total rate (delay + slots_to idle shapes.units k)
+    → slot_end shapes.units shapes.total k ≤ arrived shapes.total rate (delay + slots_to idle shapes.units k)
 in_time-lead shapes rate idle delay k some in_turn low =
-    let end = end_of shapes.units shapes.total k in
+    let end = slot_end shapes.units shapes.total k in
     let all : (delay + slots_to idle shapes.units k) * rate.num ≡ delay * rate.num + slots_to idle shapes.units k * rate.num = add-mul delay (slots_to idle shapes.units k) rate.num in
-    let part : end_of shapes.units shapes.total k ≤ (delay + slots_to idle shapes.units k) * rate.num / rate.den =
-    le-div_of_le ((delay + slots_to idle shapes.units k) * rate.num) rate.den (end_of shapes.units shapes.total k) some.some_slots (omega (arith, low, all)) in
+    let part : slot_end shapes.units shapes.total k ≤ (delay + slots_to idle shapes.units k) * rate.num / rate.den =
+    le-div_of_le ((delay + slots_to idle shapes.units k) * rate.num) rate.den (slot_end shapes.units shapes.total k) some.some_slots (omega (arith, low, all)) in
     omega (arith, part, end_of-most shapes.units 0 shapes.total k in_turn)
 
-pub lead-in_time : (shapes : UnitShapesSeen) (rate : Rate) (idle : ℕ) (delay k : ℕ) → IsRate rate → end_of shapes.units shapes.total k ≤ arrived shapes.total rate (delay + slots_to idle shapes.units k) → lead_of shapes rate idle k ≤ delay * rate.num
+pub lead-in_time : (shapes : UnitShapesSeen) (rate : Rate) (idle : ℕ) (delay k : ℕ) → IsRate rate → slot_end shapes.units shapes.total k ≤ arrived shapes.total rate (delay + slots_to idle shapes.units k) → lead_of shapes rate idle k ≤ delay * rate.num
 lead-in_time shapes rate idle delay k some low =
     let all : (delay + slots_to idle shapes.units k) * rate.num ≡ delay * rate.num + slots_to idle shapes.units k * rate.num = add-mul delay (slots_to idle shapes.units k) rate.num in
-    let part : end_of shapes.units shapes.total k * rate.den ≤ (delay + slots_to idle shapes.units k) * rate.num =
-    le_of_le-div ((delay + slots_to idle shapes.units k) * rate.num) rate.den (end_of shapes.units shapes.total k) some.some_slots (omega (arith, low)) in
+    let part : slot_end shapes.units shapes.total k * rate.den ≤ (delay + slots_to idle shapes.units k) * rate.num =
+    le_of_le-div ((delay + slots_to idle shapes.units k) * rate.num) rate.den (slot_end shapes.units shapes.total k) some.some_slots (omega (arith, low)) in
     omega (arith, part, all)
 
 -- a quotient that is rounded up is the least that reaches the number

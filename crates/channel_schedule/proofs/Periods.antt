@@ -6,8 +6,8 @@ use Rattle.std.proofs.lemmas.Bool.{cases_lt}
 use Rattle.slice_geometry.specs.UnitLengths.{UnitShapesSeen, ShapesInTurn}
 use Rattle.slice_geometry.proofs.Quotients.{le-div_of_le, div-le_of_lt}
 use Rattle.channel_schedule.specs.declared.schedule.Rate.{Rate}
-use Rattle.channel_schedule.specs.Slices.{slices_in, end_of, gone_by, slots_to, arrived}
-use Rattle.channel_schedule.specs.Courses.{course_of, count_in, held, AreInTime}
+use Rattle.channel_schedule.specs.Slices.{slices_in, slot_end, gone_by, slots_to, arrived}
+use Rattle.channel_schedule.specs.Courses.{course_of, count_in, bytes_held, AreInTime}
 use Rattle.channel_schedule.specs.Plans.{IsPlan, plan_delay, plan_size, plan_of}
 use Rattle.channel_schedule.specs.Repeats.{SlotsAreKnown, AreKnown}
 use Rattle.channel_schedule.proofs.Unique.{plan_found}
@@ -35,8 +35,8 @@ pub record IsPart (p : Part) : Type 0 where
 pub record Repeats (p : Part) (shapes : UnitShapesSeen) (idle n : ℕ) : Type 0 where
   pub total : shapes.total ≡ p.before + n * p.bytes + p.behind
   pub count : slices_in shapes.units ≡ n * p.slices
-  pub ends : (g i k : ℕ) → k ≡ g * p.slices + i → g < n → i < p.slices → end_of shapes.units shapes.total k ≡ p.before + g * p.bytes + p.end i
-  pub last : end_of shapes.units shapes.total (n * p.slices) ≡ shapes.total
+  pub ends : (g i k : ℕ) → k ≡ g * p.slices + i → g < n → i < p.slices → slot_end shapes.units shapes.total k ≡ p.before + g * p.bytes + p.end i
+  pub last : slot_end shapes.units shapes.total (n * p.slices) ≡ shapes.total
   pub slots : (g i k : ℕ) → k ≡ g * p.slices + i → g < n → i < p.slices → slots_to idle shapes.units k ≡ g * p.slots + p.slot i
   pub last_slot : slots_to idle shapes.units (n * p.slices) ≡ n * p.slots
 
@@ -121,7 +121,7 @@ in_time_of p shapes idle n delay is r enough k low = elim (cases_lt k (n * p.sli
       omega (arith, more, next, enough.each s.i s.inside, is.inside s.i s.inside, r.ends s.g s.i k s.at s.low s.inside, have-in p shapes idle n delay s.g s.i k is r s.at s.low s.inside)
   | inr from ↦
       let e : n * p.slices ≡ k = omega (arith, r.count) in
-      subst (λ (j : ℕ). end_of shapes.units shapes.total j ≤ arrived shapes.total (rate_for p) (delay + slots_to idle shapes.units j)) e
+      subst (λ (j : ℕ). slot_end shapes.units shapes.total j ≤ arrived shapes.total (rate_for p) (delay + slots_to idle shapes.units j)) e
       (omega (arith, r.last, r.total, enough.rest, have-last p shapes idle n delay is r))
 ]
 
@@ -185,7 +185,7 @@ pub record StandsAlone (p : Part) : Type 0 where
 gone-first : (shapes : UnitShapesSeen) (k : ℕ) → k ≡ 0 → gone_by shapes.units shapes.total k ≡ 0
 gone-first shapes k e = ap (gone_by shapes.units shapes.total) e
 
-gone-next : (shapes : UnitShapesSeen) (k j : ℕ) → k ≡ suc j → gone_by shapes.units shapes.total k ≡ end_of shapes.units shapes.total j
+gone-next : (shapes : UnitShapesSeen) (k j : ℕ) → k ≡ suc j → gone_by shapes.units shapes.total k ≡ slot_end shapes.units shapes.total j
 gone-next shapes k j e = ap (gone_by shapes.units shapes.total) e
 
 gone-part : (p : Part) (shapes : UnitShapesSeen) (idle n g k : ℕ) → IsPart p → Repeats p shapes idle n → k ≡ suc g * p.slices → g < n
@@ -215,7 +215,7 @@ alone-low p delay is alone least =
     div-le_of_lt (delay * p.bytes) p.slots p.bytes is.some_slots (omega (arith, is.some_slots))
 
 module _ (p : Part) (one two : UnitShapesSeen) (idle m n delay size : ℕ) (is : IsPart p) (r : Repeats p one idle m) (r2 : Repeats p two idle n) (some : 1 ≤ m) (more : 2 ≤ n)
-    (enough : IsEnough p delay) (least : IsLeastEnough p delay) (known : (k : ℕ) → k < count_in two → held (course_of two (rate_for p) idle delay) k ≤ size) where
+    (enough : IsEnough p delay) (least : IsLeastEnough p delay) (known : (k : ℕ) → k < count_in two → bytes_held (course_of two (rate_for p) idle delay) k ≤ size) where
   -- the first part of the second stream
   first-held : (i : ℕ) → i < p.slices → come p delay i - gone_by two.units two.total i ≤ size
   first-held i inside =
@@ -225,7 +225,7 @@ module _ (p : Part) (one two : UnitShapesSeen) (idle m n delay size : ℕ) (is :
       omega (arith, known i (omega (arith, r2.count)), have-in p two idle n delay 0 i i is r2 at (omega arith) inside, come_low p delay i is least inside)
 
   -- a slice behind another one of its part
-  inner-held : (g i k : ℕ) → k ≡ g * p.slices + suc i → g < m → suc i < p.slices → held (course_of one (rate_for p) idle delay) k ≤ size
+  inner-held : (g i k : ℕ) → k ≡ g * p.slices + suc i → g < m → suc i < p.slices → bytes_held (course_of one (rate_for p) idle delay) k ≤ size
   inner-held g i k at low inside =
       let up : 1 ≤ n = omega arith in
       let at2 : i ≡ 0 * p.slices + i = omega arith in
@@ -241,18 +241,18 @@ module _ (p : Part) (one two : UnitShapesSeen) (idle m n delay size : ℕ) (is :
       )
 
   -- the first slice of the stream
-  front-held : (k : ℕ) → k ≡ 0 * p.slices + 0 → 0 < m → held (course_of one (rate_for p) idle delay) k ≤ size
+  front-held : (k : ℕ) → k ≡ 0 * p.slices + 0 → 0 < m → bytes_held (course_of one (rate_for p) idle delay) k ≤ size
   front-held k at some_parts =
       omega (arith, first-held 0 is.some_slices, gone-first two 0 refl, gone-first one k (omega arith), have-in p one idle m delay 0 0 k is r at some_parts is.some_slices)
 
   -- the first slice of a later part, and the tail, where parts end with their last slice
   module _ (ends : EndsInside p) where
-    part-held : (g k : ℕ) → k ≡ suc g * p.slices + 0 → suc g < m → held (course_of one (rate_for p) idle delay) k ≤ size
+    part-held : (g k : ℕ) → k ≡ suc g * p.slices + 0 → suc g < m → bytes_held (course_of one (rate_for p) idle delay) k ≤ size
     part-held g k at low =
         let next : suc g * p.bytes ≡ g * p.bytes + p.bytes = suc-mul g p.bytes in
         omega (arith, first-held 0 is.some_slices, gone-first two 0 refl, gone-part p one idle m g k is r (omega arith) (omega arith), ends.last (p.slices - 1) (omega (arith, is.some_slices)), have-in p one idle m delay (suc g) 0 k is r at low is.some_slices)
 
-    tail-held : held (course_of one (rate_for p) idle delay) (m * p.slices) ≤ size
+    tail-held : bytes_held (course_of one (rate_for p) idle delay) (m * p.slices) ≤ size
     tail-held =
         let parts : m ≡ suc (m - 1) = omega arith in
         let slices : m * p.slices ≡ suc (m - 1) * p.slices = ap (λ (x : ℕ). x * p.slices) parts in
@@ -262,7 +262,7 @@ module _ (p : Part) (one two : UnitShapesSeen) (idle m n delay size : ℕ) (is :
 
   -- and where the stream is nothing but its parts
   module _ (alone : StandsAlone p) where
-    part-held-alone : (g k : ℕ) → k ≡ suc g * p.slices + 0 → suc g < m → held (course_of one (rate_for p) idle delay) k ≤ size
+    part-held-alone : (g k : ℕ) → k ≡ suc g * p.slices + 0 → suc g < m → bytes_held (course_of one (rate_for p) idle delay) k ≤ size
     part-held-alone g k at low =
         let next : suc g * p.bytes ≡ g * p.bytes + p.bytes = suc-mul g p.bytes in
         let at2 : p.slices ≡ 1 * p.slices + 0 = omega arith in
@@ -282,7 +282,7 @@ module _ (p : Part) (one two : UnitShapesSeen) (idle m n delay size : ℕ) (is :
           have-in p one idle m delay (suc g) 0 k is r at low is.some_slices,
         )
 
-    tail-held-alone : held (course_of one (rate_for p) idle delay) (m * p.slices) ≤ size
+    tail-held-alone : bytes_held (course_of one (rate_for p) idle delay) (m * p.slices) ≤ size
     tail-held-alone =
         let parts : m ≡ suc (m - 1) = omega arith in
         let slices : m * p.slices ≡ suc (m - 1) * p.slices = ap (λ (x : ℕ). x * p.slices) parts in
@@ -304,24 +304,24 @@ module _ (p : Part) (one two : UnitShapesSeen) (idle m n delay size : ℕ) (is :
         )
 
   -- all slices and the tail, by the first slice of a later part and the tail
-  module _ (part : (g k : ℕ) → k ≡ suc g * p.slices + 0 → suc g < m → held (course_of one (rate_for p) idle delay) k ≤ size) (tail : held (course_of one (rate_for p) idle delay) (m * p.slices) ≤ size) where
-    slice-held : (g i k : ℕ) → k ≡ g * p.slices + i → g < m → i < p.slices → held (course_of one (rate_for p) idle delay) k ≤ size
+  module _ (part : (g k : ℕ) → k ≡ suc g * p.slices + 0 → suc g < m → bytes_held (course_of one (rate_for p) idle delay) k ≤ size) (tail : bytes_held (course_of one (rate_for p) idle delay) (m * p.slices) ≤ size) where
+    slice-held : (g i k : ℕ) → k ≡ g * p.slices + i → g < m → i < p.slices → bytes_held (course_of one (rate_for p) idle delay) k ≤ size
     slice-held zero zero k at low inside = front-held k at low
     slice-held (suc g) zero k at low inside = part g k at low
     slice-held g (suc i) k at low inside = inner-held g i k at low inside
 
-    all-held : (k : ℕ) → k < count_in one → held (course_of one (rate_for p) idle delay) k ≤ size
+    all-held : (k : ℕ) → k < count_in one → bytes_held (course_of one (rate_for p) idle delay) k ≤ size
     all-held k low = elim (cases_lt k (m * p.slices)) [
       | inl below ↦ let s = split p m k is below in slice-held s.g s.i k s.at s.low s.inside
       | inr from ↦
           let e : m * p.slices ≡ k = omega (arith, r.count) in
-          subst (λ (j : ℕ). held (course_of one (rate_for p) idle delay) j ≤ size) e tail
+          subst (λ (j : ℕ). bytes_held (course_of one (rate_for p) idle delay) j ≤ size) e tail
     ]
 
-  held-inside : EndsInside p → (k : ℕ) → k < count_in one → held (course_of one (rate_for p) idle delay) k ≤ size
+  held-inside : EndsInside p → (k : ℕ) → k < count_in one → bytes_held (course_of one (rate_for p) idle delay) k ≤ size
   held-inside ends = all-held (part-held ends) (tail-held ends)
 
-  held-alone : StandsAlone p → (k : ℕ) → k < count_in one → held (course_of one (rate_for p) idle delay) k ≤ size
+  held-alone : StandsAlone p → (k : ℕ) → k < count_in one → bytes_held (course_of one (rate_for p) idle delay) k ≤ size
   held-alone alone = all-held (part-held-alone alone) (tail-held-alone alone)
 
 -- one of the two is the case

@@ -6,7 +6,7 @@ use Rattle.channel_schedule.specs.declared.schedule.Rate.{Rate}
 use Rattle.channel_schedule.specs.declared.schedule.Outcome.{Outcome}
 use Rattle.channel_schedule.specs.declared.schedule.Outcome.TheVariants.{Runs, Late, Overfull}
 use Rattle.channel_schedule.specs.Rates.{IsRate}
-use Rattle.channel_schedule.specs.Courses.{Course, course_of, count_in, held, Run, IsLate, IsOverfull, IsOutcome, outcome_from, OneOutcome}
+use Rattle.channel_schedule.specs.Courses.{Course, course_of, count_in, bytes_held, Run, IsLate, IsOverfull, IsOutcome, outcome_from, OneOutcome}
 use Rattle.channel_schedule.specs.Plans.{IsGreatest, IsPlan, greatest, plan_delay, plan_size, lead_of, OnePlan}
 use Rattle.channel_schedule.proofs.Greatest.{greatest_of_none, greatest_more}
 use Rattle.channel_schedule.proofs.Runs.{run_of_none, run_more}
@@ -25,8 +25,8 @@ outcome_from-is course size k (suc n) run = elim (cases_lt (course.have k) (cour
     need_is = refl;
     late = late;
   })
-  | inr there ↦ elim (cases_lt size (held course k)) [
-    | inl over ↦ rw (le-ltb (course.have k) (course.need k) there, lt-ltb size (held course k) over) (
+  | inr there ↦ elim (cases_lt size (bytes_held course k)) [
+    | inl over ↦ rw (le-ltb (course.have k) (course.need k) there, lt-ltb size (bytes_held course k) over) (
       refl,
       record {
         k = k;
@@ -39,7 +39,7 @@ outcome_from-is course size k (suc n) run = elim (cases_lt (course.have k) (cour
     )
     | inr fits ↦
         let e : k + 1 + n ≡ k + suc n = omega arith in
-        rw (le-ltb (course.have k) (course.need k) there, le-ltb size (held course k) fits)
+        rw (le-ltb (course.have k) (course.need k) there, le-ltb size (bytes_held course k) fits)
         (subst (λ (i : ℕ). IsOutcome course size i (outcome_from course size (k + 1) n)) e (outcome_from-is course size (k + 1) n (run_more course size k run there fits)))
   ]
 ]
@@ -48,7 +48,7 @@ outcome_from-is course size k (suc n) run = elim (cases_lt (course.have k) (cour
 late_no : (course : Course) (size m k : ℕ) → Run course size m → k < m → course.have k < course.need k → ⊥
 late_no course size m k run low late = omega (arith, run.in_time k low)
 
-over_no : (course : Course) (size m k : ℕ) → Run course size m → k < m → size < held course k → ⊥
+over_no : (course : Course) (size m k : ℕ) → Run course size m → k < m → size < bytes_held course k → ⊥
 over_no course size m k run low over = omega (arith, run.within k low)
 
 same_slice : (k m : ℕ) → (k < m → ⊥) → (m < k → ⊥) → k ≡ m
@@ -63,7 +63,7 @@ same_slice k m no_k no_m = elim (cases_lt k m) [
 late_here : (course : Course) (size n slot have need : ℕ) (is : IsLate course size n slot have need) → course.have is.k < course.need is.k
 late_here course size n slot have need is = omega (arith, is.have_is, is.need_is, is.late)
 
-over_here : (course : Course) (size n slot fill : ℕ) (is : IsOverfull course size n slot fill) → size < held course is.k
+over_here : (course : Course) (size n slot fill : ℕ) (is : IsOverfull course size n slot fill) → size < bytes_held course is.k
 over_here course size n slot fill is = omega (arith, is.fill_is, is.over)
 
 late_alone : (course : Course) (size n slot have need slot2 have2 need2 : ℕ) → IsLate course size n slot have need → IsLate course size n slot2 have2 need2 → (slot ≡ slot2) × (have ≡ have2) × (need ≡ need2)
@@ -78,7 +78,7 @@ over_alone course size n slot fill slot2 fill2 one two =
     let e : one.k ≡ two.k = same_slice one.k two.k
     (λ below. over_no course size two.k one.k two.first.before below (over_here course size n slot fill one))
     (λ below. over_no course size one.k two.k one.first.before below (over_here course size n slot2 fill2 two)) in
-    (one.slot_is ∙ ap course.slot e ∙ sym two.slot_is, one.fill_is ∙ ap (held course) e ∙ sym two.fill_is)
+    (one.slot_is ∙ ap course.slot e ∙ sym two.slot_is, one.fill_is ∙ ap (bytes_held course) e ∙ sym two.fill_is)
 
 late_or_over : (course : Course) (size n slot have need slot2 fill : ℕ) → IsLate course size n slot have need → IsOverfull course size n slot2 fill → ⊥
 late_or_over course size n slot have need slot2 fill late over =
@@ -127,7 +127,7 @@ plan_found shapes rate idle some in_turn =
     record {
       in_time = plan_in_time shapes rate idle lead (plan_delay shapes rate idle) some refl most in_turn;
       least = plan_least shapes rate idle lead (plan_delay shapes rate idle) some refl most;
-      most = greatest-is (held (course_of shapes rate idle (plan_delay shapes rate idle))) (count_in shapes);
+      most = greatest-is (bytes_held (course_of shapes rate idle (plan_delay shapes rate idle))) (count_in shapes);
     }
 
 pub plan_alone : (shapes : UnitShapesSeen) (rate : Rate) (idle : ℕ) (delay size delay2 size2 : ℕ) → IsPlan shapes rate idle delay size → IsPlan shapes rate idle delay2 size2 → (delay ≡ delay2) × (size ≡ size2)
@@ -135,8 +135,8 @@ plan_alone shapes rate idle delay size delay2 size2 one two =
     let up : delay ≤ delay2 = one.least delay2 two.in_time in
     let down : delay2 ≤ delay = two.least delay one.in_time in
     let e : delay ≡ delay2 = omega arith in
-    let most : IsGreatest (held (course_of shapes rate idle delay2)) (count_in shapes) size = subst (λ (d : ℕ). IsGreatest (held (course_of shapes rate idle d)) (count_in shapes) size) e one.most in
-    (e, greatest_alone (held (course_of shapes rate idle delay2)) (count_in shapes) size size2 most two.most)
+    let most : IsGreatest (bytes_held (course_of shapes rate idle delay2)) (count_in shapes) size = subst (λ (d : ℕ). IsGreatest (bytes_held (course_of shapes rate idle d)) (count_in shapes) size) e one.most in
+    (e, greatest_alone (bytes_held (course_of shapes rate idle delay2)) (count_in shapes) size size2 most two.most)
 
 pub one_plan : (shapes : UnitShapesSeen) (rate : Rate) (idle : ℕ) → IsRate rate → ShapesInTurn 0 shapes.units shapes.total → OnePlan shapes rate idle
 one_plan shapes rate idle some in_turn =

@@ -1,7 +1,7 @@
 -- Streams that repeat their units: what their schedules share, however long they are.
 use Rattle.std.specs.Prelude.{◌≡◌, ℕ, zero, suc, ◌+◌, ◌*◌, ◌<◌, ◌≤◌, List, [], ◌∷◌, ◌++◌}
 use Rattle.slice_geometry.specs.declared.unit_list.UnitShape.{UnitShape}
-use Rattle.slice_geometry.specs.UnitLengths.{IsUnitAllowed, UnitShapesSeen, unit_length}
+use Rattle.slice_geometry.specs.UnitLengths.{IsUnitAllowed, UnitShapesSeen, shape_length}
 use Rattle.channel_schedule.specs.declared.schedule.Rate.{Rate}
 use Rattle.channel_schedule.specs.Slices.{slots_to}
 use Rattle.channel_schedule.specs.Plans.{plan_delay, plan_of}
@@ -13,26 +13,27 @@ abbrev pub plain : ℕ → UnitShape
 plain bytes = record { start = 0; head = bytes; slices = 0; a = 1; b = 1 }
 
 -- these units so many times over
-abbrev pub repeated : ℕ → List UnitShape → List UnitShape
-repeated zero units = []
-repeated (suc n) units = units ++ repeated n units
+abbrev pub units_repeated : ℕ → List UnitShape → List UnitShape
+units_repeated zero units = []
+units_repeated (suc n) units = units ++ units_repeated n units
 
 -- each unit starts where the one before it ends, the first at this place
-abbrev pub placed : ℕ → List UnitShape → List UnitShape
-placed place [] = []
-placed place (unit ∷ units) = record unit { start = place } ∷ placed (place + unit_length unit) units
+abbrev pub units_placed : ℕ → List UnitShape → List UnitShape
+units_placed place [] = []
+units_placed place (unit ∷ units) = record unit { start = place } ∷ units_placed (place + shape_length unit) units
 
 -- the bytes that they have together
 abbrev pub length_of : List UnitShape → ℕ
 length_of [] = 0
-length_of (unit ∷ units) = unit_length unit + length_of units
+length_of (unit ∷ units) = shape_length unit + length_of units
 
-abbrev pub stream_of : List UnitShape → UnitShapesSeen
-stream_of units = record { units = placed 0 units; total = length_of units; spare = 0 }
+-- a stream of these units
+abbrev pub stream_of_units : List UnitShape → UnitShapesSeen
+stream_of_units units = record { units = units_placed 0 units; total = length_of units; spare = 0 }
 
 -- a sequence of n pictures of one shape, between a header and an end of so many bytes
 abbrev pub sequence : ℕ → ℕ → UnitShape → ℕ → List UnitShape
-sequence header end picture n = plain header ∷ repeated n (picture ∷ []) ++ plain end ∷ []
+sequence header end picture n = plain header ∷ units_repeated n (picture ∷ []) ++ plain end ∷ []
 
 -- the slots from a picture of this shape to the next
 abbrev pub picture_slots : UnitShape → ℕ → ℕ
@@ -51,6 +52,7 @@ abbrev pub SlotsAreKnown : (ℕ → UnitShapesSeen) → ℕ → ℕ → ℕ → 
 SlotsAreKnown stream idle slices slots = (n p j : ℕ) → p < n → j < slices
     → slots_to idle (stream n).units (p * slices + j) ≡ p * slots + slots_to idle (stream n).units j
 
+-- of a family of streams both the plans and the slots are known
 pub record AreKnown (stream : ℕ → UnitShapesSeen) (rate : Rate) (idle slices slots : ℕ) : Type 0 where
   pub plans : PlansAreKnown stream rate idle
   pub taken : SlotsAreKnown stream idle slices slots
@@ -58,13 +60,13 @@ pub record AreKnown (stream : ℕ → UnitShapesSeen) (rate : Rate) (idle slices
 -- n pictures in one sequence, a picture's bytes arriving in its slots
 abbrev pub PicturesAreKnown : Type 0
 PicturesAreKnown = (header end : ℕ) (picture : UnitShape) (idle : ℕ) → IsUnitAllowed picture → 1 ≤ picture.slices
-    → AreKnown (λ n. stream_of (sequence header end picture n))
-    (record { num = unit_length picture; den = picture_slots picture idle }) idle picture.slices (picture_slots picture idle)
+    → AreKnown (λ n. stream_of_units (sequence header end picture n))
+    (record { num = shape_length picture; den = picture_slots picture idle }) idle picture.slices (picture_slots picture idle)
 
 -- n sequences of so many pictures, the bytes of a sequence arriving in the slots of its pictures
 abbrev pub GroupsAreKnown : Type 0
 GroupsAreKnown = (header end : ℕ) (picture : UnitShape) (pictures idle : ℕ) → IsUnitAllowed picture → 1 ≤ picture.slices
     → 1 ≤ pictures
-    → AreKnown (λ n. stream_of (repeated n (sequence header end picture pictures)))
+    → AreKnown (λ n. stream_of_units (units_repeated n (sequence header end picture pictures)))
     (record { num = length_of (sequence header end picture pictures); den = pictures * picture_slots picture idle }) idle
     (pictures * picture.slices) (pictures * picture_slots picture idle)

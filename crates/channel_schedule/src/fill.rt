@@ -1,7 +1,7 @@
 // The second pass of a plan: the most bytes that are held.
 ghost use Rattle.std.specs.Prelude.{◌≡◌, ◌+◌, ◌^◌, ◌≤◌};
-ghost use Rattle.slice_geometry.specs.UnitLengths.{IsUnitAllowed, unit_length};
-ghost use Rattle.channel_schedule.specs.Courses.{course_of, unit_course, gone_in, count_in, held};
+ghost use Rattle.slice_geometry.specs.UnitLengths.{IsUnitAllowed, shape_length};
+ghost use Rattle.channel_schedule.specs.Courses.{course_of, unit_course, gone_in, count_in, bytes_held};
 ghost use Rattle.channel_schedule.specs.Plans.{IsGreatest};
 
 use crate::arrivals::{arrived, arriving};
@@ -13,7 +13,7 @@ use slice_geometry::{UnitShape, UnitShapes};
 // The place where the last slice of a unit ends, or of the units before.
 pub(crate) fn gone_behind(unit: UnitShape, gone: u64) -> u64
     requires allowed { IsUnitAllowed unit }
-    requires inside { unit.start + unit_length unit ≤ 2 ^ 40 }
+    requires inside { unit.start + shape_length unit ≤ 2 ^ 40 }
     ensures { result ≡ gone_in gone unit unit.slices }
 {
     if unit.slices == 0 {
@@ -26,10 +26,10 @@ pub(crate) fn gone_behind(unit: UnitShape, gone: u64) -> u64
 fn unit_fill(unit: UnitShape, total: u64, rate: Rate, slot: u128, gone: u64) -> u64
     requires rate { 1 ≤ rate.den }
     requires allowed { IsUnitAllowed unit }
-    requires inside { unit.start + unit_length unit ≤ total }
+    requires inside { unit.start + shape_length unit ≤ total }
     requires total { total ≤ 2 ^ 40 }
     requires slot { slot ≤ 2 ^ 74 }
-    ensures { IsGreatest (held (unit_course unit total rate slot gone)) unit.slices result }
+    ensures { IsGreatest (bytes_held (unit_course unit total rate slot gone)) unit.slices result }
 {
     let base = unit.start + unit.head;
     let mut have = arriving(total, rate, slot);
@@ -50,7 +50,7 @@ fn unit_fill(unit: UnitShape, total: u64, rate: Rate, slot: u128, gone: u64) -> 
 pub(crate) fn fill(shapes: &UnitShapes, rate: Rate, idle: u32, delay: u128) -> u64
     requires rate { 1 ≤ rate.den }
     requires delay { delay ≤ 2 ^ 72 }
-    ensures { IsGreatest (held (course_of shapes.now rate idle delay))
+    ensures { IsGreatest (bytes_held (course_of shapes.now rate idle delay))
         (count_in shapes.now) result }
 {
     let total = shapes.total();

@@ -1,6 +1,6 @@
 // The first pass of a plan: how far the slices are ahead of the channel.
 ghost use Rattle.std.specs.Prelude.{◌+◌, ◌^◌, ◌≤◌};
-ghost use Rattle.slice_geometry.specs.UnitLengths.{IsUnitAllowed, ShapesInTurn, unit_length};
+ghost use Rattle.slice_geometry.specs.UnitLengths.{IsUnitAllowed, ShapesInTurn, shape_length};
 ghost use Rattle.channel_schedule.specs.Courses.{count_in};
 ghost use Rattle.channel_schedule.specs.Plans.{IsGreatest, lead_of, lead_in, asked_in};
 ghost use Rattle.channel_schedule.specs.Stepping.{IsAt};
@@ -57,7 +57,7 @@ fn asked_like(unit: UnitShape, rate: Rate, like: UnitShape, known: u64) -> u64
 fn unit_lead(unit: UnitShape, rate: Rate, slot: u128, most: u64) -> u128
     requires allowed { IsUnitAllowed unit }
     requires most { IsGreatest (asked_in unit rate) unit.slices most }
-    requires inside { unit.start + unit_length unit ≤ 2 ^ 40 }
+    requires inside { unit.start + shape_length unit ≤ 2 ^ 40 }
     requires slot { slot ≤ 2 ^ 74 }
     ensures { IsGreatest (lead_in unit rate slot) unit.slices result }
 {

@@ -1,6 +1,6 @@
 // How a schedule comes out.
 ghost use Rattle.std.specs.Prelude.{◌+◌, ◌^◌, ◌≤◌};
-ghost use Rattle.slice_geometry.specs.UnitLengths.{IsUnitAllowed, unit_length};
+ghost use Rattle.slice_geometry.specs.UnitLengths.{IsUnitAllowed, shape_length};
 ghost use Rattle.channel_schedule.specs.Rates.{IsSchedule};
 ghost use Rattle.channel_schedule.specs.Courses.{course_of, unit_course, tail_course, count_in, IsOutcome};
 
@@ -15,7 +15,7 @@ use slice_geometry::{UnitShape, UnitShapes};
 fn replay_unit(unit: UnitShape, total: u64, rate: Rate, slot: u128, gone: u64, size: u64) -> Outcome
     requires rate { 1 ≤ rate.den }
     requires allowed { IsUnitAllowed unit }
-    requires inside { unit.start + unit_length unit ≤ total }
+    requires inside { unit.start + shape_length unit ≤ total }
     requires total { total ≤ 2 ^ 40 }
     requires slot { slot ≤ 2 ^ 74 }
     ensures { IsOutcome (unit_course unit total rate slot gone) size unit.slices result }

@@ -29,6 +29,7 @@ pub record StopsHere (limit : ℕ → ℕ) (keeps : ℤ → Type 0) (rect : Rect
   pub before : Restores limit (IsEarlier rect y x) old new
   pub passes : keeps (old y x +ℤ prediction new y x) → ⊥
 
+-- restoring stopped at some place, at this width
 abbrev pub Stops : (ℕ → ℕ) → (ℤ → Type 0) → Rect → Grid → Grid → Type 0
 Stops limit keeps rect old new = (y : ℕ) × (x : ℕ) × StopsHere limit keeps rect old new y x
 

@@ -28,6 +28,7 @@ abbrev pub first_row : (ℕ → ℤ) → ℕ → ℤ
 first_row r zero = r 0 +ℤ pos 0
 first_row r (suc x) = r (suc x) +ℤ first_row r x
 
+-- a row of values from its residuals and the row above (13.4)
 abbrev pub row_below : (ℕ → ℤ) → (ℕ → ℤ) → ℕ → ℤ
 row_below above r zero = r 0 +ℤ above 0
 row_below above r (suc x) = r (suc x) +ℤ mean (row_below above r x) (above x) (above (suc x))

@@ -54,5 +54,6 @@ pub record StopsAt (rect : Rect) (old new : Raster ℤ) (y x : ℕ) : Type 0 whe
   pub stays : (j i : ℕ) → (IsInRect rect j i → IsBefore j i y x → ⊥) → at new j i ≡ at old j i
   pub passes : IsNarrow (at old y x +ℤ prediction (at new) y x) → ⊥
 
+-- restoring stopped at some place
 abbrev pub IsStopped : Rect → Raster ℤ → Raster ℤ → Type 0
 IsStopped rect old new = (y : ℕ) × (x : ℕ) × StopsAt rect old new y x

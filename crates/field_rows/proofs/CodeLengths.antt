@@ -9,7 +9,7 @@ use Rattle.std.proofs.lemmas.Nat.{leading_length}
 use Rattle.bit_codes.specs.Codes.{code_of}
 use Rattle.bit_codes.proofs.CodeOf.{length-code_of}
 use Rattle.field_rows.specs.Rows.{Spelling, a_number, a_flag, Value, Number, Flag, Bytes, Rows, done, row}
-use Rattle.field_rows.specs.Given.{written_as, written, IsOfKind, AreOfKind}
+use Rattle.field_rows.specs.Given.{written_as, value_bits, IsOfKind, AreOfKind}
 
 -- a power of two up to 2 ^ 33 + 1 has an exponent up to 33
 small_exponent : (k : ℕ) → 2 ^ k ≤ 2 ^ 33 + 1 → k ≤ 33
@@ -49,11 +49,11 @@ field_short a_flag (Flag b) f h = omega arith
 field_short s (Bytes bytes) f h = absurd f
 field_short s v f h = absurd h
 
-pub kinds_short : {R A : Type 0} (rows : Rows R A) (vs : List Value) → AllByRecursion IsNoBytes vs → AreOfKind rows vs → length (written vs) ≤ 65 * length vs
+pub kinds_short : {R A : Type 0} (rows : Rows R A) (vs : List Value) → AllByRecursion IsNoBytes vs → AreOfKind rows vs → length (value_bits vs) ≤ 65 * length vs
 kinds_short rows [] f k = omega arith
 kinds_short (done a) (v ∷ vs) f k = absurd cc
-kinds_short (row s at rules next) (v ∷ vs) f k = omega (arith, length-append (written_as v) (written vs), field_short s v f.0 k.0, kinds_short (next v) vs f.1 k.1)
+kinds_short (row s at rules next) (v ∷ vs) f k = omega (arith, length-append (written_as v) (value_bits vs), field_short s v f.0 k.0, kinds_short (next v) vs f.1 k.1)
 
 -- so many fields of their rows' kinds have at most so many bits
-pub few_short : {R A : Type 0} (n : ℕ) (rows : Rows R A) (vs : List Value) → AreFew n vs → AreOfKind rows vs → length (written vs) ≤ 65 * n
+pub few_short : {R A : Type 0} (n : ℕ) (rows : Rows R A) (vs : List Value) → AreFew n vs → AreOfKind rows vs → length (value_bits vs) ≤ 65 * n
 few_short n rows vs f k = omega (arith, kinds_short rows vs f.each k, f.count)

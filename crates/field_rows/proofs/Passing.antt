@@ -8,7 +8,7 @@ use Rattle.bit_codes.specs.Bits.{Cursor, cursor_at, bits_of, at_byte_end, zeros_
 use Rattle.bit_codes.proofs.BitLemmas.{length-bits}
 use Rattle.bit_codes.proofs.Numbers.{bits_of-append}
 use Rattle.field_rows.specs.Rows.{Value, Number, ◌or_else◌, Rule, first_broken, Rows, done, row, ◌>>=◌, Fault, read, whole_bytes, flag, flag_set, number, number_under, within, Flag, if_set}
-use Rattle.field_rows.specs.Given.{checked, written, AreOfKind, Pass, Fail}
+use Rattle.field_rows.specs.Given.{checked, value_bits, AreOfKind, Pass, Fail}
 use Rattle.field_rows.proofs.Written.{asked_ok, checked-bind, read-written}
 use Rattle.field_rows.proofs.Pieces.{read-whole}
 
@@ -51,7 +51,7 @@ failed_alone rows vs reason f = ap (checked rows) (sym (append-nil vs)) ∙ f.fa
 
 -- what passes is read from what is written, whatever follows
 pub Pass-read : {R A : Type 0} (reason_of : CodeFault → R) (rows : Rows R A) (vs : List Value) (a : A) (rest : List Bool) → Pass rows vs a → AreOfKind rows vs
-    → read reason_of rows (record { place = 0; rest = written vs ++ rest }) ≡ Ok (a, record { place = length (written vs); rest = rest })
+    → read reason_of rows (record { place = 0; rest = value_bits vs ++ rest }) ≡ Ok (a, record { place = length (value_bits vs); rest = rest })
 Pass-read {R = R} {A = A} reason_of rows vs a rest p k =
     read-written reason_of rows vs 0 rest a k (passed_alone rows vs a p)
     ∙ ap (λ (n : ℕ). let r : Result (A × Cursor) (Fault R) = Ok (a, record { place = n; rest = rest }) in r) (omega arith)
@@ -61,15 +61,15 @@ pub length-zeros : (n : ℕ) → length (zeros_to_byte_end n) ≡ (8 - n % 8) % 
 length-zeros n = length-replicate ((8 - n % 8) % 8) false
 
 -- bytes that are the written fields and zeros to the byte's end are taken whole, and any bytes may follow
-pub Pass-read_bytes : {R A : Type 0} (reason_of : CodeFault → R) (rows : Rows R A) (vs : List Value) (a : A) (bytes more : List ℕ) → Pass rows vs a → AreOfKind rows vs → bits_of bytes ≡ written vs ++ zeros_to_byte_end (length (written vs))
+pub Pass-read_bytes : {R A : Type 0} (reason_of : CodeFault → R) (rows : Rows R A) (vs : List Value) (a : A) (bytes more : List ℕ) → Pass rows vs a → AreOfKind rows vs → bits_of bytes ≡ value_bits vs ++ zeros_to_byte_end (length (value_bits vs))
     → read reason_of (whole_bytes rows) (cursor_at (bytes ++ more) 0) ≡ Ok (a, cursor_at (bytes ++ more) (8 * length bytes))
 Pass-read_bytes {R = R} {A = A} reason_of rows vs a bytes more p k e =
-    let n = length (written vs) in
+    let n = length (value_bits vs) in
     let rest = zeros_to_byte_end n ++ bits_of more in
-    let parts : bits_of (bytes ++ more) ≡ written vs ++ rest = bits_of-append bytes more ∙ ap (λ (t : List Bool). t ++ bits_of more) e ∙ append_assoc (written vs) (zeros_to_byte_end n) (bits_of more) in
+    let parts : bits_of (bytes ++ more) ≡ value_bits vs ++ rest = bits_of-append bytes more ∙ ap (λ (t : List Bool). t ++ bits_of more) e ∙ append_assoc (value_bits vs) (zeros_to_byte_end n) (bits_of more) in
     let mid : Cursor = record { place = n; rest = rest } in
     let front : read reason_of rows (cursor_at (bytes ++ more) 0) ≡ Ok (a, mid) = ap (λ (t : List Bool). read reason_of rows (record { place = 0; rest = t })) parts ∙ Pass-read reason_of rows vs a rest p k in
-    let total : 8 * length bytes ≡ n + (8 - n % 8) % 8 = omega (arith, length-bits bytes, ap (λ (t : List Bool). length t) e, length-append (written vs) (zeros_to_byte_end n), length-zeros n) in
+    let total : 8 * length bytes ≡ n + (8 - n % 8) % 8 = omega (arith, length-bits bytes, ap (λ (t : List Bool). length t) e, length-append (value_bits vs) (zeros_to_byte_end n), length-zeros n) in
     let left : (8 - n % 8) % 8 ≤ length rest = omega (arith, length-append (zeros_to_byte_end n) (bits_of more), length-zeros n) in
     let behind : 8 * ((at_byte_end mid).place / 8) ≡ 8 * length bytes = omega arith in
     (read-whole reason_of rows (bytes ++ more) a mid front).0 ∙ ap (λ (k : ℕ). let r : Result (A × Cursor) (Fault R) = Ok (a, cursor_at (bytes ++ more) k) in r) behind

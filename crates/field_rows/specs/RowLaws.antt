@@ -7,7 +7,7 @@ use Rattle.field_rows.specs.Rows.{Value, Rows, Fault, read, renamed}
 use Rattle.field_rows.specs.Standing.{Stand, IsRefused}
 use Rattle.field_rows.specs.Pieces.{with_more}
 use Rattle.field_rows.specs.Moved.{moved, moved_answer, renamed_answer}
-use Rattle.field_rows.specs.Given.{checked, written, AreOfKind}
+use Rattle.field_rows.specs.Given.{checked, value_bits, AreOfKind}
 
 -- Reading gives a value exactly where fields stand that make it, and a fault exactly where the rows are refused with it.
 pub record ReadsWhatStands {R A : Type 0} (reason_of : CodeFault → R) (rows : Rows R A) (c : Cursor) : Type 0 where
@@ -46,8 +46,8 @@ ReadsTheSameRenamed name reason_of others rows c = read others (renamed name row
 abbrev pub IsReadAgain : {R A : Type 0} → (CodeFault → R) → Rows R A → List Value → A → ℕ → List Bool → Type 0
 IsReadAgain reason_of rows vs a place rest =
     AreOfKind rows vs → checked rows vs ≡ Ok (a, [])
-    → read reason_of rows (record { place = place; rest = written vs ++ rest })
-    ≡ Ok (a, record { place = place + length (written vs); rest = rest })
+    → read reason_of rows (record { place = place; rest = value_bits vs ++ rest })
+    ≡ Ok (a, record { place = place + length (value_bits vs); rest = rest })
 
 -- A fault's place lies within the bits, their end included.
 abbrev pub HasFaultWithin : {R A : Type 0} → (CodeFault → R) → Rows R A → Cursor → Type 0

@@ -9,7 +9,7 @@ use Rattle.run_theory.specs.Walk.{Answer, answer_from, answer_to, before, after_
 use Rattle.run_theory.proofs.Walks.{answer_step}
 use Rattle.field_weave.specs.declared.Order.{Order}
 use Rattle.field_weave.specs.declared.weaver.WeaveStop.TheVariants.{HalfFrame}
-use Rattle.field_weave.specs.Weaving.{doubled, woven, split, frames_of, fields_of}
+use Rattle.field_weave.specs.Weaving.{frame_of_two, woven_frame, split, frames_of, fields_in}
 use Rattle.raw_video.specs.PictureRuns.{PictureCommand, step_shown, step_by, picture_machine}
 use Rattle.field_weave.specs.WeaveRuns.{WeaveEnd, FieldsSoFar, fields_end, weaving, splitting, weave_machine, split_machine}
 use Rattle.field_weave.specs.WeaveAnswers.{woven_end, woven_answer, split_end, split_answer}
@@ -87,10 +87,10 @@ abbrev begins_with : ℕ → FieldsSoFar
 begins_with n = record { frames = n; first = None }
 
 module _ (order : Order) (f : Frame) where
-  woven_texts : (n : ℕ) (fields : List PictureSamples) → texts_over f (weaving order f) (begins_with n) fields ≡ raw_texts (doubled f) (frames_of order f fields)
+  woven_texts : (n : ℕ) (fields : List PictureSamples) → texts_over f (weaving order f) (begins_with n) fields ≡ raw_texts (frame_of_two f) (frames_of order f fields)
   woven_texts n [] = refl
   woven_texts n (first ∷ []) = refl
-  woven_texts n (first ∷ second ∷ fields) = ap (λ (l : List ℕ). raw_text (doubled f) (woven order f first second) ++ l) (woven_texts (n + 1) fields)
+  woven_texts n (first ∷ second ∷ fields) = ap (λ (l : List ℕ). raw_text (frame_of_two f) (woven_frame order f first second) ++ l) (woven_texts (n + 1) fields)
 
   abbrev left_by : ℕ → List PictureSamples → FieldsSoFar
   left_by n fields = own_over f (weaving order f) (begins_with n) fields
@@ -134,39 +134,39 @@ module _ (order : Order) (f : Frame) where
       let w = weaving order f in
       answer_over f w some (λ place own. refl) (length bytes + 1) 0 (begins_with 0) bytes (omega arith)
       ∙ ap (λ (l : List ℕ). made_of (ending_by f w (place_over f w 0 video.pictures) (left_by 0 video.pictures) video.ending) l (last_by f w (place_over f w 0 video.pictures) (left_by 0 video.pictures) video.ending)) (woven_texts 0 video.pictures)
-      ∙ ap (λ (e : WeaveEnd). made_of e (raw_texts (doubled f) (frames_of order f video.pictures)) (last_by f w (place_over f w 0 video.pictures) (left_by 0 video.pictures) video.ending)) (woven_ends video.pictures video.ending)
-      ∙ ap (made_of (woven_end f (length video.pictures) video.ending) (raw_texts (doubled f) (frames_of order f video.pictures))) (woven_last (place_over f w 0 video.pictures) (left_by 0 video.pictures) video.ending)
+      ∙ ap (λ (e : WeaveEnd). made_of e (raw_texts (frame_of_two f) (frames_of order f video.pictures)) (last_by f w (place_over f w 0 video.pictures) (left_by 0 video.pictures) video.ending)) (woven_ends video.pictures video.ending)
+      ∙ ap (made_of (woven_end f (length video.pictures) video.ending) (raw_texts (frame_of_two f) (frames_of order f video.pictures))) (woven_last (place_over f w 0 video.pictures) (left_by 0 video.pictures) video.ending)
 
   -- ---- splitting
 
-  split_texts : (n : ℕ) (frames : List PictureSamples) → texts_over (doubled f) (splitting order f) n frames ≡ raw_texts f (fields_of order f frames)
+  split_texts : (n : ℕ) (frames : List PictureSamples) → texts_over (frame_of_two f) (splitting order f) n frames ≡ raw_texts f (fields_in order f frames)
   split_texts n [] = refl
   split_texts n (frame ∷ frames) =
       let first = raw_text f (split order f false frame) in
       let second = raw_text f (split order f true frame) in
-      ap (λ (l : List ℕ). (first ++ second) ++ l) (split_texts (n + 1) frames) ∙ append_assoc first second (raw_texts f (fields_of order f frames))
+      ap (λ (l : List ℕ). (first ++ second) ++ l) (split_texts (n + 1) frames) ∙ append_assoc first second (raw_texts f (fields_in order f frames))
 
-  counted : (n : ℕ) (frames : List PictureSamples) → own_over (doubled f) (splitting order f) n frames ≡ n + length frames
+  counted : (n : ℕ) (frames : List PictureSamples) → own_over (frame_of_two f) (splitting order f) n frames ≡ n + length frames
   counted n [] = omega arith
   counted n (frame ∷ frames) = counted (n + 1) frames ∙ (let e : n + 1 + length frames ≡ n + suc (length frames) = omega arith in e)
 
-  split_ends : (place n count : ℕ) (behind : RawFront) → n ≡ count → ending_by (doubled f) (splitting order f) place n behind ≡ split_end count behind
+  split_ends : (place n count : ℕ) (behind : RawFront) → n ≡ count → ending_by (frame_of_two f) (splitting order f) place n behind ≡ split_end count behind
   split_ends place n count Over is = ap (λ (k : ℕ). done_with k) is
   split_ends place n count (Shown p) is = refl
   split_ends place n count (LargeAt at) is = refl
   split_ends place n count (CutAt at) is = refl
   split_ends place n count TooLong is = refl
 
-  split_last : (place n : ℕ) (behind : RawFront) → last_by (doubled f) (splitting order f) place n behind ≡ []
+  split_last : (place n : ℕ) (behind : RawFront) → last_by (frame_of_two f) (splitting order f) place n behind ≡ []
   split_last place n Over = refl
   split_last place n (Shown p) = refl
   split_last place n (LargeAt at) = refl
   split_last place n (CutAt at) = refl
   split_last place n TooLong = refl
 
-  pub split_answers : (bytes : List ℕ) → 0 < raw_length (doubled f) → answer_to (split_machine order f) bytes ≡ split_answer order f bytes
+  pub split_answers : (bytes : List ℕ) → 0 < raw_length (frame_of_two f) → answer_to (split_machine order f) bytes ≡ split_answer order f bytes
   split_answers bytes some =
-      let g = doubled f in
+      let g = frame_of_two f in
       let video = raw_parse g bytes in
       let w = splitting order f in
       let place = place_over g w 0 video.pictures in
@@ -174,5 +174,5 @@ module _ (order : Order) (f : Frame) where
       let count : n ≡ length video.pictures = counted 0 video.pictures ∙ (let e : 0 + length video.pictures ≡ length video.pictures = omega arith in e) in
       answer_over g w some (λ place own. refl) (length bytes + 1) 0 0 bytes (omega arith)
       ∙ ap (λ (l : List ℕ). made_of (ending_by g w place n video.ending) l (last_by g w place n video.ending)) (split_texts 0 video.pictures)
-      ∙ ap (λ (e : WeaveEnd). made_of e (raw_texts f (fields_of order f video.pictures)) (last_by g w place n video.ending)) (split_ends place n (length video.pictures) video.ending count)
-      ∙ ap (made_of (split_end (length video.pictures) video.ending) (raw_texts f (fields_of order f video.pictures))) (split_last place n video.ending)
+      ∙ ap (λ (e : WeaveEnd). made_of e (raw_texts f (fields_in order f video.pictures)) (last_by g w place n video.ending)) (split_ends place n (length video.pictures) video.ending count)
+      ∙ ap (made_of (split_end (length video.pictures) video.ending) (raw_texts f (fields_in order f video.pictures))) (split_last place n video.ending)

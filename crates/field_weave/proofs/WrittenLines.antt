@@ -8,14 +8,14 @@ use Rattle.vc2_io.specs.Outside.{GrewShort}
 use Rattle.vc2_io.proofs.Short.{GrewShort-along}
 use Rattle.slice_geometry.specs.declared.Size.{Size}
 use Rattle.slice_geometry.specs.Frames.{Frame}
-use Rattle.picture_codec.specs.Samples.{SamplesSeen, PictureSamples, sample_at, tabulated}
+use Rattle.picture_codec.specs.Samples.{SamplesSeen, PictureSamples, sample_at, samples_by}
 use Rattle.picture_codec.proofs.Tables.{tabulated_same}
 use Rattle.raw_video.specs.RawText.{is_wide, text_of, raw_text}
 use Rattle.raw_video.specs.Waiting.{PassesOn}
 use Rattle.raw_video.proofs.Pieces.{text_joined, text_cut, raw_text_is}
 use Rattle.raw_video.proofs.Waits.{passes_nothing, passes_along, passes_then, short_then, short_more}
 use Rattle.field_weave.specs.declared.Order.TheVariants.{Top}
-use Rattle.field_weave.specs.Weaving.{twice_high, woven_lines, woven}
+use Rattle.field_weave.specs.Weaving.{twice_high, woven_lines, woven_frame}
 use Rattle.field_weave.specs.Writing.{alternating_lines, alternating}
 use Rattle.field_weave.proofs.Tables.{row_inside, tabulated_long, tabulated_at}
 use Rattle.field_weave.proofs.WeaveLaws.{same_picture}
@@ -25,9 +25,9 @@ next_row n w = grind arith
 
 -- one row more of samples that a function gives
 table_more : (size : Size) (g : ℕ → ℕ → ℕ) (n : ℕ) (row : List ℕ) → n < size.h → length row ≡ size.w → ((x : ℕ) → x < size.w → get_or row x 0 ≡ g n x)
-    → take ((n + 1) * size.w) (tabulated size g).cells ≡ take (n * size.w) (tabulated size g).cells ++ row
+    → take ((n + 1) * size.w) (samples_by size g).cells ≡ take (n * size.w) (samples_by size g).cells ++ row
 table_more size g n row inside wide each =
-    let cells = (tabulated size g).cells in
+    let cells = (samples_by size g).cells in
     let w = size.w in
     let rest = drop (n * w) cells in
     let long : length (take w rest) ≡ w = omega (arith, length-take w rest, length-drop (n * w) cells, tabulated_long size g, row_inside n w size.h inside) in
@@ -37,18 +37,18 @@ table_more size g n row inside wide each =
     get_or-take w rest x 0 across ∙ get_or-drop (n * w) cells x 0 ∙ tabulated_at size g n x inside across ∙ sym (each x across)))
 
 module _ (bytes_two : Bool) (size : Size) (g : ℕ → ℕ → ℕ) (n : ℕ) (row : List ℕ) (inside : n < size.h) (wide : length row ≡ size.w) (each : (x : ℕ) → x < size.w → get_or row x 0 ≡ g n x) where
-  text_more : text_of bytes_two (take (n * size.w) (tabulated size g).cells) ++ text_of bytes_two row ≡ text_of bytes_two (take ((n + 1) * size.w) (tabulated size g).cells)
-  text_more = text_joined bytes_two (take (n * size.w) (tabulated size g).cells) row ∙ ap (text_of bytes_two) (sym (table_more size g n row inside wide each))
+  text_more : text_of bytes_two (take (n * size.w) (samples_by size g).cells) ++ text_of bytes_two row ≡ text_of bytes_two (take ((n + 1) * size.w) (samples_by size g).cells)
+  text_more = text_joined bytes_two (take (n * size.w) (samples_by size g).cells) row ∙ ap (text_of bytes_two) (sym (table_more size g n row inside wide each))
 
-  module _ (out0 out1 : Option (List ℕ)) (p q : List ℕ) (so_far : PassesOn out0 out1 p q (text_of bytes_two (take (n * size.w) (tabulated size g).cells))) (out2 : Option (List ℕ)) where
+  module _ (out0 out1 : Option (List ℕ)) (p q : List ℕ) (so_far : PassesOn out0 out1 p q (text_of bytes_two (take (n * size.w) (samples_by size g).cells))) (out2 : Option (List ℕ)) where
     -- a row more went behind what waits
-    pub row_passes : (r : List ℕ) → PassesOn out1 out2 q r (text_of bytes_two row) → PassesOn out0 out2 p r (text_of bytes_two (take ((n + 1) * size.w) (tabulated size g).cells))
-    row_passes r more = passes_along out0 out2 p r _ _ text_more (passes_then out0 out1 p q (text_of bytes_two (take (n * size.w) (tabulated size g).cells)) so_far out2 r (text_of bytes_two row) more)
+    pub row_passes : (r : List ℕ) → PassesOn out1 out2 q r (text_of bytes_two row) → PassesOn out0 out2 p r (text_of bytes_two (take ((n + 1) * size.w) (samples_by size g).cells))
+    row_passes r more = passes_along out0 out2 p r _ _ text_more (passes_then out0 out1 p q (text_of bytes_two (take (n * size.w) (samples_by size g).cells)) so_far out2 r (text_of bytes_two row) more)
 
     -- a write failed there
-    pub row_short : GrewShort out1 out2 (q ++ text_of bytes_two row) → GrewShort out0 out2 (p ++ text_of bytes_two (tabulated size g).cells)
+    pub row_short : GrewShort out1 out2 (q ++ text_of bytes_two row) → GrewShort out0 out2 (p ++ text_of bytes_two (samples_by size g).cells)
     row_short short =
-        let cells = (tabulated size g).cells in
+        let cells = (samples_by size g).cells in
         let k = (n + 1) * size.w in
         let here = short_then out0 out1 p q (text_of bytes_two (take (n * size.w) cells)) so_far out2 (text_of bytes_two row) short in
         let front : GrewShort out0 out2 (p ++ text_of bytes_two (take k cells)) = GrewShort-along out0 out2 _ _ (ap (λ (l : List ℕ). p ++ l) text_more) here in
@@ -64,10 +64,10 @@ no_rows bytes_two w n cells out p none =
     zero_rows w = omega arith
 
 -- all rows did
-pub rows_passed : (bytes_two : Bool) (size : Size) (g : ℕ → ℕ → ℕ) (n : ℕ) (out0 out1 : Option (List ℕ)) (p q : List ℕ) → size.h ≤ n → PassesOn out0 out1 p q (text_of bytes_two (take (n * size.w) (tabulated size g).cells))
-    → PassesOn out0 out1 p q (text_of bytes_two (tabulated size g).cells)
+pub rows_passed : (bytes_two : Bool) (size : Size) (g : ℕ → ℕ → ℕ) (n : ℕ) (out0 out1 : Option (List ℕ)) (p q : List ℕ) → size.h ≤ n → PassesOn out0 out1 p q (text_of bytes_two (take (n * size.w) (samples_by size g).cells))
+    → PassesOn out0 out1 p q (text_of bytes_two (samples_by size g).cells)
 rows_passed bytes_two size g n out0 out1 p q over a =
-    passes_along out0 out1 p q _ _ (ap (text_of bytes_two) (take_all (n * size.w) (tabulated size g).cells (omega (arith, tabulated_long size g, all n size.h size.w over)))) a
+    passes_along out0 out1 p q _ _ (ap (text_of bytes_two) (take_all (n * size.w) (samples_by size g).cells (omega (arith, tabulated_long size g, all n size.h size.w over)))) a
   where
     all : (n h w : ℕ) → h ≤ n → h * w ≤ n * w
     all n h w le = grind arith
@@ -98,7 +98,7 @@ top_lines size first second =
     by (suc zero) a b lt = refl
     by (suc (suc k)) a b lt = absurd (omega (arith, lt))
 
-pub top_is : (f : Frame) (first second : PictureSamples) → alternating f first second ≡ woven Top f first second
+pub top_is : (f : Frame) (first second : PictureSamples) → alternating f first second ≡ woven_frame Top f first second
 top_is f first second =
     same_picture _ _ _ (woven_lines Top f.luma first.luma second.luma) (woven_lines Top f.colour first.c1 second.c1) (woven_lines Top f.colour first.c2 second.c2)
     (top_lines f.luma first.luma second.luma) (top_lines f.colour first.c1 second.c1) (top_lines f.colour first.c2 second.c2)

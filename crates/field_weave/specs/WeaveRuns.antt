@@ -16,7 +16,7 @@ use Rattle.run_theory.specs.declared.Halt.TheVariants as halts
 use Rattle.field_weave.specs.declared.Order.{Order}
 use Rattle.field_weave.specs.declared.weaver.WeaveStop.{WeaveStop}
 use Rattle.field_weave.specs.declared.weaver.WeaveStop.TheVariants as stops
-use Rattle.field_weave.specs.Weaving.{doubled, woven, split}
+use Rattle.field_weave.specs.Weaving.{frame_of_two, woven_frame, split}
 use Rattle.raw_video.specs.PictureRuns.{PictureCommand, BehindPictures, picture_machine}
 
 -- how a run comes out: the frames, or why it stopped before the input was over
@@ -44,13 +44,14 @@ field_more own field (Some first) = record { frames = own.frames + 1; first = No
 -- a second field's text is the frame
 abbrev pub field_text : Order → Frame → PictureSamples → Option PictureSamples → List ℕ
 field_text order f field None = []
-field_text order f field (Some first) = raw_text (doubled f) (woven order f first field)
+field_text order f field (Some first) = raw_text (frame_of_two f) (woven_frame order f first field)
 
 -- half a frame is asked at the input's end
 abbrev pub fields_end : (place : ℕ) → FieldsSoFar → Option PictureSamples → WeaveEnd
 fields_end place own None = Ok own.frames
 fields_end place own (Some first) = Err (stops.HalfFrame place)
 
+-- weaving as a command over pictures: it keeps the first field of a pair until the second comes
 abbrev pub weaving : Order → Frame → PictureCommand FieldsSoFar WeaveEnd
 weaving order f = record {
   opening = [];
@@ -64,11 +65,13 @@ weaving order f = record {
   endless = Err stops.TooLong;
 }
 
+-- weaving as a machine over raw video of fields
 abbrev pub weave_machine : Order → Frame → Machine (BehindPictures FieldsSoFar) WeaveEnd
 weave_machine order f = picture_machine f (weaving order f)
 
 -- ---- splitting, into fields of this frame
 
+-- splitting as a command over pictures: of each frame it writes both fields
 abbrev pub splitting : Order → Frame → PictureCommand ℕ WeaveEnd
 splitting order f = record {
   opening = [];
@@ -82,8 +85,9 @@ splitting order f = record {
   endless = Err stops.TooLong;
 }
 
+-- splitting as a machine over raw video of frames
 abbrev pub split_machine : Order → Frame → Machine (BehindPictures ℕ) WeaveEnd
-split_machine order f = picture_machine (doubled f) (splitting order f)
+split_machine order f = picture_machine (frame_of_two f) (splitting order f)
 
 -- ---- for the code
 
@@ -93,10 +97,10 @@ pub record WeaverSeen : Type 0 where
   pub order : Order
 
 -- a call's result as that of a run
-abbrev pub told : Result ℕ WeaveStop → Result WeaveEnd Halt
-told (Err stops.ReadFault) = Err halts.ReadFault
-told (Err stops.OutFault) = Err halts.OutFault
-told other = Ok other
+abbrev pub weave_result : Result ℕ WeaveStop → Result WeaveEnd Halt
+weave_result (Err stops.ReadFault) = Err halts.ReadFault
+weave_result (Err stops.OutFault) = Err halts.OutFault
+weave_result other = Ok other
 
 -- the first field of a frame that has one
 abbrev pub first_of : Order → Frame → Bool → PictureSamples → Option PictureSamples
@@ -117,7 +121,7 @@ stop_of faults.ReadFault = stops.ReadFault
 -- done the input is over.
 pub record Weaves {Z : Type 0} (machine : Machine Z WeaveEnd) (rest0 rest1 out0 out1 : Option (List ℕ))
     (src0 src1 to0 to1 : ℕ) (result : Result ℕ WeaveStop) : Type 0 where
-  pub ran : Ran machine rest0 rest1 out0 out1 (told result)
+  pub ran : Ran machine rest0 rest1 out0 out1 (weave_result result)
   pub limit : TakesAtMost (INPUT_LIMIT + 1) rest0 rest1
-  pub cause : HaltHasCause src0 src1 to0 to1 (told result)
+  pub cause : HaltHasCause src0 src1 to0 to1 (weave_result result)
   pub end : IfOk result (λ frames. IsAtEnd rest1)

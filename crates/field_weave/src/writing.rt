@@ -4,10 +4,10 @@ ghost use Rattle.std.specs.Io.KnownBytes.{Appends};
 ghost use Rattle.vc2_io.specs.Outside.{HasCause, GrewShort};
 ghost use Rattle.slice_geometry.specs.Frames.{frame_of};
 ghost use Rattle.picture_codec.specs.Pictures as pictures;
-ghost use Rattle.picture_codec.specs.Samples.{shown};
+ghost use Rattle.picture_codec.specs.Samples.{component_shown};
 ghost use Rattle.raw_video.specs.RawText.{is_wide, raw_text, text_of};
 ghost use Rattle.raw_video.specs.Waiting.{PassesOn};
-ghost use Rattle.field_weave.specs.Weaving.{doubled, woven, split, split_lines};
+ghost use Rattle.field_weave.specs.Weaving.{frame_of_two, woven_frame, split, split_lines};
 ghost use Rattle.field_weave.specs.Writing.{alternating_lines, alternating};
 
 use crate::Order;
@@ -30,12 +30,12 @@ fn write_alternating<K: Sink>(
     ensures ok { OnOk result (PassesOn (K.written out.old)
         (K.written out.new) writer.old.waiting writer.new.waiting
         (text_of writer.old.wide (alternating_lines (pictures.size_of (frame_of upper.now.shape) c)
-        (shown upper.now c) (shown lower.now c)).cells)) }
+        (component_shown upper.now c) (component_shown lower.now c)).cells)) }
     ensures err { OnErr result (GrewShort (K.written out.old) (K.written out.new)
         (writer.old.waiting
         ++ text_of writer.old.wide (alternating_lines
-        (pictures.size_of (frame_of upper.now.shape) c) (shown upper.now c)
-        (shown lower.now c)).cells)) }
+        (pictures.size_of (frame_of upper.now.shape) c) (component_shown upper.now c)
+        (component_shown lower.now c)).cells)) }
     ensures cause { HasCause (K.faults out.old) (K.faults out.new) result }
 {
     let size = size_of(upper.shape(), c);
@@ -59,16 +59,16 @@ fn write_split<K: Sink>(
     out: &mut K,
 ) -> Result<(), Failed>
     requires line { line ≤ 1 }
-    requires doubled { frame_of frame.now.shape ≡ doubled (frame_of field.now) }
+    requires doubled { frame_of frame.now.shape ≡ frame_of_two (frame_of field.now) }
     ensures wide { OnOk result (writer.new.wide ≡ writer.old.wide) }
     ensures ok { OnOk result (PassesOn (K.written out.old)
         (K.written out.new) writer.old.waiting writer.new.waiting
         (text_of writer.old.wide (split_lines (pictures.size_of (frame_of field.now) c) line
-        (shown frame.now c)).cells)) }
+        (component_shown frame.now c)).cells)) }
     ensures err { OnErr result (GrewShort (K.written out.old) (K.written out.new)
         (writer.old.waiting
         ++ text_of writer.old.wide (split_lines (pictures.size_of (frame_of field.now) c) line
-        (shown frame.now c)).cells)) }
+        (component_shown frame.now c)).cells)) }
     ensures cause { HasCause (K.faults out.old) (K.faults out.new) result }
 {
     let size = size_of(field, c);
@@ -90,11 +90,11 @@ pub(crate) fn write_frame<K: Sink>(
 ) -> Result<(), Failed>
     requires { second.now.shape ≡ first.now.shape }
     ensures ok { OnOk result (Appends (K.written out.old) (K.written out.new)
-        (raw_text (doubled (frame_of first.now.shape))
-        (woven order (frame_of first.now.shape) first.now.samples second.now.samples))) }
+        (raw_text (frame_of_two (frame_of first.now.shape))
+        (woven_frame order (frame_of first.now.shape) first.now.samples second.now.samples))) }
     ensures err { OnErr result (GrewShort (K.written out.old) (K.written out.new)
-        (raw_text (doubled (frame_of first.now.shape))
-        (woven order (frame_of first.now.shape) first.now.samples second.now.samples))) }
+        (raw_text (frame_of_two (frame_of first.now.shape))
+        (woven_frame order (frame_of first.now.shape) first.now.samples second.now.samples))) }
     ensures cause { HasCause (K.faults out.old) (K.faults out.new) result }
 {
     match order {
@@ -107,10 +107,10 @@ pub(crate) fn write_frame<K: Sink>(
 fn write_rows_of<K: Sink>(upper: &Picture, lower: &Picture, out: &mut K) -> Result<(), Failed>
     requires { lower.now.shape ≡ upper.now.shape }
     ensures ok { OnOk result (Appends (K.written out.old) (K.written out.new)
-        (raw_text (doubled (frame_of upper.now.shape))
+        (raw_text (frame_of_two (frame_of upper.now.shape))
         (alternating (frame_of upper.now.shape) upper.now.samples lower.now.samples))) }
     ensures err { OnErr result (GrewShort (K.written out.old) (K.written out.new)
-        (raw_text (doubled (frame_of upper.now.shape))
+        (raw_text (frame_of_two (frame_of upper.now.shape))
         (alternating (frame_of upper.now.shape) upper.now.samples lower.now.samples))) }
     ensures cause { HasCause (K.faults out.old) (K.faults out.new) result }
 {
@@ -130,7 +130,7 @@ fn write_field<K: Sink>(
     writer: &mut RawWriter,
     out: &mut K,
 ) -> Result<(), Failed>
-    requires doubled { frame_of frame.now.shape ≡ doubled (frame_of field.now) }
+    requires doubled { frame_of frame.now.shape ≡ frame_of_two (frame_of field.now) }
     requires wide { writer.old.wide ≡ is_wide (frame_of field.now) }
     ensures wide { OnOk result (writer.new.wide ≡ writer.old.wide) }
     ensures ok { OnOk result (PassesOn (K.written out.old)
@@ -156,7 +156,7 @@ pub(crate) fn write_fields<K: Sink>(
     order: Order,
     out: &mut K,
 ) -> Result<(), Failed>
-    requires { frame_of frame.now.shape ≡ doubled (frame_of field.now) }
+    requires { frame_of frame.now.shape ≡ frame_of_two (frame_of field.now) }
     ensures ok { let f = frame_of field.now in
         OnOk result (Appends (K.written out.old) (K.written out.new)
         (raw_text f (split order f false frame.now.samples)

@@ -4,7 +4,7 @@ use Rattle.std.specs.Prelude.{slice_index, unwrap_or, is_some, ◌==◌}
 use Rattle.std.specs.Int.{from_be_bytes, w32}
 use Rattle.bit_codes.specs.declared.CodeFault.{CodeFault}
 use Rattle.bit_codes.specs.Bits.{Cursor}
-use Rattle.field_rows.specs.Rows.{Rule, ◌or_else◌, Fault, read, judged, first_broken}
+use Rattle.field_rows.specs.Rows.{Rule, ◌or_else◌, Fault, read, reading_unless, first_broken}
 use Rattle.field_rows.proofs.Words.{IsBytes}
 use Rattle.parse_info.specs.declared.Code.{Code}
 use Rattle.parse_info.specs.declared.Code.TheVariants.{Padding}
@@ -27,25 +27,25 @@ pub record Reader (R : Type 0) : Type 0 where
 -- What the rows read behind a head, or its first fault: the rules on a field come before the later field's shortness.
 abbrev pub told : {R : Type 0} → Reader R → ℕ → Cursor → Result ParseInfo InfoFault → Result (ParseInfo × Cursor) (Fault R)
 told r place behind (Ok info) =
-    judged (place + 32) (first_broken (r.code_rules info.code))
-    (judged (place + 32 + 8) (first_broken (r.next_rules info.code info.next))
-    (judged (place + 32 + 8 + 32) (first_broken (r.previous_rules info.code info.next info.previous)) (Ok (info, behind))))
+    reading_unless (place + 32) (first_broken (r.code_rules info.code))
+    (reading_unless (place + 32 + 8) (first_broken (r.next_rules info.code info.next))
+    (reading_unless (place + 32 + 8 + 32) (first_broken (r.previous_rules info.code info.next info.previous)) (Ok (info, behind))))
 told r place behind (Err PrefixShort) = short_at r.reason_of place
 told r place behind (Err BadPrefix) = Err (record { place = place; reason = r.bad_prefix })
 told r place behind (Err CodeShort) = short_at r.reason_of (place + 32)
 told r place behind (Err (UnsupportedCode code)) = Err (record { place = place + 32; reason = r.unsupported code })
-told r place behind (Err (NextShort code)) = judged (place + 32) (first_broken (r.code_rules code)) (short_at r.reason_of (place + 32 + 8))
+told r place behind (Err (NextShort code)) = reading_unless (place + 32) (first_broken (r.code_rules code)) (short_at r.reason_of (place + 32 + 8))
 told r place behind (Err (PreviousShort code next)) =
-    judged (place + 32) (first_broken (r.code_rules code)) (judged (place + 32 + 8) (first_broken (r.next_rules code next)) (short_at r.reason_of (place + 32 + 8 + 32)))
+    reading_unless (place + 32) (first_broken (r.code_rules code)) (reading_unless (place + 32 + 8) (first_broken (r.next_rules code next)) (short_at r.reason_of (place + 32 + 8 + 32)))
 
 -- the head by the tests of its fields, in the place of what they are of
 abbrev by_tests : {R : Type 0} → Reader R → ℕ → Cursor → Bool → Bool → Bool → ℕ → Option Code → Bool → ℕ → Bool → ℕ → Result (ParseInfo × Cursor) (Fault R)
 by_tests r place behind no_prefix is_prefix no_code byte found no_next next no_previous previous =
     let code = unwrap_or found Padding in
-    cond no_prefix (short_at r.reason_of place) (judged place (first_broken ((is_prefix or_else r.bad_prefix) ∷ []))
-    (cond no_code (short_at r.reason_of (place + 32)) (judged (place + 32) (first_broken ((is_some found or_else r.unsupported byte) ∷ r.code_rules code))
-    (cond no_next (short_at r.reason_of (place + 32 + 8)) (judged (place + 32 + 8) (first_broken (r.next_rules code next))
-    (cond no_previous (short_at r.reason_of (place + 32 + 8 + 32)) (judged (place + 32 + 8 + 32) (first_broken (r.previous_rules code next previous)) (Ok (record { code = code; next = next; previous = previous }, behind)))))))))
+    cond no_prefix (short_at r.reason_of place) (reading_unless place (first_broken ((is_prefix or_else r.bad_prefix) ∷ []))
+    (cond no_code (short_at r.reason_of (place + 32)) (reading_unless (place + 32) (first_broken ((is_some found or_else r.unsupported byte) ∷ r.code_rules code))
+    (cond no_next (short_at r.reason_of (place + 32 + 8)) (reading_unless (place + 32 + 8) (first_broken (r.next_rules code next))
+    (cond no_previous (short_at r.reason_of (place + 32 + 8 + 32)) (reading_unless (place + 32 + 8 + 32) (first_broken (r.previous_rules code next previous)) (Ok (record { code = code; next = next; previous = previous }, behind)))))))))
 
 abbrev plain_by_tests : Bool → Bool → Bool → ℕ → Option Code → Bool → ℕ → Bool → ℕ → Result ParseInfo InfoFault
 plain_by_tests no_prefix is_prefix no_code byte found no_next next no_previous previous =

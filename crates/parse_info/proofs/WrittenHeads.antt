@@ -6,7 +6,7 @@ use Rattle.std.proofs.lemmas.Nat.{from_be_bytes-to_be_bytes_4}
 use Rattle.bit_codes.specs.Bits.{bits_of}
 use Rattle.bit_codes.proofs.Numbers.{bits_of-append}
 use Rattle.field_rows.specs.Rows.{Value, Bytes, ◌>>=◌, word_under, byte_under, read}
-use Rattle.field_rows.specs.Given.{checked, written, AreOfKind, Pass}
+use Rattle.field_rows.specs.Given.{checked, value_bits, AreOfKind, Pass}
 use Rattle.field_rows.proofs.Passing.{Pass-read}
 use Rattle.parse_info.specs.declared.Code.{Code}
 use Rattle.parse_info.specs.declared.Code.TheVariants.{SequenceHeader, EndOfSequence, Auxiliary, Padding, LowDelayPicture}
@@ -48,7 +48,7 @@ unfolding plain_rows head_rows word_under byte_under ◌>>=◌
 head_kinds info = ((refl, (omega arith, (omega arith, (omega arith, (omega arith, tt))))), ((refl, (code_fits info.code, tt)), ((refl, word_fits info.next), ((refl, word_fits info.previous), refl))))
 
 -- the bytes of a head are its fields
-head_written : (info : ParseInfo) → bits_of (head_bytes info) ≡ written (head_fields info)
+head_written : (info : ParseInfo) → bits_of (head_bytes info) ≡ value_bits (head_fields info)
 head_written info =
     let code : List ℕ = code_byte info.code ∷ [] in
     let next = to_be_bytes w32 info.next in

@@ -23,7 +23,7 @@ use Rattle.slice_encoder.specs.Trials.{CodedPicture}
 use Rattle.picture_codec.specs.Pictures.{size_of, coefficients, sample_of, sample}
 use Rattle.slice_geometry.specs.Frames.{frame_of}
 use Rattle.picture_codec.specs.Samples.{SamplesSeen, PictureSamples, HaveShape, AreSamples, component_of, sample_at}
-use Rattle.picture_codec.specs.Encoding.{centred, bands_from, coded_from, slices_of, IsSteepFor}
+use Rattle.picture_codec.specs.Encoding.{centred, bands_from, coded_from, slices_of, IsSteepOkFor}
 use Rattle.picture_codec.specs.Written.{RestoresWhatWasWritten}
 use Rattle.picture_codec.specs.Lossless.{IsLossless, LosslessIsGivenBack}
 use Rattle.picture_codec.proofs.Sizes.{holder_below, padded_covers}
@@ -91,7 +91,7 @@ module _ (p : Params) (size : Size) (d : ℕ) (s : SamplesSeen) (low : p.slicing
 
 -- ---- a picture
 
-module _ (shape : PictureShape) (p : Params) (s : PictureSamples) (f : AreLawfulParams p) (steep : IsSteepFor shape p) (have : HaveShape shape s) (none : IsLossless shape p s) where
+module _ (shape : PictureShape) (p : Params) (s : PictureSamples) (f : AreLawfulParams p) (steep : IsSteepOkFor shape p) (have : HaveShape shape s) (none : IsLossless shape p s) where
   abbrev j : CodedPicture
   j = coded_from (frame_of shape) p s
 

@@ -19,7 +19,7 @@ use Rattle.lifting.proofs.Levels as levels
 use Rattle.lifting.specs.declared.Wavelet.{Wavelet}
 use Rattle.lifting.specs.Transform.{synthesis}
 use Rattle.picture_codec.specs.Pictures.{sample_of}
-use Rattle.picture_codec.specs.Samples.{tabulated}
+use Rattle.picture_codec.specs.Samples.{samples_by}
 use Rattle.picture_codec.specs.Decoding.{AreTaken, HaveHalfRoom, synthesised}
 use Rattle.picture_codec.specs.Taking.{holder}
 use Rattle.picture_codec.proofs.Taking.{times-le, times-suc}
@@ -145,10 +145,10 @@ module _ (s : Slicing) (size : Size) (b : BandStack) (n : ℕ) (taken : AreTaken
     hh = λ m lt. narrow_upper m 3 lt (omega arith) (omega arith) within;
   }
 
-  pub synthesised_is : (wavelet : Wavelet) (depth : ℕ) → tabulated size (λ y x. sample_of depth (synthesis_of wavelet b w h y x)) ≡ synthesised wavelet size depth b
+  pub synthesised_is : (wavelet : Wavelet) (depth : ℕ) → samples_by size (λ y x. sample_of depth (synthesis_of wavelet b w h y x)) ≡ synthesised wavelet size depth b
   unfolding synthesised
   synthesised_is wavelet depth =
       let rows : lowest b.depth h ≡ (band_size b.depth 0 size).h = ap (λ (d : ℕ). padded_length d size.h / 2 ^ b.depth) (sym taken.depth) in
       let columns : lowest b.depth w ≡ (band_size b.depth 0 size).w = ap (λ (d : ℕ). padded_length d size.w / 2 ^ b.depth) (sym taken.depth) in
-      ap (λ (m : ℕ). tabulated size (λ y x. sample_of depth (synthesis wavelet m (lowest b.depth w) (coefficients_of b) b.depth y x))) rows
-      ∙ ap (λ (m : ℕ). tabulated size (λ y x. sample_of depth (synthesis wavelet (band_size b.depth 0 size).h m (coefficients_of b) b.depth y x))) columns
+      ap (λ (m : ℕ). samples_by size (λ y x. sample_of depth (synthesis wavelet m (lowest b.depth w) (coefficients_of b) b.depth y x))) rows
+      ∙ ap (λ (m : ℕ). samples_by size (λ y x. sample_of depth (synthesis wavelet (band_size b.depth 0 size).h m (coefficients_of b) b.depth y x))) columns

@@ -5,7 +5,7 @@ use Rattle.std.specs.List.{range_with_len}
 use Rattle.std.proofs.lemmas.List.FromFn.{length-map-range_with_len, get_or-map-range_with_len}
 use Rattle.std.proofs.lemmas.Grind.{same_number_lists}
 use Rattle.slice_geometry.specs.declared.Size.{Size}
-use Rattle.picture_codec.specs.Samples.{SamplesSeen, sample_at, tabulated, blank, AreSamples}
+use Rattle.picture_codec.specs.Samples.{SamplesSeen, sample_at, samples_by, blank, AreSamples}
 
 pub row_below : (k w h : ℕ) → k < h * w → k / w < h
 row_below k zero h lt = absurd (grind arith)
@@ -20,7 +20,7 @@ place_again k zero h lt = absurd (grind arith)
 place_again k (suc w) h lt = grind arith
 
 pub tabulated_is : (s : SamplesSeen) (g : ℕ → ℕ → ℕ) → length s.cells ≡ s.h * s.w → ((y x : ℕ) → y < s.h → x < s.w → sample_at s y x ≡ g y x)
-    → s ≡ tabulated (record { w = s.w; h = s.h }) g
+    → s ≡ samples_by (record { w = s.w; h = s.h }) g
 tabulated_is s g count each =
     let f : ℕ → ℕ = λ k. g (k / s.w) (k % s.w) in
     let size : Size = record { w = s.w; h = s.h } in
@@ -30,7 +30,7 @@ tabulated_is s g count each =
     ap (λ cells. record s { cells = cells }) same
 
 -- samples that agree place by place
-pub tabulated_same : (size : Size) (f g : ℕ → ℕ → ℕ) → ((y x : ℕ) → y < size.h → x < size.w → f y x ≡ g y x) → tabulated size f ≡ tabulated size g
+pub tabulated_same : (size : Size) (f g : ℕ → ℕ → ℕ) → ((y x : ℕ) → y < size.h → x < size.w → f y x ≡ g y x) → samples_by size f ≡ samples_by size g
 tabulated_same size f g each =
     let first : ℕ → ℕ = λ k. f (k / size.w) (k % size.w) in
     let second : ℕ → ℕ = λ k. g (k / size.w) (k % size.w) in

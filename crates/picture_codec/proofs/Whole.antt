@@ -25,7 +25,7 @@ use Rattle.lifting.proofs.Levels as levels
 use Rattle.transform_params.specs.Params.{Params}
 use Rattle.slice_geometry.specs.Frames.{Frame, frame_of}
 use Rattle.picture_codec.specs.Pictures.{size_of, depth_of, coefficient, coefficients, sample_of, sample}
-use Rattle.picture_codec.specs.Samples.{SamplesSeen, PictureSamples, tabulated, AreSamples, picture_of}
+use Rattle.picture_codec.specs.Samples.{SamplesSeen, PictureSamples, samples_by, AreSamples, picture_of}
 use Rattle.picture_codec.specs.Taking.{holder, Took}
 use Rattle.picture_codec.specs.Decoding.{PictureDecoderSeen, AreTaken, AllTaken, HasTaken, CanSynthesise, AllCanSynthesise, HoldUnit, synthesised, synthesised_picture}
 use Rattle.picture_codec.proofs.Halves.{half_some, doubled}
@@ -45,7 +45,7 @@ past_end [] k le = refl
 past_end (x ∷ xs) zero le = absurd (omega arith)
 past_end (x ∷ xs) (suc k) le = past_end xs k (omega arith)
 
-pub tabulated_fits : (size : Size) (depth : ℕ) (g : ℕ → ℕ → ℕ) → ((y x : ℕ) → g y x < 2 ^ depth) → AreSamples size depth (tabulated size g)
+pub tabulated_fits : (size : Size) (depth : ℕ) (g : ℕ → ℕ → ℕ) → ((y x : ℕ) → g y x < 2 ^ depth) → AreSamples size depth (samples_by size g)
 tabulated_fits size depth g each =
     let f : ℕ → ℕ = λ k. g (k / size.w) (k % size.w) in
     let n = size.h * size.w in
@@ -59,7 +59,7 @@ tabulated_fits size depth g each =
     }
 
 -- what a picture shows of a plane has the component's size
-pub shown_fits : (size : Size) (depth w h : ℕ) (g : Grid) → w ≡ size.w → h ≡ size.h → IsDepth depth → AreSamples size depth (tabulated (record { w = w; h = h }) (λ y x. sample_of depth (g y x)))
+pub shown_fits : (size : Size) (depth w h : ℕ) (g : Grid) → w ≡ size.w → h ≡ size.h → IsDepth depth → AreSamples size depth (samples_by (record { w = w; h = h }) (λ y x. sample_of depth (g y x)))
 shown_fits size depth w h g ew eh is =
     let fits = tabulated_fits (record { w = w; h = h }) depth (λ y x. sample_of depth (g y x)) (λ y x. sample_small depth (g y x) is) in
     record { width = ew; height = eh; small = fits.small }
@@ -102,10 +102,10 @@ module _ (f : Frame) (p : Params) (slices : List (List ℕ)) (c : Component) (b 
     hh = λ m lt. upper m 3 lt (omega arith) (omega arith);
   }
 
-  pub picture_is : synthesised p.wavelet size (depth_of f c) b ≡ tabulated size (sample f p slices c)
+  pub picture_is : synthesised p.wavelet size (depth_of f c) b ≡ samples_by size (sample f p slices c)
   unfolding synthesised sample
   picture_is =
-      ap (λ (d : ℕ). tabulated size (λ y x. sample_of (depth_of f c) (synthesis p.wavelet (band_size d 0 size).h (band_size d 0 size).w (coefficients_of b) d y x))) deep
+      ap (λ (d : ℕ). samples_by size (λ y x. sample_of (depth_of f c) (synthesis p.wavelet (band_size d 0 size).h (band_size d 0 size).w (coefficients_of b) d y x))) deep
       ∙ tabulated_same size (λ y x. sample_of (depth_of f c) (synthesis p.wavelet (band 0).h (band 0).w (coefficients_of b) depth y x)) (sample f p slices c)
       (λ y x y_in x_in. ap (λ v. sample_of (depth_of f c) v)
       (synthesis_same p.wavelet (band 0).h (band 0).w depth (coefficients_of b) (coefficients f p slices c) same_bands depth (omega arith) y x
@@ -122,8 +122,8 @@ unit_is d slices n allowed taken has all =
     let c1 = picture_is f d.params slices C1 d.bands.c1 taken.c1.depth allowed.slices allowed.depth (has.each C1) all in
     let c2 = picture_is f d.params slices C2 d.bands.c2 taken.c2.depth allowed.slices allowed.depth (has.each C2) all in
     let first : SamplesSeen → PictureSamples = λ r. record { luma = r; c1 = s.c1; c2 = s.c2 } in
-    let second : SamplesSeen → PictureSamples = λ r. record { luma = tabulated f.luma (sample f d.params slices Luma); c1 = r; c2 = s.c2 } in
-    let third : SamplesSeen → PictureSamples = λ r. record { luma = tabulated f.luma (sample f d.params slices Luma); c1 = tabulated f.colour (sample f d.params slices C1); c2 = r } in
+    let second : SamplesSeen → PictureSamples = λ r. record { luma = samples_by f.luma (sample f d.params slices Luma); c1 = r; c2 = s.c2 } in
+    let third : SamplesSeen → PictureSamples = λ r. record { luma = samples_by f.luma (sample f d.params slices Luma); c1 = samples_by f.colour (sample f d.params slices C1); c2 = r } in
     ap first luma ∙ ap second c1 ∙ ap third c2
 
 -- the bands of all three, where all slices were taken

@@ -35,7 +35,7 @@ pub record AreRowless (late : LateTrio) (made : Trio) : Type 0 where
   pub c2 : AreZeroBands made.c2 late.c2.depth 0 0
 
 -- what is kept: those of 32 bits hold no magnitude above 2 ^ 18, and those of 64 have their sizes, and are made where they serve
-pub record AreKept (narrow : NarrowTrio) (wide : WideSeen) (is_wide : Bool) : Type 0 where
+pub record AreBandsKept (narrow : NarrowTrio) (wide : WideSeen) (is_wide : Bool) : Type 0 where
   pub small : AreNarrowBands narrow
   pub sizes : AllAgree narrow wide.bands
   pub made : is_wide ≡ true → wide.is_made ≡ true

@@ -20,7 +20,7 @@ use Rattle.lifting.specs.SampleRoom.{AreSmallIn}
 use Rattle.transform_params.specs.Params.{Params}
 use Rattle.picture_codec.specs.Pictures.{size_of, coefficients, sample_of}
 use Rattle.slice_geometry.specs.Frames.{Frame, frame_of}
-use Rattle.picture_codec.specs.Samples.{SamplesSeen, PictureSamples, PictureSeen, tabulated, with_component, bits_of}
+use Rattle.picture_codec.specs.Samples.{SamplesSeen, PictureSamples, PictureSeen, samples_by, with_component, sample_bits}
 use Rattle.slice_decoder.specs.declared.SliceFault.{SliceFault}
 use Rattle.slice_decoder.specs.Slice.{Slice, slice_at, is_small}
 use Rattle.slice_decoder.specs.Decoded.{AllKeepOthers, IsRefused}
@@ -52,12 +52,14 @@ stack_of b C2 = b.c2
 unfoldable pub synthesised : Wavelet → Size → ℕ → BandStack → SamplesSeen
 synthesised wavelet size depth b =
     let lowest = band_size b.depth 0 size in
-    tabulated size (λ y x. sample_of depth (synthesis wavelet lowest.h lowest.w (coefficients_of b) b.depth y x))
+    samples_by size (λ y x. sample_of depth (synthesis wavelet lowest.h lowest.w (coefficients_of b) b.depth y x))
 
+-- a picture with a component synthesised from its subbands
 abbrev pub with_synthesised : Wavelet → PictureSeen → Component → BandStack → PictureSeen
 with_synthesised wavelet p c b =
-    record p { samples = with_component p.samples c (synthesised wavelet (size_of (frame_of p.shape) c) (bits_of p c) b) }
+    record p { samples = with_component p.samples c (synthesised wavelet (size_of (frame_of p.shape) c) (sample_bits p c) b) }
 
+-- the samples of all three components
 abbrev pub synthesised_picture : PictureDecoderSeen → PictureSamples
 synthesised_picture d = record {
   luma = synthesised d.params.wavelet d.shape.luma d.shape.luma_depth d.bands.luma;
@@ -78,6 +80,7 @@ pub record AreTaken (s : Slicing) (size : Size) (n : ℕ) (b : BandStack) : Type
       → x < (band_size s.depth level size).w → holder s (band_size s.depth level size) y x < n
       → Within MAX_MAGNITUDE (at (band_of b level orient) y x)
 
+-- the subbands of all components have the values of the first n slices
 pub record AllTaken (s : Slicing) (shape : PictureShape) (n : ℕ) (bands : Trio) : Type 0 where
   pub luma : AreTaken s shape.luma n bands.luma
   pub c1 : AreTaken s shape.colour n bands.c1
@@ -90,6 +93,7 @@ pub record CanSynthesise (s : Slicing) (size : Size) (b : BandStack) : Type 0 wh
   pub sizes : HaveSizes b (padded_length s.depth size.w) (padded_length s.depth size.h)
   pub small : AreSmallIn b (padded_length s.depth size.w) (padded_length s.depth size.h)
 
+-- the subbands of all components have the sizes and bounds that synthesis asks
 pub record AllCanSynthesise (s : Slicing) (shape : PictureShape) (bands : Trio) : Type 0 where
   pub luma : CanSynthesise s shape.luma bands.luma
   pub c1 : CanSynthesise s shape.colour bands.c1
@@ -139,6 +143,7 @@ HasSynthesisRoom s size room = HasLateRoom s size room.late × HaveHalfRoom s si
 abbrev pub column_of : PictureDecoderSeen → ℕ
 column_of d = d.next % d.params.slicing.slices_x
 
+-- the row of slices that the next slice stands in
 abbrev pub row_of_slices : PictureDecoderSeen → ℕ
 row_of_slices d = d.next / d.params.slicing.slices_x
 

@@ -19,6 +19,7 @@ use Rattle.picture_codec.specs.Encoding.{analysed_bands}
 abbrev pub AreRowsWhole : {X : Type 0} → Raster X → Type 0
 AreRowsWhole p = (y : ℕ) → y < height p → length (row_of p y) ≡ p.w
 
+-- each row of each subband has the subband's width
 abbrev pub AreWhole : BandStack → Type 0
 AreWhole b = (level orient : ℕ) → BandExists b.depth level orient → AreRowsWhole (band_of b level orient)
 

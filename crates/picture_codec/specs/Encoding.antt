@@ -81,5 +81,5 @@ pub record PictureEncoderSeen : Type 0 where
   pub params : Params
 
 -- the matrix leaves index 127 coarse enough for every picture of this shape
-abbrev pub IsSteepFor : PictureShape → Params → Type 0
-IsSteepFor shape p = IsSteepOk p.slicing.depth (max shape.luma_depth shape.colour_depth) p.matrix
+abbrev pub IsSteepOkFor : PictureShape → Params → Type 0
+IsSteepOkFor shape p = IsSteepOk p.slicing.depth (max shape.luma_depth shape.colour_depth) p.matrix

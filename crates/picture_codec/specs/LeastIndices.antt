@@ -10,7 +10,7 @@ use Rattle.slice_encoder.specs.Ready.{AreGiven}
 use Rattle.transform_params.specs.Params.{Params}
 use Rattle.transform_params.specs.ParameterFields.{AreLawfulParams}
 use Rattle.picture_codec.specs.Samples.{PictureSamples, HaveShape}
-use Rattle.picture_codec.specs.Encoding.{coded_from, IsSteepFor}
+use Rattle.picture_codec.specs.Encoding.{coded_from, IsSteepOkFor}
 
 -- an index for each slice, and no smaller one fits it
 pub record AreLeast (j : CodedPicture) (indices : List ℕ) : Type 0 where
@@ -23,8 +23,9 @@ pub record OneChoice (j : CodedPicture) : Type 0 where
   pub found : AreLeast j (chosen j (slice_count j.slicing))
   pub only : (indices : List ℕ) → AreLeast j indices → indices ≡ chosen j (slice_count j.slicing)
 
+-- Each picture has one choice of least indices.
 abbrev pub EachHasOneChoice : Type 0
-EachHasOneChoice = (shape : PictureShape) (p : Params) (s : PictureSamples) → AreLawfulParams p → IsSteepFor shape p
+EachHasOneChoice = (shape : PictureShape) (p : Params) (s : PictureSamples) → AreLawfulParams p → IsSteepOkFor shape p
     → HaveShape shape s → OneChoice (coded_from (frame_of shape) p s)
 
 -- the coefficients of a picture are those that slices can be written of

@@ -14,11 +14,13 @@ use Rattle.dc_prediction.specs.Prediction.{restored}
 use Rattle.lifting.specs.Transform.{Grid, Coefficients, synthesis}
 use Rattle.transform_params.specs.Params.{Params}
 
+-- the size of a component
 abbrev pub size_of : Frame → Component → Size
 size_of f Luma = f.luma
 size_of f C1 = f.colour
 size_of f C2 = f.colour
 
+-- the bits of its samples
 abbrev pub depth_of : Frame → Component → ℕ
 depth_of f Luma = f.luma_depth
 depth_of f C1 = f.colour_depth
@@ -27,17 +29,17 @@ depth_of f C2 = f.colour_depth
 -- ---- the bands
 
 -- the value of a component at a place of its slice, by the place's number
-abbrev pub value_in : Component → List ℤ → List ℤ → ℕ → ℤ
-value_in Luma lumas colours k = slice_index_or lumas k (pos 0)
-value_in C1 lumas colours k = slice_index_or colours (2 * k) (pos 0)
-value_in C2 lumas colours k = slice_index_or colours (2 * k + 1) (pos 0)
+abbrev pub component_value : Component → List ℤ → List ℤ → ℕ → ℤ
+component_value Luma lumas colours k = slice_index_or lumas k (pos 0)
+component_value C1 lumas colours k = slice_index_or colours (2 * k) (pos 0)
+component_value C2 lumas colours k = slice_index_or colours (2 * k + 1) (pos 0)
 
 -- the dequantised value that the slice of these bytes, in column sx and row sy, gives a place of its rectangle in a band
 abbrev pub slice_value : Frame → Params → Component → ℕ → ℕ → List ℕ → ℕ → ℕ → Grid
 slice_value f p c sx sy bytes level orient y x =
     let s = p.slicing in
     let slice = slice_at s f.luma f.colour sx sy bytes in
-    value_in c (luma_values s f.luma sx sy p.matrix slice) (colour_values s f.colour sx sy p.matrix slice)
+    component_value c (luma_values s f.luma sx sy p.matrix slice) (colour_values s f.colour sx sy p.matrix slice)
     (place_number s (size_of f c) sx sy level orient y x)
 
 -- The dequantised value at a place of a band: that of the one slice whose rectangle holds the place.

@@ -21,8 +21,8 @@ abbrev pub sample_at : SamplesSeen → ℕ → ℕ → ℕ
 sample_at s y x = slice_index_or s.cells (y * s.w + x) 0
 
 -- the samples that a function of row and column gives
-abbrev pub tabulated : Size → (ℕ → ℕ → ℕ) → SamplesSeen
-tabulated size g =
+abbrev pub samples_by : Size → (ℕ → ℕ → ℕ) → SamplesSeen
+samples_by size g =
     record { w = size.w; h = size.h; cells = map (λ k. g (k / size.w) (k % size.w)) (range_with_len 0 (size.h * size.w)) }
 
 -- all samples 0
@@ -53,6 +53,7 @@ pub record PictureSamples : Type 0 where
   pub c1 : SamplesSeen
   pub c2 : SamplesSeen
 
+-- the samples of a component
 abbrev pub component_of : PictureSamples → Component → SamplesSeen
 component_of s Luma = s.luma
 component_of s C1 = s.c1
@@ -61,15 +62,16 @@ component_of s C2 = s.c2
 -- the picture of one unit
 abbrev pub picture_of : Frame → Params → List (List ℕ) → PictureSamples
 picture_of f p slices = record {
-  luma = tabulated f.luma (sample f p slices Luma);
-  c1 = tabulated f.colour (sample f p slices C1);
-  c2 = tabulated f.colour (sample f p slices C2);
+  luma = samples_by f.luma (sample f p slices Luma);
+  c1 = samples_by f.colour (sample f p slices C1);
+  c2 = samples_by f.colour (sample f p slices C2);
 }
 
 -- all samples 0
 abbrev pub blank_picture : PictureShape → PictureSamples
 blank_picture shape = record { luma = blank shape.luma; c1 = blank shape.colour; c2 = blank shape.colour }
 
+-- a picture with other samples in a component
 abbrev pub with_component : PictureSamples → Component → SamplesSeen → PictureSamples
 with_component s Luma rows = record s { luma = rows }
 with_component s C1 rows = record s { c1 = rows }
@@ -87,21 +89,24 @@ pub record PictureSeen : Type 0 where
   pub samples : PictureSamples
 
 -- the samples of the component, of this picture
-abbrev pub shown : PictureSeen → Component → SamplesSeen
-shown p c = component_of p.samples c
+abbrev pub component_shown : PictureSeen → Component → SamplesSeen
+component_shown p c = component_of p.samples c
 
+-- the width of a component
 abbrev pub width_of : PictureSeen → Component → ℕ
 width_of p c = (size_of (frame_of p.shape) c).w
 
+-- its height
 abbrev pub height_of : PictureSeen → Component → ℕ
 height_of p c = (size_of (frame_of p.shape) c).h
 
-abbrev pub bits_of : PictureSeen → Component → ℕ
-bits_of p c = depth_of (frame_of p.shape) c
+-- the bits of its samples
+abbrev pub sample_bits : PictureSeen → Component → ℕ
+sample_bits p c = depth_of (frame_of p.shape) c
 
 -- a component's samples from a plane: its numbers clipped and offset
 abbrev pub with_shown : PictureSeen → Component → Grid → PictureSeen
 with_shown p c g = record p {
   samples = with_component p.samples c
-      (tabulated (size_of (frame_of p.shape) c) (λ y x. sample_of (bits_of p c) (g y x)));
+      (samples_by (size_of (frame_of p.shape) c) (λ y x. sample_of (sample_bits p c) (g y x)));
 }

@@ -51,13 +51,15 @@ AreWritten j indices slices = (sx sy : ℕ) → sx < j.slicing.slices_x → sy <
     → (let n = slice_number j.slicing sx sy in
     IsWritten (slice_index_or slices n []) (slice_index indices n) (last_lists j (take (n + 1) indices) sx sy))
 
+-- the transform parameters of a coded picture
 abbrev pub coded_params : Wavelet → CodedPicture → Params
 coded_params wavelet j = record { wavelet = wavelet; slicing = j.slicing; matrix = j.matrix }
 
-abbrev pub component_of : CodedPicture → Component → CodedComponent
-component_of j Luma = luma_of j
-component_of j C1 = c1_of j
-component_of j C2 = c2_of j
+-- a component of a coded picture
+abbrev pub component_coded : CodedPicture → Component → CodedComponent
+component_coded j Luma = luma_of j
+component_coded j C1 = c1_of j
+component_coded j C2 = c2_of j
 
 -- the quantiser of a place of a band, by the index of the slice that holds it
 abbrev pub quantiser_at : CodedPicture → List ℕ → Component → ℕ → ℕ → ℕ → ℕ → ℕ
@@ -72,22 +74,23 @@ pub record RestoresWhatWasWritten (j : CodedPicture) (indices : List ℕ) (slice
     (c : Component) : Type 0 where
   pub lowest : (y x : ℕ) → y < (band_size j.slicing.depth 0 (size_of j.frame c)).h
       → x < (band_size j.slicing.depth 0 (size_of j.frame c)).w
-      → restored (coefficient j.frame (coded_params wavelet j) slices c 0 0) y x ≡ restored_after (component_of j c) indices y x
+      → restored (coefficient j.frame (coded_params wavelet j) slices c 0 0) y x ≡ restored_after (component_coded j c) indices y x
   pub others : (level orient y x : ℕ) → BandExists j.slicing.depth level orient → 1 ≤ level
       → y < (band_size j.slicing.depth level (size_of j.frame c)).h → x < (band_size j.slicing.depth level (size_of j.frame c)).w
       → (let q = quantiser_at j indices c level orient y x in
       coefficient j.frame (coded_params wavelet j) slices c level orient y x
-      ≡ inverse_of (forward_of (trials.coefficient (component_of j c) level orient y x) q) q)
+      ≡ inverse_of (forward_of (trials.coefficient (component_coded j c) level orient y x) q) q)
   pub lowest_lossless : (y x : ℕ)
       → y < (band_size j.slicing.depth 0 (size_of j.frame c)).h → x < (band_size j.slicing.depth 0 (size_of j.frame c)).w
       → quantiser_at j indices c 0 0 y x ≡ 0
-      → restored (coefficient j.frame (coded_params wavelet j) slices c 0 0) y x ≡ trials.coefficient (component_of j c) 0 0 y x
+      → restored (coefficient j.frame (coded_params wavelet j) slices c 0 0) y x ≡ trials.coefficient (component_coded j c) 0 0 y x
   pub others_lossless : (level orient y x : ℕ) → BandExists j.slicing.depth level orient → 1 ≤ level
       → y < (band_size j.slicing.depth level (size_of j.frame c)).h → x < (band_size j.slicing.depth level (size_of j.frame c)).w
       → quantiser_at j indices c level orient y x ≡ 0
       → coefficient j.frame (coded_params wavelet j) slices c level orient y x
-      ≡ trials.coefficient (component_of j c) level orient y x
+      ≡ trials.coefficient (component_coded j c) level orient y x
 
+-- What is written is restored: a decoder finds in the slices the quantised coefficients.
 abbrev pub WrittenIsRestored : Type 0
 WrittenIsRestored = (j : CodedPicture) (indices : List ℕ) (slices : List (List ℕ)) (wavelet : Wavelet) (c : Component)
     → IsAllowed j.slicing → AreGiven j → All IsIndex indices → AreWritten j indices slices

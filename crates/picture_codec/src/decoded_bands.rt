@@ -152,13 +152,13 @@ impl Model for DecodedBands {
     ghost use Rattle.std.specs.Prelude.{if◌then◌else◌};
     ghost use Rattle.planes.specs.declared.Trio as trio;
     ghost use Rattle.slice_decoder.specs.Narrow.{trio_of};
-    ghost use Rattle.picture_codec.specs.DecodedBands.{AreKept};
+    ghost use Rattle.picture_codec.specs.DecodedBands.{AreBandsKept};
 
     ghost Value = { trio.Trio };
 
     ghost view = { λ b. if b.is_wide then b.wide.bands else trio_of b.narrow };
 
-    ghost invariant = { λ b. AreKept b.narrow b.wide b.is_wide };
+    ghost invariant = { λ b. AreBandsKept b.narrow b.wide b.is_wide };
 }
 
 impl DecodedBands {

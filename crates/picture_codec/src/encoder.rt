@@ -11,10 +11,10 @@ ghost use Rattle.slice_encoder.specs.Chosen.{written_slices};
 ghost use Rattle.transform_params.specs.Views.{params_of};
 ghost use Rattle.transform_params.specs.ParameterFields.{byte_length, unit_length, params_bytes};
 ghost use Rattle.slice_geometry.specs.Frames.{frame_of};
-ghost use Rattle.picture_codec.specs.Samples.{shown};
+ghost use Rattle.picture_codec.specs.Samples.{component_shown};
 ghost use Rattle.picture_codec.specs.Decoding.{ArePadded};
 ghost use Rattle.picture_codec.specs.Pictures as pictures;
-ghost use Rattle.picture_codec.specs.Encoding.{slices_of, picture_bytes, IsSteepFor};
+ghost use Rattle.picture_codec.specs.Encoding.{slices_of, picture_bytes, IsSteepOkFor};
 ghost use Rattle.picture_codec.specs.EncoderInside.{AreRowsWhole, AreWhole, HaveBandSizes, IsLowest, IsReadyToEncode, HoldAnalysed};
 
 use crate::centring::centre;
@@ -74,7 +74,8 @@ fn analyse_component(
         room.new.plane room.new.scratch }
     ensures bands { HoldAnalysed (params_of params.now)
         (pictures.size_of (frame_of picture.now.shape) c)
-        (pictures.depth_of (frame_of picture.now.shape) c) (shown picture.now c) bands.new }
+        (pictures.depth_of (frame_of picture.now.shape) c)
+        (component_shown picture.now c) bands.new }
 {
     // The rules of a layout.
     let _ = params.layout.depth();
@@ -111,7 +112,7 @@ fn encode_slices(
     bytes: &mut [u8],
 )
     requires layout { slices.old.slicing ≡ params.now.layout }
-    requires steep { IsSteepFor slices.old.shape (params_of params.now) }
+    requires steep { IsSteepOkFor slices.old.shape (params_of params.now) }
     requires given { AreGiven (narrow_picture params.now.layout slices.old.shape params.now.matrix
         bands.now) }
     requires kept { KeptHaveSizes (narrow_picture params.now.layout slices.old.shape
@@ -155,7 +156,7 @@ pub struct PictureEncoder {
 impl Model for PictureEncoder {
     ghost use Rattle.std.specs.Prelude.{◌≡◌};
     ghost use Rattle.transform_params.specs.Views.{params_of};
-    ghost use Rattle.picture_codec.specs.Encoding.{PictureEncoderSeen, IsSteepFor};
+    ghost use Rattle.picture_codec.specs.Encoding.{PictureEncoderSeen, IsSteepOkFor};
     ghost use Rattle.picture_codec.specs.EncoderInside.{IsReadyToEncode};
 
     ghost Value = { PictureEncoderSeen };
@@ -163,7 +164,7 @@ impl Model for PictureEncoder {
     ghost view = { λ e. record { shape = e.shape; params = params_of e.params } };
 
     ghost invariant = { λ e. IsReadyToEncode e.params.layout e.shape e.bands e.kept e.luma_room.plane e.luma_room.scratch e.colour_room.plane e.colour_room.scratch
-        × (e.slices ≡ record { slicing = e.params.layout; shape = e.shape }) × IsSteepFor e.shape (params_of e.params) };
+        × (e.slices ≡ record { slicing = e.params.layout; shape = e.shape }) × IsSteepOkFor e.shape (params_of e.params) };
 }
 
 // The lowest subbands of a picture, all zero.
@@ -200,7 +201,7 @@ fn workspaces(
 
 // Whether every slice of a picture of this shape can be written by the matrix.
 fn is_steep_ok(shape: &PictureShape, params: &TransformParams) -> bool
-    ensures { (result ≡ true) ↔ IsSteepFor shape.now (params_of params.now) }
+    ensures { (result ≡ true) ↔ IsSteepOkFor shape.now (params_of params.now) }
 {
     let depth = shape.luma_depth.max(shape.colour_depth);
     steep_ok(params.layout.depth(), depth, &params.matrix)
@@ -223,7 +224,7 @@ impl PictureEncoder {
         shape: &PictureShape,
         params: &TransformParams,
     ) -> Result<PictureEncoder, NoMemory>
-        requires { IsSteepFor shape.now (params_of params.now) }
+        requires { IsSteepOkFor shape.now (params_of params.now) }
         ensures { IfOk result (λ e. e
             ≡ record { shape = shape.now; params = params_of params.now }) }
     {
@@ -250,11 +251,11 @@ impl PictureEncoder {
     ) -> Result<PictureEncoder, EncoderFault>
         ensures new { IfOk result (λ e. (e
             ≡ record { shape = shape.now; params = params_of params.now })
-            × IsSteepFor shape.now (params_of params.now)) }
+            × IsSteepOkFor shape.now (params_of params.now)) }
         ensures steep { result ≡ Err EncoderFault.MatrixTooSteep
-            → IsSteepFor shape.now (params_of params.now) → ⊥ }
+            → IsSteepOkFor shape.now (params_of params.now) → ⊥ }
         ensures memory { result ≡ Err EncoderFault.NoMemory
-            → IsSteepFor shape.now (params_of params.now) }
+            → IsSteepOkFor shape.now (params_of params.now) }
     {
         if !is_steep_ok(shape, params) {
             return Err(EncoderFault::MatrixTooSteep);

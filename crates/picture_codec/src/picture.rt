@@ -4,7 +4,7 @@ ghost use Rattle.std.specs.Prelude.{◌≡◌, ◌+◌, ◌*◌, ◌^◌, ◌<�
 ghost use Rattle.std.specs.List.{All};
 ghost use Rattle.planes.specs.Raster.{height, at};
 ghost use Rattle.lifting.specs.SampleRoom.{HaveRoom, AreSmallIn, AreNarrowIn, synthesis_of};
-ghost use Rattle.picture_codec.specs.Samples.{AreBelow, PictureSeen, blank_picture, shown, width_of, height_of, bits_of, sample_at, with_sample, with_run, with_component, with_shown};
+ghost use Rattle.picture_codec.specs.Samples.{AreBelow, PictureSeen, blank_picture, component_shown, width_of, height_of, sample_bits, sample_at, with_sample, with_run, with_component, with_shown};
 
 use crate::samples::Samples;
 use crate::workspace::{NarrowWorkspace, Workspace};
@@ -57,10 +57,10 @@ impl Picture {
 
     // The samples of a component.
     fn component(&self, c: Component) -> &Samples
-        ensures value { result.now ≡ shown self.now c }
+        ensures value { result.now ≡ component_shown self.now c }
         ensures width { result.now.w ≡ width_of self.now c }
         ensures height { result.now.h ≡ height_of self.now c }
-        ensures below { AreBelow (2 ^ bits_of self.now c) result.now.cells }
+        ensures below { AreBelow (2 ^ sample_bits self.now c) result.now.cells }
     {
         match c {
             Component::Luma => &self.luma,
@@ -73,8 +73,8 @@ impl Picture {
     pub fn sample(&self, c: Component, y: u32, x: u32) -> u32
         requires down { y < height_of self.now c }
         requires across { x < width_of self.now c }
-        ensures value { result ≡ sample_at (shown self.now c) y x }
-        ensures below { result < 2 ^ bits_of self.now c }
+        ensures value { result ≡ sample_at (component_shown self.now c) y x }
+        ensures below { result < 2 ^ sample_bits self.now c }
     {
         u32::from(self.component(c).get(y, x))
     }
@@ -82,11 +82,11 @@ impl Picture {
     /// All samples of a component, row by row from the top.
     #[tactic(auto, using(crate::proofs::Runs::all_are_below))]
     pub fn samples(&self, c: Component) -> &[u16]
-        ensures value { result.now ≡ (shown self.now c).cells }
-        ensures width { (shown self.now c).w ≡ width_of self.now c }
-        ensures height { (shown self.now c).h ≡ height_of self.now c }
+        ensures value { result.now ≡ (component_shown self.now c).cells }
+        ensures width { (component_shown self.now c).w ≡ width_of self.now c }
+        ensures height { (component_shown self.now c).h ≡ height_of self.now c }
         ensures count { length result.now ≡ height_of self.now c * width_of self.now c }
-        ensures below { All (λ v. v < 2 ^ bits_of self.now c) result.now }
+        ensures below { All (λ v. v < 2 ^ sample_bits self.now c) result.now }
     {
         self.component(c).cells()
     }
@@ -95,10 +95,10 @@ impl Picture {
     pub fn set(&mut self, c: Component, y: u32, x: u32, v: u32)
         requires down { y < height_of self.old c }
         requires across { x < width_of self.old c }
-        requires small { v < 2 ^ bits_of self.old c }
+        requires small { v < 2 ^ sample_bits self.old c }
         ensures { self.new ≡ record self.old {
           samples = with_component self.old.samples c
-              (with_sample (shown self.old c) y x v);
+              (with_sample (component_shown self.old c) y x v);
         } }
     {
         match c {
@@ -111,10 +111,10 @@ impl Picture {
     /// Puts samples into a component's places from `from` on, row by row from the top, and leaves all else.
     pub fn put_samples(&mut self, c: Component, from: usize, samples: &[u16])
         requires inside { from + length samples.now ≤ height_of self.old c * width_of self.old c }
-        requires small { All (λ v. v < 2 ^ bits_of self.old c) samples.now }
+        requires small { All (λ v. v < 2 ^ sample_bits self.old c) samples.now }
         ensures { self.new ≡ record self.old {
           samples = with_component self.old.samples c
-              (with_run (shown self.old c) from samples.now);
+              (with_run (component_shown self.old c) from samples.now);
         } }
     {
         match c {

@@ -6,7 +6,7 @@ ghost use Rattle.planes.specs.Raster.{height, at};
 ghost use Rattle.slice_geometry.specs.Shape.{IsSize, IsDepth};
 ghost use Rattle.lifting.specs.SampleRoom.{HaveRoom, AreSmallIn, AreNarrowIn, synthesis_of};
 ghost use Rattle.picture_codec.specs.Pictures.{sample_of};
-ghost use Rattle.picture_codec.specs.Samples.{sample_at, with_sample, with_run, tabulated, blank};
+ghost use Rattle.picture_codec.specs.Samples.{sample_at, with_sample, with_run, samples_by, blank};
 
 use crate::workspace::{NarrowWorkspace, Workspace};
 use lifting::{SampleArea, Wavelet, synth_samples, synth_samples_narrow};
@@ -98,7 +98,7 @@ impl Samples {
         requires high { self.old.h ≤ padded.h }
         requires room { HaveRoom bands.now padded.w padded.h room.old.plane room.old.scratch }
         requires small { AreSmallIn bands.now padded.w padded.h }
-        ensures samples { self.new ≡ tabulated (record { w = self.old.w; h = self.old.h })
+        ensures samples { self.new ≡ samples_by (record { w = self.old.w; h = self.old.h })
             (λ y x. sample_of depth (synthesis_of wavelet bands.now padded.w padded.h y x)) }
         ensures same_width { room.new.plane.w ≡ room.old.plane.w }
         ensures same_height { height room.new.plane ≡ height room.old.plane }
@@ -136,7 +136,7 @@ impl Samples {
         requires high { self.old.h ≤ padded.h }
         requires room { HaveRoom bands.now padded.w padded.h room.old.plane room.old.scratch }
         requires small { AreNarrowIn bands.now padded.w padded.h }
-        ensures samples { self.new ≡ tabulated (record { w = self.old.w; h = self.old.h })
+        ensures samples { self.new ≡ samples_by (record { w = self.old.w; h = self.old.h })
             (λ y x. sample_of depth (synthesis_of wavelet bands.now padded.w padded.h y x)) }
         ensures same_width { room.new.plane.w ≡ room.old.plane.w }
         ensures same_height { height room.new.plane ≡ height room.old.plane }

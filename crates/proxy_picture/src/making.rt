@@ -2,8 +2,9 @@
 
 ghost use Rattle.std.specs.Prelude.{◌≡◌, ◌*◌, ◌^◌, ◌<◌, ◌≤◌, length};
 ghost use Rattle.std.specs.List.{All};
+ghost use Rattle.slice_geometry.specs.declared.Component.TheVariants.{Luma};
 ghost use Rattle.slice_geometry.specs.Shape.{IsSize, IsDepth};
-ghost use Rattle.picture_codec.specs.Samples.{shown, width_of, height_of, bits_of, with_component};
+ghost use Rattle.picture_codec.specs.Samples.{component_shown, width_of, height_of, sample_bits, with_component};
 ghost use Rattle.picture_codec.specs.Decoding.{CanSynthesise, stack_of};
 ghost use Rattle.proxy_picture.specs.Proxy.{levels_left, reduced_length};
 ghost use Rattle.proxy_picture.specs.Proxy as proxy;
@@ -13,7 +14,7 @@ use crate::room::ProxyRoom;
 use crate::sizes::{levels_made, reduced_size};
 use lifting::{LowerLevel, SampleArea, Wavelet, synth_lower_samples, synth_lower_samples_narrow};
 use picture_codec::{DecodedBands, Picture, ShownBands};
-use slice_geometry::{Component, Size};
+use slice_geometry::{Component, PictureShape, Size};
 use transform_params::TransformParams;
 
 // By how many bits numbers lie above samples, where so many levels are left out.
@@ -28,34 +29,65 @@ fn shift_left_out(wavelet: Wavelet, left: u32) -> u32
     }
 }
 
-// The samples of a component of so many bits, in the room's cells.
+/// A component with its size and the bits of its samples.
+#[derive(Clone, Copy)]
+pub(crate) struct ComponentShape {
+    pub(crate) c: Component,
+    pub(crate) size: Size,
+    pub(crate) bits: u32,
+}
+
+impl ComponentShape {
+    pub(crate) fn luma(shape: &PictureShape) -> ComponentShape
+        ensures { result
+            ≡ record { c = Luma; size = shape.now.luma; bits = shape.now.luma_depth } }
+    {
+        ComponentShape {
+            c: Component::Luma,
+            size: shape.luma,
+            bits: shape.luma_depth,
+        }
+    }
+
+    /// One of the two colour components.
+    pub(crate) fn colour(shape: &PictureShape, c: Component) -> ComponentShape
+        ensures { result
+            ≡ record { c = c; size = shape.now.colour; bits = shape.now.colour_depth } }
+    {
+        ComponentShape {
+            c,
+            size: shape.colour,
+            bits: shape.colour_depth,
+        }
+    }
+}
+
+// The samples of a component, in the room's cells.
 fn make_cells(
     params: &TransformParams,
     level: u32,
     bands: &DecodedBands,
-    c: Component,
-    size: Size,
-    bits: u32,
+    of: ComponentShape,
     room: &mut ProxyRoom,
 )
-    requires size { IsSize size.w size.h }
-    requires bits { IsDepth bits }
-    requires ready { CanSynthesise params.now.layout size (stack_of bands.now c) }
-    requires room { IsRoomFor params.now.layout level size room.old }
-    ensures room { IsRoomFor params.now.layout level size room.new }
+    requires size { IsSize of.size.w of.size.h }
+    requires bits { IsDepth of.bits }
+    requires ready { CanSynthesise params.now.layout of.size (stack_of bands.now of.c) }
+    requires room { IsRoomFor params.now.layout level of.size room.old }
+    ensures room { IsRoomFor params.now.layout level of.size room.new }
     ensures cells { room.new.cells.items
-        ≡ (reduced params.now.wavelet level size bits (stack_of bands.now c)).cells }
+        ≡ (reduced params.now.wavelet level of.size of.bits (stack_of bands.now of.c)).cells }
 {
     let depth = params.layout.depth();
     let levels = levels_made(level, depth);
     let left = depth - levels;
     let shift = shift_left_out(params.wavelet, left);
     let lower = LowerLevel { levels, shift };
-    let padded = params.layout.padded_size(size);
-    let kept = reduced_size(left, size);
-    let (w, h, depth) = (kept.w, kept.h, bits);
+    let padded = params.layout.padded_size(of.size);
+    let kept = reduced_size(left, of.size);
+    let (w, h, depth) = (kept.w, kept.h, of.bits);
     let area = SampleArea { w, h, depth };
-    match bands.component(c) {
+    match bands.component(of.c) {
         ShownBands::Wide(bands) => {
             room.late.make();
             synth_lower_samples(
@@ -87,7 +119,7 @@ fn make_cells(
 // Gives a component of a picture these samples.
 fn show(picture: &mut Picture, c: Component, cells: &[u16])
     requires count { length cells.now ≡ height_of picture.old c * width_of picture.old c }
-    requires small { All (λ v. v < 2 ^ bits_of picture.old c) cells.now }
+    requires small { All (λ v. v < 2 ^ sample_bits picture.old c) cells.now }
     ensures { picture.new ≡ record picture.old {
       samples = with_component picture.old.samples c
           (record { w = width_of picture.old c; h = height_of picture.old c; cells = cells.now });
@@ -103,27 +135,25 @@ pub(crate) fn make_component(
     params: &TransformParams,
     level: u32,
     bands: &DecodedBands,
-    c: Component,
-    size: Size,
-    bits: u32,
+    of: ComponentShape,
     room: &mut ProxyRoom,
     proxy: &mut Picture,
 )
-    requires size { IsSize size.w size.h }
-    requires bits { IsDepth bits }
-    requires ready { CanSynthesise params.now.layout size (stack_of bands.now c) }
-    requires room { IsRoomFor params.now.layout level size room.old }
-    requires width { width_of proxy.old c
-        ≡ reduced_length (levels_left level params.now.layout.depth) size.w }
-    requires height { height_of proxy.old c
-        ≡ reduced_length (levels_left level params.now.layout.depth) size.h }
-    requires bits_of { bits_of proxy.old c ≡ bits }
-    ensures room { IsRoomFor params.now.layout level size room.new }
+    requires size { IsSize of.size.w of.size.h }
+    requires bits { IsDepth of.bits }
+    requires ready { CanSynthesise params.now.layout of.size (stack_of bands.now of.c) }
+    requires room { IsRoomFor params.now.layout level of.size room.old }
+    requires width { width_of proxy.old of.c
+        ≡ reduced_length (levels_left level params.now.layout.depth) of.size.w }
+    requires height { height_of proxy.old of.c
+        ≡ reduced_length (levels_left level params.now.layout.depth) of.size.h }
+    requires bits_of { sample_bits proxy.old of.c ≡ of.bits }
+    ensures room { IsRoomFor params.now.layout level of.size room.new }
     ensures proxy { proxy.new ≡ record proxy.old {
-      samples = with_component proxy.old.samples c
-          (reduced params.now.wavelet level size bits (stack_of bands.now c));
+      samples = with_component proxy.old.samples of.c
+          (reduced params.now.wavelet level of.size of.bits (stack_of bands.now of.c));
     } }
 {
-    make_cells(params, level, bands, c, size, bits, room);
-    show(proxy, c, room.cells.as_slice());
+    make_cells(params, level, bands, of, room);
+    show(proxy, of.c, room.cells.as_slice());
 }

@@ -2,12 +2,15 @@
 use Rattle.std.specs.Prelude.{◌≡◌, ◌≢◌, ℕ, ◌+◌, ◌*◌, ◌<◌, ◌≤◌, ℤ, pos, ◌-ℤ◌, unsigned_abs}
 use Rattle.quant_factors.specs.Factors.{factor_of, inverse_of, forward_of}
 
+-- A higher index has a factor at least as great.
 abbrev pub FactorsRise : Type 0
 FactorsRise = (i : ℕ) → i < 127 → factor_of i ≤ factor_of (i + 1)
 
+-- No quantised value is dequantised to a smaller magnitude.
 abbrev pub DequantisingKeepsTheMagnitude : Type 0
 DequantisingKeepsTheMagnitude = (q : ℤ) (i : ℕ) → i ≤ 127 → unsigned_abs q ≤ unsigned_abs (inverse_of q i)
 
+-- At index 0 each coefficient comes back as it was.
 abbrev pub NothingIsLostAtZero : Type 0
 NothingIsLostAtZero = (c : ℤ) → inverse_of (forward_of c 0) 0 ≡ c
 

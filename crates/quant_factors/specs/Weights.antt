@@ -8,6 +8,7 @@ pub record Weights : Type 0 where
   pub depth : ℕ
   pub entries : List ℕ
 
+-- the entry of the subband of this level and orientation
 abbrev pub entry_of : Weights → ℕ → ℕ → ℕ
 entry_of m level orient = slice_index m.entries (band_index level orient)
 

@@ -7,7 +7,7 @@ use Rattle.slice_geometry.specs.declared.Component.{Component}
 use Rattle.slice_geometry.specs.declared.Component.TheVariants.{Luma, C1, C2}
 use Rattle.slice_geometry.specs.declared.PictureShape.{PictureShape}
 use Rattle.slice_geometry.specs.Frames.{Frame, frame_of}
-use Rattle.picture_codec.specs.Samples.{SamplesSeen, PictureSamples, PictureSeen, component_of, with_component, with_run, shown, width_of, height_of}
+use Rattle.picture_codec.specs.Samples.{SamplesSeen, PictureSamples, PictureSeen, component_of, with_component, with_run, component_shown, width_of, height_of}
 use Rattle.raw_video.specs.RawText.{is_wide}
 use Rattle.raw_video.specs.RawParse.{sample_size, luma_count, colour_count, sample_bounds, samples_in, first_large, picture_from}
 use Rattle.raw_video.specs.Reading.{ReadsSamples}
@@ -132,7 +132,7 @@ size_few false n = omega arith
 size_few true n = omega arith
 
 -- the picture of all samples that a picture shows
-pub seen_is : (p : PictureSeen) → (shown p Luma).w ≡ width_of p Luma → (shown p Luma).h ≡ height_of p Luma → (shown p C1).w ≡ width_of p C1 → (shown p C1).h ≡ height_of p C1 → (shown p C2).w ≡ width_of p C2 → (shown p C2).h ≡ height_of p C2
-    → length (shown p Luma).cells ≡ height_of p Luma * width_of p Luma → length (shown p C1).cells ≡ height_of p C1 * width_of p C1
+pub seen_is : (p : PictureSeen) → (component_shown p Luma).w ≡ width_of p Luma → (component_shown p Luma).h ≡ height_of p Luma → (component_shown p C1).w ≡ width_of p C1 → (component_shown p C1).h ≡ height_of p C1 → (component_shown p C2).w ≡ width_of p C2 → (component_shown p C2).h ≡ height_of p C2
+    → length (component_shown p Luma).cells ≡ height_of p Luma * width_of p Luma → length (component_shown p C1).cells ≡ height_of p C1 * width_of p C1
     → picture_from (frame_of p.shape) (p.samples.luma.cells ++ (p.samples.c1.cells ++ p.samples.c2.cells)) ≡ p.samples
 seen_is p lw lh aw ah bw bh many few = picture_is (frame_of p.shape) p.samples lw lh aw ah bw bh many few

@@ -15,6 +15,7 @@ sample_size wide = if wide then 2 else 1
 abbrev pub luma_count : Frame → ℕ
 luma_count f = f.luma.h * f.luma.w
 
+-- how many samples a colour component has
 abbrev pub colour_count : Frame → ℕ
 colour_count f = f.colour.h * f.colour.w
 
@@ -33,6 +34,7 @@ abbrev pub sample_bounds : Frame → List ℕ
 sample_bounds f = replicate (luma_count f) (2 ^ f.luma_depth)
     ++ (replicate (colour_count f) (2 ^ f.colour_depth) ++ replicate (colour_count f) (2 ^ f.colour_depth))
 
+-- the number of a sample, counted with one more before it
 abbrev pub later : Option ℕ → Option ℕ
 later None = None
 later (Some k) = Some (k + 1)
@@ -58,6 +60,7 @@ pub record AreRows (size : Size) (depth : ℕ) (s : SamplesSeen) : Type 0 where
   pub count : length s.cells ≡ size.h * size.w
   pub below : All (λ v. v < 2 ^ depth) s.cells
 
+-- the samples of a picture have the frame's sizes and bits
 pub record IsOfFrame (f : Frame) (s : PictureSamples) : Type 0 where
   pub luma : AreRows f.luma f.luma_depth s.luma
   pub c1 : AreRows f.colour f.colour_depth s.c1
@@ -114,5 +117,6 @@ parse_from f zero place bytes = record { pictures = []; ending = Over }
 parse_from f (suc turns) place bytes =
     ahead (raw_front f place bytes) (parse_from f turns (place + raw_length f) (drop (raw_length f) bytes))
 
+-- what bytes of raw video hold: their pictures, and how they end
 abbrev pub raw_parse : Frame → List ℕ → RawParse
 raw_parse f bytes = parse_from f (length bytes + 1) 0 bytes

@@ -35,7 +35,7 @@ SamplesAre wide start room bounds rest taken samples (Err (halts.Large number)) 
 SamplesAre wide start room bounds rest taken samples (Err halts.ReadFault) = length taken < sample_size wide * length bounds
 
 -- Without its last bytes, of which there are at most so many as a read asks for, what was taken has no sample that is too
--- large. So nothing is read behind the read with which one came.
+-- large.
 pub record IsSoon (wide : Bool) (bounds taken : List ℕ) : Type 0 where
   pub sure : List ℕ
   pub last : List ℕ
@@ -54,10 +54,10 @@ pub record ReadsSamples (wide : Bool) (start room : ℕ) (bounds : List ℕ) (re
   pub soon : IsSoon wide bounds taken
 
 -- a failed read has its cause, and without one the count stands still
-abbrev pub HaltCause : {X : Type 0} → ℕ → ℕ → Result X Halt → Type 0
-HaltCause before now (Ok x) = now ≡ before
-HaltCause before now (Err halts.ReadFault) = (before ≤ now) × Rose before now
-HaltCause before now (Err other) = now ≡ before
+abbrev pub SamplesCause : {X : Type 0} → ℕ → ℕ → Result X Halt → Type 0
+SamplesCause before now (Ok x) = now ≡ before
+SamplesCause before now (Err halts.ReadFault) = (before ≤ now) × Rose before now
+SamplesCause before now (Err other) = now ≡ before
 
 -- ---- the next picture
 
@@ -73,7 +73,7 @@ FrontIs f place taken rest samples (Err faults.TooLong) = (more : List ℕ) → 
 FrontIs f place taken rest samples (Err faults.ReadFault) = length taken < raw_length f
 
 -- What stands in front was read, behind so many bytes: at most a picture's bytes were taken, of which at most one lies
--- past the limit, and none behind the read with which a sample came that is too large.
+-- past the limit, and fewer than a read may ask for behind a sample that is too large.
 pub record ReadsFront (f : Frame) (place : ℕ) (rest0 rest1 : Option (List ℕ)) (samples : PictureSamples)
     (result : Result RawStep RawFault) : Type 0 where
   pub taken : List ℕ
@@ -88,6 +88,7 @@ abbrev pub FoundByte : Option (List ℕ) → Option (List ℕ) → Bool → Type
 FoundByte rest0 rest1 true = (byte : ℕ) × Consumes rest0 rest1 (byte ∷ [])
 FoundByte rest0 rest1 false = Consumes rest0 rest1 [] × IsAtEnd rest1
 
+-- A failed read made the failures of this source rise; nothing else did.
 abbrev pub RawCause : {X : Type 0} → ℕ → ℕ → Result X RawFault → Type 0
 RawCause before now (Ok x) = now ≡ before
 RawCause before now (Err faults.ReadFault) = (before ≤ now) × Rose before now

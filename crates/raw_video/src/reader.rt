@@ -152,7 +152,7 @@ impl RawReader {
     }
 
     /// Reads the next picture, which has the reader's shape, and takes no memory. At most 4096 bytes are asked for at
-    /// once, none beyond the picture's end, and none behind a sample that is too large.
+    /// once, and none beyond the picture's end. Of a sample that is too large it is told before 4096 bytes more are taken.
     ///
     /// After a refusal the picture holds any samples, and only `place` may be called.
     pub fn next<S: Source>(

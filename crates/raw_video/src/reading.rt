@@ -5,10 +5,10 @@ ghost use Rattle.slice_geometry.specs.declared.Component.{Component};
 ghost use Rattle.slice_geometry.specs.Shape.{IsDepth};
 ghost use Rattle.picture_codec.specs.Pictures.{depth_of};
 ghost use Rattle.slice_geometry.specs.Frames.{frame_of};
-ghost use Rattle.picture_codec.specs.Samples.{shown, width_of, height_of, bits_of};
+ghost use Rattle.picture_codec.specs.Samples.{component_shown, width_of, height_of, sample_bits};
 ghost use Rattle.raw_video.specs.RawText.{is_wide};
 ghost use Rattle.raw_video.specs.RawParse.{sample_size, sample_bounds};
-ghost use Rattle.raw_video.specs.Reading.{whole_samples, ReadsSamples, HaltCause};
+ghost use Rattle.raw_video.specs.Reading.{whole_samples, ReadsSamples, SamplesCause};
 
 use crate::parsing::{first_large, parse};
 use crate::spelling::are_wide;
@@ -63,6 +63,13 @@ fn depth_of(shape: &PictureShape, c: Component) -> u32
     }
 }
 
+// How the samples of a component are read: by two bytes each or by one, and what they are below.
+#[derive(Clone, Copy)]
+struct Form {
+    wide: bool,
+    bound: u32,
+}
+
 // Reads n samples that are below the bound, from sample `start` of the picture on, into the front of `samples`.
 fn read_piece<S: Source>(
     src: &mut S,
@@ -70,32 +77,31 @@ fn read_piece<S: Source>(
     start: usize,
     n: usize,
     room: u64,
-    wide: bool,
-    bound: u32,
+    form: Form,
     samples: &mut [u16],
 ) -> Result<(), Halt>
     requires some { 1 ≤ n }
     requires few { n ≤ READ_SIZE }
-    requires one_read { sample_size wide * n ≤ READ_SIZE }
+    requires one_read { sample_size form.wide * n ≤ READ_SIZE }
     requires start_few { start ≤ 2 ^ 26 }
-    requires inside { sample_size wide * start ≤ room }
+    requires inside { sample_size form.wide * start ≤ room }
     requires bytes_long { length bytes.old ≡ READ_SIZE }
     requires long { length samples.old ≡ READ_SIZE }
-    ensures piece { ReadsSamples wide start room (replicate n bound) (S.rest src.old)
+    ensures piece { ReadsSamples form.wide start room (replicate n form.bound) (S.rest src.old)
         (S.rest src.new) (take n samples.new) result }
     ensures bytes_len { length bytes.new ≡ READ_SIZE }
     ensures len { length samples.new ≡ READ_SIZE }
-    ensures cause { HaltCause (S.faults src.old) (S.faults src.new) result }
+    ensures cause { SamplesCause (S.faults src.old) (S.faults src.new) result }
 {
-    let before = bytes_of(wide, start as u64);
-    let want = bytes_of(wide, n as u64);
+    let before = bytes_of(form.wide, start as u64);
+    let want = bytes_of(form.wide, n as u64);
     let most = want.min(room - before) as usize;
     let came = match fill(src, &mut bytes[..most]) {
         Ok(came) => came,
         Err(_) => return Err(Halt::ReadFault),
     };
-    let count = parse(&bytes[..came], wide, samples);
-    if let Some(k) = first_large(&samples[..count], wide, bound) {
+    let count = parse(&bytes[..came], form.wide, samples);
+    if let Some(k) = first_large(&samples[..count], form.wide, form.bound) {
         return Err(Halt::Large((start + k) as u64));
     }
     if (came as u64) < want {
@@ -116,11 +122,12 @@ fn read_component<S: Source>(
     requires inside { sample_size (is_wide (frame_of picture.old.shape)) * start ≤ room }
     ensures same_shape { picture.new.shape ≡ picture.old.shape }
     ensures read { ReadsSamples (is_wide (frame_of picture.old.shape)) start room
-        (replicate (height_of picture.old c * width_of picture.old c) (2 ^ bits_of picture.old c))
-        (S.rest src.old) (S.rest src.new) (shown picture.new c).cells result }
+        (replicate (height_of picture.old c * width_of picture.old c)
+        (2 ^ sample_bits picture.old c))
+        (S.rest src.old) (S.rest src.new) (component_shown picture.new c).cells result }
     ensures others { (other : Component) → other ≢ c
-        → shown picture.new other ≡ shown picture.old other }
-    ensures cause { HaltCause (S.faults src.old) (S.faults src.new) result }
+        → component_shown picture.new other ≡ component_shown picture.old other }
+    ensures cause { SamplesCause (S.faults src.old) (S.faults src.new) result }
 {
     let wide = are_wide(picture.shape());
     let bound = bound_of(depth_of(picture.shape(), c));
@@ -131,16 +138,8 @@ fn read_component<S: Source>(
     for piece in 0..(count + most - 1) / most {
         let from = most * piece;
         let n = (count - from).min(most);
-        read_piece(
-            src,
-            &mut bytes,
-            start + from,
-            n,
-            room,
-            wide,
-            bound,
-            &mut samples,
-        )?;
+        let form = Form { wide, bound };
+        read_piece(src, &mut bytes, start + from, n, room, form, &mut samples)?;
         picture.put_samples(c, from, &samples[..n]);
     }
     Ok(())
@@ -158,7 +157,7 @@ pub(crate) fn read_samples<S: Source>(
         (S.rest src.old) (S.rest src.new)
         (picture.new.samples.luma.cells ++ (picture.new.samples.c1.cells
         ++ picture.new.samples.c2.cells)) result }
-    ensures cause { HaltCause (S.faults src.old) (S.faults src.new) result }
+    ensures cause { SamplesCause (S.faults src.old) (S.faults src.new) result }
 {
     let luma = picture.samples(Component::Luma).len();
     let colour = picture.samples(Component::C1).len();

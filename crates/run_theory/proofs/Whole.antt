@@ -4,7 +4,7 @@ use Rattle.std.proofs.lemmas.List.{length-append, drop_at}
 use Rattle.bit_codes.specs.declared.CodeFault.{CodeFault}
 use Rattle.bit_codes.specs.Bits.{Cursor, bits_of, at_byte_end}
 use Rattle.bit_codes.proofs.BitLemmas.{length-bits}
-use Rattle.field_rows.specs.Rows.{Value, Number, Flag, Bytes, Skipped, Here, IsEnd, Rule, Rows, done, row, ◌>>=◌, Fault, read, and_then, judged, first_broken, byte_end, whole_bytes, bytes_under, word_under, byte_under, check_at, some_bytes, renamed}
+use Rattle.field_rows.specs.Rows.{Value, Number, Flag, Bytes, Skipped, Here, IsEnd, Rule, Rows, done, row, ◌>>=◌, Fault, read, and_then, reading_unless, first_broken, byte_end, whole_bytes, bytes_under, word_under, byte_under, check_at, some_bytes, renamed}
 use Rattle.field_rows.specs.Standing.{StandsAt, Stand}
 use Rattle.field_rows.specs.Moved.{renamed_answer}
 use Rattle.field_rows.proofs.Reading.{read-bind, read-done, read-byte_end}
@@ -94,7 +94,7 @@ EndsWhole-byte_under reason_of rules = EndsWhole-row reason_of 1 None _ _ (λ v.
 pub EndsWhole-check_at : {R : Type 0} (reason_of : CodeFault → R) (place : ℕ) (rules : ℕ → List (Rule R)) → EndsWhole reason_of (check_at place rules)
 EndsWhole-check_at {R = R} reason_of place rules = record { ends = λ c behind a aligned whole e. by c behind a aligned (first_broken (rules c.place)) (sym (read-check_at reason_of place rules c) ∙ e) }
   where
-    by : (c behind : Cursor) (a : ℕ) → c.place % 8 ≡ 0 → (broken : Option R) → (let r : Result (ℕ × Cursor) (Fault R) = judged place broken (Ok (c.place, c)) in r) ≡ Ok (a, behind) → behind.place % 8 ≡ 0
+    by : (c behind : Cursor) (a : ℕ) → c.place % 8 ≡ 0 → (broken : Option R) → (let r : Result (ℕ × Cursor) (Fault R) = reading_unless place broken (Ok (c.place, c)) in r) ≡ Ok (a, behind) → behind.place % 8 ≡ 0
     by c behind a aligned None k = subst (λ (x : Cursor). x.place % 8 ≡ 0) (same_behind R c.place a c behind k) aligned
     by c behind a aligned (Some reason) k = absurd cc
 

@@ -2,14 +2,14 @@
 use Rattle.std.specs.Prelude.{◌≡◌, ℕ, ◌+◌, ◌*◌, ◌/◌, Bool, List, ◌++◌, length, Ok}
 use Rattle.bit_codes.specs.Bits.{bytes_of, cursor_at, zeros_to_byte_end}
 use Rattle.field_rows.specs.Rows.{read}
-use Rattle.field_rows.specs.Given.{written}
+use Rattle.field_rows.specs.Given.{value_bits}
 use Rattle.sequence_header.specs.declared.parts.HeaderParts.{HeaderParts}
 use Rattle.sequence_header.specs.Header.{reason_of, header_rows}
 use Rattle.sequence_header.specs.HeaderFields.{fields_of}
 
 -- the bits of a header's fields
 unfoldable pub header_bits : HeaderParts → List Bool
-header_bits p = written (fields_of p)
+header_bits p = value_bits (fields_of p)
 
 -- how many bytes they fill
 abbrev pub header_len : HeaderParts → ℕ

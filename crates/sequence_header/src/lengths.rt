@@ -1,7 +1,7 @@
 //! How many bits the parts of a header are coded in, a group at a time, and that their fields are of the rows' kinds.
 
 ghost use Rattle.std.specs.Prelude.{ℕ, ◌≡◌, ◌≤◌, length};
-ghost use Rattle.field_rows.specs.Given.{written, AreOfKind};
+ghost use Rattle.field_rows.specs.Given.{value_bits, AreOfKind};
 ghost use Rattle.sequence_header.specs.Header.{version_rows, size_rows, sampling_rows, scan_rows, rate_rows, aspect_rows, clean_rows, signal_rows, flagged_index, colour_rows, coding_rows};
 ghost use Rattle.sequence_header.specs.HeaderFields.{version_fields, size_fields, sampling_fields, scan_fields, rate_fields, aspect_fields, clean_fields, signal_fields, index_fields, colour_fields, coding_fields};
 ghost use Rattle.sequence_header.specs.Checking.{HasRateIndex, HasAspectIndex, HasSignalIndex, HasColourIndex};
@@ -12,7 +12,7 @@ use slice_geometry::Size;
 
 #[tactic(auto, using(field_rows::proofs::Written::writing, crate::proofs::Sums::zero_bits))]
 pub fn version_bits(major: u32, minor: u32, level: u32) -> u32
-    ensures length { result ≡ length (written (version_fields
+    ensures length { result ≡ length (value_bits (version_fields
         (record { major = major; minor = minor; level = level }))) }
     ensures most { result ≤ 197 }
     ensures kinds { AreOfKind version_rows (version_fields
@@ -23,7 +23,7 @@ pub fn version_bits(major: u32, minor: u32, level: u32) -> u32
 
 #[tactic(auto, using(field_rows::proofs::Written::writing, crate::proofs::Sums::zero_bits))]
 pub fn size_bits(width: u32, height: u32) -> u32
-    ensures length { result ≡ length (written (size_fields (record { w = width; h = height }))) }
+    ensures length { result ≡ length (value_bits (size_fields (record { w = width; h = height }))) }
     ensures most { result ≤ 131 }
     ensures kinds { AreOfKind size_rows (size_fields (record { w = width; h = height })) }
 {
@@ -32,7 +32,7 @@ pub fn size_bits(width: u32, height: u32) -> u32
 
 #[tactic(auto, using(field_rows::proofs::Written::writing, crate::proofs::Sums::zero_bits))]
 pub fn sampling_bits(index: u32) -> u32
-    ensures length { result ≡ length (written (sampling_fields index)) }
+    ensures length { result ≡ length (value_bits (sampling_fields index)) }
     ensures most { result ≤ 66 }
     ensures kinds { (size : Size) → AreOfKind (sampling_rows size) (sampling_fields index) }
 {
@@ -41,7 +41,7 @@ pub fn sampling_bits(index: u32) -> u32
 
 #[tactic(auto, using(field_rows::proofs::Written::writing, crate::proofs::Sums::zero_bits))]
 pub fn scan_bits(scan: Option<u32>) -> u32
-    ensures length { result ≡ length (written (scan_fields scan)) }
+    ensures length { result ≡ length (value_bits (scan_fields scan)) }
     ensures most { result ≤ 66 }
     ensures kinds { AreOfKind scan_rows (scan_fields scan) }
 {
@@ -54,7 +54,7 @@ pub fn scan_bits(scan: Option<u32>) -> u32
 #[tactic(auto, using(field_rows::proofs::Written::writing, crate::proofs::Sums::zero_bits))]
 pub fn rate_bits(rate: RateField) -> u32
     requires { HasRateIndex rate }
-    ensures length { result ≡ length (written (rate_fields rate)) }
+    ensures length { result ≡ length (value_bits (rate_fields rate)) }
     ensures most { result ≤ 132 }
     ensures kinds { AreOfKind rate_rows (rate_fields rate) }
 {
@@ -67,7 +67,7 @@ pub fn rate_bits(rate: RateField) -> u32
 #[tactic(auto, using(field_rows::proofs::Written::writing, crate::proofs::Sums::zero_bits))]
 pub fn aspect_bits(aspect: AspectField) -> u32
     requires { HasAspectIndex aspect }
-    ensures length { result ≡ length (written (aspect_fields aspect)) }
+    ensures length { result ≡ length (value_bits (aspect_fields aspect)) }
     ensures most { result ≤ 132 }
     ensures kinds { AreOfKind aspect_rows (aspect_fields aspect) }
 {
@@ -82,7 +82,7 @@ pub fn aspect_bits(aspect: AspectField) -> u32
 
 #[tactic(auto, using(field_rows::proofs::Written::writing, crate::proofs::Sums::zero_bits))]
 pub fn clean_bits(clean: Option<CleanArea>) -> u32
-    ensures length { result ≡ length (written (clean_fields clean)) }
+    ensures length { result ≡ length (value_bits (clean_fields clean)) }
     ensures most { result ≤ 261 }
     ensures kinds { AreOfKind clean_rows (clean_fields clean) }
 {
@@ -99,7 +99,7 @@ pub fn clean_bits(clean: Option<CleanArea>) -> u32
 #[tactic(auto, using(field_rows::proofs::Written::writing, crate::proofs::Sums::zero_bits))]
 pub fn signal_bits(signal: SignalField) -> u32
     requires { HasSignalIndex signal }
-    ensures length { result ≡ length (written (signal_fields signal)) }
+    ensures length { result ≡ length (value_bits (signal_fields signal)) }
     ensures most { result ≤ 262 }
     ensures kinds { AreOfKind signal_rows (signal_fields signal) }
 {
@@ -116,7 +116,7 @@ pub fn signal_bits(signal: SignalField) -> u32
 
 #[tactic(auto, using(field_rows::proofs::Written::writing, crate::proofs::Sums::zero_bits))]
 fn index_bits(index: Option<u32>) -> u32
-    ensures length { result ≡ length (written (index_fields index)) }
+    ensures length { result ≡ length (value_bits (index_fields index)) }
     ensures most { result ≤ 66 }
     ensures kinds { AreOfKind flagged_index (index_fields index) }
 {
@@ -129,7 +129,7 @@ fn index_bits(index: Option<u32>) -> u32
 #[tactic(auto, using(field_rows::proofs::Written::writing, crate::proofs::Sums::zero_bits))]
 pub fn colour_bits(colour: ColourField) -> u32
     requires { HasColourIndex colour }
-    ensures length { result ≡ length (written (colour_fields colour)) }
+    ensures length { result ≡ length (value_bits (colour_fields colour)) }
     ensures most { result ≤ 200 }
     ensures kinds { AreOfKind colour_rows (colour_fields colour) }
 {
@@ -146,7 +146,7 @@ pub fn colour_bits(colour: ColourField) -> u32
 
 #[tactic(auto, using(field_rows::proofs::Written::writing, crate::proofs::Sums::zero_bits))]
 pub fn coding_bits(coding: u32) -> u32
-    ensures length { result ≡ length (written (coding_fields coding)) }
+    ensures length { result ≡ length (value_bits (coding_fields coding)) }
     ensures most { result ≤ 65 }
     ensures kinds { (size : Size) (sampling : ℕ)
         → AreOfKind (coding_rows size sampling) (coding_fields coding) }

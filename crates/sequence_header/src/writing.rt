@@ -2,7 +2,7 @@
 
 ghost use Rattle.std.specs.Prelude.{◌≡◌, ◌+◌, ◌*◌, ◌≤◌, ◌++◌, length};
 ghost use Rattle.bit_codes.specs.Bits.{bits_before};
-ghost use Rattle.field_rows.specs.Given.{written};
+ghost use Rattle.field_rows.specs.Given.{value_bits};
 ghost use Rattle.sequence_header.specs.HeaderFields.{version_fields, size_fields, sampling_fields, scan_fields, rate_fields, aspect_fields, clean_fields, signal_fields, index_fields, colour_fields, coding_fields};
 ghost use Rattle.sequence_header.specs.Checking.{HasRateIndex, HasSignalIndex};
 
@@ -13,16 +13,16 @@ use slice_geometry::Size;
 /// Versions, profile 0, the level and base video format 0.
 #[tactic(auto, using(field_rows::proofs::Written::writing))]
 pub fn put_version(w: &mut BitWriter<'_>, major: u32, minor: u32, level: u32)
-    requires { w.old.place + length (written
+    requires { w.old.place + length (value_bits
         (version_fields (record { major = major; minor = minor; level = level })))
         ≤ 8 * length w.old.bytes.now }
     ensures same_reference { w.new.bytes.ghost_name ≡ w.old.bytes.ghost_name }
     ensures place { w.new.place
-        ≡ w.old.place + length (written (version_fields
+        ≡ w.old.place + length (value_bits (version_fields
         (record { major = major; minor = minor; level = level }))) }
     ensures written { bits_before w.new.place w.new.bytes.now
         ≡ bits_before w.old.place w.old.bytes.now
-        ++ written (version_fields (record { major = major; minor = minor; level = level })) }
+        ++ value_bits (version_fields (record { major = major; minor = minor; level = level })) }
     ensures room { length w.new.bytes.now ≡ length w.old.bytes.now }
 {
     w.put_uint(major);
@@ -35,14 +35,14 @@ pub fn put_version(w: &mut BitWriter<'_>, major: u32, minor: u32, level: u32)
 /// A frame's size.
 #[tactic(auto, using(field_rows::proofs::Written::writing))]
 pub fn put_size(w: &mut BitWriter<'_>, width: u32, height: u32)
-    requires { w.old.place + length (written (size_fields (record { w = width; h = height })))
+    requires { w.old.place + length (value_bits (size_fields (record { w = width; h = height })))
         ≤ 8 * length w.old.bytes.now }
     ensures same_reference { w.new.bytes.ghost_name ≡ w.old.bytes.ghost_name }
     ensures place { w.new.place
-        ≡ w.old.place + length (written (size_fields (record { w = width; h = height }))) }
+        ≡ w.old.place + length (value_bits (size_fields (record { w = width; h = height }))) }
     ensures written { bits_before w.new.place w.new.bytes.now
         ≡ bits_before w.old.place w.old.bytes.now
-        ++ written (size_fields (record { w = width; h = height })) }
+        ++ value_bits (size_fields (record { w = width; h = height })) }
     ensures room { length w.new.bytes.now ≡ length w.old.bytes.now }
 {
     w.put_flag(true);
@@ -53,11 +53,12 @@ pub fn put_size(w: &mut BitWriter<'_>, width: u32, height: u32)
 /// A sampling index.
 #[tactic(auto, using(field_rows::proofs::Written::writing))]
 pub fn put_sampling(w: &mut BitWriter<'_>, index: u32)
-    requires { w.old.place + length (written (sampling_fields index)) ≤ 8 * length w.old.bytes.now }
+    requires { w.old.place + length (value_bits (sampling_fields index))
+        ≤ 8 * length w.old.bytes.now }
     ensures same_reference { w.new.bytes.ghost_name ≡ w.old.bytes.ghost_name }
-    ensures place { w.new.place ≡ w.old.place + length (written (sampling_fields index)) }
+    ensures place { w.new.place ≡ w.old.place + length (value_bits (sampling_fields index)) }
     ensures written { bits_before w.new.place w.new.bytes.now
-        ≡ bits_before w.old.place w.old.bytes.now ++ written (sampling_fields index) }
+        ≡ bits_before w.old.place w.old.bytes.now ++ value_bits (sampling_fields index) }
     ensures room { length w.new.bytes.now ≡ length w.old.bytes.now }
 {
     w.put_flag(true);
@@ -67,11 +68,11 @@ pub fn put_sampling(w: &mut BitWriter<'_>, index: u32)
 /// A source sampling, or its default.
 #[tactic(auto, using(field_rows::proofs::Written::writing))]
 pub fn put_scan(w: &mut BitWriter<'_>, scan: Option<u32>)
-    requires { w.old.place + length (written (scan_fields scan)) ≤ 8 * length w.old.bytes.now }
+    requires { w.old.place + length (value_bits (scan_fields scan)) ≤ 8 * length w.old.bytes.now }
     ensures same_reference { w.new.bytes.ghost_name ≡ w.old.bytes.ghost_name }
-    ensures place { w.new.place ≡ w.old.place + length (written (scan_fields scan)) }
+    ensures place { w.new.place ≡ w.old.place + length (value_bits (scan_fields scan)) }
     ensures written { bits_before w.new.place w.new.bytes.now
-        ≡ bits_before w.old.place w.old.bytes.now ++ written (scan_fields scan) }
+        ≡ bits_before w.old.place w.old.bytes.now ++ value_bits (scan_fields scan) }
     ensures room { length w.new.bytes.now ≡ length w.old.bytes.now }
 {
     let Some(index) = scan else {
@@ -86,12 +87,12 @@ pub fn put_scan(w: &mut BitWriter<'_>, scan: Option<u32>)
 #[tactic(auto, using(field_rows::proofs::Written::writing))]
 pub fn put_rate(w: &mut BitWriter<'_>, rate: RateField)
     requires index { HasRateIndex rate }
-    requires inside { w.old.place + length (written (rate_fields rate))
+    requires inside { w.old.place + length (value_bits (rate_fields rate))
         ≤ 8 * length w.old.bytes.now }
     ensures same_reference { w.new.bytes.ghost_name ≡ w.old.bytes.ghost_name }
-    ensures place { w.new.place ≡ w.old.place + length (written (rate_fields rate)) }
+    ensures place { w.new.place ≡ w.old.place + length (value_bits (rate_fields rate)) }
     ensures written { bits_before w.new.place w.new.bytes.now
-        ≡ bits_before w.old.place w.old.bytes.now ++ written (rate_fields rate) }
+        ≡ bits_before w.old.place w.old.bytes.now ++ value_bits (rate_fields rate) }
     ensures room { length w.new.bytes.now ≡ length w.old.bytes.now }
 {
     w.put_flag(true);
@@ -108,11 +109,12 @@ pub fn put_rate(w: &mut BitWriter<'_>, rate: RateField)
 /// A pixel aspect ratio, or its default.
 #[tactic(auto, using(field_rows::proofs::Written::writing))]
 pub fn put_aspect(w: &mut BitWriter<'_>, aspect: AspectField)
-    requires { w.old.place + length (written (aspect_fields aspect)) ≤ 8 * length w.old.bytes.now }
+    requires { w.old.place + length (value_bits (aspect_fields aspect))
+        ≤ 8 * length w.old.bytes.now }
     ensures same_reference { w.new.bytes.ghost_name ≡ w.old.bytes.ghost_name }
-    ensures place { w.new.place ≡ w.old.place + length (written (aspect_fields aspect)) }
+    ensures place { w.new.place ≡ w.old.place + length (value_bits (aspect_fields aspect)) }
     ensures written { bits_before w.new.place w.new.bytes.now
-        ≡ bits_before w.old.place w.old.bytes.now ++ written (aspect_fields aspect) }
+        ≡ bits_before w.old.place w.old.bytes.now ++ value_bits (aspect_fields aspect) }
     ensures room { length w.new.bytes.now ≡ length w.old.bytes.now }
 {
     match aspect {
@@ -133,11 +135,11 @@ pub fn put_aspect(w: &mut BitWriter<'_>, aspect: AspectField)
 /// A clean area, or its default.
 #[tactic(auto, using(field_rows::proofs::Written::writing))]
 pub fn put_clean(w: &mut BitWriter<'_>, clean: Option<CleanArea>)
-    requires { w.old.place + length (written (clean_fields clean)) ≤ 8 * length w.old.bytes.now }
+    requires { w.old.place + length (value_bits (clean_fields clean)) ≤ 8 * length w.old.bytes.now }
     ensures same_reference { w.new.bytes.ghost_name ≡ w.old.bytes.ghost_name }
-    ensures place { w.new.place ≡ w.old.place + length (written (clean_fields clean)) }
+    ensures place { w.new.place ≡ w.old.place + length (value_bits (clean_fields clean)) }
     ensures written { bits_before w.new.place w.new.bytes.now
-        ≡ bits_before w.old.place w.old.bytes.now ++ written (clean_fields clean) }
+        ≡ bits_before w.old.place w.old.bytes.now ++ value_bits (clean_fields clean) }
     ensures room { length w.new.bytes.now ≡ length w.old.bytes.now }
 {
     let Some(area) = clean else {
@@ -155,12 +157,12 @@ pub fn put_clean(w: &mut BitWriter<'_>, clean: Option<CleanArea>)
 #[tactic(auto, using(field_rows::proofs::Written::writing))]
 pub fn put_signal(w: &mut BitWriter<'_>, signal: SignalField)
     requires index { HasSignalIndex signal }
-    requires inside { w.old.place + length (written (signal_fields signal))
+    requires inside { w.old.place + length (value_bits (signal_fields signal))
         ≤ 8 * length w.old.bytes.now }
     ensures same_reference { w.new.bytes.ghost_name ≡ w.old.bytes.ghost_name }
-    ensures place { w.new.place ≡ w.old.place + length (written (signal_fields signal)) }
+    ensures place { w.new.place ≡ w.old.place + length (value_bits (signal_fields signal)) }
     ensures written { bits_before w.new.place w.new.bytes.now
-        ≡ bits_before w.old.place w.old.bytes.now ++ written (signal_fields signal) }
+        ≡ bits_before w.old.place w.old.bytes.now ++ value_bits (signal_fields signal) }
     ensures room { length w.new.bytes.now ≡ length w.old.bytes.now }
 {
     w.put_flag(true);
@@ -179,11 +181,11 @@ pub fn put_signal(w: &mut BitWriter<'_>, signal: SignalField)
 /// An index behind its flag, or the flag alone.
 #[tactic(auto, using(field_rows::proofs::Written::writing))]
 fn put_index(w: &mut BitWriter<'_>, index: Option<u32>)
-    requires { w.old.place + length (written (index_fields index)) ≤ 8 * length w.old.bytes.now }
+    requires { w.old.place + length (value_bits (index_fields index)) ≤ 8 * length w.old.bytes.now }
     ensures same_reference { w.new.bytes.ghost_name ≡ w.old.bytes.ghost_name }
-    ensures place { w.new.place ≡ w.old.place + length (written (index_fields index)) }
+    ensures place { w.new.place ≡ w.old.place + length (value_bits (index_fields index)) }
     ensures written { bits_before w.new.place w.new.bytes.now
-        ≡ bits_before w.old.place w.old.bytes.now ++ written (index_fields index) }
+        ≡ bits_before w.old.place w.old.bytes.now ++ value_bits (index_fields index) }
     ensures room { length w.new.bytes.now ≡ length w.old.bytes.now }
 {
     let Some(index) = index else {
@@ -197,11 +199,12 @@ fn put_index(w: &mut BitWriter<'_>, index: Option<u32>)
 /// A colour specification, or its default.
 #[tactic(auto, using(field_rows::proofs::Written::writing))]
 pub fn put_colour(w: &mut BitWriter<'_>, colour: ColourField)
-    requires { w.old.place + length (written (colour_fields colour)) ≤ 8 * length w.old.bytes.now }
+    requires { w.old.place + length (value_bits (colour_fields colour))
+        ≤ 8 * length w.old.bytes.now }
     ensures same_reference { w.new.bytes.ghost_name ≡ w.old.bytes.ghost_name }
-    ensures place { w.new.place ≡ w.old.place + length (written (colour_fields colour)) }
+    ensures place { w.new.place ≡ w.old.place + length (value_bits (colour_fields colour)) }
     ensures written { bits_before w.new.place w.new.bytes.now
-        ≡ bits_before w.old.place w.old.bytes.now ++ written (colour_fields colour) }
+        ≡ bits_before w.old.place w.old.bytes.now ++ value_bits (colour_fields colour) }
     ensures room { length w.new.bytes.now ≡ length w.old.bytes.now }
 {
     match colour {
@@ -227,11 +230,12 @@ pub fn put_colour(w: &mut BitWriter<'_>, colour: ColourField)
 /// A picture coding mode.
 #[tactic(auto, using(field_rows::proofs::Written::writing))]
 pub fn put_coding(w: &mut BitWriter<'_>, coding: u32)
-    requires { w.old.place + length (written (coding_fields coding)) ≤ 8 * length w.old.bytes.now }
+    requires { w.old.place + length (value_bits (coding_fields coding))
+        ≤ 8 * length w.old.bytes.now }
     ensures same_reference { w.new.bytes.ghost_name ≡ w.old.bytes.ghost_name }
-    ensures place { w.new.place ≡ w.old.place + length (written (coding_fields coding)) }
+    ensures place { w.new.place ≡ w.old.place + length (value_bits (coding_fields coding)) }
     ensures written { bits_before w.new.place w.new.bytes.now
-        ≡ bits_before w.old.place w.old.bytes.now ++ written (coding_fields coding) }
+        ≡ bits_before w.old.place w.old.bytes.now ++ value_bits (coding_fields coding) }
     ensures room { length w.new.bytes.now ≡ length w.old.bytes.now }
 {
     w.put_uint(coding);

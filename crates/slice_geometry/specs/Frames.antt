@@ -10,6 +10,7 @@ pub record Frame : Type 0 where
   pub luma_depth : ℕ
   pub colour_depth : ℕ
 
+-- the numbers of a shape, without what is known of them
 abbrev pub frame_of : PictureShape → Frame
 frame_of shape =
     record { luma = shape.luma; colour = shape.colour; luma_depth = shape.luma_depth; colour_depth = shape.colour_depth }

@@ -27,9 +27,11 @@ slice_end length count index = slice_start length count (index + 1)
 abbrev pub holding : ℕ → ℕ → ℕ → ℕ
 holding count length x = ((x + 1) * count - 1) / length
 
+-- a component's size with each length padded (13.2.3)
 abbrev pub padded_size : ℕ → Size → Size
 padded_size depth size = record { w = padded_length depth size.w; h = padded_length depth size.h }
 
+-- the size of a level's subbands, of a component's size
 abbrev pub band_size : ℕ → ℕ → Size → Size
 band_size depth level size = record { w = band_length depth level size.w; h = band_length depth level size.h }
 

@@ -10,6 +10,7 @@ use Rattle.slice_geometry.specs.Geometry.{holding, slice_rect}
 abbrev pub SharesSumToTheWhole : Type 0
 SharesSumToTheWhole = (a b n : ℕ) → 1 ≤ b → sum (map (slice_bytes a b) (range_with_len 0 n)) ≡ bytes_before a b n
 
+-- Where a slice has at least one byte on average, each has one.
 abbrev pub EachShareIsAtLeastOne : Type 0
 EachShareIsAtLeastOne = (a b n : ℕ) → 1 ≤ b → b ≤ a → 1 ≤ slice_bytes a b n
 
@@ -19,6 +20,7 @@ pub record IsHeld (s : Slicing) (band : Size) (y x : ℕ) : Type 0 where
   pub down : holding s.slices_y band.h y < s.slices_y
   pub inside : IsInRect (slice_rect s band (holding s.slices_x band.w x) (holding s.slices_y band.h y)) y x
 
+-- each place of a band lies in a slice
 abbrev pub EachPlaceIsHeld : Type 0
 EachPlaceIsHeld = (s : Slicing) (band : Size) (y x : ℕ) → AreSlicesAllowed s → x < band.w → y < band.h → IsHeld s band y x
 

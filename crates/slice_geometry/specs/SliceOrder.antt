@@ -44,9 +44,11 @@ place_number s size sx sy level orient y x =
 
 -- ---- bands by their numbers in this order, from 0 on
 
+-- the level of subband k of a component, in the order of the stream
 abbrev pub level_of : ℕ → ℕ
 level_of k = (k + 2) / 3
 
+-- and its orientation: 0 to 3 for LL, HL, LH, HH
 abbrev pub orient_of : ℕ → ℕ
 orient_of k = if k == 0 then 0 else k + 3 - 3 * level_of k
 

@@ -12,6 +12,7 @@ pub record Slicing : Type 0 where
   pub a : ℕ
   pub b : ℕ
 
+-- how many slices a picture has
 abbrev pub slice_count : Slicing → ℕ
 slice_count s = s.slices_x * s.slices_y
 

@@ -4,8 +4,8 @@ use Rattle.slice_geometry.specs.declared.unit_list.UnitShape.{UnitShape}
 use Rattle.slice_geometry.specs.Slicing.{bytes_before}
 
 -- the bytes of a unit: those before its first slice, and those of its slices
-abbrev pub unit_length : UnitShape → ℕ
-unit_length u = u.head + bytes_before u.a u.b u.slices
+abbrev pub shape_length : UnitShape → ℕ
+shape_length u = u.head + bytes_before u.a u.b u.slices
 
 -- the limits of a unit, which are those of its slices
 pub record IsUnitAllowed (u : UnitShape) : Type 0 where
@@ -17,7 +17,7 @@ pub record IsUnitAllowed (u : UnitShape) : Type 0 where
 -- the units stand one after another from a place on, and end at the total
 abbrev pub ShapesInTurn : ℕ → List UnitShape → ℕ → Type 0
 ShapesInTurn place [] total = total ≡ place
-ShapesInTurn place (u ∷ units) total = (u.start ≡ place) × IsUnitAllowed u × ShapesInTurn (place + unit_length u) units total
+ShapesInTurn place (u ∷ units) total = (u.start ≡ place) × IsUnitAllowed u × ShapesInTurn (place + shape_length u) units total
 
 -- units, the bytes that they have together, and for how many more there is room
 pub record UnitShapesSeen : Type 0 where

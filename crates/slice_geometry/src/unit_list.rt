@@ -1,5 +1,5 @@
 ghost use Rattle.std.specs.Prelude.{◌≡◌, ◌+◌, ◌^◌, ◌<◌, ◌≤◌, [], ◌∷◌, ◌++◌, length, OnOk, slice_get, Some};
-ghost use Rattle.slice_geometry.specs.UnitLengths.{IsUnitAllowed, ShapesInTurn, unit_length};
+ghost use Rattle.slice_geometry.specs.UnitLengths.{IsUnitAllowed, ShapesInTurn, shape_length};
 
 use planes::NoMemory;
 use std::alloc::Global;
@@ -70,9 +70,9 @@ impl UnitShapes {
         requires room { 1 ≤ self.old.spare }
         requires start { unit.start ≡ self.old.total }
         requires allowed { IsUnitAllowed unit }
-        requires most { self.old.total + unit_length unit ≤ 2 ^ 40 }
+        requires most { self.old.total + shape_length unit ≤ 2 ^ 40 }
         ensures units { self.new.units ≡ self.old.units ++ unit ∷ [] }
-        ensures total { self.new.total ≡ self.old.total + unit_length unit }
+        ensures total { self.new.total ≡ self.old.total + shape_length unit }
         ensures room { self.new.spare + 1 ≡ self.old.spare }
     {
         let slices = u64::from(unit.slices) * u64::from(unit.a) / u64::from(unit.b);

@@ -13,9 +13,9 @@ use Rattle.stream_rows.specs.Units.{Past, nothing_yet, DataUnit, unit_behind, re
 use Rattle.stream_rows.specs.Streams.{bytes_between, ends, Entry, UnitsBy, IsStreamFromBy, IsRefusalFromBy, limit, past_limit, IsFaultBy, WithinLimit, PastLimit, BehindLimit}
 use Rattle.stream_rows.proofs.StreamLaws.{stands_front, refused_front, last_cut, full_front}
 use Rattle.stream_rows.proofs.Answering.{IsBytes, fit_drop, near, between, after-place, unit-taken, last-front, all-near, behind_limit}
-use Rattle.stream_cut.specs.Skim.{skim_rows, skimmed, IsSkimStream}
+use Rattle.stream_cut.specs.Skim.{skim_rows, skim_grammar, IsSkimStream}
 use Rattle.stream_cut.specs.Cut.{Piece}
-use Rattle.stream_cut.specs.CutLaws.{bytes_in, StandWith, StandWithin, IsStreamWith, HasPieces, HasPiecesBefore, IsMadeOf}
+use Rattle.stream_cut.specs.CutLaws.{piece_bytes, StandWith, StandWithin, IsStreamWith, HasPieces, HasPiecesBefore, IsMadeOf}
 use Rattle.stream_cut.proofs.SkimTables.{skim_table}
 use Rattle.stream_cut.proofs.Cuts.{by_reading, last_reading, fit_behind}
 
@@ -31,7 +31,7 @@ made pieces = map (λ (p : Piece). p.unit) pieces
 record Cutup (z : Past) (v : List ℕ) (es : List Entry) (z' : Past) (c' : Cursor) : Type 0 where
   pieces : List Piece
   tail : List ℕ
-  parts : v ≡ bytes_in pieces ++ tail
+  parts : v ≡ piece_bytes pieces ++ tail
   at : c' ≡ bytes_at z'.place (near z' tail)
   stand : StandWithin z pieces tail z'
   same : made pieces ≡ entries es
@@ -60,14 +60,14 @@ cut_up (e ∷ es) z z' v c' le fits f =
     let others : UnitsBy skim_rows t.left (bytes_at t.left.place (near t.left rest)) es z' c'
     = subst (λ (c : Cursor). UnitsBy skim_rows t.left c es z' c') t.at (subst (λ (x : Past). UnitsBy skim_rows x f.0 es z' c') (sym t.is_left) f.3) in
     let m = cut_up es t.left z' rest c' (omega (arith, t.place, t.inside, length-take (limit - z.place) v)) (fit_drop t.size v fits) others in
-    let whole : v ≡ bytes ++ (bytes_in m.pieces ++ m.tail) = sym (take-append-drop t.size v) ∙ ap (λ l. bytes ++ l) m.parts in
-    let front : front_within limit past_limit skimmed z v ≡ Stands (length bytes) e.unit = t.front ∙ ap (λ n. Stands n e.unit) (sym long) in
+    let whole : v ≡ bytes ++ (piece_bytes m.pieces ++ m.tail) = sym (take-append-drop t.size v) ∙ ap (λ l. bytes ++ l) m.parts in
+    let front : front_within limit past_limit skim_grammar z v ≡ Stands (length bytes) e.unit = t.front ∙ ap (λ n. Stands n e.unit) (sym long) in
     record {
       pieces = record { unit = e.unit; bytes = bytes } ∷ m.pieces;
       tail = m.tail;
-      parts = whole ∙ sym (append_assoc bytes (bytes_in m.pieces) m.tail);
+      parts = whole ∙ sym (append_assoc bytes (piece_bytes m.pieces) m.tail);
       at = m.at;
-      stand = (subst (λ l. front_within limit past_limit skimmed z l ≡ Stands (length bytes) e.unit) whole front, subst (λ (x : Past). StandWithin x m.pieces m.tail z') (sym t.taken) m.stand);
+      stand = (subst (λ l. front_within limit past_limit skim_grammar z l ≡ Stands (length bytes) e.unit) whole front, subst (λ (x : Past). StandWithin x m.pieces m.tail z') (sym t.taken) m.stand);
       same = ap (λ l. e.unit ∷ l) m.same;
       fits = m.fits;
       total = omega (arith, m.total, t.place, inside, length-drop t.size v);
@@ -75,13 +75,13 @@ cut_up (e ∷ es) z z' v c' le fits f =
     }
 
 -- units that stand within the limit stand
-stand_with : (pieces : List Piece) (z left : Past) (tail : List ℕ) → z.place + length (bytes_in pieces ++ tail) ≤ limit → StandWithin z pieces tail left → StandWith skim_rows z pieces tail left
+stand_with : (pieces : List Piece) (z left : Past) (tail : List ℕ) → z.place + length (piece_bytes pieces ++ tail) ≤ limit → StandWithin z pieces tail left → StandWith skim_rows z pieces tail left
 stand_with [] z left tail few f = f
 stand_with (p ∷ pieces) z left tail few f =
-    let all = bytes_in pieces ++ tail in
-    let joined : length ((p.bytes ++ bytes_in pieces) ++ tail) ≡ length p.bytes + length all = ap length (append_assoc p.bytes (bytes_in pieces) tail) ∙ length-append p.bytes all in
+    let all = piece_bytes pieces ++ tail in
+    let joined : length ((p.bytes ++ piece_bytes pieces) ++ tail) ≡ length p.bytes + length all = ap length (append_assoc p.bytes (piece_bytes pieces) tail) ∙ length-append p.bytes all in
     let here : length (p.bytes ++ all) ≤ limit - z.place = omega (arith, few, joined, length-append p.bytes all) in
-    (sym (front_before limit past_limit skimmed z (p.bytes ++ all) here) ∙ f.0, stand_with pieces (after z p.unit p.bytes) left tail (omega (arith, few, joined, after-place z p.unit p.bytes)) f.1)
+    (sym (front_before limit past_limit skim_grammar z (p.bytes ++ all) here) ∙ f.0, stand_with pieces (after z p.unit p.bytes) left tail (omega (arith, few, joined, after-place z p.unit p.bytes)) f.1)
 
 -- the units of an input within the limit
 cut_whole : (es : List Entry) (z' : Past) (bytes : List ℕ) (c' : Cursor) → length bytes ≤ limit → IsBytes bytes → UnitsBy skim_rows nothing_yet (cursor_at bytes 0) es z' c' → (m : Cutup nothing_yet bytes es z' c') × (length m.tail ≤ limit - z'.place) × (c' ≡ bytes_at z'.place m.tail)
@@ -111,19 +111,19 @@ has_pieces bytes es last fits s =
 
 -- ---- a refusal
 
-bytes_more : (pieces : List Piece) (p : Piece) (tail : List ℕ) → bytes_in pieces ++ (p.bytes ++ tail) ≡ bytes_in (pieces ++ p ∷ []) ++ tail
+bytes_more : (pieces : List Piece) (p : Piece) (tail : List ℕ) → piece_bytes pieces ++ (p.bytes ++ tail) ≡ piece_bytes (pieces ++ p ∷ []) ++ tail
 bytes_more [] p tail = ap (λ l. l ++ tail) (sym (append-nil p.bytes))
 bytes_more (q ∷ pieces) p tail =
     let more = pieces ++ p ∷ [] in
-    append_assoc q.bytes (bytes_in pieces) (p.bytes ++ tail) ∙ ap (λ l. q.bytes ++ l) (bytes_more pieces p tail) ∙ sym (append_assoc q.bytes (bytes_in more) tail)
+    append_assoc q.bytes (piece_bytes pieces) (p.bytes ++ tail) ∙ ap (λ l. q.bytes ++ l) (bytes_more pieces p tail) ∙ sym (append_assoc q.bytes (piece_bytes more) tail)
 
 -- one unit more
-stand_more : (pieces : List Piece) (z left : Past) (p : Piece) (tail : List ℕ) → StandWithin z pieces (p.bytes ++ tail) left → front_within limit past_limit skimmed left (p.bytes ++ tail) ≡ Stands (length p.bytes) p.unit
+stand_more : (pieces : List Piece) (z left : Past) (p : Piece) (tail : List ℕ) → StandWithin z pieces (p.bytes ++ tail) left → front_within limit past_limit skim_grammar left (p.bytes ++ tail) ≡ Stands (length p.bytes) p.unit
     → StandWithin z (pieces ++ p ∷ []) tail (after left p.unit p.bytes)
-stand_more [] z left p tail f e = (subst (λ (x : Past). front_within limit past_limit skimmed x (p.bytes ++ tail) ≡ Stands (length p.bytes) p.unit) (sym f) e, ap (λ (x : Past). after x p.unit p.bytes) f)
+stand_more [] z left p tail f e = (subst (λ (x : Past). front_within limit past_limit skim_grammar x (p.bytes ++ tail) ≡ Stands (length p.bytes) p.unit) (sym f) e, ap (λ (x : Past). after x p.unit p.bytes) f)
 stand_more (q ∷ pieces) z left p tail f e =
-    let joined : bytes_in pieces ++ (p.bytes ++ tail) ≡ bytes_in (pieces ++ p ∷ []) ++ tail = bytes_more pieces p tail in
-    (subst (λ l. front_within limit past_limit skimmed z (q.bytes ++ l) ≡ Stands (length q.bytes) q.unit) joined f.0, stand_more pieces (after z q.unit q.bytes) left p tail f.1 e)
+    let joined : piece_bytes pieces ++ (p.bytes ++ tail) ≡ piece_bytes (pieces ++ p ∷ []) ++ tail = bytes_more pieces p tail in
+    (subst (λ l. front_within limit past_limit skim_grammar z (q.bytes ++ l) ≡ Stands (length q.bytes) q.unit) joined f.0, stand_more pieces (after z q.unit q.bytes) left p tail f.1 e)
 
 -- within the limit
 before_within : (bytes : List ℕ) (es : List Entry) (fields : List Value) (fault : Fault Reason) → IsBytes bytes → length bytes ≤ limit → IsRefusalFromBy skim_rows nothing_yet (cursor_at bytes 0) es fields fault → HasPiecesBefore bytes es fault
@@ -136,7 +136,7 @@ before_within bytes es fields fault fits le f =
       left = f.left;
       parts = m.parts;
       units = m.stand;
-      refused = front_near limit past_limit skimmed f.left m.tail w.1
+      refused = front_near limit past_limit skim_grammar f.left m.tail w.1
           ∙ refused_front skim_rows skim_table f.left m.tail false fields fault (subst (λ (c : Cursor). IsRefused reason_of (skim_rows f.left) fields c fault) w.2 f.refused);
       same = m.same;
     }
@@ -152,7 +152,7 @@ before_far bytes es fields fault fits lt f =
       left = f.left;
       parts = m.parts;
       units = m.stand;
-      refused = front_past limit past_limit skimmed f.left m.tail more
+      refused = front_past limit past_limit skim_grammar f.left m.tail more
           ∙ refused_front skim_rows skim_table f.left (near f.left m.tail) true fields fault (subst (λ (c : Cursor). IsRefused reason_of (skim_rows f.left) fields c fault) m.at f.refused);
       same = m.same;
     }
@@ -168,16 +168,16 @@ before_more bytes others last fits lt f =
     let size : length here ≡ limit - f.left.place = omega (arith, more, length-take (limit - f.left.place) m.tail) in
     let p : Piece = record { unit = last.unit; bytes = here } in
     let tail_is : m.tail ≡ here ++ rest = sym (take-append-drop (limit - f.left.place) m.tail) in
-    let front : front_within limit past_limit skimmed f.left m.tail ≡ Stands (length here) last.unit
-    = front_past limit past_limit skimmed f.left m.tail more ∙ last_cut skim_rows skim_table f.left here last.fields last.unit f.behind (subst (λ (c : Cursor). Stand (skim_rows f.left) last.fields c last.unit f.behind) m.at f.end) f.last_one in
+    let front : front_within limit past_limit skim_grammar f.left m.tail ≡ Stands (length here) last.unit
+    = front_past limit past_limit skim_grammar f.left m.tail more ∙ last_cut skim_rows skim_table f.left here last.fields last.unit f.behind (subst (λ (c : Cursor). Stand (skim_rows f.left) last.fields c last.unit f.behind) m.at f.end) f.last_one in
     let left = after f.left last.unit here in
     let place : left.place ≡ limit = after-place f.left last.unit here ∙ omega (arith, size, m.small) in
     record {
       pieces = m.pieces ++ p ∷ [];
       tail = rest;
       left = left;
-      parts = m.parts ∙ ap (λ l. bytes_in m.pieces ++ l) tail_is ∙ bytes_more m.pieces p rest;
-      units = stand_more m.pieces nothing_yet f.left p rest (subst (λ l. StandWithin nothing_yet m.pieces l f.left) tail_is m.stand) (subst (λ l. front_within limit past_limit skimmed f.left l ≡ Stands (length here) last.unit) tail_is front);
+      parts = m.parts ∙ ap (λ l. piece_bytes m.pieces ++ l) tail_is ∙ bytes_more m.pieces p rest;
+      units = stand_more m.pieces nothing_yet f.left p rest (subst (λ l. StandWithin nothing_yet m.pieces l f.left) tail_is m.stand) (subst (λ l. front_within limit past_limit skim_grammar f.left l ≡ Stands (length here) last.unit) tail_is front);
       refused = full_front skim_rows skim_table left rest place (omega (arith, size, more, length-drop (limit - f.left.place) m.tail));
       same = made_more m.pieces p ∙ ap (λ l. l ++ last.unit ∷ []) m.same ∙ sym (entries_more others last);
     }
@@ -204,7 +204,7 @@ record Stood (z : Past) (bytes more : List ℕ) (unit : DataUnit) : Type 0 where
   stand : Stand (skim_rows z) fields (bytes_at z.place (bytes ++ more)) unit (bytes_at (z.place + length bytes) more)
   between : bytes_between (bytes_at z.place (bytes ++ more)) (bytes_at (z.place + length bytes) more) ≡ bytes
 
-stood_by : (z : Past) (bytes more : List ℕ) (unit : DataUnit) (behind : Cursor) → IsBytes (bytes ++ more) → unit_at skimmed z (bytes ++ more) ≡ Ok (unit, behind) → length bytes ≡ size_to (bytes ++ more) behind → Stood z bytes more unit
+stood_by : (z : Past) (bytes more : List ℕ) (unit : DataUnit) (behind : Cursor) → IsBytes (bytes ++ more) → unit_at skim_grammar z (bytes ++ more) ≡ Ok (unit, behind) → length bytes ≡ size_to (bytes ++ more) behind → Stood z bytes more unit
 stood_by z bytes more unit behind fits e size =
     let all = bytes ++ more in
     let f = found_fields reason_of (skim_rows z) (bytes_at z.place all) unit behind e in
@@ -242,21 +242,21 @@ finishes_on unit behind n m e = by (unit_behind unit) (is_nil behind.rest) e
 record Uncut (z : Past) (pieces : List Piece) (tail : List ℕ) (z' : Past) : Type 0 where
   es : List Entry
   same : entries es ≡ made pieces
-  units : UnitsBy skim_rows z (bytes_at z.place (bytes_in pieces ++ tail)) es z' (bytes_at z'.place tail)
+  units : UnitsBy skim_rows z (bytes_at z.place (piece_bytes pieces ++ tail)) es z' (bytes_at z'.place tail)
 
-uncut : (pieces : List Piece) (z z' : Past) (tail : List ℕ) → IsBytes (bytes_in pieces ++ tail) → StandWith skim_rows z pieces tail z' → Uncut z pieces tail z'
+uncut : (pieces : List Piece) (z z' : Past) (tail : List ℕ) → IsBytes (piece_bytes pieces ++ tail) → StandWith skim_rows z pieces tail z' → Uncut z pieces tail z'
 uncut [] z z' tail fits f = record { es = []; same = refl; units = (f, ap (λ (x : Past). bytes_at x.place tail) f) }
 uncut (p ∷ pieces) z z' tail fits f =
-    let all = bytes_in pieces ++ tail in
-    let joined : (p.bytes ++ bytes_in pieces) ++ tail ≡ p.bytes ++ all = append_assoc p.bytes (bytes_in pieces) tail in
+    let all = piece_bytes pieces ++ tail in
+    let joined : (p.bytes ++ piece_bytes pieces) ++ tail ≡ p.bytes ++ all = append_assoc p.bytes (piece_bytes pieces) tail in
     let fits' : IsBytes (p.bytes ++ all) = subst IsBytes joined fits in
-    let r = by_reading z (p.bytes ++ all) (length p.bytes) p.unit (unit_at skimmed z (p.bytes ++ all)) refl f.0 in
+    let r = by_reading z (p.bytes ++ all) (length p.bytes) p.unit (unit_at skim_grammar z (p.bytes ++ all)) refl f.0 in
     let s = stood_by z p.bytes all p.unit r.0 fits' r.1 r.2 in
     let next = after z p.unit p.bytes in
     let mid = bytes_at (z.place + length p.bytes) all in
     let m = uncut pieces next z' tail (fit_behind p.bytes all fits') f.1 in
     let there : bytes_at next.place all ≡ mid = ap (λ n. bytes_at n all) (after-place z p.unit p.bytes) in
-    let still : ends p.unit mid ≡ false = stands_on p.unit mid (length p.bytes) (size_to (p.bytes ++ all) mid) (ap (front_by skimmed (λ fault. fault) false (p.bytes ++ all)) (sym (Stand-read reason_of (skim_rows z) s.fields (bytes_at z.place (p.bytes ++ all)) p.unit mid s.stand)) ∙ f.0) in
+    let still : ends p.unit mid ≡ false = stands_on p.unit mid (length p.bytes) (size_to (p.bytes ++ all) mid) (ap (front_by skim_grammar (λ fault. fault) false (p.bytes ++ all)) (sym (Stand-read reason_of (skim_rows z) s.fields (bytes_at z.place (p.bytes ++ all)) p.unit mid s.stand)) ∙ f.0) in
     let here : UnitsBy skim_rows z (bytes_at z.place (p.bytes ++ all)) (record { fields = s.fields; unit = p.unit } ∷ m.es) z' (bytes_at z'.place tail) =
     (mid, s.stand, still, subst (λ l. UnitsBy skim_rows (after z p.unit l) mid m.es z' (bytes_at z'.place tail)) (sym s.between) (subst (λ c. UnitsBy skim_rows next c m.es z' (bytes_at z'.place tail)) there m.units)) in
     record {
@@ -269,7 +269,7 @@ pub made_of : (bytes : List ℕ) (pieces : List Piece) (last : Piece) → IsByte
 made_of bytes pieces last fits within s =
     let fits' = subst IsBytes s.parts fits in
     let u = uncut pieces nothing_yet s.left last.bytes fits' s.units in
-    let r = last_reading s.left last.bytes (length last.bytes) last.unit (unit_at skimmed s.left last.bytes) refl s.end in
+    let r = last_reading s.left last.bytes (length last.bytes) last.unit (unit_at skim_grammar s.left last.bytes) refl s.end in
     let f = found_fields reason_of (skim_rows s.left) (bytes_at s.left.place last.bytes) last.unit r.0 r.1 in
     record {
       es = u.es;
@@ -282,7 +282,7 @@ made_of bytes pieces last fits within s =
           behind = r.0;
           units = subst (λ l. UnitsBy skim_rows nothing_yet (bytes_at 0 l) u.es s.left (bytes_at s.left.place last.bytes)) (sym s.parts) u.units;
           end = f.1;
-          last_one = finishes_on last.unit r.0 (length last.bytes) (size_to last.bytes r.0) (ap (front_by skimmed (λ fault. fault) false last.bytes) (sym r.1) ∙ s.end);
+          last_one = finishes_on last.unit r.0 (length last.bytes) (size_to last.bytes r.0) (ap (front_by skim_grammar (λ fault. fault) false last.bytes) (sym r.1) ∙ s.end);
         };
       };
       same = u.same;

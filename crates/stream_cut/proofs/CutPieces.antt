@@ -9,7 +9,7 @@ use Rattle.slice_geometry.specs.declared.unit_list.UnitShape.{UnitShape}
 use Rattle.slice_geometry.specs.Slicing.{slice_count, total_bytes}
 use Rattle.transform_params.specs.Params.{Params}
 use Rattle.stream_rows.specs.Units.{Past, First, DataUnit, Sequence, Repeated, Picture, Skipped, End, after}
-use Rattle.stream_cut.specs.Cut.{Frames, is_in, cut_header_unit, cut_picture_unit, cut_end_unit, Cutting, frame_now, payload_of, header_due, length_before, cut_next, end_due, Piece, left_from, header_shapes, end_shapes, cut_shapes, closing_shapes_by}
+use Rattle.stream_cut.specs.Cut.{Frames, is_in, cut_header_unit, cut_picture_unit, cut_end_unit, Cutting, frame_now, payload_of, header_due, length_ahead, cut_next, end_due, Piece, left_from, header_shapes, end_shapes, cut_shapes, closing_shapes_by}
 use Rattle.stream_cut.specs.CutLaws.{header_found, end_found, cut_found, closing_found, found_from, shapes_from, shapes_read}
 
 pub length-header : (payload : List ℕ) → length (cut_header_unit payload) ≡ 13 + length payload
@@ -38,7 +38,7 @@ end_pieces (Some previous) = end_piece previous ∷ []
 abbrev pub cut_pieces : Frames → Past → Cutting → DataUnit → List ℕ → List Piece
 cut_pieces frames z w (Picture parts number p slices) bytes =
     if is_in frames (frame_now z w)
-    then header_pieces parts z w.previous ++ picture_piece (Picture parts number p slices) (length_before z w.previous) bytes ∷ [] else []
+    then header_pieces parts z w.previous ++ picture_piece (Picture parts number p slices) (length_ahead z w.previous) bytes ∷ [] else []
 cut_pieces frames z w End bytes = end_pieces w.previous
 cut_pieces frames z w (Sequence parts) bytes = []
 cut_pieces frames z w Repeated bytes = []
@@ -75,7 +75,7 @@ unit_made frames z w End bytes = by w.previous
     by (Some previous) = refl
 unit_made frames z w (Picture parts number p slices) bytes = by (is_in frames (frame_now z w)) w.previous
   where
-    by : (c : Bool) (o : Option ℕ) → made (cond c (header_pieces parts z o ++ picture_piece (Picture parts number p slices) (length_before z o) bytes ∷ []) []) ≡ cond c (header_found parts o ++ Picture parts number p slices ∷ []) []
+    by : (c : Bool) (o : Option ℕ) → made (cond c (header_pieces parts z o ++ picture_piece (Picture parts number p slices) (length_ahead z o) bytes ∷ []) []) ≡ cond c (header_found parts o ++ Picture parts number p slices ∷ []) []
     by true None = refl
     by true (Some previous) = refl
     by false o = refl
@@ -121,7 +121,7 @@ record Counted (v : Past) (written : ℕ) (pieces : List Piece) (shapes : List U
   read : (more : List Piece) → shapes_read v (pieces ++ more) ≡ shapes ++ shapes_read behind more
 
 picture_counted : (z v : Past) (n : ℕ) (parts : HeaderParts) (number : ℕ) (p : Params) (slices : List (List ℕ)) (bytes : List ℕ) → v.place ≡ n → 13 ≤ length bytes → (o : Option ℕ)
-    → (let unit = Picture parts number p slices in Counted v (n + length (header_due z o ++ cut_picture_unit (length_before z o) (drop 13 bytes))) (header_pieces parts z o ++ picture_piece unit (length_before z o) bytes ∷ []) (header_shapes z n o ++ pictured p (n + length (header_due z o)) (length bytes) ∷ []))
+    → (let unit = Picture parts number p slices in Counted v (n + length (header_due z o ++ cut_picture_unit (length_ahead z o) (drop 13 bytes))) (header_pieces parts z o ++ picture_piece unit (length_ahead z o) bytes ∷ []) (header_shapes z n o ++ pictured p (n + length (header_due z o)) (length bytes) ∷ []))
 picture_counted z v n parts number p slices bytes at long (Some previous) =
     let pu = cut_picture_unit previous (drop 13 bytes) in
     let size : length pu ≡ length bytes = omega (arith, length-picture previous (drop 13 bytes), length-drop 13 bytes, long) in
@@ -162,9 +162,9 @@ unit_counted frames z w v End bytes at long = end_counted v w.written at w.previ
 unit_counted frames z w v (Picture parts number p slices) bytes at long = by (is_in frames (frame_now z w))
   where
     by : (c : Bool)
-        → (let due = header_due z w.previous ++ cut_picture_unit (length_before z w.previous) (drop HEAD_SIZE bytes) in
+        → (let due = header_due z w.previous ++ cut_picture_unit (length_ahead z w.previous) (drop HEAD_SIZE bytes) in
         let next : Cutting = cond c (record w { written = w.written + length (cond c due []); previous = Some (HEAD_SIZE + length (drop HEAD_SIZE bytes)) }) w in
-        Counted v next.written (cond c (header_pieces parts z w.previous ++ picture_piece (Picture parts number p slices) (length_before z w.previous) bytes ∷ []) [])
+        Counted v next.written (cond c (header_pieces parts z w.previous ++ picture_piece (Picture parts number p slices) (length_ahead z w.previous) bytes ∷ []) [])
         (cond c (header_shapes z w.written w.previous ++ pictured p (w.written + length (header_due z w.previous)) (length bytes) ∷ []) []))
     by true = picture_counted z v w.written parts number p slices bytes at long w.previous
     by false = nothing_counted v w.written at

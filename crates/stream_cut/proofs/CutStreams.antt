@@ -10,8 +10,8 @@ use Rattle.sequence_header.specs.declared.parts.HeaderParts.{HeaderParts}
 use Rattle.stream_rows.specs.Units.{Past, nothing_yet, First, DataUnit, Sequence, Repeated, Picture, Skipped, End, after}
 use Rattle.stream_rows.specs.Streams.{Entry}
 use Rattle.stream_cut.specs.SkimLaws.{UnitHolds}
-use Rattle.stream_cut.specs.Cut.{Frames, is_in, cut_header_unit, cut_picture_unit, cut_end_unit, Cutting, nothing_cut, frame_now, payload_of, header_due, length_before, end_due, cut_text, cut_next, or_else_some, closing_by, closing, Piece, front_from, left_from, cut_of}
-use Rattle.stream_cut.specs.CutLaws.{bytes_in, header_found, end_found, cut_found, closing_found, found_from, units_of_cut, frames_behind, chosen_one, chosen_from, pictures_among, CutsToStreams}
+use Rattle.stream_cut.specs.Cut.{Frames, is_in, cut_header_unit, cut_picture_unit, cut_end_unit, Cutting, nothing_cut, frame_now, payload_of, header_due, length_ahead, end_due, cut_text, cut_next, or_else_some, closing_by, closing, Piece, front_from, left_from, cut_of}
+use Rattle.stream_cut.specs.CutLaws.{piece_bytes, header_found, end_found, cut_found, closing_found, found_from, units_of_cut, frames_behind, chosen_one, chosen_from, piece_pictures, CutsToStreams}
 use Rattle.stream_cut.proofs.Fields.{IsBytes, fit_drop}
 use Rattle.stream_cut.proofs.Skimming.{skims}
 use Rattle.stream_cut.proofs.Cuts.{cuts_to_a_skimmed_stream, cut_has_shapes, fit_behind}
@@ -60,8 +60,8 @@ text_fits frames z w Skipped bytes f g = tt
 text_fits frames z w End bytes f g = end_due_fits w.previous
 text_fits frames z w (Picture parts number p slices) bytes f g = by (is_in frames (frame_now z w))
   where
-    by : (c : Bool) → IsBytes (cond c (header_due z w.previous ++ cut_picture_unit (length_before z w.previous) (drop HEAD_SIZE bytes)) [])
-    by true = fit_append (header_due z w.previous) (cut_picture_unit (length_before z w.previous) (drop 13 bytes)) (header_due_fits z w.previous f) (picture_fits (length_before z w.previous) (drop 13 bytes) (fit_drop 13 bytes g))
+    by : (c : Bool) → IsBytes (cond c (header_due z w.previous ++ cut_picture_unit (length_ahead z w.previous) (drop HEAD_SIZE bytes)) [])
+    by true = fit_append (header_due z w.previous) (cut_picture_unit (length_ahead z w.previous) (drop 13 bytes)) (header_due_fits z w.previous f) (picture_fits (length_ahead z w.previous) (drop 13 bytes) (fit_drop 13 bytes g))
     by false = tt
 
 first_after : (z : Past) (unit : DataUnit) (bytes : List ℕ) → FirstFits z.first → IsBytes bytes → FirstFits (after z unit bytes).first
@@ -95,17 +95,17 @@ closing_fits w f = by w.previous w.written w.first f
     by None zero None f = tt
     by None (suc n) first f = tt
 
-all_fit : (frames : Frames) (pieces : List Piece) (z : Past) (w : Cutting) → IsBytes (bytes_in pieces) → FirstFits z.first → FirstFits w.first → IsBytes (front_from frames z w pieces ++ closing (left_from frames z w pieces))
+all_fit : (frames : Frames) (pieces : List Piece) (z : Past) (w : Cutting) → IsBytes (piece_bytes pieces) → FirstFits z.first → FirstFits w.first → IsBytes (front_from frames z w pieces ++ closing (left_from frames z w pieces))
 all_fit frames [] z w g f h = closing_fits w h
 all_fit frames (p ∷ pieces) z w g f h =
-    let one = fit_front p.bytes (bytes_in pieces) g in
+    let one = fit_front p.bytes (piece_bytes pieces) g in
     let z1 = after z p.unit p.bytes in
     let w1 = cut_next frames z w p.unit p.bytes in
     let text = cut_text frames z w p.unit p.bytes in
     let close = closing (left_from frames z1 w1 pieces) in
     subst IsBytes (sym (append_assoc text (front_from frames z1 w1 pieces) close))
     (fit_append text (front_from frames z1 w1 pieces ++ close) (text_fits frames z w p.unit p.bytes f one)
-    (all_fit frames pieces z1 w1 (fit_behind p.bytes (bytes_in pieces) g) (first_after z p.unit p.bytes f one) (first_next frames z w p.unit p.bytes h one)))
+    (all_fit frames pieces z1 w1 (fit_behind p.bytes (piece_bytes pieces) g) (first_after z p.unit p.bytes f one) (first_next frames z w p.unit p.bytes h one)))
 
 -- ---- the slices of a cut hold where those of its stream do
 
@@ -161,28 +161,28 @@ entries_hold (e ∷ es) more f = (f.0, entries_hold es more f.1)
 
 -- ---- the pictures of a cut
 
-among_append : (a b : List DataUnit) → pictures_among (a ++ b) ≡ pictures_among a ++ pictures_among b
+among_append : (a b : List DataUnit) → piece_pictures (a ++ b) ≡ piece_pictures a ++ piece_pictures b
 among_append [] b = refl
-among_append (u ∷ a) b = ap (λ l. chosen_one true u ++ l) (among_append a b) ∙ sym (append_assoc (chosen_one true u) (pictures_among a) (pictures_among b))
+among_append (u ∷ a) b = ap (λ l. chosen_one true u ++ l) (among_append a b) ∙ sym (append_assoc (chosen_one true u) (piece_pictures a) (piece_pictures b))
 
-none_closing : (previous : Option ℕ) (written : ℕ) (first : Option First) → pictures_among (closing_found previous written first) ≡ []
+none_closing : (previous : Option ℕ) (written : ℕ) (first : Option First) → piece_pictures (closing_found previous written first) ≡ []
 none_closing (Some previous) written first = refl
 none_closing None zero (Some first) = refl
 none_closing None zero None = refl
 none_closing None (suc n) first = refl
 
-none_end : (o : Option ℕ) → pictures_among (end_found o) ≡ []
+none_end : (o : Option ℕ) → piece_pictures (end_found o) ≡ []
 none_end None = refl
 none_end (Some previous) = refl
 
-one_found : (frames : Frames) (z : Past) (w : Cutting) (unit : DataUnit) → pictures_among (cut_found frames z w unit) ≡ chosen_one (is_in frames (frame_now z w)) unit
+one_found : (frames : Frames) (z : Past) (w : Cutting) (unit : DataUnit) → piece_pictures (cut_found frames z w unit) ≡ chosen_one (is_in frames (frame_now z w)) unit
 one_found frames z w (Sequence parts) = refl
 one_found frames z w Repeated = refl
 one_found frames z w Skipped = refl
 one_found frames z w End = none_end w.previous
 one_found frames z w (Picture parts number p slices) = by (is_in frames (frame_now z w)) w.previous
   where
-    by : (c : Bool) (o : Option ℕ) → pictures_among (cond c (header_found parts o ++ Picture parts number p slices ∷ []) []) ≡ chosen_one c (Picture parts number p slices)
+    by : (c : Bool) (o : Option ℕ) → piece_pictures (cond c (header_found parts o ++ Picture parts number p slices ∷ []) []) ≡ chosen_one c (Picture parts number p slices)
     by true None = refl
     by true (Some previous) = refl
     by false o = refl
@@ -198,7 +198,7 @@ frames_next frames z w (Picture parts number p slices) bytes = by (is_in frames 
     by true = refl
     by false = refl
 
-pictures_from : (frames : Frames) (pieces : List Piece) (z : Past) (w : Cutting) → (let w' = left_from frames z w pieces in pictures_among (found_from frames z w pieces ++ closing_found w'.previous w'.written w'.first) ≡ chosen_from frames w.frames z pieces)
+pictures_from : (frames : Frames) (pieces : List Piece) (z : Past) (w : Cutting) → (let w' = left_from frames z w pieces in piece_pictures (found_from frames z w pieces ++ closing_found w'.previous w'.written w'.first) ≡ chosen_from frames w.frames z pieces)
 pictures_from frames [] z w = none_closing w.previous w.written w.first
 pictures_from frames (p ∷ pieces) z w =
     let z1 = after z p.unit p.bytes in
@@ -207,8 +207,8 @@ pictures_from frames (p ∷ pieces) z w =
     let close = closing_found w'.previous w'.written w'.first in
     let here = cut_found frames z w p.unit in
     let found = found_from frames z1 w1 pieces in
-    ap pictures_among (append_assoc here found close) ∙ among_append here (found ++ close)
-    ∙ ap (λ l. l ++ pictures_among (found ++ close)) (one_found frames z w p.unit)
+    ap piece_pictures (append_assoc here found close) ∙ among_append here (found ++ close)
+    ∙ ap (λ l. l ++ piece_pictures (found ++ close)) (one_found frames z w p.unit)
     ∙ ap (λ l. chosen_one (is_in frames (frame_now z w)) p.unit ++ l) (pictures_from frames pieces z1 w1 ∙ ap (λ n. chosen_from frames n z1 pieces) (frames_next frames z w p.unit p.bytes))
 
 -- ---- the law
@@ -219,7 +219,7 @@ cuts_to_streams frames bytes es last fits s =
     let out = cut_of frames h.pieces in
     let c = cuts_to_a_skimmed_stream frames bytes h.pieces h.last_piece fits h.stream in
     let short = cuts_to_no_more frames bytes h.pieces h.last_piece fits h.stream in
-    let in_pieces : IsBytes (bytes_in h.pieces) = fit_front (bytes_in h.pieces) h.last_piece.bytes (subst IsBytes h.stream.parts fits) in
+    let in_pieces : IsBytes (piece_bytes h.pieces) = fit_front (piece_bytes h.pieces) h.last_piece.bytes (subst IsBytes h.stream.parts fits) in
     let out_fits = all_fit frames h.pieces nothing_yet nothing_cut in_pieces tt tt in
     let m = made_of out c.pieces c.last out_fits (omega (arith, short, s.within)) c.stream in
     let found : map (λ (e : Entry). e.unit) m.es ++ m.last_entry.unit ∷ [] ≡ units_of_cut frames h.pieces =

@@ -15,7 +15,7 @@ use Rattle.sequence_header.specs.declared.parts.HeaderParts.{HeaderParts}
 use Rattle.transform_params.specs.Params.{Params}
 use Rattle.unit_reader.specs.Running.{Turns}
 use Rattle.stream_rows.specs.Units.{Past, First, DataUnit, Sequence, Repeated, Picture, Skipped, End, after}
-use Rattle.stream_cut.specs.Cut.{Frames, is_in, frames_so_far, frame_now, payload_of, header_due, length_before, cut_header_unit, cut_picture_unit, header_shapes, or_else_some, CutSoFar, cutting}
+use Rattle.stream_cut.specs.Cut.{Frames, is_in, frames_so_far, frame_now, payload_of, header_due, length_ahead, cut_header_unit, cut_picture_unit, header_shapes, or_else_some, CutSoFar, cutting}
 use Rattle.stream_cut.specs.Cutter.{own_of, pending, KeepsCut}
 use Rattle.stream_cut.specs.SkimTable.{SkimTableSeen, IsKnownUnit, item_of, kept_behind, shape_behind}
 use Rattle.stream_cut.specs.declared.table.SkimItem.TheVariants as items
@@ -61,7 +61,7 @@ sequence_keeps before table End bytes was old new result is at long ok counted k
 -- ---- a picture
 
 abbrev text_of : Past → Option ℕ → List ℕ → List ℕ
-text_of z o unit = header_due z o ++ cut_picture_unit (length_before z o) (drop 13 unit)
+text_of z o unit = header_due z o ++ cut_picture_unit (length_ahead z o) (drop 13 unit)
 
 same_text : (z : Past) (parts : HeaderParts) (number : ℕ) (p : Params) (slices : List (List ℕ)) (bytes unit : List ℕ) (o : Option ℕ) → text_of (after z (Picture parts number p slices) bytes) o unit ≡ text_of z o unit
 same_text z parts number p slices bytes unit None = refl
@@ -77,7 +77,7 @@ due_length z (Some first) None is some = ap (λ f. pending f None) is ∙ (let n
 due_length z (Some first) (Some previous) is some = ap (λ f. pending f (Some previous)) is
 
 length_text : (z : Past) (o : Option ℕ) (bytes : List ℕ) → 13 ≤ length bytes → length (text_of z o bytes) ≡ length (header_due z o) + length bytes
-length_text z o bytes long = omega (arith, length-append (header_due z o) (cut_picture_unit (length_before z o) (drop 13 bytes)), (let n : length (cut_picture_unit (length_before z o) (drop 13 bytes)) ≡ 13 + length (drop 13 bytes) = omega arith in n), length-drop 13 bytes, long)
+length_text z o bytes long = omega (arith, length-append (header_due z o) (cut_picture_unit (length_ahead z o) (drop 13 bytes)), (let n : length (cut_picture_unit (length_ahead z o) (drop 13 bytes)) ≡ 13 + length (drop 13 bytes) = omega arith in n), length-drop 13 bytes, long)
 
 abbrev shape_at : ℕ → Params → List ℕ → UnitShape
 shape_at start p bytes = record { start = start; head = length bytes - total_bytes p.slicing; slices = slice_count p.slicing; a = p.slicing.a; b = p.slicing.b }

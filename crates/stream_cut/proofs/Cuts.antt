@@ -15,9 +15,9 @@ use Rattle.run_theory.specs.Fronts.{Stands, Finishes, size_to, front_behind, fro
 use Rattle.stream_rows.specs.declared.reason.Reason.{Reason}
 use Rattle.stream_rows.specs.declared.reason.Reason.TheVariants as reasons
 use Rattle.stream_rows.specs.Units.{Past, nothing_yet, First, DataUnit, Sequence, Repeated, Picture, Skipped, End, unit_behind, has_fields, code_rules, previous_rules, number_rules, after}
-use Rattle.stream_cut.specs.Skim.{skim_rows, skimmed}
-use Rattle.stream_cut.specs.Cut.{Frames, is_in, cut_header_unit, cut_picture_unit, cut_end_unit, Cutting, nothing_cut, frame_now, payload_of, header_due, length_before, end_due, cut_text, cut_next, or_else_some, closing_by, closing, Piece, front_from, left_from, cut_of}
-use Rattle.stream_cut.specs.CutLaws.{bytes_in, StandWith, IsStreamWith, shapes_of_cut, shapes_read, HasShapes, CutsToASkimmedStream}
+use Rattle.stream_cut.specs.Skim.{skim_rows, skim_grammar}
+use Rattle.stream_cut.specs.Cut.{Frames, is_in, cut_header_unit, cut_picture_unit, cut_end_unit, Cutting, nothing_cut, frame_now, payload_of, header_due, length_ahead, end_due, cut_text, cut_next, or_else_some, closing_by, closing, Piece, front_from, left_from, cut_of}
+use Rattle.stream_cut.specs.CutLaws.{piece_bytes, StandWith, IsStreamWith, shapes_of_cut, shapes_read, HasShapes, CutsToASkimmedStream}
 use Rattle.stream_cut.proofs.CutPieces.{header_piece, end_piece, picture_piece, header_pieces, end_pieces, cut_pieces, closing_pieces, pieces_from, length-header, length-picture, made_append, from_made, shapes_counted}
 use Rattle.stream_cut.proofs.Fields.{IsBytes}
 use Rattle.stream_writer.proofs.EncodedParts.{no_previous}
@@ -26,7 +26,7 @@ use Rattle.stream_cut.proofs.Written.{moves_header_unit, moves_picture_unit, mov
 
 -- ---- what stands in front says of its payload
 
-pub by_reading : (z : Past) (bs : List ℕ) (n : ℕ) (unit : DataUnit) (r : Result (DataUnit × Cursor) (Fault Reason)) → unit_at skimmed z bs ≡ r → front_by skimmed (λ fault. fault) false bs r ≡ Stands n unit → (behind : Cursor) × (unit_at skimmed z bs ≡ Ok (unit, behind)) × (n ≡ size_to bs behind)
+pub by_reading : (z : Past) (bs : List ℕ) (n : ℕ) (unit : DataUnit) (r : Result (DataUnit × Cursor) (Fault Reason)) → unit_at skim_grammar z bs ≡ r → front_by skim_grammar (λ fault. fault) false bs r ≡ Stands n unit → (behind : Cursor) × (unit_at skim_grammar z bs ≡ Ok (unit, behind)) × (n ≡ size_to bs behind)
 by_reading z bs n unit (Ok x) e k = let s = stood (unit_behind x.0) (is_nil x.1.rest && true) (size_to bs x.1) n x.0 unit k in (x.1, e ∙ ap (λ u. Ok (u, x.1)) s.0, sym s.1)
   where
     stood : (b : Behind) (empty : Bool) (m n : ℕ) (made unit : DataUnit) → front_behind {R = Reason} b empty m made ≡ Stands n unit → (made ≡ unit) × (m ≡ n)
@@ -35,7 +35,7 @@ by_reading z bs n unit (Ok x) e k = let s = stood (unit_behind x.0) (is_nil x.1.
     stood Final false m n made unit k = (cc, cc)
 by_reading z bs n unit (Err fault) e k = absurd cc
 
-pub last_reading : (z : Past) (bs : List ℕ) (n : ℕ) (unit : DataUnit) (r : Result (DataUnit × Cursor) (Fault Reason)) → unit_at skimmed z bs ≡ r → front_by skimmed (λ fault. fault) false bs r ≡ Finishes n unit → (behind : Cursor) × (unit_at skimmed z bs ≡ Ok (unit, behind)) × (n ≡ size_to bs behind) × (unit_behind unit ≡ Final)
+pub last_reading : (z : Past) (bs : List ℕ) (n : ℕ) (unit : DataUnit) (r : Result (DataUnit × Cursor) (Fault Reason)) → unit_at skim_grammar z bs ≡ r → front_by skim_grammar (λ fault. fault) false bs r ≡ Finishes n unit → (behind : Cursor) × (unit_at skim_grammar z bs ≡ Ok (unit, behind)) × (n ≡ size_to bs behind) × (unit_behind unit ≡ Final)
 last_reading z bs n unit (Ok x) e k = let s = stood (unit_behind x.0) refl (is_nil x.1.rest && true) (size_to bs x.1) n x.0 unit k in (x.1, e ∙ ap (λ u. Ok (u, x.1)) s.0, sym s.1, ap unit_behind (sym s.0) ∙ s.2)
   where
     stood : (b : Behind) → unit_behind x.0 ≡ b → (empty : Bool) (m n : ℕ) (made unit : DataUnit) → front_behind {R = Reason} b empty m made ≡ Finishes n unit → (made ≡ unit) × (m ≡ n) × (unit_behind x.0 ≡ Final)
@@ -44,9 +44,9 @@ last_reading z bs n unit (Ok x) e k = let s = stood (unit_behind x.0) refl (is_n
     stood Final e false m n made unit k = absurd cc
 last_reading z bs n unit (Err fault) e k = absurd cc
 
-pub facts_of : (z : Past) (bytes more : List ℕ) (unit : DataUnit) → IsBytes (bytes ++ more) → front_of skimmed z (bytes ++ more) ≡ Stands (length bytes) unit → Facts z (drop 13 bytes) unit
+pub facts_of : (z : Past) (bytes more : List ℕ) (unit : DataUnit) → IsBytes (bytes ++ more) → front_of skim_grammar z (bytes ++ more) ≡ Stands (length bytes) unit → Facts z (drop 13 bytes) unit
 facts_of z bytes more unit fits k =
-    let r = by_reading z (bytes ++ more) (length bytes) unit (unit_at skimmed z (bytes ++ more)) refl k in
+    let r = by_reading z (bytes ++ more) (length bytes) unit (unit_at skim_grammar z (bytes ++ more)) refl k in
     unit_read z (bytes ++ more) unit r.0 fits r.1 bytes more refl r.2
 
 only_end : (unit : DataUnit) → unit_behind unit ≡ Final → unit ≡ End
@@ -56,9 +56,9 @@ only_end (Picture parts number p slices) e = absurd cc
 only_end Skipped e = absurd cc
 only_end End e = refl
 
-end_facts : (z : Past) (bytes : List ℕ) (unit : DataUnit) → IsBytes bytes → front_of skimmed z bytes ≡ Finishes (length bytes) unit → Facts z (drop 13 bytes) End
+end_facts : (z : Past) (bytes : List ℕ) (unit : DataUnit) → IsBytes bytes → front_of skim_grammar z bytes ≡ Finishes (length bytes) unit → Facts z (drop 13 bytes) End
 end_facts z bytes unit fits k =
-    let r = last_reading z bytes (length bytes) unit (unit_at skimmed z bytes) refl k in
+    let r = last_reading z bytes (length bytes) unit (unit_at skim_grammar z bytes) refl k in
     subst (Facts z (drop 13 bytes)) (only_end unit r.3) (unit_read z bytes unit r.0 fits r.1 bytes [] (sym (append-nil bytes)) r.2)
 
 -- ---- the frames
@@ -463,8 +463,8 @@ module _ (frames : Frames) (z : Past) (w : Cutting) (parts : HeaderParts) (numbe
 
   chosen_by : (z' : Past) (first : First) (text : List ℕ) (found : List Piece) → Between frames z w z' → z.first ≡ Some first → first.parts ≡ parts → first_broken (number_rules z number) ≡ None → IsPicture parts number p slices (drop 13 bytes) → is_in frames (frame_now z w) ≡ true
       → (o : Option ℕ) → Stays frames z w z' o
-      → ((n : ℕ) (v : Past) → n ≡ w.written + length (header_due z o ++ cut_picture_unit (length_before z o) (drop 13 bytes)) → Between frames next (chosen_next n) v → Rest (chosen_next n) v text found)
-      → Found z' ((header_due z o ++ cut_picture_unit (length_before z o) (drop 13 bytes)) ++ text) ((header_pieces parts z o ++ picture_piece unit (length_before z o) bytes ∷ []) ++ found)
+      → ((n : ℕ) (v : Past) → n ≡ w.written + length (header_due z o ++ cut_picture_unit (length_ahead z o) (drop 13 bytes)) → Between frames next (chosen_next n) v → Rest (chosen_next n) v text found)
+      → Found z' ((header_due z o ++ cut_picture_unit (length_ahead z o) (drop 13 bytes)) ++ text) ((header_pieces parts z o ++ picture_piece unit (length_ahead z o) bytes ∷ []) ++ found)
   chosen_by z' first text found b there of rule h chosen (Some previous) s more =
       let r = ready_inside z' first previous s there rule chosen in
       let n = w.written + length (cut_picture_unit previous (drop 13 bytes)) in
@@ -487,7 +487,7 @@ module _ (frames : Frames) (z : Past) (w : Cutting) (parts : HeaderParts) (numbe
 
   -- any picture
   abbrev due : List ℕ
-  due = header_due z w.previous ++ cut_picture_unit (length_before z w.previous) (drop HEAD_SIZE bytes)
+  due = header_due z w.previous ++ cut_picture_unit (length_ahead z w.previous) (drop HEAD_SIZE bytes)
 
   behind_picture : (z' : Past) (text : List ℕ) (found : List Piece) → Between frames z w z' → Facts z (drop 13 bytes) unit → Follows text found → Rest w z' (cut_text frames z w unit bytes ++ text) (cut_pieces frames z w unit bytes ++ found)
   unfolding chosen_next
@@ -496,7 +496,7 @@ module _ (frames : Frames) (z : Past) (w : Cutting) (parts : HeaderParts) (numbe
       by : (c : Bool) → is_in frames (frame_now z w) ≡ c → Rest w z' (cut_text frames z w unit bytes ++ text) (cut_pieces frames z w unit bytes ++ found)
       by true e =
           let same_text : cut_text frames z w unit bytes ≡ due = ap (λ c. cond c due []) e in
-          let same_found : cut_pieces frames z w unit bytes ≡ header_pieces parts z w.previous ++ picture_piece unit (length_before z w.previous) bytes ∷ [] = ap (λ c. cond c (header_pieces parts z w.previous ++ picture_piece unit (length_before z w.previous) bytes ∷ []) []) e in
+          let same_found : cut_pieces frames z w unit bytes ≡ header_pieces parts z w.previous ++ picture_piece unit (length_ahead z w.previous) bytes ∷ [] = ap (λ c. cond c (header_pieces parts z w.previous ++ picture_piece unit (length_ahead z w.previous) bytes ∷ []) []) e in
           let next_is : (n : ℕ) → n ≡ w.written + length due → cut_next frames z w unit bytes ≡ chosen_next n = λ n same. ap (λ c. cond c (chosen_next (w.written + length (cut_text frames z w unit bytes))) w) e ∙ ap (λ l. chosen_next (w.written + length l)) same_text ∙ ap chosen_next (sym same) in
           let more : (n : ℕ) (v : Past) → n ≡ w.written + length due → Between frames next (chosen_next n) v → Rest (chosen_next n) v text found = λ n v same h. subst (λ q. Rest q v text found) (next_is n same) (follows v (subst (λ q. Between frames next q v) (sym (next_is n same)) h)) in
           inr (subst (λ l. Found z' (l ++ text) (cut_pieces frames z w unit bytes ++ found)) (sym same_text)
@@ -504,7 +504,7 @@ module _ (frames : Frames) (z : Past) (w : Cutting) (parts : HeaderParts) (numbe
           (chosen_by z' f.0 text found b f.1 f.2 f.3 f.4 e w.previous b.state more)))
       by false e =
           let no_text : cut_text frames z w unit bytes ≡ [] = ap (λ c. cond c due []) e in
-          let no_found : cut_pieces frames z w unit bytes ≡ [] = ap (λ c. cond c (header_pieces parts z w.previous ++ picture_piece unit (length_before z w.previous) bytes ∷ []) []) e in
+          let no_found : cut_pieces frames z w unit bytes ≡ [] = ap (λ c. cond c (header_pieces parts z w.previous ++ picture_piece unit (length_ahead z w.previous) bytes ∷ []) []) e in
           let same : cut_next frames z w unit bytes ≡ w = ap (λ c. cond c (chosen_next (w.written + length (cut_text frames z w unit bytes))) w) e in
           subst (λ l. Rest w z' (l ++ text) (cut_pieces frames z w unit bytes ++ found)) (sym no_text)
           (subst (λ l. Rest w z' text (l ++ found)) (sym no_found)
@@ -560,15 +560,15 @@ pub fit_behind : (a b : List ℕ) → IsBytes (a ++ b) → IsBytes b
 fit_behind [] b f = f
 fit_behind (x ∷ a) b f = fit_behind a b f.1
 
-rest_from : (frames : Frames) (pieces : List Piece) (z : Past) (w : Cutting) (z' left : Past) (last : Piece) → IsBytes (bytes_in pieces ++ last.bytes) → StandWith skim_rows z pieces last.bytes left → front_of skimmed left last.bytes ≡ Finishes (length last.bytes) last.unit → Between frames z w z'
+rest_from : (frames : Frames) (pieces : List Piece) (z : Past) (w : Cutting) (z' left : Past) (last : Piece) → IsBytes (piece_bytes pieces ++ last.bytes) → StandWith skim_rows z pieces last.bytes left → front_of skim_grammar left last.bytes ≡ Finishes (length last.bytes) last.unit → Between frames z w z'
     → (let w' = left_from frames z w pieces in Rest w z' (front_from frames z w pieces ++ closing w') (pieces_from frames z w pieces ++ closing_pieces w'.previous w'.written w'.first))
-rest_from frames [] z w z' left last fits units end b = at_end frames z w z' last.bytes b (end_facts z last.bytes last.unit fits (subst (λ (x : Past). front_of skimmed x last.bytes ≡ Finishes (length last.bytes) last.unit) (sym units) end))
+rest_from frames [] z w z' left last fits units end b = at_end frames z w z' last.bytes b (end_facts z last.bytes last.unit fits (subst (λ (x : Past). front_of skim_grammar x last.bytes ≡ Finishes (length last.bytes) last.unit) (sym units) end))
 rest_from frames (p ∷ pieces) z w z' left last fits units end b =
     let z1 = after z p.unit p.bytes in
     let w1 = cut_next frames z w p.unit p.bytes in
     let w' = left_from frames z1 w1 pieces in
-    let all = bytes_in pieces ++ last.bytes in
-    let fits' : IsBytes (p.bytes ++ all) = subst IsBytes (append_assoc p.bytes (bytes_in pieces) last.bytes) fits in
+    let all = piece_bytes pieces ++ last.bytes in
+    let fits' : IsBytes (p.bytes ++ all) = subst IsBytes (append_assoc p.bytes (piece_bytes pieces) last.bytes) fits in
     let f = facts_of z p.bytes all p.unit fits' units.0 in
     let text = front_from frames z1 w1 pieces in
     let found = pieces_from frames z1 w1 pieces in
@@ -609,12 +609,12 @@ cuts_to_a_skimmed_stream frames bytes pieces last fits s =
     }
 
 -- each unit has a head
-pub all_long : (pieces : List Piece) (z left : Past) (tail : List ℕ) → IsBytes (bytes_in pieces ++ tail) → StandWith skim_rows z pieces tail left → AllByRecursion (λ (p : Piece). 13 ≤ length p.bytes) pieces
+pub all_long : (pieces : List Piece) (z left : Past) (tail : List ℕ) → IsBytes (piece_bytes pieces ++ tail) → StandWith skim_rows z pieces tail left → AllByRecursion (λ (p : Piece). 13 ≤ length p.bytes) pieces
 all_long [] z left tail fits f = tt
 all_long (p ∷ pieces) z left tail fits f =
-    let all = bytes_in pieces ++ tail in
-    let fits' : IsBytes (p.bytes ++ all) = subst IsBytes (append_assoc p.bytes (bytes_in pieces) tail) fits in
-    let r = by_reading z (p.bytes ++ all) (length p.bytes) p.unit (unit_at skimmed z (p.bytes ++ all)) refl f.0 in
+    let all = piece_bytes pieces ++ tail in
+    let fits' : IsBytes (p.bytes ++ all) = subst IsBytes (append_assoc p.bytes (piece_bytes pieces) tail) fits in
+    let r = by_reading z (p.bytes ++ all) (length p.bytes) p.unit (unit_at skim_grammar z (p.bytes ++ all)) refl f.0 in
     (omega (arith, unit_long z (p.bytes ++ all) p.unit r.0 fits' r.1, r.2), all_long pieces (after z p.unit p.bytes) left tail (fit_behind p.bytes all fits') f.1)
 
 -- the shapes that a reader of it finds

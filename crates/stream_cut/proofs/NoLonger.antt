@@ -7,9 +7,9 @@ use Rattle.transform_params.specs.Params.{Params}
 use Rattle.run_theory.specs.Grammar.{unit_at}
 use Rattle.run_theory.specs.Fronts.{Finishes, front_of}
 use Rattle.stream_rows.specs.Units.{Past, nothing_yet, First, DataUnit, Sequence, Repeated, Picture, Skipped, End, after}
-use Rattle.stream_cut.specs.Skim.{skim_rows, skimmed}
-use Rattle.stream_cut.specs.Cut.{Frames, is_in, cut_header_unit, cut_picture_unit, cut_end_unit, Cutting, nothing_cut, frame_now, payload_of, header_due, length_before, end_due, cut_text, cut_next, or_else_some, closing_by, closing, Piece, front_from, left_from}
-use Rattle.stream_cut.specs.CutLaws.{bytes_in, StandWith, CutsToNoMore}
+use Rattle.stream_cut.specs.Skim.{skim_rows, skim_grammar}
+use Rattle.stream_cut.specs.Cut.{Frames, is_in, cut_header_unit, cut_picture_unit, cut_end_unit, Cutting, nothing_cut, frame_now, payload_of, header_due, length_ahead, end_due, cut_text, cut_next, or_else_some, closing_by, closing, Piece, front_from, left_from}
+use Rattle.stream_cut.specs.CutLaws.{piece_bytes, StandWith, CutsToNoMore}
 use Rattle.stream_cut.specs.Cutter.{pending}
 use Rattle.stream_rows.proofs.Answering.{after-place}
 use Rattle.stream_cut.proofs.Fields.{IsBytes}
@@ -38,11 +38,11 @@ few_header z w parts frames bytes long f = record { due = by w.previous; first =
         omega (arith, ap (λ (q : First). length q.payload) same, length-drop 13 bytes, long)
     first (Some a) g h e = omega (arith, h g e)
 
-enough : (z : Past) (w : Cutting) (bytes : List ℕ) (f : First) → z.first ≡ Some f → 13 ≤ length bytes → (o : Option ℕ) → w.written + pending z.first o ≤ z.place → w.written + length (header_due z o ++ cut_picture_unit (length_before z o) (drop 13 bytes)) ≤ z.place + length bytes
+enough : (z : Past) (w : Cutting) (bytes : List ℕ) (f : First) → z.first ≡ Some f → 13 ≤ length bytes → (o : Option ℕ) → w.written + pending z.first o ≤ z.place → w.written + length (header_due z o ++ cut_picture_unit (length_ahead z o) (drop 13 bytes)) ≤ z.place + length bytes
 enough z w bytes f there long None h =
     let hu = cut_header_unit (payload_of z.first) in
     let pend : pending z.first None ≡ 13 + length (payload_of z.first) = ap (λ x. pending x None) there ∙ ap (λ x. 13 + length (payload_of x)) (sym there) in
-    omega (arith, h, pend, length-append hu (cut_picture_unit (length_before z None) (drop 13 bytes)), length-header (payload_of z.first), length-picture (length_before z None) (drop 13 bytes), length-drop 13 bytes, long)
+    omega (arith, h, pend, length-append hu (cut_picture_unit (length_ahead z None) (drop 13 bytes)), length-header (payload_of z.first), length-picture (length_ahead z None) (drop 13 bytes), length-drop 13 bytes, long)
 enough z w bytes f there long (Some previous) h = omega (arith, h, length-picture previous (drop 13 bytes), length-drop 13 bytes, long)
 
 few_picture : (frames : Frames) (z : Past) (w : Cutting) (parts : HeaderParts) (number : ℕ) (p : Params) (slices : List (List ℕ)) (bytes : List ℕ) (f : First) → z.first ≡ Some f → 13 ≤ length bytes → Few z w → Few (after z (Picture parts number p slices) bytes) (cut_next frames z w (Picture parts number p slices) bytes)
@@ -50,7 +50,7 @@ few_picture frames z w parts number p slices bytes f there long few = by (is_in 
   where
     by : (c : Bool)
         → Few (after z (Picture parts number p slices) bytes)
-        (cond c (record w { written = w.written + length (cond c (header_due z w.previous ++ cut_picture_unit (length_before z w.previous) (drop HEAD_SIZE bytes)) []); previous = Some (HEAD_SIZE + length (drop HEAD_SIZE bytes)) }) w)
+        (cond c (record w { written = w.written + length (cond c (header_due z w.previous ++ cut_picture_unit (length_ahead z w.previous) (drop HEAD_SIZE bytes)) []); previous = Some (HEAD_SIZE + length (drop HEAD_SIZE bytes)) }) w)
     by true =
         let none : pending z.first (Some (13 + length (drop 13 bytes))) ≡ 0 = ap (λ x. pending x (Some (13 + length (drop 13 bytes)))) there in
         record { due = omega (arith, enough z w bytes f there long w.previous few.due, none); first = λ g e. omega (arith, few.first g e) }
@@ -78,7 +78,7 @@ written_by frames z w Skipped bytes = omega arith
 written_by frames z w End bytes = refl
 written_by frames z w (Picture parts number p slices) bytes = by (is_in frames (frame_now z w))
   where
-    by : (c : Bool) → (let due = header_due z w.previous ++ cut_picture_unit (length_before z w.previous) (drop HEAD_SIZE bytes) in
+    by : (c : Bool) → (let due = header_due z w.previous ++ cut_picture_unit (length_ahead z w.previous) (drop HEAD_SIZE bytes) in
         let next : Cutting = cond c (record w { written = w.written + length (cond c due []); previous = Some (HEAD_SIZE + length (drop HEAD_SIZE bytes)) }) w in next.written ≡ w.written + length (cond c due []))
     by true = refl
     by false = omega arith
@@ -93,18 +93,18 @@ closing_few w place le first = by w.previous w.written w.first refl refl
     by None (suc n) o e g = omega (arith, le)
 
 -- all units
-few_from : (frames : Frames) (pieces : List Piece) (z : Past) (w : Cutting) (left : Past) (last : Piece) → IsBytes (bytes_in pieces ++ last.bytes) → StandWith skim_rows z pieces last.bytes left → front_of skimmed left last.bytes ≡ Finishes (length last.bytes) last.unit → Few z w
-    → w.written + length (front_from frames z w pieces ++ closing (left_from frames z w pieces)) ≤ z.place + length (bytes_in pieces ++ last.bytes)
+few_from : (frames : Frames) (pieces : List Piece) (z : Past) (w : Cutting) (left : Past) (last : Piece) → IsBytes (piece_bytes pieces ++ last.bytes) → StandWith skim_rows z pieces last.bytes left → front_of skim_grammar left last.bytes ≡ Finishes (length last.bytes) last.unit → Few z w
+    → w.written + length (front_from frames z w pieces ++ closing (left_from frames z w pieces)) ≤ z.place + length (piece_bytes pieces ++ last.bytes)
 few_from frames [] z w left last fits units end few =
-    let r = last_reading left last.bytes (length last.bytes) last.unit (unit_at skimmed left last.bytes) refl end in
+    let r = last_reading left last.bytes (length last.bytes) last.unit (unit_at skim_grammar left last.bytes) refl end in
     let long = unit_long left last.bytes last.unit r.0 fits r.1 in
     omega (arith, closing_few w z.place (omega (arith, few.due)) few.first, long, r.2)
 few_from frames (p ∷ pieces) z w left last fits units end few =
     let z1 = after z p.unit p.bytes in
     let w1 = cut_next frames z w p.unit p.bytes in
-    let all = bytes_in pieces ++ last.bytes in
-    let fits' : IsBytes (p.bytes ++ all) = subst IsBytes (append_assoc p.bytes (bytes_in pieces) last.bytes) fits in
-    let r = by_reading z (p.bytes ++ all) (length p.bytes) p.unit (unit_at skimmed z (p.bytes ++ all)) refl units.0 in
+    let all = piece_bytes pieces ++ last.bytes in
+    let fits' : IsBytes (p.bytes ++ all) = subst IsBytes (append_assoc p.bytes (piece_bytes pieces) last.bytes) fits in
+    let r = by_reading z (p.bytes ++ all) (length p.bytes) p.unit (unit_at skim_grammar z (p.bytes ++ all)) refl units.0 in
     let long = unit_long z (p.bytes ++ all) p.unit r.0 fits' r.1 in
     let f = facts_of z p.bytes all p.unit fits' units.0 in
     let next = few_unit frames z w p.unit p.bytes f (omega (arith, long, r.2)) few in
@@ -113,7 +113,7 @@ few_from frames (p ∷ pieces) z w left last fits units end few =
     let rest = front_from frames z1 w1 pieces in
     let close = closing (left_from frames z1 w1 pieces) in
     let all_out : length ((text ++ rest) ++ close) ≡ length text + length (rest ++ close) = ap (λ (l : List ℕ). length l) (append_assoc text rest close) ∙ length-append text (rest ++ close) in
-    let all_in : length ((p.bytes ++ bytes_in pieces) ++ last.bytes) ≡ length p.bytes + length all = ap (λ (l : List ℕ). length l) (append_assoc p.bytes (bytes_in pieces) last.bytes) ∙ length-append p.bytes all in
+    let all_in : length ((p.bytes ++ piece_bytes pieces) ++ last.bytes) ≡ length p.bytes + length all = ap (λ (l : List ℕ). length l) (append_assoc p.bytes (piece_bytes pieces) last.bytes) ∙ length-append p.bytes all in
     omega (arith, others, written_by frames z w p.unit p.bytes, after-place z p.unit p.bytes, all_out, all_in)
 
 pub cuts_to_no_more : CutsToNoMore

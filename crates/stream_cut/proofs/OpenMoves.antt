@@ -20,7 +20,7 @@ use Rattle.stream_rows.specs.declared.reason.Reason.{Reason}
 use Rattle.stream_rows.specs.Units.{Past, First, DataUnit, reason_of, next_checked}
 use Rattle.stream_rows.proofs.Exact.{read-others}
 use Rattle.stream_rows.proofs.Steady.{head_steady}
-use Rattle.stream_cut.specs.Skim.{skimmed, skim_rows}
+use Rattle.stream_cut.specs.Skim.{skim_grammar, skim_rows}
 use Rattle.stream_cut.specs.Opening.{Opened, OpensSkipped, OpensEnd, open_first, open_repeated, open_picture, open_payload_of, open_payload, open_rows, rest_rows}
 use Rattle.stream_cut.proofs.SameRows.{same_rows}
 
@@ -62,7 +62,7 @@ open_steady z = search (steady, head_steady, payload_steady) depth 20
 -- ---- so they are moved over the bytes that they took
 
 moves_over : (rows : Rows Reason Opened) (next : Opened → Rows Reason DataUnit) (at : ℕ) (bytes : List ℕ) (a : Opened) (long : ℕ) → IsSteady rows → read reason_of rows (bytes_at at bytes) ≡ Ok (a, bytes_at (at + long) (drop long bytes)) → long ≤ length bytes
-    → Moves skimmed (rows >>= next) at (take long bytes) (next a)
+    → Moves skim_grammar (rows >>= next) at (take long bytes) (next a)
 moves_over rows next at bytes a long steady e inside = record { moves = λ more. moves more }
   where
     moves : (more : List ℕ) → read reason_of (rows >>= next) (bytes_at at (take long bytes ++ more)) ≡ read reason_of (next a) (bytes_at (at + length (take long bytes)) more)
@@ -77,6 +77,6 @@ moves_over rows next at bytes a long steady e inside = record { moves = λ more.
         read-bind reason_of rows next (bytes_at at (take long bytes ++ more)) ∙ rw here (ap (λ (p : ℕ). read reason_of (next a) (bytes_at p more)) (omega (arith, piece)))
 
 pub opening_moves : (z : Past) (bytes : List ℕ) (opened : Opened) (size : ℕ) → read reason_of (open_rows z) (bytes_at z.place bytes) ≡ Ok (opened, bytes_at (z.place + size) (drop size bytes)) → size ≤ length bytes
-    → Moves skimmed (skim_rows z) z.place (take size bytes) (rest_rows z opened)
+    → Moves skim_grammar (skim_rows z) z.place (take size bytes) (rest_rows z opened)
 opening_moves z bytes opened size e inside =
-    subst (λ rows. Moves skimmed rows z.place (take size bytes) (rest_rows z opened)) (same_rows z) (moves_over (open_rows z) (rest_rows z) z.place bytes opened size (open_steady z) e inside)
+    subst (λ rows. Moves skim_grammar rows z.place (take size bytes) (rest_rows z opened)) (same_rows z) (moves_over (open_rows z) (rest_rows z) z.place bytes opened size (open_steady z) e inside)

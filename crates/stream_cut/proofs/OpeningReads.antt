@@ -5,7 +5,7 @@ use Rattle.std.specs.List.{starts_with}
 use Rattle.std.specs.Int.{w32, from_be_bytes}
 use Rattle.std.proofs.lemmas.List.{length-take, length-drop, take-append-drop, drop-drop}
 use Rattle.bit_codes.specs.Bits.{Cursor, cursor_at, bits_of}
-use Rattle.field_rows.specs.Rows.{◌or_else◌, Rows, done, ◌>>=◌, bytes_under, word_under, renamed, read, Fault, judged, first_broken, bytes_in}
+use Rattle.field_rows.specs.Rows.{◌or_else◌, Rows, done, ◌>>=◌, bytes_under, word_under, renamed, read, Fault, reading_unless, first_broken, bytes_in}
 use Rattle.field_rows.specs.Moved.{moved_answer, renamed_answer}
 use Rattle.field_rows.proofs.Reading.{read-done, then_ok, then_err}
 use Rattle.field_rows.proofs.Words.{split-bits}
@@ -58,7 +58,7 @@ fault_at z rows base bytes bit place reason result e at short is =
 -- ---- a sequence's first header
 
 first_read : (z : Past) (next : ℕ) (bytes : List ℕ) (parts : HeaderParts) (len : ℕ) → read header.reason_of header_rows (cursor_at bytes 0) ≡ Ok (parts, cursor_at bytes (8 * len)) → len ≤ length bytes
-    → read reason_of (open_first z next) (bytes_at (z.place + 13) bytes) ≡ judged (8 * (z.place + 5)) (first_broken ((leads_behind next (13 + len) or_else reasons.OffsetWrong) ∷ [])) (Ok (OpensSequence parts, bytes_at (z.place + (13 + len)) (drop len bytes)))
+    → read reason_of (open_first z next) (bytes_at (z.place + 13) bytes) ≡ reading_unless (8 * (z.place + 5)) (first_broken ((leads_behind next (13 + len) or_else reasons.OffsetWrong) ∷ [])) (Ok (OpensSequence parts, bytes_at (z.place + (13 + len)) (drop len bytes)))
 unfolding open_first
 first_read z next bytes parts len h le =
     then_ok reason_of (renamed header_reason header_rows) (λ parts. next_checked z next >>= λ length. done (OpensSequence parts)) (bytes_at (z.place + 13) bytes) (bytes_at (z.place + (13 + len)) (drop len bytes)) parts _
@@ -84,7 +84,7 @@ pub first_offset : (z : Past) (next place len : ℕ) (parts : HeaderParts) (byte
     → result ≡ Err (record { place = place + 5; reason = reasons.OffsetWrong }) → OpensBy z (open_first z next) 13 bytes result
 first_offset z next place len parts bytes result at h le leads is =
     fault_at z (open_first z next) 13 bytes (8 * (z.place + 5)) (place + 5) reasons.OffsetWrong result
-    (first_read z next bytes parts len h le ∙ ap (λ b. judged (8 * (z.place + 5)) (first_broken ((b or_else reasons.OffsetWrong) ∷ [])) (Ok (OpensSequence parts, bytes_at (z.place + (13 + len)) (drop len bytes)))) leads)
+    (first_read z next bytes parts len h le ∙ ap (λ b. reading_unless (8 * (z.place + 5)) (first_broken ((b or_else reasons.OffsetWrong) ∷ [])) (Ok (OpensSequence parts, bytes_at (z.place + (13 + len)) (drop len bytes)))) leads)
     (omega (arith, at)) (λ e. absurd cc) is
 
 pub first_stands : (z : Past) (next place len : ℕ) (parts : HeaderParts) (bytes : List ℕ) → read header.reason_of header_rows (cursor_at bytes 0) ≡ Ok (parts, cursor_at bytes (8 * len)) → len ≤ length bytes → leads_behind next (13 + len) ≡ true
@@ -96,7 +96,7 @@ first_stands z next place len parts bytes h le leads = (
   refl,
   le,
   (omega arith, omega (arith, header_most bytes parts len h le)),
-  first_read z next bytes parts len h le ∙ ap (λ b. judged (8 * (z.place + 5)) (first_broken ((b or_else reasons.OffsetWrong) ∷ [])) (Ok (OpensSequence parts, bytes_at (z.place + (13 + len)) (drop len bytes)))) leads
+  first_read z next bytes parts len h le ∙ ap (λ b. reading_unless (8 * (z.place + 5)) (first_broken ((b or_else reasons.OffsetWrong) ∷ [])) (Ok (OpensSequence parts, bytes_at (z.place + (13 + len)) (drop len bytes)))) leads
       ∙ ap (λ n. Ok (OpensSequence parts, bytes_at n (drop len bytes))) (omega arith),
 )
 
@@ -119,7 +119,7 @@ repeated_differs z next place first bytes piece result at long same fits differs
     (omega (arith, at)) (λ e. absurd cc) is
 
 repeated_read : (z : Past) (next : ℕ) (first : First) (bytes piece : List ℕ) → length first.payload ≤ length bytes → piece ≡ take (length first.payload) bytes → IsBytes bytes → starts_with nat_eq piece first.payload ≡ true
-    → (let n = length first.payload in read reason_of (open_repeated z next first) (bytes_at (z.place + 13) bytes) ≡ judged (8 * (z.place + 5)) (first_broken ((leads_behind next (13 + n) or_else reasons.OffsetWrong) ∷ [])) (Ok (OpensRepeated, bytes_at (z.place + (13 + n)) (drop n bytes))))
+    → (let n = length first.payload in read reason_of (open_repeated z next first) (bytes_at (z.place + 13) bytes) ≡ reading_unless (8 * (z.place + 5)) (first_broken ((leads_behind next (13 + n) or_else reasons.OffsetWrong) ∷ [])) (Ok (OpensRepeated, bytes_at (z.place + (13 + n)) (drop n bytes))))
 unfolding open_repeated ◌>>=◌ bytes_under openings_of
 repeated_read z next first bytes piece long same fits equal =
     let n = length first.payload in
@@ -134,7 +134,7 @@ repeated_offset : (z : Past) (next place : ℕ) (first : First) (bytes piece : L
 repeated_offset z next place first bytes piece result at long same fits equal leads is =
     let n = length first.payload in
     fault_at z (open_repeated z next first) 13 bytes (8 * (z.place + 5)) (place + 5) reasons.OffsetWrong result
-    (repeated_read z next first bytes piece long same fits equal ∙ ap (λ b. judged (8 * (z.place + 5)) (first_broken ((b or_else reasons.OffsetWrong) ∷ [])) (Ok (OpensRepeated, bytes_at (z.place + (13 + n)) (drop n bytes)))) leads)
+    (repeated_read z next first bytes piece long same fits equal ∙ ap (λ b. reading_unless (8 * (z.place + 5)) (first_broken ((b or_else reasons.OffsetWrong) ∷ [])) (Ok (OpensRepeated, bytes_at (z.place + (13 + n)) (drop n bytes)))) leads)
     (omega (arith, at)) (λ e. absurd cc) is
 
 repeated_stands : (z : Past) (next : ℕ) (first : First) (bytes piece : List ℕ) → length first.payload ≤ 512 → length first.payload ≤ length bytes → piece ≡ take (length first.payload) bytes → IsBytes bytes → starts_with nat_eq piece first.payload ≡ true
@@ -148,7 +148,7 @@ repeated_stands z next first bytes piece most long same fits equal leads len is_
       omega (arith, is_len),
       long,
       (omega arith, omega (arith, most)),
-      repeated_read z next first bytes piece long same fits equal ∙ ap (λ b. judged (8 * (z.place + 5)) (first_broken ((b or_else reasons.OffsetWrong) ∷ [])) (Ok (OpensRepeated, bytes_at (z.place + (13 + n)) (drop n bytes)))) leads
+      repeated_read z next first bytes piece long same fits equal ∙ ap (λ b. reading_unless (8 * (z.place + 5)) (first_broken ((b or_else reasons.OffsetWrong) ∷ [])) (Ok (OpensRepeated, bytes_at (z.place + (13 + n)) (drop n bytes)))) leads
           ∙ ap (λ m. Ok (OpensRepeated, bytes_at m (drop n bytes))) (omega arith),
     )
 

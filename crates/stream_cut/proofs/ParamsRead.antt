@@ -4,7 +4,7 @@ use Rattle.std.specs.Prelude.{nat_le, ◌&&◌}
 use Rattle.std.proofs.lemmas.Bool.{leb-true}
 use Rattle.bit_codes.specs.Bits.{Cursor, cursor_at, bits_of}
 use Rattle.bit_codes.proofs.BitLemmas.{length-bits}
-use Rattle.field_rows.specs.Rows.{Value, ◌or_else◌, Rows, done, Fault, read, renamed, first_broken, number_in, number, within, number_under, byte_end, whole_bytes}
+use Rattle.field_rows.specs.Rows.{Value, ◌or_else◌, Rows, done, Fault, read, renamed, first_broken, number_value, number, within, number_under, byte_end, whole_bytes}
 use Rattle.field_rows.specs.Standing.{Stand}
 use Rattle.field_rows.specs.Moved.{moved, moved_answer, renamed_answer}
 use Rattle.field_rows.proofs.Answers.{Stand-read, found_fields}
@@ -48,9 +48,9 @@ unfolding denominator_rows number_under
 few_by count a [] c b behind k = absurd k
 few_by count a (v ∷ []) c b behind k =
     let h = asked _ k.2 in
-    let one = both (nat_le 1 (number_in v)) _ h in
-    let two = both (nat_le (number_in v) a) _ one.1 in
-    subst (λ n. (1 ≤ n) × (count * a / n ≤ 2 ^ 28)) k.3.0 (leb-true 1 (number_in v) one.0, leb-true (count * a / number_in v) (2 ^ 28) two.1)
+    let one = both (nat_le 1 (number_value v)) _ h in
+    let two = both (nat_le (number_value v) a) _ one.1 in
+    subst (λ n. (1 ≤ n) × (count * a / n ≤ 2 ^ 28)) k.3.0 (leb-true 1 (number_value v) one.0, leb-true (count * a / number_value v) (2 ^ 28) two.1)
 few_by count a (v ∷ w ∷ vs) c b behind k = absurd k.3
 
 pub made : (R : Type 0) {A : Type 0} (a b : A) (vs : List Value) (c behind : Cursor) → Stand {R = R} (done a) vs c b behind → a ≡ b

@@ -11,7 +11,7 @@ use Rattle.stream_rows.specs.declared.reason.Reason.{Reason}
 use Rattle.stream_rows.specs.declared.reason.Reason.TheVariants as reasons
 use Rattle.stream_rows.specs.Units.{Past, DataUnit, Sequence, Repeated, Picture, Skipped, End, unit_behind}
 use Rattle.stream_rows.specs.Streams.{limit, past_limit}
-use Rattle.stream_cut.specs.Skim.{skimmed}
+use Rattle.stream_cut.specs.Skim.{skim_grammar}
 use Rattle.stream_cut.specs.declared.table.SkimItem.{SkimItem}
 use Rattle.stream_cut.specs.SkimTable.{SkimTableSeen, TellsSkimUnit, KeepsSkimHeader, item_of}
 use Rattle.stream_cut.specs.SkimReader.{SkimReaderSeen, TakesSkimItem, NextSkimmed, skim_seen, answer_of}
@@ -26,7 +26,7 @@ abbrev stopped : SkimTableSeen → SkimTableSeen → List ℕ → Option (List �
 stopped before now held0 rest0 held stop = KeepsSkimHeader before now
 
 abbrev pub TurnOver : Seen → Seen → Option (List ℕ) → Option (List ℕ) → Result (Turn SkimItem) ReadStop → Type 0
-TurnOver old new rest0 rest1 result = TableNext skimmed reasons.StreamTooLong past_of TellsSkimUnit stopped old new rest0 rest1 result
+TurnOver old new rest0 rest1 result = TableNext skim_grammar reasons.StreamTooLong past_of TellsSkimUnit stopped old new rest0 rest1 result
 
 is_end : (unit : DataUnit) → unit_behind unit ≡ Final → unit ≡ End
 is_end (Sequence parts) e = absurd cc
@@ -57,14 +57,14 @@ next_told old new rest0 rest1 (Ok (turns.Unit item)) n =
 next_told old new rest0 rest1 (Ok (turns.Last item)) n =
     let e = is_end n.unit n.final in
     let t = subst (λ (u : DataUnit). TellsSkimUnit old.table new.table u n.bytes item) e n.tells in
-    let m = subst (λ (u : DataUnit). (m : MeetsFront limit past_limit skimmed old.table.past old.held rest0 rest1 (Finishes (length n.bytes) u)) × ((more : List ℕ) → rest1 ≡ Some more → old.held ++ m.read ++ more ≡ n.bytes)) e (n.meets, n.whole) in
+    let m = subst (λ (u : DataUnit). (m : MeetsFront limit past_limit skim_grammar old.table.past old.held rest0 rest1 (Finishes (length n.bytes) u)) × ((more : List ℕ) → rest1 ≡ Some more → old.held ++ m.read ++ more ≡ n.bytes)) e (n.meets, n.whole) in
     record {
       bytes = n.bytes;
       meets = m.0;
       whole = m.1;
       last = n.last;
       behind = record {
-        past = subst (λ (u : DataUnit). new.table.past ≡ (skimmed).after old.table.past u n.bytes) e n.past;
+        past = subst (λ (u : DataUnit). new.table.past ≡ (skim_grammar).after old.table.past u n.bytes) e n.past;
         header = t.header;
         kept = t.kept;
         shape = t.shape;

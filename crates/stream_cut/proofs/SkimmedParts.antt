@@ -4,7 +4,7 @@ use Rattle.field_rows.specs.Rows.{Rows}
 use Rattle.run_theory.specs.Begun.{Moves}
 use Rattle.stream_rows.specs.declared.reason.Reason.{Reason}
 use Rattle.stream_rows.specs.Units.{DataUnit, units}
-use Rattle.stream_cut.specs.Skim.{skimmed}
+use Rattle.stream_cut.specs.Skim.{skim_grammar}
 
-pub skims : {left others : Rows Reason DataUnit} {at : ℕ} {piece : List ℕ} → Moves units left at piece others → Moves skimmed left at piece others
+pub skims : {left others : Rows Reason DataUnit} {at : ℕ} {piece : List ℕ} → Moves units left at piece others → Moves skim_grammar left at piece others
 skims m = record { moves = m.moves }

@@ -15,7 +15,7 @@ use Rattle.run_theory.proofs.Fields.{short_row}
 use Rattle.stream_rows.specs.declared.reason.Reason.{Reason}
 use Rattle.stream_rows.specs.declared.reason.Reason.TheVariants as reasons
 use Rattle.stream_rows.specs.Units.{DataUnit, reason_of, share}
-use Rattle.stream_cut.specs.Skim.{skim_slices, skimmed}
+use Rattle.stream_cut.specs.Skim.{skim_slices, skim_grammar}
 
 -- the bytes of the first n slices
 abbrev before : Params → ℕ → ℕ
@@ -66,7 +66,7 @@ slices_pass p (suc left) so_far next at piece more some e =
 
 -- the rows of all slices are moved over their bytes
 pub slices_move : (p : Params) (next : List (List ℕ) → Rows Reason DataUnit) (at : ℕ) (piece : List ℕ) → 1 ≤ p.slicing.b → length piece ≡ total_bytes p.slicing
-    → (slices : List (List ℕ)) × Moves skimmed (skim_slices p (slice_count p.slicing) [] >>= next) at piece (next slices)
+    → (slices : List (List ℕ)) × Moves skim_grammar (skim_slices p (slice_count p.slicing) [] >>= next) at piece (next slices)
 slices_move p next at piece some long =
     let count = slice_count p.slicing in
     let none : 0 + count ≡ count = omega arith in
@@ -99,7 +99,7 @@ slices_short p (suc left) so_far next at bytes some few =
         most = omega arith;
         begins = omega arith;
         ends = omega (arith, less, rises);
-        short = short_row skimmed size _ _ at bytes less ∙ ap (λ q. Err (record { place = q; reason = reasons.Truncated })) (omega arith);
+        short = short_row skim_grammar size _ _ at bytes less ∙ ap (λ q. Err (record { place = q; reason = reasons.Truncated })) (omega arith);
       }
       | inr enough ↦
           let value = bytes_of (bits_of (take size bytes)) in
@@ -120,10 +120,10 @@ slices_short p (suc left) so_far next at bytes some few =
     ]
 
 -- so they need all their bytes
-pub slices_need : (p : Params) (next : List (List ℕ) → Rows Reason DataUnit) → 1 ≤ p.slicing.b → Needs skimmed (skim_slices p (slice_count p.slicing) [] >>= next) (total_bytes p.slicing)
+pub slices_need : (p : Params) (next : List (List ℕ) → Rows Reason DataUnit) → 1 ≤ p.slicing.b → Needs skim_grammar (skim_slices p (slice_count p.slicing) [] >>= next) (total_bytes p.slicing)
 slices_need p next some = record {
   needs = λ place bytes short.
       let none : 0 + slice_count p.slicing ≡ slice_count p.slicing = omega arith in
       let s = slices_short p (slice_count p.slicing) [] next place bytes some (omega (arith, short, bytes_before-zero p.slicing.a p.slicing.b, ap (before p) none)) in
-      ap (is_settled_by skimmed) s.short;
+      ap (is_settled_by skim_grammar) s.short;
 }

@@ -35,7 +35,7 @@ use Rattle.stream_rows.proofs.Groups.{IsGroup, group_moves}
 use Rattle.stream_rows.proofs.UnitGroups.{header_group, params_group}
 use Rattle.stream_rows.proofs.LongestHeader.{header_most}
 use Rattle.stream_rows.proofs.LongestParams.{params_most}
-use Rattle.stream_cut.specs.Skim.{skim_slices, skim_picture, skim_payload_of, skim_payload, skim_rows, skimmed}
+use Rattle.stream_cut.specs.Skim.{skim_slices, skim_picture, skim_payload_of, skim_payload, skim_rows, skim_grammar}
 use Rattle.stream_cut.proofs.Fields.{IsBytes, fit_take, fit_drop, byte_field, no_bits, split, others_hold}
 use Rattle.stream_cut.proofs.ParamsRead.{made, few_in, params_in, header_in}
 use Rattle.stream_writer.proofs.EncodedPieces.{moves_then, moves_none, moves_bytes}
@@ -88,7 +88,7 @@ closes z next unit u (v ∷ w ∷ vs) c behind k = absurd k.3
 -- This payload is that of a header with these parts, wherever it stands.
 pub record IsHeader (parts : HeaderParts) (payload : List ℕ) : Type 0 where
   pub most : length payload ≤ 334
-  pub moves : (z : Past) → Moves skimmed (first_payload z (13 + length payload)) (z.place + 13) payload (done (Sequence parts))
+  pub moves : (z : Past) → Moves skim_grammar (first_payload z (13 + length payload)) (z.place + 13) payload (done (Sequence parts))
 
 -- ---- a picture
 
@@ -97,7 +97,7 @@ pub record IsHeader (parts : HeaderParts) (payload : List ℕ) : Type 0 where
 pub record IsPicture (parts : HeaderParts) (number : ℕ) (p : Params) (slices : List (List ℕ)) (payload : List ℕ) : Type 0 where
   pub most : 13 + length payload < 2 ^ 32
   pub moves : (z : Past) → first_broken (number_rules z number) ≡ None
-      → Moves skimmed (skim_picture z (13 + length payload) parts) (z.place + 13) payload (done (Picture parts number p slices))
+      → Moves skim_grammar (skim_picture z (13 + length payload) parts) (z.place + 13) payload (done (Picture parts number p slices))
 
 -- ---- what is left of a unit's payload and what follows it
 
@@ -156,15 +156,15 @@ slices_read p (suc left) so_far next (v ∷ vs) at bs u behind fits k =
     }
 
 -- they are read again
-moves_slices : (p : Params) (slices so_far : List (List ℕ)) (next : List (List ℕ) → Rows Reason DataUnit) (at : ℕ) → AreShares p (length so_far) slices → Moves skimmed (skim_slices p (length slices) so_far >>= next) at (concat slices) (next (so_far ++ slices))
+moves_slices : (p : Params) (slices so_far : List (List ℕ)) (next : List (List ℕ) → Rows Reason DataUnit) (at : ℕ) → AreShares p (length so_far) slices → Moves skim_grammar (skim_slices p (length slices) so_far >>= next) at (concat slices) (next (so_far ++ slices))
 unfolding skim_slices bytes_under ◌>>=◌
-moves_slices p [] so_far next at f = subst (λ l. Moves skimmed (next so_far) at [] (next l)) (sym (append-nil so_far)) (moves_none skimmed (next so_far) at)
+moves_slices p [] so_far next at f = subst (λ l. Moves skim_grammar (next so_far) at [] (next l)) (sym (append-nil so_far)) (moves_none skim_grammar (next so_far) at)
 moves_slices p (slice ∷ slices) so_far next at f =
     let longer : length (so_far ++ slice ∷ []) ≡ length so_far + 1 = omega (arith, length-append so_far (slice ∷ [])) in
     let others = moves_slices p slices (so_far ++ slice ∷ []) next (at + length slice) (subst (λ n. AreShares p n slices) (sym longer) f.2) in
-    moves_then skimmed _ _ _ at (at + length slice) slice (concat slices) refl
-    (moves_bytes skimmed (share p (length so_far)) (λ bytes. []) (λ slice. skim_slices p (length slices) (so_far ++ slice ∷ []) >>= next) at slice f.0 f.1 refl)
-    (subst (λ l. Moves skimmed (skim_slices p (length slices) (so_far ++ slice ∷ []) >>= next) (at + length slice) (concat slices) (next l)) (append_assoc so_far (slice ∷ []) slices) others)
+    moves_then skim_grammar _ _ _ at (at + length slice) slice (concat slices) refl
+    (moves_bytes skim_grammar (share p (length so_far)) (λ bytes. []) (λ slice. skim_slices p (length slices) (so_far ++ slice ∷ []) >>= next) at slice f.0 f.1 refl)
+    (subst (λ l. Moves skim_grammar (skim_slices p (length slices) (so_far ++ slice ∷ []) >>= next) (at + length slice) (concat slices) (next l)) (append_assoc so_far (slice ∷ []) slices) others)
 
 -- slices from slice n on have the bytes between
 length-slices : (p : Params) (n : ℕ) (slices : List (List ℕ)) → 1 ≤ p.slicing.b → AreShares p n slices → bytes_before p.slicing.a p.slicing.b n + length (concat slices) ≡ bytes_before p.slicing.a p.slicing.b (n + length slices)
@@ -187,10 +187,10 @@ length-all p slices some s count =
 
 -- ---- the payload of a picture
 
-params_of_skim : IsGroup skimmed transform_reason params.reason_of params_rows
+params_of_skim : IsGroup skim_grammar transform_reason params.reason_of params_rows
 params_of_skim = record { names = params_group.names; movable = params_group.movable; steady = params_group.steady }
 
-header_of_skim : IsGroup skimmed header_reason header.reason_of header_rows
+header_of_skim : IsGroup skim_grammar header_reason header.reason_of header_rows
 header_of_skim = record { names = header_group.names; movable = header_group.movable; steady = header_group.steady }
 
 record WordRead (rules : ℕ → List (Rule Reason)) (at : ℕ) (bs : List ℕ) (n : ℕ) (mid : Cursor) : Type 0 where
@@ -220,7 +220,7 @@ module _ (parts : HeaderParts) (nb pt : List ℕ) (p : Params) (slices : List (L
   abbrev all : List ℕ
   all = nb ++ (pt ++ concat slices)
 
-  picture_moves : ((next : Params → Rows Reason DataUnit) (at : ℕ) → Moves skimmed (renamed transform_reason params_rows >>= next) at pt (next p)) → (z : Past) → first_broken (number_rules z word) ≡ None → Moves skimmed (skim_picture z (13 + length all) parts) (z.place + 13) all (done (Picture parts word p slices))
+  picture_moves : ((next : Params → Rows Reason DataUnit) (at : ℕ) → Moves skim_grammar (renamed transform_reason params_rows >>= next) at pt (next p)) → (z : Past) → first_broken (number_rules z word) ≡ None → Moves skim_grammar (skim_picture z (13 + length all) parts) (z.place + 13) all (done (Picture parts word p slices))
   unfolding skim_picture word_under ◌>>=◌
   picture_moves group z rule =
       let n = 13 + length all in
@@ -229,12 +229,12 @@ module _ (parts : HeaderParts) (nb pt : List ℕ) (p : Params) (slices : List (L
       let behind_slices : List (List ℕ) → Rows Reason DataUnit = λ slices. next_checked z n >>= λ length. done (Picture parts word p slices) in
       let behind_params : Params → Rows Reason DataUnit = λ q. skim_slices q (slice_count q.slicing) [] >>= λ slices. next_checked z n >>= λ length. done (Picture parts word q slices) in
       let at = z.place + 17 + length pt in
-      let checked : Moves skimmed (behind_slices slices) (at + length (concat slices)) [] (done unit) = subst (λ m. Moves skimmed (behind_slices slices) m [] (done unit)) (omega (arith, long)) (skims (moves_checked z n unit)) in
-      let in_slices : Moves skimmed (behind_params p) at (concat slices) (behind_slices slices) = subst (λ m. Moves skimmed (skim_slices p m [] >>= behind_slices) at (concat slices) (behind_slices slices)) count (moves_slices p slices [] behind_slices at shares) in
-      let to_end : Moves skimmed (behind_params p) at (concat slices) (done unit) = subst (λ l. Moves skimmed (behind_params p) at l (done unit)) (append-nil (concat slices)) (moves_then skimmed _ _ _ at _ (concat slices) [] refl in_slices checked) in
-      moves_then skimmed _ _ _ (z.place + 13) (z.place + 17) nb (pt ++ concat slices) (omega (arith, four))
-      (moves_row skimmed 4 (λ v. number_rules z (from_be_bytes w32 (bytes_in v))) _ (z.place + 13) nb four fits rule)
-      (moves_then skimmed _ _ _ (z.place + 17) at pt (concat slices) refl (group behind_params (z.place + 17)) to_end)
+      let checked : Moves skim_grammar (behind_slices slices) (at + length (concat slices)) [] (done unit) = subst (λ m. Moves skim_grammar (behind_slices slices) m [] (done unit)) (omega (arith, long)) (skims (moves_checked z n unit)) in
+      let in_slices : Moves skim_grammar (behind_params p) at (concat slices) (behind_slices slices) = subst (λ m. Moves skim_grammar (skim_slices p m [] >>= behind_slices) at (concat slices) (behind_slices slices)) count (moves_slices p slices [] behind_slices at shares) in
+      let to_end : Moves skim_grammar (behind_params p) at (concat slices) (done unit) = subst (λ l. Moves skim_grammar (behind_params p) at l (done unit)) (append-nil (concat slices)) (moves_then skim_grammar _ _ _ at _ (concat slices) [] refl in_slices checked) in
+      moves_then skim_grammar _ _ _ (z.place + 13) (z.place + 17) nb (pt ++ concat slices) (omega (arith, four))
+      (moves_row skim_grammar 4 (λ v. number_rules z (from_be_bytes w32 (bytes_in v))) _ (z.place + 13) nb four fits rule)
+      (moves_then skim_grammar _ _ _ (z.place + 17) at pt (concat slices) refl (group behind_params (z.place + 17)) to_end)
 
 record PictureRead (z : Past) (parts : HeaderParts) (bs : List ℕ) (u : DataUnit) (behind : Cursor) : Type 0 where
   number : ℕ
@@ -323,9 +323,9 @@ header_read z next vs bs u behind k =
             let n = 13 + length payload in
             let unit = Sequence h.a in
             let behind_parts : HeaderParts → Rows Reason DataUnit = λ parts. next_checked z' n >>= λ length. done (Sequence parts) in
-            let checked : Moves skimmed (behind_parts h.a) (z'.place + 13 + length payload) [] (done unit) = subst (λ m. Moves skimmed (behind_parts h.a) m [] (done unit)) (omega arith) (skims (moves_checked z' n unit)) in
-            subst (λ l. Moves skimmed (first_payload z' n) (z'.place + 13) l (done unit)) (append-nil payload)
-            (moves_then skimmed _ _ _ (z'.place + 13) (z'.place + 13 + length payload) payload [] refl (group_moves header_of_skim behind_parts (z'.place + 13) bs h.a g.long g.read g.inside) checked);
+            let checked : Moves skim_grammar (behind_parts h.a) (z'.place + 13 + length payload) [] (done unit) = subst (λ m. Moves skim_grammar (behind_parts h.a) m [] (done unit)) (omega arith) (skims (moves_checked z' n unit)) in
+            subst (λ l. Moves skim_grammar (first_payload z' n) (z'.place + 13) l (done unit)) (append-nil payload)
+            (moves_then skim_grammar _ _ _ (z'.place + 13) (z'.place + 13 + length payload) payload [] refl (group_moves header_of_skim behind_parts (z'.place + 13) bs h.a g.long g.read g.inside) checked);
       };
     }
 
@@ -389,7 +389,7 @@ any_payload_read z None info vs bs u behind there fits long code k bytes more pa
 any_payload_read z (Some first) info vs bs u behind there fits long code k bytes more parts size =
     payload_read z first info.next info.code vs bs u behind there fits long code k bytes more parts size
 
-pub unit_read : (z : Past) (bs : List ℕ) (u : DataUnit) (behind : Cursor) → IsBytes bs → unit_at skimmed z bs ≡ Ok (u, behind) → (bytes more : List ℕ) → bs ≡ bytes ++ more → length bytes ≡ size_to bs behind → Facts z (drop 13 bytes) u
+pub unit_read : (z : Past) (bs : List ℕ) (u : DataUnit) (behind : Cursor) → IsBytes bs → unit_at skim_grammar z bs ≡ Ok (u, behind) → (bytes more : List ℕ) → bs ≡ bytes ++ more → length bytes ≡ size_to bs behind → Facts z (drop 13 bytes) u
 unfolding skim_rows
 unit_read z bs u behind fits e bytes more parts size =
     let f = found_fields reason_of (skim_rows z) (bytes_at z.place bs) u behind e in
@@ -398,7 +398,7 @@ unit_read z bs u behind fits e bytes more parts size =
     any_payload_read z z.first h.a h.more bs u behind refl fits r.inside r.code (subst (λ (c : Cursor). Stand (skim_payload z z.first h.a) h.more c u behind) r.behind h.others) bytes more parts size
 
 -- A unit has a whole head.
-pub unit_long : (z : Past) (bs : List ℕ) (u : DataUnit) (behind : Cursor) → IsBytes bs → unit_at skimmed z bs ≡ Ok (u, behind) → 13 ≤ size_to bs behind
+pub unit_long : (z : Past) (bs : List ℕ) (u : DataUnit) (behind : Cursor) → IsBytes bs → unit_at skim_grammar z bs ≡ Ok (u, behind) → 13 ≤ size_to bs behind
 unfolding skim_rows
 unit_long z bs u behind fits e =
     let f = found_fields reason_of (skim_rows z) (bytes_at z.place bs) u behind e in

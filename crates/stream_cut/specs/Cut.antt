@@ -14,7 +14,7 @@ use Rattle.stream_rows.specs.declared.reason.Reason.{Reason}
 use Rattle.stream_rows.specs.Refusals.{Refusal}
 use Rattle.stream_rows.specs.Units.{Past, nothing_yet, First, DataUnit, Sequence, Repeated, Picture, Skipped, End, has_fields, after}
 use Rattle.stream_rows.specs.Streams.{limit, past_limit, refusal_of}
-use Rattle.stream_cut.specs.Skim.{skimmed}
+use Rattle.stream_cut.specs.Skim.{skim_grammar}
 
 -- ---- the frames
 
@@ -76,9 +76,9 @@ header_due z None = cut_header_unit (payload_of z.first)
 header_due z (Some previous) = []
 
 -- the length of the unit before the picture's
-abbrev pub length_before : Past → Option ℕ → ℕ
-length_before z None = HEAD_SIZE + length (payload_of z.first)
-length_before z (Some previous) = previous
+abbrev pub length_ahead : Past → Option ℕ → ℕ
+length_ahead z None = HEAD_SIZE + length (payload_of z.first)
+length_ahead z (Some previous) = previous
 
 -- the end of the sequence, if anything was written
 abbrev pub end_due : Option ℕ → List ℕ
@@ -89,7 +89,7 @@ end_due (Some previous) = cut_end_unit previous
 abbrev pub cut_text : Frames → Past → Cutting → DataUnit → List ℕ → List ℕ
 cut_text frames z w (Picture parts number p slices) bytes =
     if is_in frames (frame_now z w)
-    then header_due z w.previous ++ cut_picture_unit (length_before z w.previous) (drop HEAD_SIZE bytes) else []
+    then header_due z w.previous ++ cut_picture_unit (length_ahead z w.previous) (drop HEAD_SIZE bytes) else []
 cut_text frames z w End bytes = end_due w.previous
 cut_text frames z w (Sequence parts) bytes = []
 cut_text frames z w Repeated bytes = []
@@ -248,4 +248,4 @@ cutting frames = record {
 
 -- that over the units of a skimmed stream
 abbrev pub cut_machine : Frames → Machine (Between Past CutSoFar) CutEnd
-cut_machine frames = machine_of limit past_limit skimmed nothing_yet (cutting frames)
+cut_machine frames = machine_of limit past_limit skim_grammar nothing_yet (cutting frames)

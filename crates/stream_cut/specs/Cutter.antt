@@ -46,9 +46,9 @@ MayGoOn (Refused refusal) = is_truncated refusal.reason ≡ true
 -- ---- for the code
 
 -- how it ends, by the units that were written and the refusal, if there is one
-abbrev pub end_of : List UnitShape → ℕ → Option Refusal → CutEnd
-end_of shapes total None = Whole shapes total
-end_of shapes total (Some refusal) = Refused refusal
+abbrev pub end_of_cut : List UnitShape → ℕ → Option Refusal → CutEnd
+end_of_cut shapes total None = Whole shapes total
+end_of_cut shapes total (Some refusal) = Refused refusal
 
 -- what it leaves, by its fields
 abbrev pub own_of : CutRun → CutSoFar

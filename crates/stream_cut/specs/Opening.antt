@@ -22,7 +22,7 @@ use Rattle.run_theory.specs.Begun.{Begun}
 use Rattle.unit_reader.specs.Asking.{WindowSeen}
 use Rattle.unit_reader.specs.Stops.{StopsOver}
 use Rattle.unit_reader.specs.declared.stop.ReadStop.{ReadStop}
-use Rattle.stream_cut.specs.Skim.{skim_slices, skim_rows, skimmed}
+use Rattle.stream_cut.specs.Skim.{skim_slices, skim_rows, skim_grammar}
 use Rattle.stream_cut.specs.declared.opening.Opening.{Opening}
 use Rattle.stream_cut.specs.declared.opening.Opening.TheVariants as openings
 
@@ -114,5 +114,5 @@ Opens z held opening size = OpensBy z (open_rows z) 0 held (Ok (opening, size))
 -- The beginning of a unit stands in front of the bytes that are held, or the unit stops in it; nothing of it is gone.
 abbrev pub OpenOver : Past → List ℕ → Option (List ℕ) → Option (List ℕ) → WindowSeen → Result (Opening × ℕ) (ReadStop Reason) → Type 0
 OpenOver z held0 rest0 rest1 window (Ok x) =
-    Begun skimmed z held0 rest0 rest1 z.place window.held (skim_rows z) × OpensBy z (open_rows z) 0 window.held (Ok x)
-OpenOver z held0 rest0 rest1 window (Err stop) = StopsOver skimmed z held0 rest0 rest1 window.room stop
+    Begun skim_grammar z held0 rest0 rest1 z.place window.held (skim_rows z) × OpensBy z (open_rows z) 0 window.held (Ok x)
+OpenOver z held0 rest0 rest1 window (Err stop) = StopsOver skim_grammar z held0 rest0 rest1 window.room stop

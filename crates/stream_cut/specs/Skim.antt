@@ -45,8 +45,8 @@ skim_rows z = do
   skim_payload z z.first head
 
 -- The units of a stream that is skimmed.
-abbrev pub skimmed : Grammar Past Reason DataUnit
-skimmed = units_by skim_rows
+abbrev pub skim_grammar : Grammar Past Reason DataUnit
+skim_grammar = units_by skim_rows
 
 -- The bytes are a stream of these units and the last one, whatever their slices hold.
 abbrev pub IsSkimStream : List ℕ → List Entry → Entry → Type 0

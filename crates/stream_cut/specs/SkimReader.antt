@@ -14,7 +14,7 @@ use Rattle.stream_rows.specs.declared.reason.Reason.TheVariants as reasons
 use Rattle.stream_rows.specs.Units.{Past, nothing_yet, DataUnit, End, after}
 use Rattle.stream_rows.specs.Streams.{limit, past_limit}
 use Rattle.unit_reader.specs.Stops.{LimitStops}
-use Rattle.stream_cut.specs.Skim.{skimmed}
+use Rattle.stream_cut.specs.Skim.{skim_grammar}
 use Rattle.stream_reader.specs.Reader.{header_behind}
 use Rattle.stream_cut.specs.SkimTable.{SkimTableSeen, kept_behind, shape_behind, item_of}
 use Rattle.stream_cut.specs.declared.table.SkimItem.{SkimItem}
@@ -51,14 +51,14 @@ pub record TakesSkimItem (old new : SkimReaderSeen) (rest0 rest1 : Option (List 
   pub unit : DataUnit
   pub bytes : List ℕ
   pub is_item : item ≡ item_of unit
-  pub takes : TakesUnit limit past_limit skimmed old.past old.held rest0 rest1 unit bytes new.held
+  pub takes : TakesUnit limit past_limit skim_grammar old.past old.held rest0 rest1 unit bytes new.held
   pub behind : IsBehindUnit old new unit bytes
   pub going : (new.stop ≡ None) × (new.ended ≡ false)
 
 -- The end of sequence in front was taken, and nothing is behind it.
 pub record TakesSkimEnd (old new : SkimReaderSeen) (rest0 rest1 : Option (List ℕ)) : Type 0 where
   pub bytes : List ℕ
-  pub meets : MeetsFront limit past_limit skimmed old.past old.held rest0 rest1 (Finishes (length bytes) End)
+  pub meets : MeetsFront limit past_limit skim_grammar old.past old.held rest0 rest1 (Finishes (length bytes) End)
   pub whole : (more : List ℕ) → rest1 ≡ Some more → old.held ++ meets.read ++ more ≡ bytes
   pub last : IsAtEnd rest1
   pub behind : IsBehindUnit old new End bytes
@@ -76,7 +76,7 @@ abbrev pub NextSkimmed : SkimReaderSeen → SkimReaderSeen → Option (List ℕ)
 NextSkimmed old new rest0 rest1 (Ok items.End) = TakesSkimEnd old new rest0 rest1
 NextSkimmed old new rest0 rest1 (Ok item) = TakesSkimItem old new rest0 rest1 item
 NextSkimmed old new rest0 rest1 (Err stop) =
-    LimitStops skimmed reasons.StreamTooLong old.past old.held rest0 rest1 stop × KeepsSkimStop old new stop
+    LimitStops skim_grammar reasons.StreamTooLong old.past old.held rest0 rest1 stop × KeepsSkimStop old new stop
 
 -- ---- over the reader of any table
 

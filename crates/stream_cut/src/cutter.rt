@@ -136,11 +136,11 @@ pub(crate) struct CutEnding {
 
 impl Model for CutEnding {
     ghost use Rattle.stream_cut.specs.Cut.{CutEnd};
-    ghost use Rattle.stream_cut.specs.Cutter.{end_of};
+    ghost use Rattle.stream_cut.specs.Cutter.{end_of_cut};
 
     ghost Value = { CutEnd };
 
-    ghost view = { λ e. end_of e.shapes.units e.shapes.total e.refusal };
+    ghost view = { λ e. end_of_cut e.shapes.units e.shapes.total e.refusal };
 }
 
 /// What the units so far leave to a cut: the frames of the sequences that are over and those of this one, the stream's first
@@ -159,9 +159,9 @@ pub(crate) struct CutRun {
 
 impl CutRun {
     ghost use Rattle.std.specs.Prelude.{◌≡◌, ◌≢◌, ◌≤◌, ◌<◌, ◌+◌, ◌++◌, ◌∷◌, ◌^◌, drop, [], length, OnOk, Some, None};
-    ghost use Rattle.slice_geometry.specs.UnitLengths.{IsUnitAllowed, unit_length};
+    ghost use Rattle.slice_geometry.specs.UnitLengths.{IsUnitAllowed, shape_length};
     ghost use Rattle.stream_rows.specs.Units.{First};
-    ghost use Rattle.stream_cut.specs.Cut.{header_due, length_before, cut_picture_unit, end_due, or_else_some, header_shapes, end_shapes, closing, closing_shapes};
+    ghost use Rattle.stream_cut.specs.Cut.{header_due, length_ahead, cut_picture_unit, end_due, or_else_some, header_shapes, end_shapes, closing, closing_shapes};
     ghost use Rattle.stream_cut.specs.Cutter.{own_of, pending};
 
     // The frame is chosen.
@@ -219,7 +219,7 @@ impl CutRun {
         ensures wrote { WritesText (header_due table.now.past self.old.previous)
             (K.written out.old) (K.written out.new) result }
         ensures previous { IfOk result (λ previous. previous
-            ≡ length_before table.now.past self.old.previous) }
+            ≡ length_ahead table.now.past self.old.previous) }
         ensures units { OnOk result (self.new.shapes.units
             ≡ self.old.shapes.units ++ header_shapes table.now.past self.old.shapes.total
             self.old.previous) }
@@ -251,11 +251,11 @@ impl CutRun {
         requires long { HEAD_SIZE ≤ length table.now.unit }
         requires short { length table.now.unit < 2 ^ 32 }
         requires allowed { IsUnitAllowed table.now.shape }
-        requires shape { unit_length table.now.shape ≡ length table.now.unit }
+        requires shape { shape_length table.now.shape ≡ length table.now.unit }
         requires most { self.old.shapes.total + pending table.now.past.first self.old.previous
             + length table.now.unit ≤ INPUT_LIMIT }
         ensures wrote { WritesText (header_due table.now.past self.old.previous
-            ++ cut_picture_unit (length_before table.now.past self.old.previous)
+            ++ cut_picture_unit (length_ahead table.now.past self.old.previous)
             (drop HEAD_SIZE table.now.unit)) (K.written out.old) (K.written out.new) result }
         ensures units { OnOk result (self.new.shapes.units
             ≡ self.old.shapes.units ++ (header_shapes table.now.past self.old.shapes.total

@@ -12,7 +12,7 @@ ghost use Rattle.stream_cut.specs.Keeping.{Kept, IsCutSlice};
 ghost use Rattle.slice_geometry.specs.Slicing.{total_bytes};
 ghost use Rattle.stream_rows.specs.declared.reason.Reason.TheVariants as reasons;
 ghost use Rattle.stream_rows.proofs.Answering.{after-place};
-ghost use Rattle.stream_cut.specs.Skim.{skimmed, skim_rows};
+ghost use Rattle.stream_cut.specs.Skim.{skim_grammar, skim_rows};
 ghost use Rattle.stream_cut.specs.SkimGrammar.{skimmed_laws};
 ghost use Rattle.stream_cut.specs.SkimTable.{IsSkimFoundBy, TellsSkimUnit, KeepsSkimHeader};
 
@@ -144,7 +144,8 @@ fn open<S: Source>(
     requires place { earlier.now.place + length window.old.held + window.old.room ≡ INPUT_LIMIT }
     requires few { length window.old.held ≤ READ_SIZE }
     ensures unit { (held0 : List ℕ) (rest0 : Option (List ℕ))
-        → Begun skimmed earlier.now held0 rest0 (S.rest src.old) earlier.now.place window.old.held
+        → Begun skim_grammar earlier.now held0 rest0
+        (S.rest src.old) earlier.now.place window.old.held
         (skim_rows earlier.now)
         → OpenOver earlier.now held0 rest0 (S.rest src.new) window.new result }
     ensures opened { IfOk result (λ x. Opens earlier.now window.new.held x.0 x.1) }
@@ -241,7 +242,7 @@ impl SkimTable {
         self.shape
     }
 
-    // KeepsSkimHeader the first bytes that are held, and no others.
+    // Keeps the first bytes that are held, and no others.
     fn keep_front(&mut self, window: &mut Window, size: usize) -> Result<(), ReadStop<Reason>>
         requires { size ≤ length window.old.held }
         ensures past { self.new.past ≡ self.old.past }
@@ -276,9 +277,9 @@ impl SkimTable {
         requires place { self.old.past.place + length window.old.held + window.old.room
             ≡ INPUT_LIMIT }
         ensures unit { (held0 : List ℕ) (rest0 rest1 : Option (List ℕ))
-            → Begun skimmed self.old.past held0 rest0 rest1 self.old.past.place window.old.held
+            → Begun skim_grammar self.old.past held0 rest0 rest1 self.old.past.place window.old.held
             (skim_rows self.old.past)
-            → UnitOver skimmed (IsSkimFoundBy self.old self.new)
+            → UnitOver skim_grammar (IsSkimFoundBy self.old self.new)
             (λ held0 rest0 held stop. KeepsSkimHeader self.old self.new) self.old.past held0 rest0
             rest1 window.new result }
         ensures past { self.new.past ≡ self.old.past }
@@ -305,9 +306,9 @@ impl SkimTable {
         requires place { self.old.past.place + length window.old.held + window.old.room
             ≡ INPUT_LIMIT }
         ensures unit { (held0 : List ℕ) (rest0 : Option (List ℕ))
-            → Begun skimmed self.old.past held0 rest0
+            → Begun skim_grammar self.old.past held0 rest0
             (S.rest src.old) self.old.past.place window.old.held (skim_rows self.old.past)
-            → UnitOver skimmed (IsSkimFoundBy self.old self.new)
+            → UnitOver skim_grammar (IsSkimFoundBy self.old self.new)
             (λ held0 rest0 held stop. KeepsSkimHeader self.old self.new) self.old.past held0 rest0
             (S.rest src.new) window.new result }
         ensures past { self.new.past ≡ self.old.past }
@@ -351,9 +352,9 @@ impl SkimTable {
         requires place { self.now.past.place + length window.old.held + window.old.room
             ≡ INPUT_LIMIT }
         ensures unit { (held0 : List ℕ) (rest0 : Option (List ℕ))
-            → Begun skimmed self.now.past held0 rest0
+            → Begun skim_grammar self.now.past held0 rest0
             (S.rest src.old) self.now.past.place window.old.held (skim_rows self.now.past)
-            → UnitOver skimmed (IsSkimFoundBy self.now self.now)
+            → UnitOver skim_grammar (IsSkimFoundBy self.now self.now)
             (λ held0 rest0 held stop. KeepsSkimHeader self.now self.now) self.now.past held0 rest0
             (S.rest src.new) window.new result }
         ensures cause { StopCause (S.faults src.old) (S.faults src.new) result }
@@ -374,7 +375,7 @@ impl Units for SkimTable {
 
     type Made = SkimUnit;
 
-    ghost grammar = { skimmed };
+    ghost grammar = { skim_grammar };
 
     ghost past = { λ table. table.past };
 

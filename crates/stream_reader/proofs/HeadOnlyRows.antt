@@ -2,7 +2,7 @@
 use Rattle.std.proofs.Common.{◌≡◌, ℕ, ◌+◌, ◌*◌, ◌<◌, ◌≤◌, List, [], ◌∷◌, length, drop, Some, Result, Ok, Err, Bool, true, false, IsTrue, arith, ap, ◌∙◌, refl}
 use Rattle.std.specs.Prelude.{OnOk, IfErr}
 use Rattle.bit_codes.specs.Bits.{Cursor, bits_of}
-use Rattle.field_rows.specs.Rows.{◌or_else◌, Fault, read, judged, and_then, first_broken}
+use Rattle.field_rows.specs.Rows.{◌or_else◌, Fault, read, reading_unless, and_then, first_broken}
 use Rattle.field_rows.proofs.Words.{IsBytes}
 use Rattle.parse_info.specs.declared.Code.{Code}
 use Rattle.parse_info.specs.declared.ParseInfo.{ParseInfo}
@@ -44,7 +44,7 @@ not_short true e = cc
 not_short false e = cc
 
 tells_offset : (place : ℕ) (bytes : List ℕ) (behind : Cursor) (code : Code) (next : ℕ) (r : Result (ParseInfo × Cursor) (Fault Reason)) (s : Result ParseInfo Refusal) → Tells bytes behind r s
-    → Tells bytes behind (judged (8 * place + 32 + 8) (first_broken (head_only_rules code next)) r) (and_then (passes (place + 5) (first_broken (head_only_rules code next))) (λ checked. s))
+    → Tells bytes behind (reading_unless (8 * place + 32 + 8) (first_broken (head_only_rules code next)) r) (and_then (passes (place + 5) (first_broken (head_only_rules code next))) (λ checked. s))
 tells_offset place bytes behind code next r s h = tells_judged bytes behind (8 * place + 32 + 8) (place + 5) (first_broken (head_only_rules code next)) r s (omega arith) (not_short (leads_on code next)) h
 
 tells_head_only : (place : ℕ) (bytes : List ℕ) (behind : Cursor) (fault : InfoFault) → (IsTrue (is_short fault) → length bytes < 13) → Tells bytes behind (told head_only_reader (8 * place) behind (Err fault)) (head_only_judged place (Err fault))

@@ -3,7 +3,7 @@ use Rattle.std.proofs.Common.{◌≡◌, ℕ, ◌+◌, ◌-◌, ◌*◌, ◌/◌
 use Rattle.std.specs.Prelude.{◌==◌, ◌||◌, ◌&&◌, ◌%◌, not, is_some, OnOk, IfErr}
 use Rattle.std.proofs.lemmas.List.{drop-drop, length-drop}
 use Rattle.bit_codes.specs.Bits.{Cursor, cursor_at, bits_of}
-use Rattle.field_rows.specs.Rows.{Rows, ◌or_else◌, done, ◌>>=◌, renamed, Fault, read, and_then, judged, first_broken}
+use Rattle.field_rows.specs.Rows.{Rows, ◌or_else◌, done, ◌>>=◌, renamed, Fault, read, and_then, reading_unless, first_broken}
 use Rattle.field_rows.specs.Moved.{moved_answer, renamed_answer}
 use Rattle.field_rows.proofs.Reading.{read-bind, read-done, then_ok, then_err}
 use Rattle.field_rows.proofs.Words.{IsBytes, split-bits, read-check_at}
@@ -82,7 +82,7 @@ Tells bytes behind (Ok x) (Err refusal) = ⊥
 Tells bytes behind (Err fault) (Ok info) = ⊥
 
 pub tells_judged : (bytes : List ℕ) (behind : Cursor) (bit place : ℕ) (broken : Option Reason) (r : Result (ParseInfo × Cursor) (Fault Reason)) (s : Result ParseInfo Refusal) → place ≡ bit / 8 → (broken ≡ Some reasons.Truncated → ⊥) → Tells bytes behind r s
-    → Tells bytes behind (judged bit broken r) (and_then (passes place broken) (λ checked. s))
+    → Tells bytes behind (reading_unless bit broken r) (and_then (passes place broken) (λ checked. s))
 tells_judged bytes behind bit place None r s at other h = h
 tells_judged bytes behind bit place (Some reason) r s at other h = (ap (λ n. record { place = n; reason = reason }) at, λ e. absurd (other (ap Some e)))
 
@@ -90,19 +90,19 @@ pub tells_fault : (bytes : List ℕ) (behind : Cursor) (bit place : ℕ) (reason
 tells_fault bytes behind bit place reason at short = (ap (λ n. record { place = n; reason = reason }) at, short)
 
 tells_code : (z : Past) (bytes : List ℕ) (behind : Cursor) (code : Code) (r : Result (ParseInfo × Cursor) (Fault Reason)) (s : Result ParseInfo Refusal) → Tells bytes behind r s
-    → Tells bytes behind (judged (8 * z.place + 32) (first_broken (code_rules z code)) r) (and_then (passes (z.place + 4) (first_broken (code_rules_behind (looking_back z) code))) (λ checked. s))
+    → Tells bytes behind (reading_unless (8 * z.place + 32) (first_broken (code_rules z code)) r) (and_then (passes (z.place + 4) (first_broken (code_rules_behind (looking_back z) code))) (λ checked. s))
 tells_code z bytes behind code r s h =
-    subst (λ (broken : Option Reason). Tells bytes behind (judged (8 * z.place + 32) (first_broken (code_rules z code)) r) (and_then (passes (z.place + 4) broken) (λ checked. s))) (same_rules z code)
+    subst (λ (broken : Option Reason). Tells bytes behind (reading_unless (8 * z.place + 32) (first_broken (code_rules z code)) r) (and_then (passes (z.place + 4) broken) (λ checked. s))) (same_rules z code)
     (tells_judged bytes behind (8 * z.place + 32) (z.place + 4) (first_broken (code_rules z code)) r s (omega arith) (code_not_short (is_some z.first || is_header code) (not (is_end_code code && has_fields z.first && z.pictures % 2 == 1))) h)
 
 tells_next : (z : Past) (bytes : List ℕ) (behind : Cursor) (code : Code) (next : ℕ) (r : Result (ParseInfo × Cursor) (Fault Reason)) (s : Result ParseInfo Refusal) → Tells bytes behind r s
-    → Tells bytes behind (judged (8 * z.place + 32 + 8) (first_broken (next_rules code next)) r) (and_then (passes (z.place + 5) (first_broken (next_rules code next))) (λ checked. s))
+    → Tells bytes behind (reading_unless (8 * z.place + 32 + 8) (first_broken (next_rules code next)) r) (and_then (passes (z.place + 5) (first_broken (next_rules code next))) (λ checked. s))
 tells_next z bytes behind code next r s h = tells_judged bytes behind (8 * z.place + 32 + 8) (z.place + 5) (first_broken (next_rules code next)) r s (omega arith) (next_not_short _ _) h
 
 tells_previous : (z : Past) (bytes : List ℕ) (behind : Cursor) (previous : ℕ) (r : Result (ParseInfo × Cursor) (Fault Reason)) (s : Result ParseInfo Refusal) → Tells bytes behind r s
-    → Tells bytes behind (judged (8 * z.place + 32 + 8 + 32) (first_broken (previous_rules z previous)) r) (and_then (passes (z.place + 9) (first_broken (previous_rules_behind (looking_back z) previous))) (λ checked. s))
+    → Tells bytes behind (reading_unless (8 * z.place + 32 + 8 + 32) (first_broken (previous_rules z previous)) r) (and_then (passes (z.place + 9) (first_broken (previous_rules_behind (looking_back z) previous))) (λ checked. s))
 tells_previous z bytes behind previous r s h =
-    subst (λ (broken : Option Reason). Tells bytes behind (judged (8 * z.place + 32 + 8 + 32) (first_broken (previous_rules z previous)) r) (and_then (passes (z.place + 9) broken) (λ checked. s))) (same_previous z previous)
+    subst (λ (broken : Option Reason). Tells bytes behind (reading_unless (8 * z.place + 32 + 8 + 32) (first_broken (previous_rules z previous)) r) (and_then (passes (z.place + 9) broken) (λ checked. s))) (same_previous z previous)
     (tells_judged bytes behind (8 * z.place + 32 + 8 + 32) (z.place + 9) (first_broken (previous_rules z previous)) r s (omega arith) (previous_not_short (previous == z.previous || (begins_later z && previous == 0))) h)
 
 tells_info : (z : Past) (bytes : List ℕ) (behind : Cursor) (info : ParseInfo) → 13 ≤ length bytes → Tells bytes behind (told (head_reader z) (8 * z.place) behind (Ok info)) (judged_head (looking_back z) (Ok info))
@@ -161,7 +161,7 @@ first_offset_refused bytes info parts len h e le leads = (
   record { place = 40; reason = reasons.OffsetWrong },
   refl,
   first_then bytes info _ h (payload_is nothing_yet info.next len parts (drop 13 bytes) e le
-      ∙ ap (λ b. judged 40 (first_broken ((b or_else reasons.OffsetWrong) ∷ [])) (Ok (Sequence parts, bytes_at (0 + (13 + len)) (drop len (drop 13 bytes))))) leads),
+      ∙ ap (λ b. reading_unless 40 (first_broken ((b or_else reasons.OffsetWrong) ∷ [])) (Ok (Sequence parts, bytes_at (0 + (13 + len)) (drop len (drop 13 bytes))))) leads),
 )
 
 pub first_is : (bytes : List ℕ) (info : ParseInfo) (parts : HeaderParts) (len : ℕ) → HeadAt (unit_head nothing_yet) nothing_yet.place bytes (Ok info) → read header.reason_of header_rows (cursor_at (drop 13 bytes) 0) ≡ Ok (parts, cursor_at (drop 13 bytes) (8 * len)) → len ≤ length (drop 13 bytes)
@@ -169,7 +169,7 @@ pub first_is : (bytes : List ℕ) (info : ParseInfo) (parts : HeaderParts) (len 
 first_is bytes info parts len h e le leads = (
   omega (arith, le, length-drop 13 bytes, h.0),
   first_then bytes info _ h (payload_is nothing_yet info.next len parts (drop 13 bytes) e le
-      ∙ ap (λ b. judged 40 (first_broken ((b or_else reasons.OffsetWrong) ∷ [])) (Ok (Sequence parts, bytes_at (0 + (13 + len)) (drop len (drop 13 bytes))))) leads
+      ∙ ap (λ b. reading_unless 40 (first_broken ((b or_else reasons.OffsetWrong) ∷ [])) (Ok (Sequence parts, bytes_at (0 + (13 + len)) (drop len (drop 13 bytes))))) leads
       ∙ ap (λ n. Ok (Sequence parts, bytes_at n (drop len (drop 13 bytes)))) (omega arith)
       ∙ ap (λ l. Ok (Sequence parts, bytes_at (13 + len) l)) (drop-drop len 13 bytes)),
 )

@@ -4,7 +4,7 @@ use Rattle.std.specs.Prelude.{nat_eq}
 use Rattle.std.specs.List.{starts_with}
 use Rattle.std.proofs.lemmas.List.{length-append, length-take, take-append-drop}
 use Rattle.std.specs.Io.KnownBytes.{IsAtEnd}
-use Rattle.field_rows.specs.Rows.{done, read, ◌>>=◌, bytes_under, first_broken, judged, ◌or_else◌}
+use Rattle.field_rows.specs.Rows.{done, read, ◌>>=◌, bytes_under, first_broken, reading_unless, ◌or_else◌}
 use Rattle.field_rows.proofs.Reading.{read-done}
 use Rattle.run_theory.specs.Ran.{within}
 use Rattle.run_theory.specs.Grammar.{bytes_at}
@@ -74,7 +74,7 @@ checked_moves : (z : Past) (next n : ℕ) (unit : DataUnit) → leads_behind nex
 checked_moves z next n unit leads = record {
   moves = λ more.
       read-checked_unit z next n unit more
-      ∙ ap (λ b. judged (8 * (z.place + 5)) (first_broken ((b or_else reasons.OffsetWrong) ∷ [])) (Ok (unit, bytes_at (z.place + n) more))) leads
+      ∙ ap (λ b. reading_unless (8 * (z.place + 5)) (first_broken ((b or_else reasons.OffsetWrong) ∷ [])) (Ok (unit, bytes_at (z.place + n) more))) leads
       ∙ sym (read-done reason_of unit (bytes_at (z.place + n) more)) ∙ ap (λ p. read reason_of (done unit) (bytes_at p more)) (omega arith);
 }
 
@@ -97,7 +97,7 @@ pub checked_refused : {z : Past} {held0 held1 : List ℕ} {rest0 rest1 : Option 
     → z.place + n + length held1 + room ≡ limit → stop ≡ stops.Refused (record { place = z.place + 5; reason = reasons.OffsetWrong }) → StopsOver units z held0 rest0 rest1 room stop
 checked_refused {z} {held0} {held1} {rest0} {rest1} room next n unit stop b leads total e =
     stops_refused units_laws room (8 * (z.place + 5)) (z.place + 5) reasons.OffsetWrong stop b
-    (read-checked_unit z next n unit held1 ∙ ap (λ b. judged (8 * (z.place + 5)) (first_broken ((b or_else reasons.OffsetWrong) ∷ [])) (Ok (unit, bytes_at (z.place + n) held1))) leads)
+    (read-checked_unit z next n unit held1 ∙ ap (λ b. reading_unless (8 * (z.place + 5)) (first_broken ((b or_else reasons.OffsetWrong) ∷ [])) (Ok (unit, bytes_at (z.place + n) held1))) leads)
     refl total (omega arith) e
 
 -- ---- a repeated sequence header

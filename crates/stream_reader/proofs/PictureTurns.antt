@@ -8,7 +8,7 @@ use Rattle.std.proofs.lemmas.List.{length-append, length-take, take-append-drop,
 use Rattle.run_theory.specs.Ran.{within}
 use Rattle.bit_codes.specs.Bits.{Cursor, cursor_at, bits_of}
 use Rattle.bit_codes.proofs.BitLemmas.{length-bits}
-use Rattle.field_rows.specs.Rows.{some_bytes, Value, Bytes, bytes_in, Rule, ◌or_else◌, Rows, done, row, ◌>>=◌, Fault, read, word_under, bytes_under, renamed, first_broken, check_at, and_then, judged}
+use Rattle.field_rows.specs.Rows.{some_bytes, Value, Bytes, bytes_in, Rule, ◌or_else◌, Rows, done, row, ◌>>=◌, Fault, read, word_under, bytes_under, renamed, first_broken, check_at, and_then, reading_unless}
 use Rattle.field_rows.proofs.Pieces.{read-more_refused}
 use Rattle.field_rows.proofs.Reading.{read-bind}
 use Rattle.field_rows.proofs.Words.{read-check_at}
@@ -365,14 +365,14 @@ ready_frame parts header shape p d ready is same = ready.frame ∙ frame_is head
 
 -- the check of the next offset
 next_read : (z : Past) (next at span : ℕ) (others : ℕ → Rows Reason DataUnit) (bytes : List ℕ) → at ≡ z.place + span
-    → read reason_of (next_checked z next >>= others) (bytes_at at bytes) ≡ and_then {A = ℕ × Cursor} (judged (8 * (z.place + 5)) (first_broken ((leads_behind next span or_else reasons.OffsetWrong) ∷ [])) (Ok (8 * at, bytes_at at bytes))) (λ x. read reason_of (others x.0) x.1)
+    → read reason_of (next_checked z next >>= others) (bytes_at at bytes) ≡ and_then {A = ℕ × Cursor} (reading_unless (8 * (z.place + 5)) (first_broken ((leads_behind next span or_else reasons.OffsetWrong) ∷ [])) (Ok (8 * at, bytes_at at bytes))) (λ x. read reason_of (others x.0) x.1)
 unfolding next_checked
 next_read z next at span others bytes there =
     let rules = λ (here : ℕ). ((next == 0 || next == here / 8 - z.place) or_else reasons.OffsetWrong) ∷ [] in
     let size : 8 * at / 8 - z.place ≡ span = omega (arith, there) in
     read-bind reason_of (check_at (8 * (z.place + 5)) rules) others (bytes_at at bytes)
     ∙ ap (λ (r : Result (ℕ × Cursor) (Fault Reason)). and_then r (λ x. read reason_of (others x.0) x.1)) (read-check_at reason_of (8 * (z.place + 5)) rules (bytes_at at bytes)
-    ∙ ap (λ n. judged (8 * (z.place + 5)) (first_broken ((leads_behind next n or_else reasons.OffsetWrong) ∷ [])) (Ok (8 * at, bytes_at at bytes))) size)
+    ∙ ap (λ n. reading_unless (8 * (z.place + 5)) (first_broken ((leads_behind next n or_else reasons.OffsetWrong) ∷ [])) (Ok (8 * at, bytes_at at bytes))) size)
 
 pub next_wrong : {z : Past} {held0 held1 : List ℕ} {rest0 rest1 : Option (List ℕ)} {at : ℕ} (others : ℕ → Rows Reason DataUnit) (next span room place : ℕ) (stop : ReadStop Reason) → Begun units z held0 rest0 rest1 at held1 (next_checked z next >>= others)
     → at ≡ z.place + span → leads_behind next span ≡ false → at + length held1 + room ≡ limit → place ≡ z.place + 5 → stop ≡ stops.Refused (record { place = place; reason = reasons.OffsetWrong }) → StopsOver units z held0 rest0 rest1 room stop

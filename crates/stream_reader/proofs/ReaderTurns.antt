@@ -8,7 +8,7 @@ use Rattle.slice_geometry.proofs.Quotients.{le-div_of_le}
 use Rattle.slice_geometry.specs.Frames.{frame_of}
 use Rattle.slice_geometry.specs.Slicing.{bytes_before}
 use Rattle.slice_geometry.specs.declared.unit_list.UnitShape.{UnitShape}
-use Rattle.slice_geometry.specs.UnitLengths.{IsUnitAllowed, unit_length}
+use Rattle.slice_geometry.specs.UnitLengths.{IsUnitAllowed, shape_length}
 use Rattle.picture_codec.specs.Samples.{PictureSamples, picture_of}
 use Rattle.picture_codec.specs.Decoding.{PictureDecoderSeen, HasTaken, synthesised_picture}
 use Rattle.stream_rows.specs.Streams.{frame_under}
@@ -113,7 +113,7 @@ kept_behind makes_pictures z found unit bytes old now new h kept d = by found h 
     by founds.End h kept = subst (λ (u : DataUnit). DecoderBehind makes_pictures u old new) (sym h) (subst (λ (u : DataUnit). DecoderBehind makes_pictures u now new) h d ∙ kept)
 
 -- each slice has a byte
-pub slices_few : (shape : UnitShape) → IsUnitAllowed shape → shape.slices ≤ unit_length shape
+pub slices_few : (shape : UnitShape) → IsUnitAllowed shape → shape.slices ≤ shape_length shape
 slices_few shape allowed =
     let below : shape.slices ≤ bytes_before shape.a shape.b shape.slices = le-div_of_le (shape.slices * shape.a) shape.b shape.slices allowed.some (mul-le-mul_left shape.slices allowed.byte) in
     omega (arith, below)

@@ -63,9 +63,11 @@ impl StreamChecker {
         // The unit is taken, or refused as the grammar of a stream refuses it, or something outside failed.
         ensures next { self.old.stop ≡ None → self.old.ended ≡ false
             → NextUnshown self.old self.new (S.rest src.old) (S.rest src.new) result }
-        // Behind each call, whatever it answers, at most 8192 bytes are held, and beside them the greatest share where there is one.
+        // Behind each call, whatever it answers, at most 8192 bytes are held, and beside them the
+        // greatest share where there is one.
         ensures held { length self.new.held ≤ held_most self.new.greatest }
-        // The greatest share is that of the picture that was taken or in which the call stops; else it stays, and 8192 bytes are held at most.
+        // The greatest share is that of the picture that was taken or in which the call stops; else
+        // it stays, and 8192 bytes are held at most.
         ensures greatest { self.old.stop ≡ None → self.old.ended ≡ false
             → GreatestOver self.old self.new (S.rest src.old) result }
         // A failed read is answered where the count rose, and nothing else is.

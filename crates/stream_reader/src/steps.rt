@@ -2,7 +2,7 @@
 
 ghost use Rattle.vc2_io.specs.declared.TheConstants.{INPUT_LIMIT};
 ghost use Rattle.std.specs.Prelude.{◌≡◌, ◌+◌, ◌≤◌, ◌<◌, List, ℕ, length, false, None, Some, IfSome};
-ghost use Rattle.slice_geometry.specs.UnitLengths.{IsUnitAllowed, unit_length};
+ghost use Rattle.slice_geometry.specs.UnitLengths.{IsUnitAllowed, shape_length};
 ghost use Rattle.slice_geometry.specs.Frames.{frame_of};
 ghost use Rattle.picture_codec.specs.Samples.{picture_of};
 ghost use Rattle.picture_codec.specs.Decoding.{HasTaken, synthesised_picture, wanted_of};
@@ -23,7 +23,7 @@ pub(crate) fn shape_of(found: &Found, start: u64, size: u32) -> UnitShape
     ensures shape { (z : Past) (unit : DataUnit) (bytes : List ℕ) → z.place ≡ start
         → length bytes ≡ size → IsFound z found.now unit bytes → result ≡ shape_of z unit bytes }
     ensures size { (z : Past) (unit : DataUnit) (bytes : List ℕ) → length bytes ≡ size
-        → IsFound z found.now unit bytes → unit_length result ≡ size }
+        → IsFound z found.now unit bytes → shape_length result ≡ size }
     ensures start { result.start ≡ start }
     ensures allowed { IsUnitAllowed result }
 {

@@ -3,7 +3,7 @@ use Rattle.std.proofs.Common.{◌≡◌, ℕ, ◌-◌, subst, sym, Bool, true, f
 use Rattle.std.specs.Prelude.{unwrap_or, nat_lt}
 use Rattle.bit_codes.specs.declared.CodeFault.{CodeFault}
 use Rattle.bit_codes.specs.Bits.{Cursor}
-use Rattle.field_rows.specs.Rows.{Value, Fault, ◌or_else◌, Rule, first_broken, Rows, done, row, ◌>>=◌, renamed, field_at, and_then, judged, read}
+use Rattle.field_rows.specs.Rows.{Value, Fault, ◌or_else◌, Rule, first_broken, Rows, done, row, ◌>>=◌, renamed, field_at, and_then, reading_unless, read}
 use Rattle.field_rows.specs.Standing.{Stand}
 use Rattle.run_theory.specs.Grammar.{Behind, Inner, Final, unit_at}
 use Rattle.run_theory.specs.Fronts.{Stands, front_behind, front_by, front_within}
@@ -70,12 +70,12 @@ read_made P reason_of (done a) c x all e = subst P (ap (λ y. y.0) (ok_same (a, 
 read_made {R} {A} P reason_of (row s at rules next) c x all e = by_field (λ v d kept f. read_made P reason_of (next v) d x (all v kept) f) (field_at reason_of s c) e
   where
     by_rules : ((v : Value) (d : Cursor) → first_broken (rules v) ≡ None → read reason_of (next v) d ≡ Ok x → P x.0) → (v : Value) (d : Cursor) (place : ℕ) (broken : Option R) → first_broken (rules v) ≡ broken
-        → judged place broken (read reason_of (next v) d) ≡ Ok x → P x.0
+        → reading_unless place broken (read reason_of (next v) d) ≡ Ok x → P x.0
     by_rules go v d place (Some reason) is e = absurd cc
     by_rules go v d place None is e = go v d is e
 
     by_field : ((v : Value) (d : Cursor) → first_broken (rules v) ≡ None → read reason_of (next v) d ≡ Ok x → P x.0) → (field : Result (Value × Cursor) (Fault R))
-        → and_then field (λ y. judged (unwrap_or at c.place) (first_broken (rules y.0)) (read reason_of (next y.0) y.1)) ≡ Ok x → P x.0
+        → and_then field (λ y. reading_unless (unwrap_or at c.place) (first_broken (rules y.0)) (read reason_of (next y.0) y.1)) ≡ Ok x → P x.0
     by_field go (Err fault) e = absurd cc
     by_field go (Ok y) e = by_rules go y.0 y.1 (unwrap_or at c.place) (first_broken (rules y.0)) refl e
 

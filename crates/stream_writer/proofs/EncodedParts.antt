@@ -6,8 +6,8 @@ use Rattle.std.proofs.Math.Seq.{take-length}
 use Rattle.std.proofs.lemmas.Bool.{eq-eqb}
 use Rattle.std.proofs.lemmas.List.{length-append, drop_at}
 use Rattle.bit_codes.specs.Bits.{cursor_at}
-use Rattle.field_rows.specs.Rows.{◌or_else◌, Rows, done, ◌>>=◌, bytes_under, word_under, byte_under, renamed, read, first_broken, judged}
-use Rattle.field_rows.specs.Given.{written}
+use Rattle.field_rows.specs.Rows.{◌or_else◌, Rows, done, ◌>>=◌, bytes_under, word_under, byte_under, renamed, read, first_broken, reading_unless}
+use Rattle.field_rows.specs.Given.{value_bits}
 use Rattle.field_rows.proofs.Reading.{read-done}
 use Rattle.field_rows.proofs.Filled.{length-filled}
 use Rattle.parse_info.specs.declared.Code.{Code}
@@ -77,7 +77,7 @@ pub moves_checked : (z : Past) (n : ℕ) (unit : DataUnit) → Moves units (next
 moves_checked z n unit = record {
   moves = λ more.
       read-checked_unit z n n unit more
-      ∙ ap (λ b. judged (8 * (z.place + 5)) (first_broken ((b or_else reasons.OffsetWrong) ∷ [])) (Ok (unit, bytes_at (z.place + n) more))) (leads n)
+      ∙ ap (λ b. reading_unless (8 * (z.place + 5)) (first_broken ((b or_else reasons.OffsetWrong) ∷ [])) (Ok (unit, bytes_at (z.place + n) more))) (leads n)
       ∙ sym (read-done reason_of unit (bytes_at (z.place + n) more)) ∙ ap (λ p. read reason_of (done unit) (bytes_at p more)) (omega arith);
 }
 
@@ -89,8 +89,8 @@ moves_header z parts f = record {
       let piece = header_bytes parts in
       let long : length piece ≡ header_len parts = length-filled (header_bits parts) in
       payload_is z (13 + header_len parts) (length piece) parts (piece ++ more) (header_back parts f more) (omega (arith, length-append piece more))
-      ∙ ap (λ n. judged (8 * (z.place + 5)) (first_broken ((leads_behind (13 + header_len parts) (13 + n) or_else reasons.OffsetWrong) ∷ [])) (Ok (Sequence parts, bytes_at (z.place + (13 + length piece)) (drop (length piece) (piece ++ more))))) long
-      ∙ ap (λ b. judged (8 * (z.place + 5)) (first_broken ((b or_else reasons.OffsetWrong) ∷ [])) (Ok (Sequence parts, bytes_at (z.place + (13 + length piece)) (drop (length piece) (piece ++ more))))) (leads (13 + header_len parts))
+      ∙ ap (λ n. reading_unless (8 * (z.place + 5)) (first_broken ((leads_behind (13 + header_len parts) (13 + n) or_else reasons.OffsetWrong) ∷ [])) (Ok (Sequence parts, bytes_at (z.place + (13 + length piece)) (drop (length piece) (piece ++ more))))) long
+      ∙ ap (λ b. reading_unless (8 * (z.place + 5)) (first_broken ((b or_else reasons.OffsetWrong) ∷ [])) (Ok (Sequence parts, bytes_at (z.place + (13 + length piece)) (drop (length piece) (piece ++ more))))) (leads (13 + header_len parts))
       ∙ ap (λ l. Ok (Sequence parts, bytes_at (z.place + (13 + length piece)) l)) (drop_at piece more (length piece) refl)
       ∙ ap (λ p. Ok (Sequence parts, bytes_at p more)) (omega arith)
       ∙ sym (read-done reason_of (Sequence parts) (bytes_at (z.place + 13 + length piece) more));
@@ -101,7 +101,7 @@ moves_header z parts f = record {
 pub moves_params : (p : Params) (next : Params → Rows Reason DataUnit) (at : ℕ) → AreLawfulParams p → Moves units (renamed transform_reason params_rows >>= next) at (params_bytes p) (next p)
 moves_params p next at f =
     let piece = params_bytes p in
-    let long : length piece ≡ byte_length p = length-filled (written (written_params.fields_of p)) in
+    let long : length piece ≡ byte_length p = length-filled (value_bits (written_params.fields_of p)) in
     let read_back = subst (λ l. read params.reason_of params_rows (cursor_at l 0) ≡ Ok (p, cursor_at l (8 * byte_length p))) (append-nil piece) (written_back p [] f) in
     subst (λ l. Moves units (renamed transform_reason params_rows >>= next) at l (next p)) (ap (λ n. take n piece) (sym long) ∙ take-length piece) (group_moves params_group next at piece p (byte_length p) read_back (omega (arith, long)))
 

@@ -9,7 +9,7 @@ use Rattle.slice_geometry.specs.Frames.{Frame, frame_of}
 use Rattle.transform_params.specs.Params.{Params}
 use Rattle.transform_params.specs.ParameterFields.{AreLawfulParams}
 use Rattle.picture_codec.specs.Samples.{PictureSamples, HaveShape}
-use Rattle.picture_codec.specs.Encoding.{coded_from, slices_of, IsSteepFor}
+use Rattle.picture_codec.specs.Encoding.{coded_from, slices_of, IsSteepOkFor}
 use Rattle.picture_codec.proofs.CodedBands.{coded_is_given}
 use Rattle.stream_rows.specs.Streams.{frame_under}
 use Rattle.stream_writer.specs.EncodedStream.{IsSliced}
@@ -18,12 +18,12 @@ use Rattle.stream_rows.proofs.Frames.{frame_is}
 use Rattle.stream_writer.proofs.EncodedStreams.{encoded_stream}
 use Rattle.stream_writer.proofs.WrittenSlices.{chosen_are_sliced}
 
-picture_is_sliced : (parts : HeaderParts) (p : Params) (shape : PictureShape) (s : PictureSamples) → AreLawfulParams p → IsShapeOf shape parts → IsSteepFor shape p → HaveShape shape s → IsSliced parts p (slices_of (frame_under parts) p s)
+picture_is_sliced : (parts : HeaderParts) (p : Params) (shape : PictureShape) (s : PictureSamples) → AreLawfulParams p → IsShapeOf shape parts → IsSteepOkFor shape p → HaveShape shape s → IsSliced parts p (slices_of (frame_under parts) p s)
 picture_is_sliced parts p shape s f is steep have =
     subst (λ (g : Frame). IsSliced parts p (slices_of g p s)) (frame_is parts shape is)
     (chosen_are_sliced parts p.wavelet (coded_from (frame_of shape) p s) f.allowed (coded_is_given shape p s f have) steep is.luma is.colour).0
 
-pub all_sliced : (parts : HeaderParts) (p : Params) (shape : PictureShape) (pictures : List PictureSamples) → AreLawfulParams p → IsShapeOf shape parts → IsSteepFor shape p → AllByRecursion (HaveShape shape) pictures
+pub all_sliced : (parts : HeaderParts) (p : Params) (shape : PictureShape) (pictures : List PictureSamples) → AreLawfulParams p → IsShapeOf shape parts → IsSteepOkFor shape p → AllByRecursion (HaveShape shape) pictures
     → AllByRecursion (IsSliced parts p) (map (slices_of (frame_under parts) p) pictures)
 all_sliced parts p shape [] f is steep have = tt
 all_sliced parts p shape (s ∷ pictures) f is steep have = (picture_is_sliced parts p shape s f is steep have.0, all_sliced parts p shape pictures f is steep have.1)

@@ -10,7 +10,7 @@ use Rattle.bit_codes.proofs.BitLemmas.{length-bits}
 use Rattle.bit_codes.proofs.Numbers.{bits_of-append}
 use Rattle.bit_codes.proofs.ByteLemmas.{bytes_of-bits_of, bytes_of-fit}
 use Rattle.field_rows.specs.Rows.{Value, done, ◌or_else◌, first_broken}
-use Rattle.field_rows.specs.Given.{written}
+use Rattle.field_rows.specs.Given.{value_bits}
 use Rattle.field_rows.specs.Standing.{Stand}
 use Rattle.field_rows.proofs.Answers.{found_fields}
 use Rattle.field_rows.proofs.Reading.{read-done}
@@ -58,7 +58,7 @@ picture_fits parts p previous number slices f =
     let info : ParseInfo = record { code = LowDelayPicture; next = unit_length p; previous = previous } in
     fit_append (head_bytes info) (picture_bytes p number slices) (head_fits info)
     (fit_append (to_be_bytes w32 number) (params_bytes p ++ concat slices) (word_fits number)
-    (fit_append (params_bytes p) (concat slices) (bytes_of-fit (written (written_params.fields_of p) ++ zeros_to_byte_end (bit_length p))) (slices_fit parts p 0 slices f.each)))
+    (fit_append (params_bytes p) (concat slices) (bytes_of-fit (value_bits (written_params.fields_of p) ++ zeros_to_byte_end (bit_length p))) (slices_fit parts p 0 slices f.each)))
 
 before_fits : (parts : HeaderParts) (begins : Bool) (previous : ℕ) → Fit (units_before parts begins previous)
 before_fits parts true previous = fit_append (end_unit previous) (header_unit parts) (head_fits (record { code = EndOfSequence; next = 0; previous = previous })) (header_fits parts)

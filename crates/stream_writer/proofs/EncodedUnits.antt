@@ -4,7 +4,7 @@ use Rattle.std.specs.List.{concat}
 use Rattle.std.specs.Int.{w32, to_be_bytes}
 use Rattle.std.proofs.lemmas.List.{length-append}
 use Rattle.field_rows.specs.Rows.{Rows, done, ◌>>=◌, renamed, first_broken}
-use Rattle.field_rows.specs.Given.{written}
+use Rattle.field_rows.specs.Given.{value_bits}
 use Rattle.field_rows.proofs.Filled.{length-filled}
 use Rattle.parse_info.specs.Head.{head_bytes}
 use Rattle.parse_info.specs.declared.Code.TheVariants.{SequenceHeader, EndOfSequence, LowDelayPicture}
@@ -54,7 +54,7 @@ length-all_slices parts p slices f s =
 
 pub length-picture_unit : (parts : HeaderParts) (p : Params) (previous number : ℕ) (slices : List (List ℕ)) → AreLawfulParams p → IsSliced parts p slices → length (picture_unit p previous number slices) ≡ unit_length p
 length-picture_unit parts p previous number slices f s =
-    omega (arith, length-append (params_bytes p) (concat slices), length-filled (written (fields_of p)), length-all_slices parts p slices f s)
+    omega (arith, length-append (params_bytes p) (concat slices), length-filled (value_bits (fields_of p)), length-all_slices parts p slices f s)
 
 -- ---- what a unit's rows make of its bytes
 
@@ -87,7 +87,7 @@ moves_picture_unit z first p previous number slices there f s true_one previous_
     let payload : Moves units (picture_payload z (unit_length p) first.parts) (z.place + 13) (picture_bytes p number slices) (done (Picture first.parts number p slices)) =
     moves_then units _ _ _ (z.place + 13) (z.place + 17) (to_be_bytes w32 number) _ (omega arith)
     (moves_word units (number_rules z) (λ number. renamed transform_reason params_rows >>= λ params. slice_rows first.parts params (slice_count params.slicing) [] >>= λ slices. next_checked z (unit_length p) >>= λ length. done (Picture first.parts number params slices)) (z.place + 13) number number_fits number_holds)
-    (moves_then units _ _ _ (z.place + 17) (z.place + 17 + byte_length p) (params_bytes p) (concat slices) (omega (arith, length-filled (written (fields_of p)))) (moves_params p behind_params (z.place + 17) f) all_slices) in
+    (moves_then units _ _ _ (z.place + 17) (z.place + 17 + byte_length p) (params_bytes p) (concat slices) (omega (arith, length-filled (value_bits (fields_of p)))) (moves_params p behind_params (z.place + 17) f) all_slices) in
     let info : ParseInfo = record { code = LowDelayPicture; next = unit_length p; previous = previous } in
     let rest : Moves units (payload_rows z z.first info) (z.place + 13) (picture_bytes p number slices) (done (Picture first.parts number p slices)) =
     subst (λ o. Moves units (payload_rows z o info) (z.place + 13) (picture_bytes p number slices) (done (Picture first.parts number p slices))) (sym there) payload in

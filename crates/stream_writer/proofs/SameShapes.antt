@@ -9,10 +9,10 @@ use Rattle.slice_geometry.specs.declared.PictureShape.{PictureShape}
 use Rattle.slice_geometry.specs.Shape.{IsSize, IsDepth}
 use Rattle.slice_geometry.specs.Frames.{Frame, frame_of}
 use Rattle.slice_encoder.specs.TrialLaws.{IsSteepOk}
-use Rattle.picture_codec.specs.Encoding.{IsSteepFor}
+use Rattle.picture_codec.specs.Encoding.{IsSteepOkFor}
 use Rattle.stream_rows.specs.Streams.{frame_under}
 use Rattle.stream_writer.specs.EncodedStream.{Settings}
-use Rattle.stream_writer.specs.Writer.{IsSteepUnder}
+use Rattle.stream_writer.specs.Writer.{IsSteepOkUnder}
 
 one_size : (w h : ℕ) (a b : IsSize w h) → a ≡ b
 one_size w h = hlevel props
@@ -46,12 +46,12 @@ one_shape parts a b x y =
     a.luma_fits a.colour_fits a.luma_depth_fits a.colour_depth_fits b.luma_fits b.colour_fits b.luma_depth_fits b.colour_depth_fits
 
 -- the matrix is asked of the header's depths
-pub steep_for : (s : Settings) (shape : PictureShape) → IsShapeOf shape s.parts → IsSteepUnder s → IsSteepFor shape s.params
+pub steep_for : (s : Settings) (shape : PictureShape) → IsShapeOf shape s.parts → IsSteepOkUnder s → IsSteepOkFor shape s.params
 steep_for s shape is steep =
     let steep_at : ℕ → ℕ → Type 0 = λ m n. IsSteepOk s.params.slicing.depth (max m n) s.params.matrix in
     subst (λ n. steep_at shape.luma_depth n) (sym is.colour_depth) (subst (λ m. steep_at m (colour_depth s.parts)) (sym is.luma_depth) steep)
 
-pub steep_under : (s : Settings) (shape : PictureShape) → IsShapeOf shape s.parts → IsSteepFor shape s.params → IsSteepUnder s
+pub steep_under : (s : Settings) (shape : PictureShape) → IsShapeOf shape s.parts → IsSteepOkFor shape s.params → IsSteepOkUnder s
 steep_under s shape is steep =
     let steep_at : ℕ → ℕ → Type 0 = λ m n. IsSteepOk s.params.slicing.depth (max m n) s.params.matrix in
     subst (λ m. steep_at m (colour_depth s.parts)) is.luma_depth (subst (λ n. steep_at shape.luma_depth n) is.colour_depth steep)

@@ -3,9 +3,9 @@ use Rattle.std.proofs.Common.{ℕ, List, Option, Err}
 use Rattle.stream_writer.specs.declared.write_stop.WriteStop.{WriteStop}
 use Rattle.stream_writer.specs.declared.write_stop.WriteStop.TheVariants as stops
 use Rattle.stream_writer.specs.EncodedStream.{Settings, header_unit}
-use Rattle.stream_writer.specs.Writer.{StreamWriterSeen, IsSteepUnder, Starts, Wrote, EndStops, WriteCause}
+use Rattle.stream_writer.specs.Writer.{StreamWriterSeen, IsSteepOkUnder, Starts, Wrote, EndStops, WriteCause}
 
-pub stopped_starts : (s : Settings) (out0 out1 : Option (List ℕ)) (stop : WriteStop) → IsSteepUnder s → Wrote (header_unit s.parts) out0 out1 (Err stop) → EndStops (Err stop) → Starts s out0 out1 (Err stop)
+pub stopped_starts : (s : Settings) (out0 out1 : Option (List ℕ)) (stop : WriteStop) → IsSteepOkUnder s → Wrote (header_unit s.parts) out0 out1 (Err stop) → EndStops (Err stop) → Starts s out0 out1 (Err stop)
 stopped_starts s out0 out1 stops.OutFault steep wrote why = (steep, wrote)
 stopped_starts s out0 out1 stops.MatrixTooSteep steep wrote why = absurd why
 stopped_starts s out0 out1 stops.NoMemory steep wrote why = (steep, wrote)

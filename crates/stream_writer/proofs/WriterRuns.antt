@@ -10,7 +10,7 @@ use Rattle.stream_rows.specs.Streams.{frame_under}
 use Rattle.stream_writer.specs.StreamPictures.{pictures_of}
 use Rattle.stream_writer.specs.EncodedStream.{Settings, header_unit}
 use Rattle.stream_writer.specs.EncodedPictures.{all_slices}
-use Rattle.stream_writer.specs.Writer.{StreamWriterSeen, started, after_picture, due_units, texts_from, HaveRoomInTurn}
+use Rattle.stream_writer.specs.Writer.{StreamWriterSeen, writer_begun, after_picture, due_units, texts_from, HaveRoomInTurn}
 use Rattle.stream_writer.specs.WriterRuns.{CallsWrite, shown_of, RunsWriteStreams}
 use Rattle.stream_writer.proofs.SameShapes.{steep_for}
 use Rattle.stream_writer.proofs.EncodedStreams.{encoded_pictures}
@@ -40,10 +40,10 @@ pub runs_write : RunsWriteStreams
 runs_write s shape pictures out0 out1 lawful is have even run =
     let slices = all_slices s pictures in
     let unit = header_unit s.parts in
-    let calls = calls_texts (started s) pictures run.mid out1 (subst (λ (w : StreamWriterSeen). CallsWrite w pictures run.mid out1) run.start.0 run.calls) in
+    let calls = calls_texts (writer_begun s) pictures run.mid out1 (subst (λ (w : StreamWriterSeen). CallsWrite w pictures run.mid out1) run.start.0 run.calls) in
     let sliced = all_sliced s.parts s.params shape pictures lawful.params is (steep_for s shape is run.start.1) have in
     let stream = calls_stream s slices lawful sliced (λ e. ap (λ (n : ℕ). n % 2) (length-map pictures (slices_of (frame_under s.parts) s.params)) ∙ even e) calls.1 in (
-      unit ++ texts_from (started s) slices,
-      Appends-then out0 run.mid out1 unit (texts_from (started s) slices) run.start.2 calls.0,
+      unit ++ texts_from (writer_begun s) slices,
+      Appends-then out0 run.mid out1 unit (texts_from (writer_begun s) slices) run.start.2 calls.0,
       record { stream = stream; shown = ap pictures_of stream.found ∙ encoded_pictures s slices ∙ shown_each s pictures },
     )

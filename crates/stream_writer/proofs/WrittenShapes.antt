@@ -11,10 +11,10 @@ use Rattle.transform_params.specs.ParameterFields.{unit_length}
 use Rattle.parse_info.specs.Chain.{ChainSeen}
 use Rattle.stream_writer.specs.declared.write_stop.WriteStop.{WriteStop}
 use Rattle.stream_writer.specs.EncodedStream.{header_length}
-use Rattle.stream_writer.specs.Writer.{total_length, pictures_among, last_length, plain_shape, picture_shape, bytes_before, due_shapes}
+use Rattle.stream_writer.specs.Writer.{total_length, pictures_among, last_length, plain_shape, picture_shape, head_bytes_before, due_shapes}
 use Rattle.stream_writer.specs.WriterInside.{IsWriterSound}
 
-pub total_push : (units : List UnitShape) (u : UnitShape) → total_length (units ++ u ∷ []) ≡ total_length units + shapes.unit_length u
+pub total_push : (units : List UnitShape) (u : UnitShape) → total_length (units ++ u ∷ []) ≡ total_length units + shapes.shape_length u
 total_push [] u = omega arith
 total_push (v ∷ units) u = omega (arith, total_push units u)
 
@@ -22,14 +22,14 @@ pub pictures_push : (units : List UnitShape) (u : UnitShape) → pictures_among 
 pictures_push [] u = omega arith
 pictures_push (v ∷ units) u = omega (arith, pictures_push units u)
 
-pub last_push : (before : ℕ) (units : List UnitShape) (u : UnitShape) → last_length before (units ++ u ∷ []) ≡ shapes.unit_length u
+pub last_push : (before : ℕ) (units : List UnitShape) (u : UnitShape) → last_length before (units ++ u ∷ []) ≡ shapes.shape_length u
 last_push before [] u = refl
-last_push before (v ∷ units) u = last_push (shapes.unit_length v) units u
+last_push before (v ∷ units) u = last_push (shapes.shape_length v) units u
 
-pub plain_length : (start size : ℕ) → shapes.unit_length (plain_shape start size) ≡ size
+pub plain_length : (start size : ℕ) → shapes.shape_length (plain_shape start size) ≡ size
 plain_length start size = omega arith
 
-pub picture_length : (p : Params) (start : ℕ) → shapes.unit_length (picture_shape p start) ≡ unit_length p
+pub picture_length : (p : Params) (start : ℕ) → shapes.shape_length (picture_shape p start) ≡ unit_length p
 picture_length p start = omega arith
 
 pub one_more : (slices : ℕ) → 1 ≤ slices → cond {A = ℕ} (ltb 0 slices) 1 0 ≡ 1
@@ -42,23 +42,23 @@ module _ (parts : HeaderParts) (p : Params) where
   three_more : (units : List UnitShape) (a b c : UnitShape) → units ++ a ∷ b ∷ c ∷ [] ≡ ((units ++ a ∷ []) ++ b ∷ []) ++ c ∷ []
   three_more units a b c = sym (append_assoc (units ++ a ∷ []) (b ∷ []) (c ∷ []) ∙ append_assoc units (a ∷ []) (b ∷ c ∷ []))
 
-  pub total_due : (begins : Bool) (units : List UnitShape) (place : ℕ) → total_length (units ++ due_shapes parts p begins place) ≡ total_length units + bytes_before parts begins + unit_length p
+  pub total_due : (begins : Bool) (units : List UnitShape) (place : ℕ) → total_length (units ++ due_shapes parts p begins place) ≡ total_length units + head_bytes_before parts begins + unit_length p
   total_due false units place = omega (arith, total_push units (picture_shape p (place + 0)), picture_length p (place + 0))
   total_due true units place =
       let a = plain_shape place 13 in
       let b = plain_shape (place + 13) (header_length parts) in
-      let c = picture_shape p (place + bytes_before parts true) in
+      let c = picture_shape p (place + head_bytes_before parts true) in
       let first = total_push units a in
       let second = total_push (units ++ a ∷ []) b in
       let third = total_push ((units ++ a ∷ []) ++ b ∷ []) c in
-      ap total_length (three_more units a b c) ∙ omega (arith, first, second, third, plain_length place 13, plain_length (place + 13) (header_length parts), picture_length p (place + bytes_before parts true))
+      ap total_length (three_more units a b c) ∙ omega (arith, first, second, third, plain_length place 13, plain_length (place + 13) (header_length parts), picture_length p (place + head_bytes_before parts true))
 
   pub pictures_due : (begins : Bool) (units : List UnitShape) (place : ℕ) → 1 ≤ slice_count p.slicing → pictures_among (units ++ due_shapes parts p begins place) ≡ pictures_among units + 1
   pictures_due false units place some = pictures_push units (picture_shape p (place + 0)) ∙ ap (λ n. pictures_among units + n) (one_more (slice_count p.slicing) some)
   pictures_due true units place some =
       let a = plain_shape place 13 in
       let b = plain_shape (place + 13) (header_length parts) in
-      let c = picture_shape p (place + bytes_before parts true) in
+      let c = picture_shape p (place + head_bytes_before parts true) in
       ap pictures_among (three_more units a b c) ∙ omega (arith, pictures_push units a, pictures_push (units ++ a ∷ []) b, pictures_push ((units ++ a ∷ []) ++ b ∷ []) c, one_more (slice_count p.slicing) some)
 
   pub last_due : (begins : Bool) (units : List UnitShape) (place : ℕ) → last_length 0 (units ++ due_shapes parts p begins place) ≡ unit_length p
@@ -66,8 +66,8 @@ module _ (parts : HeaderParts) (p : Params) where
   last_due true units place =
       let a = plain_shape place 13 in
       let b = plain_shape (place + 13) (header_length parts) in
-      let c = picture_shape p (place + bytes_before parts true) in
-      ap (last_length 0) (three_more units a b c) ∙ last_push 0 ((units ++ a ∷ []) ++ b ∷ []) c ∙ picture_length p (place + bytes_before parts true)
+      let c = picture_shape p (place + head_bytes_before parts true) in
+      ap (last_length 0) (three_more units a b c) ∙ last_push 0 ((units ++ a ∷ []) ++ b ∷ []) c ∙ picture_length p (place + head_bytes_before parts true)
 
 -- ---- the fields of a writer
 
@@ -90,7 +90,7 @@ sound_plain first number position size chain chain' units units' stop ended ende
 
 -- behind a picture and what is due before it
 pub sound_picture : (parts : HeaderParts) (p : Params) (begins : Bool) (first number number' position : ℕ) (chain chain' : ChainSeen) (units units' : UnitShapesSeen) (stop : Option WriteStop) (ended : Bool) → IsWriterSound first chain number position units stop ended
-    → units'.units ≡ units.units ++ due_shapes parts p begins units.total → units'.total ≡ units.total + bytes_before parts begins + unit_length p → chain' ≡ record { place = units'.total; previous = unit_length p } → number' ≡ (number + 1) % 2 ^ 32
+    → units'.units ≡ units.units ++ due_shapes parts p begins units.total → units'.total ≡ units.total + head_bytes_before parts begins + unit_length p → chain' ≡ record { place = units'.total; previous = unit_length p } → number' ≡ (number + 1) % 2 ^ 32
     → 1 ≤ slice_count p.slicing → units'.total + 13 ≤ 2 ^ 40 → IsWriterSound first chain' number' (position + 1) units' stop ended
 sound_picture parts p begins first number number' position chain chain' units units' stop ended s list total links next some room =
     let pictures : pictures_among units.units + 1 ≡ pictures_among units'.units = sym (pictures_due parts p begins units.units units.total some) ∙ ap pictures_among (sym list) in

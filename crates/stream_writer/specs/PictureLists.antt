@@ -8,7 +8,7 @@ use Rattle.slice_geometry.specs.Slicing.{slice_count}
 use Rattle.transform_params.specs.Params.{Params}
 use Rattle.slice_encoder.specs.Chosen.{chosen}
 use Rattle.picture_codec.specs.Samples.{PictureSamples, HaveShape}
-use Rattle.picture_codec.specs.Encoding.{coded_from, slices_of, IsSteepFor}
+use Rattle.picture_codec.specs.Encoding.{coded_from, slices_of, IsSteepOkFor}
 use Rattle.stream_rows.specs.Streams.{frame_under}
 use Rattle.stream_writer.specs.EncodedStream.{Settings, AreLawful}
 use Rattle.stream_writer.specs.WrittenSlices.{HoldLists}
@@ -20,5 +20,5 @@ HoldsItsLists f p s = HoldLists (coded_from f p s) (chosen (coded_from f p s) (s
 -- So it is of every picture of the header's shape, where the matrix is not too steep.
 abbrev pub PicturesHoldTheirLists : Type 0
 PicturesHoldTheirLists = (s : Settings) (shape : PictureShape) (pictures : List PictureSamples) → AreLawful s
-    → IsShapeOf shape s.parts → IsSteepFor shape s.params → AllByRecursion (HaveShape shape) pictures
+    → IsShapeOf shape s.parts → IsSteepOkFor shape s.params → AllByRecursion (HaveShape shape) pictures
     → AllByRecursion (HoldsItsLists (frame_under s.parts) s.params) pictures

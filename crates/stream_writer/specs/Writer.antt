@@ -29,7 +29,7 @@ pub record StreamWriterSeen : Type 0 where
 -- their bytes
 abbrev pub total_length : List UnitShape → ℕ
 total_length [] = 0
-total_length (u ∷ units) = shapes.unit_length u + total_length units
+total_length (u ∷ units) = shapes.shape_length u + total_length units
 
 -- how many of them have slices
 abbrev pub pictures_among : List UnitShape → ℕ
@@ -39,7 +39,7 @@ pictures_among (u ∷ units) = (if nat_lt 0 u.slices then 1 else 0) + pictures_a
 -- the length of the last one, and 0 before the first
 abbrev pub last_length : ℕ → List UnitShape → ℕ
 last_length before [] = before
-last_length before (u ∷ units) = last_length (shapes.unit_length u) units
+last_length before (u ∷ units) = last_length (shapes.shape_length u) units
 
 -- the number of the next picture
 abbrev pub next_number : StreamWriterSeen → ℕ
@@ -75,8 +75,8 @@ picture_shape p start =
 -- ---- what the calls leave
 
 -- a writer that wrote the sequence header
-abbrev pub started : Settings → StreamWriterSeen
-started s = record { settings = s; shapes = plain_shape 0 (header_length s.parts) ∷ []; ended = false; stop = None }
+abbrev pub writer_begun : Settings → StreamWriterSeen
+writer_begun s = record { settings = s; shapes = plain_shape 0 (header_length s.parts) ∷ []; ended = false; stop = None }
 
 -- before a picture's unit, by whether a new sequence begins with it, from a place on: an end and a header
 abbrev pub shapes_before : HeaderParts → Bool → ℕ → List UnitShape
@@ -84,12 +84,12 @@ shapes_before parts begins place = if begins
     then plain_shape place HEAD_SIZE ∷ plain_shape (place + HEAD_SIZE) (header_length parts) ∷ [] else []
 
 -- their bytes
-abbrev pub bytes_before : HeaderParts → Bool → ℕ
-bytes_before parts begins = if begins then HEAD_SIZE + header_length parts else 0
+abbrev pub head_bytes_before : HeaderParts → Bool → ℕ
+head_bytes_before parts begins = if begins then HEAD_SIZE + header_length parts else 0
 
 -- the shapes of the units that are due with a picture
 abbrev pub due_shapes : HeaderParts → Params → Bool → ℕ → List UnitShape
-due_shapes parts p begins place = shapes_before parts begins place ++ picture_shape p (place + bytes_before parts begins) ∷ []
+due_shapes parts p begins place = shapes_before parts begins place ++ picture_shape p (place + head_bytes_before parts begins) ∷ []
 
 -- the writer behind a picture
 abbrev pub after_picture : StreamWriterSeen → StreamWriterSeen
@@ -107,8 +107,8 @@ abbrev pub after_end : StreamWriterSeen → StreamWriterSeen
 after_end w = record w { shapes = w.shapes ++ plain_shape (next_place w) HEAD_SIZE ∷ []; ended = true }
 
 -- the writer behind a stop
-abbrev pub stopped : StreamWriterSeen → WriteStop → StreamWriterSeen
-stopped w stop = record w { stop = Some stop }
+abbrev pub writer_stopped : StreamWriterSeen → WriteStop → StreamWriterSeen
+writer_stopped w stop = record w { stop = Some stop }
 
 -- units were written whole, or a proper front of them went out, or nothing
 abbrev pub Wrote : List ℕ → Option (List ℕ) → Option (List ℕ) → Result (Unit {0}) WriteStop → Type 0
@@ -119,12 +119,12 @@ Wrote unit out0 out1 (Err other) = out1 ≡ out0
 -- what is left of a writer that keeps no stop
 abbrev pub leaves : StreamWriterSeen → StreamWriterSeen → Result (Unit {0}) WriteStop → StreamWriterSeen
 leaves old next (Ok x) = next
-leaves old next (Err stop) = stopped old stop
+leaves old next (Err stop) = writer_stopped old stop
 
 -- the units that are due with the next picture, and the last end, fit before the limit
 abbrev pub HasRoom : StreamWriterSeen → Type 0
 HasRoom w =
-    next_place w + bytes_before w.settings.parts (begins_next w) + unit_length w.settings.params + HEAD_SIZE ≤ limit
+    next_place w + head_bytes_before w.settings.parts (begins_next w) + unit_length w.settings.params + HEAD_SIZE ≤ limit
 
 -- why a picture isn't written: without room for it and the end it never is, and with room only a write or memory fails
 abbrev pub PictureStops : StreamWriterSeen → Result (Unit {0}) WriteStop → Type 0
@@ -152,15 +152,15 @@ pub record WritesEnd (old new : StreamWriterSeen) (out0 out1 : Option (List ℕ)
   pub why : EndStops result
 
 -- the matrix leaves index 127 coarse enough for every picture of the header's shape
-abbrev pub IsSteepUnder : Settings → Type 0
-IsSteepUnder s = IsSteepOk s.params.slicing.depth (max (luma_depth s.parts) (colour_depth s.parts)) s.params.matrix
+abbrev pub IsSteepOkUnder : Settings → Type 0
+IsSteepOkUnder s = IsSteepOk s.params.slicing.depth (max (luma_depth s.parts) (colour_depth s.parts)) s.params.matrix
 
 -- How a start came out: too steep exactly where the matrix is, and else want of memory alone is free.
 abbrev pub Starts : Settings → Option (List ℕ) → Option (List ℕ) → Result StreamWriterSeen WriteStop → Type 0
-Starts s out0 out1 (Ok w) = (w ≡ started s) × IsSteepUnder s × Appends out0 out1 (header_unit s.parts)
-Starts s out0 out1 (Err stops.OutFault) = IsSteepUnder s × GrewShort out0 out1 (header_unit s.parts)
-Starts s out0 out1 (Err stops.MatrixTooSteep) = (IsSteepUnder s → ⊥) × (out1 ≡ out0)
-Starts s out0 out1 (Err stops.NoMemory) = IsSteepUnder s × (out1 ≡ out0)
+Starts s out0 out1 (Ok w) = (w ≡ writer_begun s) × IsSteepOkUnder s × Appends out0 out1 (header_unit s.parts)
+Starts s out0 out1 (Err stops.OutFault) = IsSteepOkUnder s × GrewShort out0 out1 (header_unit s.parts)
+Starts s out0 out1 (Err stops.MatrixTooSteep) = (IsSteepOkUnder s → ⊥) × (out1 ≡ out0)
+Starts s out0 out1 (Err stops.NoMemory) = IsSteepOkUnder s × (out1 ≡ out0)
 Starts s out0 out1 (Err stops.StreamTooLong) = ⊥
 
 -- a failed write has its cause, and without one the count stands still

@@ -12,7 +12,7 @@ use Rattle.picture_codec.specs.Encoding.{PictureEncoderSeen}
 use Rattle.stream_writer.specs.declared.write_stop.WriteStop.{WriteStop}
 use Rattle.stream_writer.specs.declared.write_stop.WriteStop.TheVariants as stops
 use Rattle.stream_writer.specs.EncodedStream.{Settings, header_length, header_unit}
-use Rattle.stream_writer.specs.Writer.{StreamWriterSeen, IsSteepUnder, total_length, pictures_among, last_length}
+use Rattle.stream_writer.specs.Writer.{StreamWriterSeen, IsSteepOkUnder, total_length, pictures_among, last_length}
 
 -- place, offset and number are those of the units that are written
 pub record IsWriterSound (first : ℕ) (chain : ChainSeen) (number position : ℕ) (shapes : UnitShapesSeen) (stop : Option WriteStop)
@@ -47,10 +47,10 @@ pub record Encodes (parts : HeaderParts) (p : Params) (encoder : PictureEncoderS
 
 -- a writer that wrote nothing yet
 abbrev pub IsNewWriter : Settings → StreamWriterSeen → Type 0
-IsNewWriter s w = (w ≡ record { settings = s; shapes = []; ended = false; stop = None }) × IsSteepUnder s
+IsNewWriter s w = (w ≡ record { settings = s; shapes = []; ended = false; stop = None }) × IsSteepOkUnder s
 
 -- why there is none
 abbrev pub IsUnready : Settings → WriteStop → Type 0
-IsUnready s stops.MatrixTooSteep = IsSteepUnder s → ⊥
-IsUnready s stops.NoMemory = IsSteepUnder s
+IsUnready s stops.MatrixTooSteep = IsSteepOkUnder s → ⊥
+IsUnready s stops.NoMemory = IsSteepOkUnder s
 IsUnready s other = ⊥

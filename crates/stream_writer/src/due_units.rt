@@ -7,7 +7,7 @@ ghost use Rattle.sequence_header.specs.Coding.{IsShapeOf};
 ghost use Rattle.picture_codec.specs.Encoding.{slices_of};
 ghost use Rattle.stream_rows.specs.Streams.{frame_under};
 ghost use Rattle.stream_writer.specs.EncodedStream.{header_length, header_unit, units_with};
-ghost use Rattle.stream_writer.specs.Writer.{bytes_before, shapes_before, due_shapes};
+ghost use Rattle.stream_writer.specs.Writer.{head_bytes_before, shapes_before, due_shapes};
 ghost use Rattle.slice_geometry.specs.Slicing.{slice_count};
 ghost use Rattle.vc2_io.specs.declared.TheConstants.{INPUT_LIMIT};
 
@@ -103,7 +103,7 @@ impl DueUnits {
 
     /// The length of what is due before a picture, by whether a new sequence begins with it.
     pub fn len_before(&self, begins: bool) -> u64
-        ensures value { result ≡ bytes_before self.now.parts begins }
+        ensures value { result ≡ head_bytes_before self.now.parts begins }
         ensures most { result ≤ 263 }
     {
         if begins {
@@ -116,10 +116,11 @@ impl DueUnits {
     fn step_before(&self, begins: bool, shapes: &mut UnitShapes, chain: &mut Chain)
         requires spare { 3 ≤ shapes.old.spare }
         requires place { chain.old.place ≡ shapes.old.total }
-        requires most { shapes.old.total + bytes_before self.now.parts begins ≤ INPUT_LIMIT }
+        requires most { shapes.old.total + head_bytes_before self.now.parts begins ≤ INPUT_LIMIT }
         ensures units { shapes.new.units
             ≡ shapes.old.units ++ shapes_before self.now.parts begins shapes.old.total }
-        ensures total { shapes.new.total ≡ shapes.old.total + bytes_before self.now.parts begins }
+        ensures total { shapes.new.total
+            ≡ shapes.old.total + head_bytes_before self.now.parts begins }
         ensures spare { 1 ≤ shapes.new.spare }
         ensures place { chain.new.place ≡ shapes.new.total }
     {
@@ -136,13 +137,14 @@ impl DueUnits {
     pub fn step(&self, begins: bool, shapes: &mut UnitShapes, chain: &mut Chain)
         requires spare { 3 ≤ shapes.old.spare }
         requires place { chain.old.place ≡ shapes.old.total }
-        requires most { shapes.old.total + bytes_before self.now.parts begins
+        requires most { shapes.old.total + head_bytes_before self.now.parts begins
             + unit_length self.now.params ≤ INPUT_LIMIT }
         ensures units { shapes.new.units
             ≡ shapes.old.units ++ due_shapes self.now.parts self.now.params begins
             shapes.old.total }
         ensures total { shapes.new.total
-            ≡ shapes.old.total + bytes_before self.now.parts begins + unit_length self.now.params }
+            ≡ shapes.old.total + head_bytes_before self.now.parts begins
+            + unit_length self.now.params }
         ensures chain { chain.new ≡ record {
           place = shapes.new.total;
           previous = unit_length self.now.params;

@@ -7,7 +7,7 @@ ghost use Rattle.picture_codec.specs.Lossless.{LosslessIsGivenBack};
 ghost use Rattle.stream_rows.specs.Streams.{limit, frame_under};
 ghost use Rattle.stream_writer.specs.StreamPictures.{pictures_of};
 ghost use Rattle.stream_writer.specs.EncodedStream.{Settings, header_unit, encoded, units_of, AreLawful, IsSliced, IsStreamOf};
-ghost use Rattle.stream_writer.specs.Writer.{started, texts_from, HaveRoomInTurn};
+ghost use Rattle.stream_writer.specs.Writer.{writer_begun, texts_from, HaveRoomInTurn};
 ghost use Rattle.stream_writer.specs.WrittenSlices.{WrittenAreSliced, ChosenAreSliced};
 ghost use Rattle.stream_writer.specs.EncodedPictures.{PicturesAreAStream};
 ghost use Rattle.stream_writer.specs.WriterRuns.{RunsWriteStreams};
@@ -35,15 +35,15 @@ pub fn encoded_pictures_are_shown()
 pub fn calls_write_the_stream()
     ensures { (s : Settings) (pictures : List (List (List ℕ))) → AreLawfulParams s.params
         → s.first < 2 ^ 32
-        → header_unit s.parts ++ texts_from (started s) pictures ≡ encoded s pictures }
+        → header_unit s.parts ++ texts_from (writer_begun s) pictures ≡ encoded s pictures }
 {}
 
 /// So what calls write that all answer Ok is a stream of exactly these pictures: its length needs no further test.
 pub fn calls_write_a_stream()
     ensures { (s : Settings) (pictures : List (List (List ℕ))) → AreLawful s
         → AllByRecursion (IsSliced s.parts s.params) pictures
-        → (s.parts.coding ≡ 1 → length pictures % 2 ≡ 0) → HaveRoomInTurn (started s) pictures
-        → IsStreamOf (header_unit s.parts ++ texts_from (started s) pictures)
+        → (s.parts.coding ≡ 1 → length pictures % 2 ≡ 0) → HaveRoomInTurn (writer_begun s) pictures
+        → IsStreamOf (header_unit s.parts ++ texts_from (writer_begun s) pictures)
         (units_of s pictures) }
 {}
 

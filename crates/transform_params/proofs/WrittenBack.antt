@@ -4,7 +4,7 @@ use Rattle.std.specs.List.{AllByRecursion}
 use Rattle.std.proofs.lemmas.Bool.Decides.{nat_tests}
 use Rattle.bit_codes.specs.Bits.{Cursor, cursor_at}
 use Rattle.field_rows.specs.Rows.{Value, Number, Flag, Rows, done, ◌>>=◌, number, within, number_under, flag_set, numbers, Fault, read}
-use Rattle.field_rows.specs.Given.{checked, written, AreOfKind, Pass}
+use Rattle.field_rows.specs.Given.{checked, value_bits, AreOfKind, Pass}
 use Rattle.field_rows.proofs.Passing.{Pass-bind, kinds-bind, Pass-read_bytes}
 use Rattle.field_rows.proofs.Filled.{bits_of-filled, length-filled}
 use Rattle.slice_geometry.specs.Slicing.{Slicing, IsAllowed}
@@ -33,15 +33,6 @@ pass_wavelet HaarShift = record { pass = record { passed = λ more. refl }; kind
 pass_slicing : (s : Slicing) → IsAllowed s → s.a < 2 ^ 32 → s.b < 2 ^ 32 → Passes slicing_rows (slicing_fields s) s
 unfolding slicing_rows slices_y_rows denominator_rows number_under within number ◌>>=◌ checked
 pass_slicing s f a b =
-    let depth = f.depth in
-    let across = f.slices.across in
-    let some_across = f.slices.some_across in
-    let down = f.slices.down in
-    let some_down = f.slices.some_down in
-    let count = f.slices.count in
-    let some = f.share.some in
-    let byte = f.share.byte in
-    let total = f.share.total in
     record {
       pass = record { passed = λ more. grind (arith, nat_tests) };
       kinds = (omega arith, (omega arith, (omega arith, (a, (b, refl)))));
@@ -95,5 +86,5 @@ pub written_back : (p : Params) (more : List ℕ) → AreLawfulParams p → read
 unfolding params_rows
 written_back p more f =
     let both = pass_params p f in
-    Pass-read_bytes reason_of params_fields (fields_of p) p (params_bytes p) more both.pass both.kinds (bits_of-filled (written (fields_of p)))
-    ∙ ap (λ (n : ℕ). let r : Result (Params × Cursor) (Fault TransformReason) = Ok (p, cursor_at (params_bytes p ++ more) (8 * n)) in r) (length-filled (written (fields_of p)))
+    Pass-read_bytes reason_of params_fields (fields_of p) p (params_bytes p) more both.pass both.kinds (bits_of-filled (value_bits (fields_of p)))
+    ∙ ap (λ (n : ℕ). let r : Result (Params × Cursor) (Fault TransformReason) = Ok (p, cursor_at (params_bytes p ++ more) (8 * n)) in r) (length-filled (value_bits (fields_of p)))

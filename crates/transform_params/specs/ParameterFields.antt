@@ -3,7 +3,7 @@ use Rattle.std.specs.Prelude.{◌≡◌, ℕ, ◌+◌, ◌*◌, ◌/◌, ◌<◌
 use Rattle.std.specs.List.{AllByRecursion}
 use Rattle.bit_codes.specs.Bits.{bytes_of, zeros_to_byte_end}
 use Rattle.field_rows.specs.Rows.{Value, Number, Flag}
-use Rattle.field_rows.specs.Given.{written}
+use Rattle.field_rows.specs.Given.{value_bits}
 use Rattle.slice_geometry.specs.Slicing.{Slicing, IsAllowed, total_bytes}
 use Rattle.quant_factors.specs.Weights.{Weights}
 use Rattle.lifting.specs.declared.Wavelet.{Wavelet}
@@ -16,6 +16,7 @@ wavelet_index LeGall = 1
 wavelet_index HaarFlat = 3
 wavelet_index HaarShift = 4
 
+-- the field of a wavelet: its index (12.4.1)
 abbrev pub wavelet_fields : Wavelet → List Value
 wavelet_fields wavelet = Number (wavelet_index wavelet) ∷ []
 
@@ -23,6 +24,7 @@ wavelet_fields wavelet = Number (wavelet_index wavelet) ∷ []
 abbrev pub slicing_fields : Slicing → List Value
 slicing_fields s = Number s.depth ∷ Number s.slices_x ∷ Number s.slices_y ∷ Number s.a ∷ Number s.b ∷ []
 
+-- the fields of a custom matrix: its entries
 abbrev pub entry_fields : List ℕ → List Value
 entry_fields entries = map Number entries
 
@@ -36,7 +38,7 @@ fields_of p = wavelet_fields p.wavelet ++ (slicing_fields p.slicing ++ matrix_fi
 
 -- how many bits the fields have
 abbrev pub bit_length : Params → ℕ
-bit_length p = length (written (fields_of p))
+bit_length p = length (value_bits (fields_of p))
 
 -- how many bytes they have, with the bits up to the last one's end
 abbrev pub byte_length : Params → ℕ
@@ -48,7 +50,7 @@ unit_length p = 13 + 4 + byte_length p + total_bytes p.slicing
 
 -- parameters as bytes: the fields, and zeros up to the last byte's end
 abbrev pub params_bytes : Params → List ℕ
-params_bytes p = bytes_of (written (fields_of p) ++ zeros_to_byte_end (bit_length p))
+params_bytes p = bytes_of (value_bits (fields_of p) ++ zeros_to_byte_end (bit_length p))
 
 -- Parameters that are written as they are read: they break no rule, and each number is one that a field holds.
 pub record AreLawfulParams (p : Params) : Type 0 where

@@ -4,7 +4,7 @@ ghost use Rattle.std.specs.Prelude.{◌≡◌, ◌≤◌, ◌<◌, ◌+◌, ◌*
 ghost use Rattle.std.specs.List.{AllByRecursion};
 ghost use Rattle.bit_codes.specs.Bits.{bits_before, cursor_at};
 ghost use Rattle.field_rows.specs.Rows.{read};
-ghost use Rattle.field_rows.specs.Given.{written};
+ghost use Rattle.field_rows.specs.Given.{value_bits};
 ghost use Rattle.transform_params.specs.Params.{reason_of, params_rows};
 ghost use Rattle.transform_params.specs.ParameterFields.{wavelet_index, slicing_fields, matrix_fields, entry_fields, bit_length, byte_length, unit_length, params_bytes, AreLawfulParams};
 ghost use Rattle.transform_params.specs.Views.{params_of};
@@ -30,7 +30,7 @@ fn wavelet_index(wavelet: Wavelet) -> u32
 #[tactic(auto, using(field_rows::proofs::CodeLengths::code_short))]
 fn entries_len(entries: &[u32]) -> u32
     requires { length entries.now ≤ 13 }
-    ensures value { result ≡ length (written (entry_fields entries.now)) }
+    ensures value { result ≡ length (value_bits (entry_fields entries.now)) }
     ensures most { result ≤ 845 }
     ensures small { AllByRecursion (λ n. n < 2 ^ 32) entries.now }
 {
@@ -97,12 +97,12 @@ impl TransformParams {
 
 #[tactic(auto, using(field_rows::proofs::Written::writing))]
 fn put_layout(w: &mut BitWriter<'_>, layout: &Layout)
-    requires { w.old.place + length (written (slicing_fields layout.now))
+    requires { w.old.place + length (value_bits (slicing_fields layout.now))
         ≤ 8 * length w.old.bytes.now }
     ensures same_reference { w.new.bytes.ghost_name ≡ w.old.bytes.ghost_name }
-    ensures place { w.new.place ≡ w.old.place + length (written (slicing_fields layout.now)) }
+    ensures place { w.new.place ≡ w.old.place + length (value_bits (slicing_fields layout.now)) }
     ensures written { bits_before w.new.place w.new.bytes.now
-        ≡ bits_before w.old.place w.old.bytes.now ++ written (slicing_fields layout.now) }
+        ≡ bits_before w.old.place w.old.bytes.now ++ value_bits (slicing_fields layout.now) }
     ensures room { length w.new.bytes.now ≡ length w.old.bytes.now }
 {
     w.put_uint(layout.depth());
@@ -114,12 +114,12 @@ fn put_layout(w: &mut BitWriter<'_>, layout: &Layout)
 
 #[tactic(auto, using(field_rows::proofs::Written::writing))]
 fn put_matrix(w: &mut BitWriter<'_>, matrix: &Matrix)
-    requires { w.old.place + length (written (matrix_fields matrix.now))
+    requires { w.old.place + length (value_bits (matrix_fields matrix.now))
         ≤ 8 * length w.old.bytes.now }
     ensures same_reference { w.new.bytes.ghost_name ≡ w.old.bytes.ghost_name }
-    ensures place { w.new.place ≡ w.old.place + length (written (matrix_fields matrix.now)) }
+    ensures place { w.new.place ≡ w.old.place + length (value_bits (matrix_fields matrix.now)) }
     ensures written { bits_before w.new.place w.new.bytes.now
-        ≡ bits_before w.old.place w.old.bytes.now ++ written (matrix_fields matrix.now) }
+        ≡ bits_before w.old.place w.old.bytes.now ++ value_bits (matrix_fields matrix.now) }
     ensures room { length w.new.bytes.now ≡ length w.old.bytes.now }
 {
     w.put_flag(true);

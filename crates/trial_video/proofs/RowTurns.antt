@@ -3,7 +3,7 @@ use Rattle.std.proofs.Common.{◌≡◌, ◌⊎◌, inl, inr, ℕ, ◌+◌, ◌*
 use Rattle.std.proofs.Math.ListN.{get_or-append}
 use Rattle.std.proofs.lemmas.List.{length-take, get_or-take, get_or-append-add}
 use Rattle.slice_geometry.specs.declared.Size.{Size}
-use Rattle.picture_codec.specs.Samples.{SamplesSeen, sample_at, tabulated, with_run}
+use Rattle.picture_codec.specs.Samples.{SamplesSeen, sample_at, samples_by, with_run}
 use Rattle.picture_codec.proofs.Tables.{tabulated_is}
 use Rattle.trial_video.specs.Video.{state_at, video_sample, video_rows}
 use Rattle.trial_video.proofs.States.{more_steps, sample_from, sample_is}
@@ -60,4 +60,4 @@ rows_are s size seed first start p depth width height many e done =
     let g : ℕ → ℕ → ℕ = λ y x. video_sample seed depth p (first + (y * size.w + x)) y x in
     let count : length s.cells ≡ s.h * s.w = many ∙ ap (λ (n : ℕ). n * size.w) (sym height) ∙ ap (λ (n : ℕ). s.h * n) (sym width) in
     tabulated_is s g count (λ y x down across. done y x (omega (arith, down, height)) (omega (arith, across, width)) ∙ sample_is seed first start p depth size.w y x e)
-    ∙ ap (λ (n : ℕ). tabulated (record { w = n; h = s.h }) g) width ∙ ap (λ (n : ℕ). tabulated (record { w = size.w; h = n }) g) height
+    ∙ ap (λ (n : ℕ). samples_by (record { w = n; h = s.h }) g) width ∙ ap (λ (n : ℕ). samples_by (record { w = size.w; h = n }) g) height

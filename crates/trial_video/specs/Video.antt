@@ -5,7 +5,7 @@ use Rattle.std.specs.List.{range_with_len}
 use Rattle.slice_geometry.specs.declared.Size.{Size}
 use Rattle.slice_geometry.specs.declared.PictureShape.{PictureShape}
 use Rattle.slice_geometry.specs.Frames.{Frame}
-use Rattle.picture_codec.specs.Samples.{SamplesSeen, PictureSamples, tabulated}
+use Rattle.picture_codec.specs.Samples.{SamplesSeen, PictureSamples, samples_by}
 use Rattle.raw_video.specs.RawParse.{luma_count, colour_count}
 
 -- the state behind so many steps from the seed
@@ -20,7 +20,7 @@ video_sample seed depth p j y x = (x + 2 * y + 3 * p + state_at seed (j + 1) / 4
 
 -- a component of picture p, whose first sample is the video's sample `first`
 abbrev pub video_rows : (seed p first depth : ℕ) → Size → SamplesSeen
-video_rows seed p first depth size = tabulated size (λ y x. video_sample seed depth p (first + (y * size.w + x)) y x)
+video_rows seed p first depth size = samples_by size (λ y x. video_sample seed depth p (first + (y * size.w + x)) y x)
 
 -- how many samples a picture has
 abbrev pub picture_count : Frame → ℕ

@@ -5,7 +5,7 @@ ghost use Rattle.slice_geometry.specs.declared.Component.{Component};
 ghost use Rattle.slice_geometry.specs.Shape.{IsDepth};
 ghost use Rattle.slice_geometry.specs.Frames.{frame_of};
 ghost use Rattle.picture_codec.specs.Pictures as pictures;
-ghost use Rattle.picture_codec.specs.Samples.{shown, width_of, height_of, bits_of};
+ghost use Rattle.picture_codec.specs.Samples.{component_shown, width_of, height_of, sample_bits};
 ghost use Rattle.trial_video.specs.Video.{state_at, video_rows, video_picture};
 
 use picture_codec::Picture;
@@ -101,11 +101,11 @@ fn fill_rows(picture: &mut Picture, c: Component, p: u64, start: u32, line: &mut
     requires long { length line.old ≡ width_of picture.old c }
     ensures same_shape { picture.new.shape ≡ picture.old.shape }
     ensures rows { (seed first : ℕ) → start ≡ state_at seed first
-        → shown picture.new c
-        ≡ video_rows seed p first (bits_of picture.old c)
+        → component_shown picture.new c
+        ≡ video_rows seed p first (sample_bits picture.old c)
         (pictures.size_of (frame_of picture.old.shape) c) }
     ensures others { (other : Component) → other ≢ c
-        → shown picture.new other ≡ shown picture.old other }
+        → component_shown picture.new other ≡ component_shown picture.old other }
     ensures state { result ≡ state_at start (height_of picture.old c * width_of picture.old c) }
     ensures small { result < 2 ^ 16 }
 {
@@ -127,11 +127,11 @@ fn fill_component(picture: &mut Picture, c: Component, p: u64, start: u32) -> u3
     requires start { start < 2 ^ 16 }
     ensures same_shape { picture.new.shape ≡ picture.old.shape }
     ensures rows { (seed first : ℕ) → start ≡ state_at seed first
-        → shown picture.new c
-        ≡ video_rows seed p first (bits_of picture.old c)
+        → component_shown picture.new c
+        ≡ video_rows seed p first (sample_bits picture.old c)
         (pictures.size_of (frame_of picture.old.shape) c) }
     ensures others { (other : Component) → other ≢ c
-        → shown picture.new other ≡ shown picture.old other }
+        → component_shown picture.new other ≡ component_shown picture.old other }
     ensures state { result ≡ state_at start (height_of picture.old c * width_of picture.old c) }
     ensures small { result < 2 ^ 16 }
 {

@@ -24,7 +24,7 @@ use Rattle.unit_reader.specs.declared.reader.Turn.{Turn}
 use Rattle.unit_reader.specs.declared.reader.Turn.TheVariants as turns
 use Rattle.unit_reader.specs.Stops.{limit, past_limit}
 use Rattle.unit_reader.specs.Reading.{ReaderSeen, new_reader, TakesItem, TakesLast, NextOver}
-use Rattle.unit_reader.specs.Running.{Passes, begun, machine_over}
+use Rattle.unit_reader.specs.Running.{Passes, command_from, machine_over}
 use Rattle.unit_reader.specs.Soon.{all_but, Soon, HasOpenEndings}
 use Rattle.unit_reader.proofs.Opens.{IsOpenMachine, Unrefused, nothing_open, unrefused_first, unrefused_more, unrefused_took, open_behind, open_soon, opens_machine, waits_answer}
 
@@ -192,7 +192,7 @@ takes_at_most g too_long past_of Tells Stopped old new rest0 rest1 rest2 result 
 -- ---- how soon the run is over
 
 -- a command that begins with this has the same endings
-pub begun_opens : {Z R U W E : Type 0} {MayGoOn : E → Type 0} {g : Grammar Z R U} (command : Command Z R U W E) (own : W) → HasOpenEndings g MayGoOn command → HasOpenEndings g MayGoOn (begun command own)
+pub begun_opens : {Z R U W E : Type 0} {MayGoOn : E → Type 0} {g : Grammar Z R U} (command : Command Z R U W E) (own : W) → HasOpenEndings g MayGoOn command → HasOpenEndings g MayGoOn (command_from command own)
 begun_opens command own opens = record { finished = opens.finished; rested = opens.rested; refused = opens.refused }
 
 pub unrefused_begun : {T Z R U W E : Type 0} (MayGoOn : E → Type 0) (g : Grammar Z R U) (too_long : R) (past_of : T → Z) (laws : IsGrammar g) (first : Z) (command : Command Z R U W E) (opens : HasOpenEndings g MayGoOn command) (rest : Option (List ℕ)) (table : T) (r : ReaderSeen T R) (w : W) → r ≡ new_reader table → past_of table ≡ first → w ≡ command.start

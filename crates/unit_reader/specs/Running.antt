@@ -9,8 +9,8 @@ use Rattle.run_theory.specs.Fronts.{Stands, front_within, Between, Command, mach
 use Rattle.unit_reader.specs.Stops.{limit, past_limit}
 
 -- the command, where it begins with this
-abbrev pub begun : {Z R U W E : Type 0} → Command Z R U W E → W → Command Z R U W E
-begun command own = record command { start = own }
+abbrev pub command_from : {Z R U W E : Type 0} → Command Z R U W E → W → Command Z R U W E
+command_from command own = record command { start = own }
 
 -- its machine over the units of a table, of an input that counts up to the limit
 abbrev pub machine_over : {Z R U W E : Type 0} → Grammar Z R U → R → Z → Command Z R U W E → Machine (Between Z W) E

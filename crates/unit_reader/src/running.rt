@@ -10,7 +10,7 @@ ghost use Rattle.run_theory.specs.Fronts.{Command};
 ghost use Rattle.unit_reader.specs.declared.stop.ReadStop.TheVariants as stops;
 ghost use Rattle.unit_reader.specs.Reading.{new_reader};
 ghost use Rattle.unit_reader.specs.Soon.{Soon, HasOpenEndings};
-ghost use Rattle.unit_reader.specs.Running.{begun, machine_over, Passes, Turns};
+ghost use Rattle.unit_reader.specs.Running.{command_from, machine_over, Passes, Turns};
 
 use crate::reader::{Reader, Turn};
 use crate::stop::ReadStop;
@@ -125,10 +125,11 @@ pub fn run_units<T: Table, C: UnitCommand<T>, S: Source, K: Sink>(
     requires start { C.own command.old reader.old.table ≡ C.start command.old }
     requires keeps { C.keeps command.old reader.old.table }
     ensures runs { Runs (machine_over T.grammar T.beyond C.first
-        (begun C.command (C.start command.old))) C.is_done (change S.rest S.faults src.old src.new)
+        (command_from C.command (C.start command.old))) C.is_done
+        (change S.rest S.faults src.old src.new)
         (change K.written K.faults out.old out.new) result }
     ensures soon { Soon C.may_go_on (machine_over T.grammar T.beyond C.first
-        (begun C.command (C.start command.old))) READ_SIZE (S.rest src.old)
+        (command_from C.command (C.start command.old))) READ_SIZE (S.rest src.old)
         (S.rest src.new) result }
 {
     match command.open(out) {

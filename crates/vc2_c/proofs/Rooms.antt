@@ -7,9 +7,9 @@ use Rattle.vc2_cli.specs.declared.status.Status.{Status}
 use Rattle.vc2_cli.specs.declared.status.Status.TheVariants as st
 use Rattle.run_theory.specs.Runs.{Change, HasFailed}
 use Rattle.vc2_cli.specs.Exit.{exit_code_of}
-use Rattle.vc2_cli.specs.Program.{Ran}
+use Rattle.vc2_cli.specs.Program.{ProgramRan}
 use Rattle.vc2_cli.specs.Reply.{Reply, reply_to}
-use Rattle.vc2_c.specs.Room.{told, FailsFull}
+use Rattle.vc2_c.specs.Room.{room_seen, FailsFull}
 use Rattle.vc2_c.specs.declared.room.Room.{Room}
 use Rattle.vc2_c.specs.Call.{Filled, Overfills, IsAnswer}
 
@@ -25,8 +25,8 @@ seen room = record { name = room.cells.ghost_name; cells = room.cells.now; len =
 
 abbrev pub changed : Seen → Seen → Change
 changed old new = record {
-  was = Some (told old.name old.cells old.len);
-  is = Some (told new.name new.cells new.len);
+  was = Some (room_seen old.name old.cells old.len);
+  is = Some (room_seen new.name new.cells new.len);
   faults_were = old.failures;
   faults_are = new.failures;
 }
@@ -52,15 +52,15 @@ pub record Answered (reply : Reply) (out0 out note0 note : Seen) (code : ℕ) : 
   pub answer : IsAnswer reply (filled out0 out) (filled note0 note) code
 
 -- a text was written into a fresh room
-grown : (old new : Seen) (text : List ℕ) → IsFresh old → Appends (Some (told old.name old.cells old.len)) (Some (told new.name new.cells new.len)) text → IsSame old new × (take new.len new.cells ≡ text)
+grown : (old new : Seen) (text : List ℕ) → IsFresh old → Appends (Some (room_seen old.name old.cells old.len)) (Some (room_seen new.name new.cells new.len)) text → IsSame old new × (take new.len new.cells ≡ text)
 grown old new text fresh e =
-    let same : new.name ∷ length new.cells ∷ take new.len new.cells ≡ old.name ∷ length old.cells ∷ text = subst (λ (n : ℕ). Appends (Some (told old.name old.cells n)) (Some (told new.name new.cells new.len)) text) fresh.0 e in
+    let same : new.name ∷ length new.cells ∷ take new.len new.cells ≡ old.name ∷ length old.cells ∷ text = subst (λ (n : ℕ). Appends (Some (room_seen old.name old.cells n)) (Some (room_seen new.name new.cells new.len)) text) fresh.0 e in
     ((cc, cc), cc)
 
 -- nothing was
-kept : (old new : Seen) → IsFresh old → Keeps (Some (told old.name old.cells old.len)) (Some (told new.name new.cells new.len)) → IsSame old new × (take new.len new.cells ≡ [])
+kept : (old new : Seen) → IsFresh old → Keeps (Some (room_seen old.name old.cells old.len)) (Some (room_seen new.name new.cells new.len)) → IsSame old new × (take new.len new.cells ≡ [])
 kept old new fresh e =
-    let same : new.name ∷ length new.cells ∷ take new.len new.cells ≡ old.name ∷ length old.cells ∷ [] = subst (λ (n : ℕ). Keeps (Some (told old.name old.cells n)) (Some (told new.name new.cells new.len))) fresh.0 e in
+    let same : new.name ∷ length new.cells ∷ take new.len new.cells ≡ old.name ∷ length old.cells ∷ [] = subst (λ (n : ℕ). Keeps (Some (room_seen old.name old.cells n)) (Some (room_seen new.name new.cells new.len))) fresh.0 e in
     ((cc, cc), cc)
 
 -- a write into it failed
@@ -72,7 +72,7 @@ failed old new fresh rose =
 
 -- a part of a text was written, and then the room was full
 overfilled : (old new : Seen) (whole part : List ℕ) → IsFresh old → FailsFull new.failures new.cells new.len → HasFailed (changed old new)
-    → Appends (Some (told old.name old.cells old.len)) (Some (told new.name new.cells new.len)) part → IsProperPrefix part whole
+    → Appends (Some (room_seen old.name old.cells old.len)) (Some (room_seen new.name new.cells new.len)) part → IsProperPrefix part whole
     → IsSame old new × Overfills whole (filled old new)
 overfilled old new whole part fresh full rose wrote proper =
     let g = grown old new part fresh wrote in
@@ -80,8 +80,8 @@ overfilled old new whole part fresh full rose wrote proper =
 
 -- the reply was told
 replied : (reply : Reply) (out0 out note0 note : Seen) (status : Status) → IsFresh out0 → IsFresh note0 → exit_code_of status < 3 → status ≡ reply.status
-    → (status ≡ reply.status → Appends (Some (told out0.name out0.cells out0.len)) (Some (told out.name out.cells out.len)) reply.out
-    × Appends (Some (told note0.name note0.cells note0.len)) (Some (told note.name note.cells note.len)) reply.note)
+    → (status ≡ reply.status → Appends (Some (room_seen out0.name out0.cells out0.len)) (Some (room_seen out.name out.cells out.len)) reply.out
+    × Appends (Some (room_seen note0.name note0.cells note0.len)) (Some (room_seen note.name note.cells note.len)) reply.note)
     → Answered reply out0 out note0 note (exit_code_of status)
 replied reply out0 out note0 note status fresh_out fresh_note low is texts =
     let o = grown out0 out reply.out fresh_out (texts is).0 in
@@ -90,7 +90,7 @@ replied reply out0 out note0 note status fresh_out fresh_note low is texts =
 
 pub answered : (words : List (List ℕ)) (input left : List ℕ) (out0 out note0 note : Seen) (status : Status) → IsFresh out0 → IsFresh note0
     → FailsFull out.failures out.cells out.len → FailsFull note.failures note.cells note.len
-    → Ran words (read input left) (changed out0 out) (changed note0 note) status
+    → ProgramRan words (read input left) (changed out0 out) (changed note0 note) status
     → Answered (reply_to words input) out0 out note0 note (exit_code_of status)
 answered words input left out0 out note0 note st.Done fo fn full_out full_note ran =
     replied (reply_to words input) out0 out note0 note st.Done fo fn (omega arith) ran.status ran.texts

@@ -3,7 +3,7 @@ ghost use Rattle.std.specs.Prelude.{◌≡◌, ◌<◌, ◌≤◌, length, Some,
 ghost use Rattle.std.specs.Io.{WritesAtMost};
 ghost use Rattle.std.specs.Io.KnownBytes.{WriteAppends};
 ghost use Rattle.vc2_io.specs.Outside.{HasCause};
-ghost use Rattle.vc2_c.specs.Room.{told, FailsFull};
+ghost use Rattle.vc2_c.specs.Room.{room_seen, FailsFull};
 
 use vc2_io::{Failed, Sink};
 
@@ -43,15 +43,16 @@ impl<'a> Room<'a> {
 impl Sink for Room<'_> {
     // The loan and its size stand in front of the bytes, so that a caller of code that is generic in its sink knows that the
     // room is still the one that it gave.
-    ghost written = { λ s. Some (told s.cells.ghost_name s.cells.now s.len) };
+    ghost written = { λ s. Some (room_seen s.cells.ghost_name s.cells.now s.len) };
 
     ghost faults = { λ s. s.failures };
 
     fn write(&mut self, piece: &[u8]) -> Result<usize, Failed>
         ensures bound { WritesAtMost result piece.now }
         ensures some { IfOk result (λ n. 0 < length piece.now → 0 < n) }
-        ensures bytes { WriteAppends (Some (told self.old.cells.ghost_name self.old.cells.now
-            self.old.len)) (Some (told self.new.cells.ghost_name self.new.cells.now self.new.len))
+        ensures bytes { WriteAppends (Some (room_seen self.old.cells.ghost_name self.old.cells.now
+            self.old.len))
+            (Some (room_seen self.new.cells.ghost_name self.new.cells.now self.new.len))
             result piece.now }
         ensures cause { HasCause self.old.failures self.new.failures result }
     {

@@ -8,11 +8,11 @@ use Rattle.slice_geometry.specs.Slicing.{slice_count}
 use Rattle.transform_params.specs.ParameterFields.{unit_length}
 use Rattle.stream_rows.specs.Streams.{limit}
 use Rattle.stream_writer.specs.EncodedStream.{begins_at, header_length, number_after, units_with}
-use Rattle.stream_writer.specs.Writer.{StreamWriterSeen, pictures_among, bytes_before, due_shapes, due_units, begins_next, after_picture, HasRoom}
+use Rattle.stream_writer.specs.Writer.{StreamWriterSeen, pictures_among, head_bytes_before, due_shapes, due_units, begins_next, after_picture, HasRoom}
 use Rattle.stream_writer.proofs.WrittenShapes.{total_due, pictures_due, last_due, plain_length}
 use Rattle.vc2_words.specs.Settings.{Asked, later_sequences, asked_length}
 use Rattle.vc2_cli.specs.Encode.{shapes_at, stream_place, previous_at, number_of_next, units_at, place_due, has_room}
-use Rattle.vc2_cli.specs.EncodeTurn.{behind, IsBehind}
+use Rattle.vc2_cli.specs.EncodeTurn.{turn_behind, IsBehind}
 
 -- ---- one picture more
 
@@ -49,21 +49,21 @@ module _ (e : Asked) (some : 1 ≤ slice_count e.params.slicing) where
   position_is zero = refl
   position_is (suc n) = omega (arith, pictures_due e.parts e.params (begins_at e.group n) (shapes_at e n) (stream_place e n) some, position_is n)
 
-  after_behind : (n : ℕ) → after_picture (behind e n) ≡ behind e (suc n)
-  after_behind n = ap (λ (k : ℕ). record (behind e n) { shapes = shapes_at e n ++ due_shapes e.parts e.params (begins_at e.group k) (stream_place e n) }) (position_is n)
+  after_behind : (n : ℕ) → after_picture (turn_behind e n) ≡ turn_behind e (suc n)
+  after_behind n = ap (λ (k : ℕ). record (turn_behind e n) { shapes = shapes_at e n ++ due_shapes e.parts e.params (begins_at e.group k) (stream_place e n) }) (position_is n)
 
   pub behind_next : (n : ℕ) (w w' : StreamWriterSeen) → IsBehind e n w → w' ≡ after_picture w → IsBehind e (n + 1) w'
   behind_next n w w' is after =
       let one : suc n ≡ n + 1 = omega arith in
-      after ∙ ap after_picture is ∙ after_behind n ∙ ap (behind e) one
+      after ∙ ap after_picture is ∙ after_behind n ∙ ap (turn_behind e) one
 
   pub due_is : (n : ℕ) (w : StreamWriterSeen) (slices : List (List ℕ)) → IsBehind e n w → due_units w slices ≡ units_at e n slices
   due_is n w slices is =
       ap (λ (x : StreamWriterSeen). due_units x slices) is
       ∙ ap (λ (k : ℕ). units_with e.parts e.params (begins_at e.group k) (previous_at e n) ((e.first + k) % 2 ^ 32) slices) (position_is n)
 
-  room_place : (n : ℕ) → stream_place e n + bytes_before e.parts (begins_next (behind e n)) + unit_length e.params + 13 ≡ place_due e n + 13
-  room_place n = ap (λ (k : ℕ). stream_place e n + bytes_before e.parts (begins_at e.group k) + unit_length e.params + 13) (position_is n)
+  room_place : (n : ℕ) → stream_place e n + head_bytes_before e.parts (begins_next (turn_behind e n)) + unit_length e.params + 13 ≡ place_due e n + 13
+  room_place n = ap (λ (k : ℕ). stream_place e n + head_bytes_before e.parts (begins_at e.group k) + unit_length e.params + 13) (position_is n)
 
   pub room_is : (n : ℕ) (w : StreamWriterSeen) → IsBehind e n w → HasRoom w → has_room e n ≡ true
   room_is n w is room = le-leb (place_due e n + 13) limit (subst (λ (k : ℕ). k ≤ limit) (room_place n) (subst HasRoom is room))
@@ -141,15 +141,15 @@ length_behind e (suc n) = by (length_behind e n) (begins_at e.group n) refl
     same q size unit = grind arith
 
     by : stream_place e n + 13 ≡ asked_length e.parts e.params e.group n → (begins : Bool) → begins_at e.group n ≡ begins → stream_place e (suc n) + 13 ≡ asked_length e.parts e.params e.group (suc n)
-    by behind true t =
-        let next = place_next e n ∙ ap (λ (b : Bool). stream_place e n + bytes_before e.parts b + unit_length e.params) t in
+    by turn_behind true t =
+        let next = place_next e n ∙ ap (λ (b : Bool). stream_place e n + head_bytes_before e.parts b + unit_length e.params) t in
         let later = later_next e.group n ∙ ap (λ (b : Bool). later_sequences e.group n + cond b 1 0) t in
         let front : stream_place e (suc n) + 13 ≡ (stream_place e n + 13) + ends + unit_length e.params = omega (arith, next) in
-        front ∙ ap (λ (k : ℕ). k + ends + unit_length e.params) behind ∙ more (later_sequences e.group n) ends (unit_length e.params)
+        front ∙ ap (λ (k : ℕ). k + ends + unit_length e.params) turn_behind ∙ more (later_sequences e.group n) ends (unit_length e.params)
         ∙ ap (λ (k : ℕ). (1 + k) * ends + suc n * unit_length e.params) (sym later)
-    by behind false t =
-        let next = place_next e n ∙ ap (λ (b : Bool). stream_place e n + bytes_before e.parts b + unit_length e.params) t in
+    by turn_behind false t =
+        let next = place_next e n ∙ ap (λ (b : Bool). stream_place e n + head_bytes_before e.parts b + unit_length e.params) t in
         let later = later_next e.group n ∙ ap (λ (b : Bool). later_sequences e.group n + cond b 1 0) t in
         let front : stream_place e (suc n) + 13 ≡ (stream_place e n + 13) + unit_length e.params = omega (arith, next) in
-        front ∙ ap (λ (k : ℕ). k + unit_length e.params) behind ∙ same (later_sequences e.group n) ends (unit_length e.params)
+        front ∙ ap (λ (k : ℕ). k + unit_length e.params) turn_behind ∙ same (later_sequences e.group n) ends (unit_length e.params)
         ∙ ap (λ (k : ℕ). (1 + k) * ends + suc n * unit_length e.params) (sym later)

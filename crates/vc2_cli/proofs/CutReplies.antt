@@ -7,14 +7,14 @@ use Rattle.stream_rows.specs.Refusals.{Refusal}
 use Rattle.stream_rows.specs.Units.{Past, nothing_yet, after}
 use Rattle.stream_rows.specs.Streams.{limit, past_limit, refusal_of}
 use Rattle.stream_rows.proofs.Answering.{after-place}
-use Rattle.stream_cut.specs.Skim.{skim_rows, skimmed}
+use Rattle.stream_cut.specs.Skim.{skim_rows, skim_grammar}
 use Rattle.stream_cut.specs.Cut.{CutEnd, Piece, cut_front}
 use Rattle.stream_cut.specs.Cut as cutter
-use Rattle.stream_cut.specs.CutLaws.{StandWith, StandWithin, bytes_in}
+use Rattle.stream_cut.specs.CutLaws.{StandWith, StandWithin, piece_bytes}
 use Rattle.stream_cut.proofs.Running.{cuts_by_running}
 use Rattle.stream_cut.proofs.Bridge.{has_pieces_before}
 use Rattle.vc2_words.specs.declared.settings.CutSettings.{CutSettings}
-use Rattle.vc2_cli.specs.Cut.{ending_of, frames_of}
+use Rattle.vc2_cli.specs.Cut.{ending_of, frames_asked}
 use Rattle.vc2_cli.specs.Mapped.{answer_told}
 use Rattle.vc2_words.specs.Commands.{cut}
 use Rattle.vc2_cli.specs.Reply.{reply_of, command_reply}
@@ -24,9 +24,9 @@ use Rattle.vc2_cli.proofs.Mapped.{told_answer}
 
 pub are_cut : (c : CutSettings) (pieces : List Piece) (tail : List ℕ) (left : Past) → StandWithin nothing_yet pieces tail left → HasCutReply c pieces tail left
 are_cut c pieces tail left stand =
-    let frames = frames_of c in
+    let frames = frames_asked c in
     let runs = cuts_by_running frames pieces tail left stand in
-    let bytes = bytes_in pieces ++ tail in
+    let bytes = piece_bytes pieces ++ tail in
     let told = ap (reply_of []) (told_answer (ending_of c.rate c.idle) (cutter.cut_machine frames) bytes) in
     let reply = λ (a : Answer CutEnd). reply_of [] (answer_told (ending_of c.rate c.idle) a) in
     record {
@@ -36,14 +36,14 @@ are_cut c pieces tail left stand =
     }
 
 -- units that stand in an input that is no longer than the limit stand within it
-stand_within : (pieces : List Piece) (z left : Past) (tail : List ℕ) → z.place + length (bytes_in pieces ++ tail) ≤ limit → StandWith skim_rows z pieces tail left → StandWithin z pieces tail left × (left.place + length tail ≤ limit)
+stand_within : (pieces : List Piece) (z left : Past) (tail : List ℕ) → z.place + length (piece_bytes pieces ++ tail) ≤ limit → StandWith skim_rows z pieces tail left → StandWithin z pieces tail left × (left.place + length tail ≤ limit)
 stand_within [] z left tail few f = (f, subst (λ (x : Past). x.place + length tail ≤ limit) f few)
 stand_within (p ∷ pieces) z left tail few f =
-    let all = bytes_in pieces ++ tail in
-    let joined : length ((p.bytes ++ bytes_in pieces) ++ tail) ≡ length p.bytes + length all = ap length (append_assoc p.bytes (bytes_in pieces) tail) ∙ length-append p.bytes all in
+    let all = piece_bytes pieces ++ tail in
+    let joined : length ((p.bytes ++ piece_bytes pieces) ++ tail) ≡ length p.bytes + length all = ap length (append_assoc p.bytes (piece_bytes pieces) tail) ∙ length-append p.bytes all in
     let here : length (p.bytes ++ all) ≤ limit - z.place = omega (arith, few, joined, length-append p.bytes all) in
     let others = stand_within pieces (after z p.unit p.bytes) left tail (omega (arith, few, joined, after-place z p.unit p.bytes)) f.1 in
-    ((front_before limit past_limit skimmed z (p.bytes ++ all) here ∙ f.0, others.0), others.1)
+    ((front_before limit past_limit skim_grammar z (p.bytes ++ all) here ∙ f.0, others.0), others.1)
 
 pub is_cut_whole : (c : CutSettings) (bytes : List ℕ) → IsCutWhole c bytes
 is_cut_whole c bytes es last s units =
@@ -51,14 +51,14 @@ is_cut_whole c bytes es last s units =
     let tail = units.last_piece.bytes in
     let few = subst (λ (l : List ℕ). length l ≤ limit) w.parts s.within in
     let within = stand_within units.pieces nothing_yet w.left tail (omega (arith, few)) w.units in
-    let front = front_before limit past_limit skimmed w.left tail (omega (arith, within.1)) ∙ w.end in
+    let front = front_before limit past_limit skim_grammar w.left tail (omega (arith, within.1)) ∙ w.end in
     subst (λ (l : List ℕ). command_reply (Ok (cut c)) l ≡ cut_reply c units.pieces) (sym w.parts)
     ((are_cut c units.pieces tail w.left within.0).stream units.last_piece.unit front)
 
 pub is_cut_refused : (c : CutSettings) (bytes : List ℕ) → AreBytes bytes → IsCutRefused c bytes
 is_cut_refused c bytes fits refusal r =
     let h = has_pieces_before bytes r.units r.fault fits r.is in
-    let front = λ (x : Refusal). refused_reply (cut_front (frames_of c) h.pieces) x in (
+    let front = λ (x : Refusal). refused_reply (cut_front (frames_asked c) h.pieces) x in (
       h,
       subst (λ (l : List ℕ). command_reply (Ok (cut c)) l ≡ front (refusal_of r.fault)) (sym h.parts) ((are_cut c h.pieces h.tail h.left h.units).refusal r.fault h.refused) ∙ ap front (sym r.there),
     )

@@ -20,7 +20,7 @@ use Rattle.channel_schedule.specs.declared.schedule.Schedule.{Schedule}
 use Rattle.channel_schedule.specs.declared.schedule.Outcome.{Outcome}
 use Rattle.channel_schedule.specs.declared.schedule.Outcome.TheVariants.{Runs}
 use Rattle.channel_schedule.specs.Rates.{IsRate}
-use Rattle.channel_schedule.specs.Courses.{course_of, count_in, held, outcome_from}
+use Rattle.channel_schedule.specs.Courses.{course_of, count_in, bytes_held, outcome_from}
 use Rattle.channel_schedule.specs.Plans.{lead_of, greatest, plan_delay, plan_size}
 use Rattle.channel_schedule.proofs.Unique.{greatest-is, plan_found, plan_replays, one_outcome}
 use Rattle.channel_schedule.proofs.Leads.{lead_low, ceil_low}
@@ -36,7 +36,7 @@ use Rattle.stream_rows.specs.Streams.{Entry, total, limit, frame_under}
 use Rattle.stream_writer.specs.StreamPictures.{pictures_of}
 use Rattle.stream_reader.specs.Turns.{shape_of}
 use Rattle.stream_writer.specs.EncodedStream.{Settings, begins_at, header_length, header_unit, picture_unit, end_unit, number_after, units_with, units_behind, found_before, pictures_under, units_of, AreLawful, IsSliced}
-use Rattle.stream_writer.specs.Writer.{plain_shape, picture_shape, bytes_before, due_shapes}
+use Rattle.stream_writer.specs.Writer.{plain_shape, picture_shape, head_bytes_before, due_shapes}
 use Rattle.stream_writer.proofs.WriterCalls.{length-with}
 use Rattle.stream_writer.proofs.WrittenShapes.{plain_length, picture_length}
 use Rattle.stream_writer.proofs.EncodedUnits.{length-header_unit, length-picture_unit, length-end_unit}
@@ -49,8 +49,8 @@ use Rattle.stream_rows.proofs.Frames.{frame_is}
 use Rattle.stream_writer.proofs.SameShapes.{steep_for}
 use Rattle.vc2_words.specs.Settings.{Asked}
 use Rattle.vc2_cli.specs.declared.status.Ending.{Ending}
-use Rattle.vc2_cli.specs.Decode.{pictures_in, slices_in}
-use Rattle.vc2_cli.specs.Endings.{replayed}
+use Rattle.vc2_cli.specs.Decode.{unit_pictures, unit_slices}
+use Rattle.vc2_cli.specs.Endings.{replayed_close}
 use Rattle.vc2_cli.specs.Scheduled.{Replayed, nothing_replayed, shapes_in, outcome_of, replaying, replay_machine}
 use Rattle.vc2_words.specs.declared.keys.WordFault.{WordFault}
 use Rattle.vc2_words.specs.Commands.{AskedCommand}
@@ -82,7 +82,7 @@ module _ (s : Asked) (f : AreLawfulParams s.params) where
   plain_allowed place size = record { some = lit≤ tt; byte = lit≤ tt; count = lit≤ tt; share = lit≤ tt }
 
   -- with the units that are due with a picture
-  due_in_turn : (begins : Bool) (list : List UnitShape) (place : ℕ) → ShapesInTurn 0 list place → ShapesInTurn 0 (list ++ due_shapes s.parts s.params begins place) (place + bytes_before s.parts begins + unit_length s.params)
+  due_in_turn : (begins : Bool) (list : List UnitShape) (place : ℕ) → ShapesInTurn 0 list place → ShapesInTurn 0 (list ++ due_shapes s.parts s.params begins place) (place + head_bytes_before s.parts begins + unit_length s.params)
   due_in_turn false list place there =
       let u = picture_shape s.params (place + 0) in
       subst (λ (k : ℕ). ShapesInTurn 0 (list ++ u ∷ []) k) (omega (arith, picture_length s.params (place + 0))) (in_turn-push 0 list place u there (omega arith) (picture_allowed (place + 0)))
@@ -90,15 +90,15 @@ module _ (s : Asked) (f : AreLawfulParams s.params) where
       let h = header_length s.parts in
       let a = plain_shape place 13 in
       let b = plain_shape (place + 13) h in
-      let c = picture_shape s.params (place + bytes_before s.parts true) in
-      let ends : place + lengths.unit_length a ≡ place + 13 = ap (λ (k : ℕ). place + k) (plain_length place 13) in
+      let c = picture_shape s.params (place + head_bytes_before s.parts true) in
+      let ends : place + lengths.shape_length a ≡ place + 13 = ap (λ (k : ℕ). place + k) (plain_length place 13) in
       let one = subst (λ (k : ℕ). ShapesInTurn 0 (list ++ a ∷ []) k) ends (in_turn-push 0 list place a there refl (plain_allowed place 13)) in
       let two = in_turn-push 0 (list ++ a ∷ []) (place + 13) b one refl (plain_allowed (place + 13) h) in
-      let begins : place + bytes_before s.parts true ≡ place + 13 + lengths.unit_length b = omega (arith, plain_length (place + 13) h) in
-      let three = in_turn-push 0 ((list ++ a ∷ []) ++ b ∷ []) (place + 13 + lengths.unit_length b) c two begins (picture_allowed (place + bytes_before s.parts true)) in
+      let begins : place + head_bytes_before s.parts true ≡ place + 13 + lengths.shape_length b = omega (arith, plain_length (place + 13) h) in
+      let three = in_turn-push 0 ((list ++ a ∷ []) ++ b ∷ []) (place + 13 + lengths.shape_length b) c two begins (picture_allowed (place + head_bytes_before s.parts true)) in
       let all : ((list ++ a ∷ []) ++ b ∷ []) ++ c ∷ [] ≡ list ++ a ∷ b ∷ c ∷ [] = append_assoc (list ++ a ∷ []) (b ∷ []) (c ∷ []) ∙ append_assoc list (a ∷ []) (b ∷ c ∷ []) in
-      subst (λ (l : List UnitShape). ShapesInTurn 0 l (place + bytes_before s.parts true + unit_length s.params)) all
-      (subst (λ (k : ℕ). ShapesInTurn 0 (((list ++ a ∷ []) ++ b ∷ []) ++ c ∷ []) k) (omega (arith, begins, picture_length s.params (place + bytes_before s.parts true))) three)
+      subst (λ (l : List UnitShape). ShapesInTurn 0 l (place + head_bytes_before s.parts true + unit_length s.params)) all
+      (subst (λ (k : ℕ). ShapesInTurn 0 (((list ++ a ∷ []) ++ b ∷ []) ++ c ∷ []) k) (omega (arith, begins, picture_length s.params (place + head_bytes_before s.parts true))) three)
 
   in_turn : (n : ℕ) → ShapesInTurn 0 (shapes_at s n) (stream_place s n)
   in_turn zero = (refl, plain_allowed 0 (header_length s.parts), omega (arith, plain_length 0 (header_length s.parts)))
@@ -124,7 +124,7 @@ module _ (s : Asked) (f : AreLawfulParams s.params) where
 
 module _ (s : Asked) (schedule : Schedule) (f : AreLawful (written_under s)) where
   abbrev close : ℕ → ℕ → Close Ending
-  close m slices = replayed m slices (stream_place s m + 13) (outcome_of schedule (shapes_at s m ++ plain_shape (stream_place s m) 13 ∷ []) (stream_place s m + 13))
+  close m slices = replayed_close m slices (stream_place s m + 13) (outcome_of schedule (shapes_at s m ++ plain_shape (stream_place s m) 13 ∷ []) (stream_place s m + 13))
 
   -- a picture's unit by its bytes
   picture_is : (z : Past) (number : ℕ) (slices : List (List ℕ)) (unit : List ℕ) (place : ℕ) → z.place ≡ place → length unit ≡ unit_length s.params → shape_of z (Picture s.parts number s.params slices) unit ≡ picture_shape s.params place
@@ -152,7 +152,7 @@ module _ (s : Asked) (schedule : Schedule) (f : AreLawful (written_under s)) whe
   abbrev quiet : (z : Past) (own : Replayed) (unit : DataUnit) (bytes : List ℕ) → command.text z own unit bytes ≡ []
   quiet z own unit bytes = refl
 
-  stands_plain : (n place size : ℕ) (list : List UnitShape) (b : Between Past Replayed) (unit : DataUnit) (bytes : List ℕ) → length bytes ≡ size → (after b.past unit bytes).place ≡ b.past.place + length bytes → pictures_in unit ≡ 0 → slices_in unit ≡ 0 → shape_of b.past unit bytes ≡ plain_shape b.past.place (length bytes)
+  stands_plain : (n place size : ℕ) (list : List UnitShape) (b : Between Past Replayed) (unit : DataUnit) (bytes : List ℕ) → length bytes ≡ size → (after b.past unit bytes).place ≡ b.past.place + length bytes → unit_pictures unit ≡ 0 → unit_slices unit ≡ 0 → shape_of b.past unit bytes ≡ plain_shape b.past.place (length bytes)
       → Stands n place list b → Stands n (place + size) (list ++ plain_shape place size ∷ []) (behind_unit command quiet (written_under s) f b unit bytes)
   stands_plain n place size list b unit bytes long at none no_slices shape st = record {
     at = omega (arith, at, st.at, long);
@@ -176,7 +176,7 @@ module _ (s : Asked) (schedule : Schedule) (f : AreLawful (written_under s)) whe
       }
 
   stands_due : (begins : Bool) (n place previous number : ℕ) (list : List UnitShape) (b : Between Past Replayed) (slices : List (List ℕ)) → IsSliced s.parts s.params slices → Stands n place list b
-      → Stands (suc n) (place + bytes_before s.parts begins + unit_length s.params) (list ++ due_shapes s.parts s.params begins place) (behind_due command quiet (written_under s) f begins b previous number slices)
+      → Stands (suc n) (place + head_bytes_before s.parts begins + unit_length s.params) (list ++ due_shapes s.parts s.params begins place) (behind_due command quiet (written_under s) f begins b previous number slices)
   stands_due false n place previous number list b slices sliced st =
       let none : place + 0 ≡ place = omega arith in
       let here = stands_picture n place (place + 0) previous number list b slices none sliced st in
@@ -187,11 +187,11 @@ module _ (s : Asked) (schedule : Schedule) (f : AreLawful (written_under s)) whe
       let end = end_unit previous in
       let a = plain_shape place 13 in
       let d = plain_shape (place + 13) h in
-      let c = picture_shape s.params (place + bytes_before s.parts true) in
+      let c = picture_shape s.params (place + head_bytes_before s.parts true) in
       let one = stands_plain n place 13 list b End end (length-end_unit previous) refl refl refl refl st in
       let two = stands_plain n (place + 13) h (list ++ a ∷ []) (behind_unit command quiet (written_under s) f b End end) (Sequence s.parts) header (length-header_unit s.parts) refl refl refl refl one in
       let all : ((list ++ a ∷ []) ++ d ∷ []) ++ c ∷ [] ≡ list ++ a ∷ d ∷ c ∷ [] = append_assoc (list ++ a ∷ []) (d ∷ []) (c ∷ []) ∙ append_assoc list (a ∷ []) (d ∷ c ∷ []) in
-      let here = stands_picture n (place + 13 + h) (place + bytes_before s.parts true) h number ((list ++ a ∷ []) ++ d ∷ []) (behind_header command quiet (written_under s) f b previous) slices (omega arith) sliced two in
+      let here = stands_picture n (place + 13 + h) (place + head_bytes_before s.parts true) h number ((list ++ a ∷ []) ++ d ∷ []) (behind_header command quiet (written_under s) f b previous) slices (omega arith) sliced two in
       record { at = omega (arith, here.at); of = here.of; pictures = here.pictures; slices = here.slices; shapes = here.shapes ∙ all }
 
   abbrev StandsAt : ℕ → Between Past Replayed → Type 0
@@ -208,11 +208,11 @@ module _ (s : Asked) (schedule : Schedule) (f : AreLawful (written_under s)) whe
       let place : b.past.place + length unit ≡ stream_place s n + 13 = omega (arith, st.at, length-end_unit previous) in
       let list : b.own.shapes ++ shape_of b.past End unit ∷ [] ≡ shapes_at s n ++ plain_shape (stream_place s n) 13 ∷ [] =
       ap (λ (k : ℕ). plain b.own k 13) st.at ∙ ap (λ (l : List UnitShape). l ++ plain_shape (stream_place s n) 13 ∷ []) st.shapes in
-      ap (λ (k : ℕ). replayed k b.own.slices (b.past.place + length unit) (outcome_of b.own.schedule (b.own.shapes ++ shape_of b.past End unit ∷ []) (b.past.place + length unit))) st.pictures
-      ∙ ap (λ (k : ℕ). replayed n k (b.past.place + length unit) (outcome_of b.own.schedule (b.own.shapes ++ shape_of b.past End unit ∷ []) (b.past.place + length unit))) st.slices
-      ∙ ap (λ (k : ℕ). replayed n (n * slice_count s.params.slicing) k (outcome_of b.own.schedule (b.own.shapes ++ shape_of b.past End unit ∷ []) k)) place
-      ∙ ap (λ (c : Schedule). replayed n (n * slice_count s.params.slicing) (stream_place s n + 13) (outcome_of c (b.own.shapes ++ shape_of b.past End unit ∷ []) (stream_place s n + 13))) st.of
-      ∙ ap (λ (l : List UnitShape). replayed n (n * slice_count s.params.slicing) (stream_place s n + 13) (outcome_of schedule l (stream_place s n + 13))) list
+      ap (λ (k : ℕ). replayed_close k b.own.slices (b.past.place + length unit) (outcome_of b.own.schedule (b.own.shapes ++ shape_of b.past End unit ∷ []) (b.past.place + length unit))) st.pictures
+      ∙ ap (λ (k : ℕ). replayed_close n k (b.past.place + length unit) (outcome_of b.own.schedule (b.own.shapes ++ shape_of b.past End unit ∷ []) (b.past.place + length unit))) st.slices
+      ∙ ap (λ (k : ℕ). replayed_close n (n * slice_count s.params.slicing) k (outcome_of b.own.schedule (b.own.shapes ++ shape_of b.past End unit ∷ []) k)) place
+      ∙ ap (λ (c : Schedule). replayed_close n (n * slice_count s.params.slicing) (stream_place s n + 13) (outcome_of c (b.own.shapes ++ shape_of b.past End unit ∷ []) (stream_place s n + 13))) st.of
+      ∙ ap (λ (l : List UnitShape). replayed_close n (n * slice_count s.params.slicing) (stream_place s n + 13) (outcome_of schedule l (stream_place s n + 13))) list
 
   abbrev answer : ℕ → Answer Ending
   answer m = record { ending = (close m (m * slice_count s.params.slicing)).ending; text = []; last = (close m (m * slice_count s.params.slicing)).last }
@@ -275,7 +275,7 @@ module _ (s : Asked) (pictures : List PictureSamples) (settings : AreSettings s)
   is = header_has s.parts settings.lawful.header.passes
 
   pub sliced : AllByRecursion (IsSliced s.parts s.params) (map (slices_of (frame_under s.parts) s.params) pictures)
-  sliced = all_sliced s.parts s.params shape pictures settings.lawful.params is (steep_for (written_under s) shape is settings.flat) (have_shape s shape pictures is may.each)
+  sliced = all_sliced s.parts s.params shape pictures settings.lawful.params is (steep_for (written_under s) shape is settings.steep) (have_shape s shape pictures is may.each)
 
   many : length (map (slices_of (frame_under s.parts) s.params) pictures) ≡ length pictures
   many = length-map pictures (slices_of (frame_under s.parts) s.params)
@@ -306,7 +306,7 @@ module _ (s : Asked) (pictures : List PictureSamples) (settings : AreSettings s)
       let walk = walked s schedule f (map (slices_of (frame_under s.parts) s.params) pictures) first 0 (length pictures) (header_length s.parts) s.first (header_small (written_under s) f) f.first (going_start (written_under s) f) sliced may.even (omega (arith, many)) may.stream at_start in
       ap (λ (a : Answer Ending). reply_of [] (before [] a))
       (front_first command (λ z own unit bytes. refl) (written_under s) f (nothing_replayed schedule) rest (omega (arith, length_is, may.stream)) ∙ walk)
-      ∙ ap (λ (o : Outcome). let e : Close Ending = replayed (length pictures) (length pictures * slice_count s.params.slicing) (stream_place s (length pictures) + 13) o in reply_of [] (record { ending = e.ending; text = []; last = e.last })) (plan_runs s (length pictures) f.params settings.rate)
+      ∙ ap (λ (o : Outcome). let e : Close Ending = replayed_close (length pictures) (length pictures * slice_count s.params.slicing) (stream_place s (length pictures) + 13) o in reply_of [] (record { ending = e.ending; text = []; last = e.last })) (plan_runs s (length pictures) f.params settings.rate)
 
 -- its numbers are such that words can have
 held_low : (total came gone : ℕ) → min total came - gone ≤ total
@@ -318,7 +318,7 @@ plan_has_words s pictures settings may =
     let list = shapes_in (shapes_at s n ++ plain_shape (stream_place s n) 13 ∷ []) (stream_place s n + 13) in
     let in_turn = all_in_turn s settings.lawful.params n in
     let lead = (greatest-is (lead_of list s.rate s.idle) (count_in list)).least (2 ^ 72) (λ k lt. lead_low list s.rate s.idle k in_turn may.stream settings.slots) in
-    let held_most = (greatest-is (held (course_of list s.rate s.idle (plan_delay list s.rate s.idle))) (count_in list)).least (stream_place s n + 13) (λ k lt. held_low _ _ _) in
+    let held_most = (greatest-is (bytes_held (course_of list s.rate s.idle (plan_delay list s.rate s.idle))) (count_in list)).least (stream_place s n + 13) (λ k lt. held_low _ _ _) in
     record {
       lawful = record { rate = settings.rate; short = omega (arith, ceil_low (greatest (lead_of list s.rate s.idle) (count_in list)) s.rate.num settings.rate.some_bytes, lead) };
       bytes = settings.bytes;
@@ -335,18 +335,18 @@ the_schedule_runs s pictures settings may =
 -- ---- and the pictures that are decoded
 
 decoded_texts : (f : Frame) (p : Params) (pictures : List PictureSamples)
-    → streams.raw_texts (map (λ slices. (f, picture_of f p slices)) (map (slices_of f p) pictures)) ≡ raw_texts f (map (λ x. picture_of f p (slices_of f p x)) pictures)
+    → streams.raw_texts_of (map (λ slices. (f, picture_of f p slices)) (map (slices_of f p) pictures)) ≡ raw_texts f (map (λ x. picture_of f p (slices_of f p x)) pictures)
 decoded_texts f p [] = refl
 decoded_texts f p (x ∷ pictures) = ap (λ (l : List ℕ). raw_text f (picture_of f p (slices_of f p x)) ++ l) (decoded_texts f p pictures)
 
 -- the pictures among these units
 abbrev picture_count : List DataUnit → ℕ
 picture_count [] = 0
-picture_count (unit ∷ others) = pictures_in unit + picture_count others
+picture_count (unit ∷ others) = unit_pictures unit + picture_count others
 
-count_found : (es : List Entry) → total pictures_in es ≡ picture_count (map (λ (e : Entry). e.unit) es)
+count_found : (es : List Entry) → total unit_pictures es ≡ picture_count (map (λ (e : Entry). e.unit) es)
 count_found [] = refl
-count_found (x ∷ es) = ap (λ (k : ℕ). pictures_in x.unit + k) (count_found es)
+count_found (x ∷ es) = ap (λ (k : ℕ). unit_pictures x.unit + k) (count_found es)
 
 none_before : (parts : HeaderParts) (begins : Bool) (found : List DataUnit) → picture_count (found_before parts begins ++ found) ≡ picture_count found
 none_before parts true found = omega arith
@@ -358,7 +358,7 @@ count_under w position number (slices ∷ found) =
     none_before w.parts (begins_at w.group position) (Picture w.parts number w.params slices ∷ pictures_under w (position + 1) (number_after number) found)
     ∙ ap (λ (k : ℕ). 1 + k) (count_under w (position + 1) (number_after number) found) ∙ omega arith
 
-count_all : (es : List Entry) (w : Settings) (found : List (List (List ℕ))) → map (λ (e : Entry). e.unit) es ≡ units_of w found → total pictures_in es ≡ length found
+count_all : (es : List Entry) (w : Settings) (found : List (List (List ℕ))) → map (λ (e : Entry). e.unit) es ≡ units_of w found → total unit_pictures es ≡ length found
 count_all es w found e = count_found es ∙ ap picture_count e ∙ omega (arith, count_under w 0 w.first found)
 
 pub are_decoded : (s : Asked) (pictures : List PictureSamples) → AreDecoded s pictures
@@ -370,7 +370,7 @@ are_decoded s pictures settings may =
     let long = length_is s pictures settings may in
     let of = encoded_stream w found settings.lawful all (λ c. ap (λ (k : ℕ). k % 2) (length-map pictures (slices_of (frame_under s.parts) s.params)) ∙ may.even c) (omega (arith, long, may.stream)) in
     let shown : streams.pictures_text of.entries ≡ raw_input s (decoded_of s pictures) =
-    ap (λ (l : List DataUnit). streams.raw_texts (pictures_of l)) of.found ∙ ap streams.raw_texts (encoded_pictures w found) ∙ decoded_texts (frame_under s.parts) s.params pictures in
+    ap (λ (l : List DataUnit). streams.raw_texts_of (pictures_of l)) of.found ∙ ap streams.raw_texts_of (encoded_pictures w found) ∙ decoded_texts (frame_under s.parts) s.params pictures in
     (is_decoded bytes (encoded_fits w found all)).stream of.entries of.last of.stream
     ∙ ap (λ (l : List ℕ). record (streams.decoded_reply bytes of.entries) { out = l }) shown
     ∙ ap (λ (k : ℕ). record (decoded_reply s pictures) { note = decoded_line k (length bytes) }) (count_all of.entries w found of.found ∙ length-map pictures (slices_of (frame_under s.parts) s.params))

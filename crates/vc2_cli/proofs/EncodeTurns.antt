@@ -33,7 +33,7 @@ use Rattle.stream_writer.specs.declared.write_stop.WriteStop.{WriteStop}
 use Rattle.stream_writer.specs.declared.write_stop.WriteStop.TheVariants as stops
 use Rattle.stream_rows.specs.Streams.{limit, frame_under}
 use Rattle.stream_writer.specs.EncodedStream.{header_unit, end_unit}
-use Rattle.stream_writer.specs.Writer.{StreamWriterSeen, total_length, next_place, next_previous, due_units, plain_shape, started, after_end, WritesPicture, WriteCause, Starts, IsSteepUnder}
+use Rattle.stream_writer.specs.Writer.{StreamWriterSeen, total_length, next_place, next_previous, due_units, plain_shape, writer_begun, after_end, WritesPicture, WriteCause, Starts, IsSteepOkUnder}
 use Rattle.stream_writer.proofs.WrittenShapes.{total_push, plain_length}
 use Rattle.vc2_cli.specs.declared.status.Ending.{Ending}
 use Rattle.vc2_cli.specs.declared.status.Note.TheVariants.{Encoded}
@@ -86,24 +86,24 @@ refused_done result place reason ending told is done = let same : refused_at pla
     by a b e = cc
 
 -- no writer was made
-pub runs_unopened : (e : Asked) (rest out0 out1 : Option (List ℕ)) (src to0 to1 : ℕ) (stop : WriteStop) → IsSteepUnder (written_under e) → Starts (written_under e) out0 out1 (Err stop) → WriteCause {X = StreamWriterSeen} to0 to1 (Err stop)
+pub runs_unopened : (e : Asked) (rest out0 out1 : Option (List ℕ)) (src to0 to1 : ℕ) (stop : WriteStop) → IsSteepOkUnder (written_under e) → Starts (written_under e) out0 out1 (Err stop) → WriteCause {X = StreamWriterSeen} to0 to1 (Err stop)
     → Runs (encode_machine e) IsDone (record { was = rest; is = rest; faults_were = src; faults_are = src }) (record { was = out0; is = out1; faults_were = to0; faults_are = to1 }) (told_of_stop 0 stop)
-runs_unopened e rest out0 out1 src to0 to1 stops.OutFault flat starts why = record {
+runs_unopened e rest out0 out1 src to0 to1 stops.OutFault steep starts why = record {
   ran = ran_unopened (encode_machine e) rest out0 out1 starts.1;
   limit = takes_none rest;
   cause = (refl, why.0, why.1);
   end = λ ending e done. absurd cc;
 }
-runs_unopened e rest out0 out1 src to0 to1 stops.MatrixTooSteep flat starts why = absurd (starts.0 flat)
-runs_unopened e rest out0 out1 src to0 to1 stops.StreamTooLong flat starts why = absurd starts
-runs_unopened e rest out0 out1 src to0 to1 stops.NoMemory flat starts why = record {
+runs_unopened e rest out0 out1 src to0 to1 stops.MatrixTooSteep steep starts why = absurd (starts.0 steep)
+runs_unopened e rest out0 out1 src to0 to1 stops.StreamTooLong steep starts why = absurd starts
+runs_unopened e rest out0 out1 src to0 to1 stops.NoMemory steep starts why = record {
   ran = ran_unbegun (encode_machine e) rest out0 out1 starts.1;
   limit = takes_none rest;
   cause = (refl, why);
   end = λ ending e done. absurd cc;
 }
 
-pub goes_first : (e : Asked) (rest out0 out1 : Option (List ℕ)) (r : RawReaderSeen) (w : StreamWriterSeen) → 0 < raw_size e → frame_of r.shape ≡ frame_under e.parts → r.place ≡ 0 → r.refused ≡ false → w ≡ started (written_under e)
+pub goes_first : (e : Asked) (rest out0 out1 : Option (List ℕ)) (r : RawReaderSeen) (w : StreamWriterSeen) → 0 < raw_size e → frame_of r.shape ≡ frame_under e.parts → r.place ≡ 0 → r.refused ≡ false → w ≡ writer_begun (written_under e)
     → Appends out0 out1 (header_unit e.parts) → WritesPictures e 0 rest rest out0 out1 r w
 goes_first e rest out0 out1 r w some frame at unrefused start wrote = record {
   frame = frame;

@@ -14,7 +14,7 @@ use Rattle.stream_rows.specs.Units.{Past, nothing_yet, DataUnit, Sequence, Pictu
 use Rattle.stream_rows.specs.Streams.{ends, limit}
 use Rattle.stream_rows.proofs.Answering.{machine}
 use Rattle.stream_writer.specs.EncodedStream.{Settings, begins_at, header_length, header_unit, picture_unit, end_unit, number_after, units_with, AreLawful, IsSliced}
-use Rattle.stream_writer.specs.Writer.{bytes_before}
+use Rattle.stream_writer.specs.Writer.{head_bytes_before}
 use Rattle.stream_writer.proofs.EncodedParts.{no_previous}
 use Rattle.stream_writer.proofs.EncodedUnits.{length-header_unit, length-picture_unit, length-end_unit, moves_header_unit, moves_picture_unit, moves_end_unit}
 use Rattle.stream_writer.proofs.EncodedStreams.{Going, ended, picture_code, end_code, going_on, going_later, begins_even, header_small}
@@ -70,7 +70,7 @@ module _ {W E : Type 0} (command : Command Past Reason DataUnit W E) (quiet : (z
     going_due false b previous is g = going_picture b previous g
     going_due true b previous is g = going_picture (behind_header b previous) (header_length s.parts) (going_later s.parts b.past previous number position g (begins_even s.parts.coding s.group position f.group is))
 
-    pub due_place : (begins : Bool) (b : Between Past W) (previous : ℕ) → (behind_due begins b previous number slices).past.place ≡ b.past.place + bytes_before s.parts begins + unit_length s.params
+    pub due_place : (begins : Bool) (b : Between Past W) (previous : ℕ) → (behind_due begins b previous number slices).past.place ≡ b.past.place + head_bytes_before s.parts begins + unit_length s.params
     due_place false b previous = omega (arith, length-picture_unit s.parts s.params previous number slices f.params sliced)
     due_place true b previous = omega (arith, length-end_unit previous, length-header_unit s.parts, length-picture_unit s.parts s.params (header_length s.parts) number slices f.params sliced)
 

@@ -12,13 +12,13 @@ use Rattle.stream_rows.proofs.Tables.{stream_table}
 use Rattle.stream_rows.proofs.Answering.{IsPlain, texts, own_behind, answer_stream, answer_refusal}
 use Rattle.stream_rows.proofs.Made.{AreSuch}
 use Rattle.field_weave.specs.declared.Order.{Order}
-use Rattle.field_weave.specs.Weaving.{doubled, woven}
+use Rattle.field_weave.specs.Weaving.{frame_of_two, woven_frame}
 use Rattle.vc2_cli.specs.declared.status.Note.TheVariants.{Framed}
 use Rattle.vc2_cli.specs.declared.status.Ending.TheVariants.{Done, Refused}
 use Rattle.vc2_cli.specs.Telling.{IsUnder}
 use Rattle.vc2_cli.specs.Frames.{FramesSoFar, are_fields, no_frames, frames_more, frame_text, frames_after, frames_text, framing, frames_machine}
 use Rattle.vc2_cli.specs.Reply.{reply_of}
-use Rattle.vc2_cli.specs.StreamReplies.{AreBytes, raw_texts, refused_reply}
+use Rattle.vc2_cli.specs.StreamReplies.{AreBytes, raw_texts_of, refused_reply}
 use Rattle.vc2_cli.specs.Weave.{order_of}
 use Rattle.vc2_cli.specs.FrameReplies.{sequence_pictures, frames_in, stream_frames, frames_between, framed_reply, IsFramed}
 use Rattle.vc2_cli.proofs.PicturesUnder.{stream_under, refusal_under}
@@ -66,7 +66,7 @@ module _ (order : Order) where
 
   -- the units write this text and then these frames, and so many are counted behind them
   abbrev Write : (text : List ℕ) → FramesSoFar → List Entry → ℕ → List (Frame × PictureSamples) → Type 0
-  Write text own es n fs = (text ++ texts frames_text frames_after own es ≡ raw_texts fs) × ((own_behind frames_after own es).frames ≡ n + length fs)
+  Write text own es n fs = (text ++ texts frames_text frames_after own es ≡ raw_texts_of fs) × ((own_behind frames_after own es).frames ≡ n + length fs)
 
   -- a picture of a sequence whose pictures have this frame
   picture_writes : (f : Frame) (p : PictureSamples) (es : List Entry) (pictures : List PictureSamples) (others : List (Frame × PictureSamples)) (n : ℕ) (first : Option PictureSamples) (fields : Bool)
@@ -75,7 +75,7 @@ module _ (order : Order) where
   picture_writes f p es pictures others n None false go = (ap (λ l. raw_text f p ++ l) (go (n + 1) None).0, (go (n + 1) None).1 ∙ omega arith)
   picture_writes f p es pictures others n (Some q) false go = (ap (λ l. raw_text f p ++ l) (go (n + 1) (Some q)).0, (go (n + 1) (Some q)).1 ∙ omega arith)
   picture_writes f p es pictures others n None true go = go n (Some p)
-  picture_writes f p es pictures others n (Some q) true go = (ap (λ l. raw_text (doubled f) (woven order f q p) ++ l) (go (n + 1) None).0, (go (n + 1) None).1 ∙ omega arith)
+  picture_writes f p es pictures others n (Some q) true go = (ap (λ l. raw_text (frame_of_two f) (woven_frame order f q p) ++ l) (go (n + 1) None).0, (go (n + 1) None).1 ∙ omega arith)
 
   -- a unit, where the others write what is due behind it
   unit_writes : (z : Past) (unit : DataUnit) (bytes : List ℕ) (es : List Entry) (n : ℕ) (first : Option PictureSamples) → IsUnder z unit
@@ -120,11 +120,11 @@ module _ (order : Order) where
       ap (reply_of []) a.2
       ∙ ap (λ e. reply_of [] (record { ending = e; text = written es; last = [] })) ending
       ∙ ap (λ l. reply_of [] (record { ending = Done (Framed n (length bytes)); text = l; last = [] })) w.0
-      ∙ ap (λ l. record (framed_reply order bytes es) { out = l }) (append-nil (raw_texts (frames_between order es)))
+      ∙ ap (λ l. record (framed_reply order bytes es) { out = l }) (append-nil (raw_texts_of (frames_between order es)))
 
-  frames_refused : (bytes : List ℕ) (refusal : Refusal) → AreBytes bytes → (r : IsRefusal bytes refusal) → reply_of [] (answer_to (frames_machine order) bytes) ≡ refused_reply (raw_texts (frames_between order r.units)) refusal
+  frames_refused : (bytes : List ℕ) (refusal : Refusal) → AreBytes bytes → (r : IsRefusal bytes refusal) → reply_of [] (answer_to (frames_machine order) bytes) ≡ refused_reply (raw_texts_of (frames_between order r.units)) refusal
   frames_refused bytes refusal fits r =
-      let text = raw_texts (frames_between order r.units) in
+      let text = raw_texts_of (frames_between order r.units) in
       ap (reply_of []) (answer_refusal unit_rows stream_table (framing order) plain bytes refusal fits r).1
       ∙ ap (λ x. reply_of [] (record { ending = Refused x; text = written r.units; last = [] })) (sym r.there)
       ∙ ap (λ l. reply_of [] (record { ending = Refused refusal; text = l; last = [] })) (write r.units nothing_yet (refusal_under bytes refusal r) 0 None).0

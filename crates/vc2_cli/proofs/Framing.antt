@@ -16,7 +16,7 @@ use Rattle.stream_reader.specs.declared.stop.Item.{Item}
 use Rattle.stream_reader.specs.StreamTable.{StreamTableSeen}
 use Rattle.stream_reader.specs.Reader.{IsPictureOf, header_behind}
 use Rattle.field_weave.specs.declared.Order.{Order}
-use Rattle.field_weave.specs.Weaving.{doubled, split, placed}
+use Rattle.field_weave.specs.Weaving.{frame_of_two, split, frame_with_field}
 use Rattle.field_weave.specs.WeaveRuns.{field_text, first_of}
 use Rattle.field_weave.proofs.WeaveLaws.{split_of_placed_table}
 use Rattle.vc2_words.proofs.Plainness.{some_same, none_some}
@@ -147,7 +147,7 @@ module _ (before now : StreamTableSeen) (item : Item) (p : PassesUnit before now
   pub record HeldFor (pic : PictureSeen) (held : Option PictureSeen) : Type 0 where
     pub seen : PictureSeen
     pub is : held ≡ Some seen
-    pub frame : frame_of seen.shape ≡ doubled (frame_of pic.shape)
+    pub frame : frame_of seen.shape ≡ frame_of_two (frame_of pic.shape)
 
   pub frame_held : tells_picture item ≡ true → (d : PictureDecoderSeen) → now.decoder ≡ Some d → (pic : PictureSeen) → pic.shape ≡ d.shape → Some pic.samples ≡ d.picture → (written : ℕ) (held : Option PictureSeen) → KeepsFrame written held before
       → (fields : Bool) → ((parts : HeaderParts) → now.header ≡ Some parts → fields ≡ are_fields parts) → fields ≡ true → HeldFor pic held
@@ -155,7 +155,7 @@ module _ (before now : StreamTableSeen) (item : Item) (p : PassesUnit before now
       let s = shown_by told d there pic shape samples written held k in
       let coded : are_fields (s.first).parts ≡ true = ap are_fields (sym s.of) ∙ sym (same s.parts s.now_is) ∙ is in
       let one = k.frame s.first s.there coded in
-      record { seen = one.0; is = one.1; frame = one.2 ∙ ap (λ (q : HeaderParts). doubled (frame_under q)) (sym s.of) ∙ ap doubled (sym s.frame) }
+      record { seen = one.0; is = one.1; frame = one.2 ∙ ap (λ (q : HeaderParts). frame_of_two (frame_under q)) (sym s.of) ∙ ap frame_of_two (sym s.frame) }
 
 -- ---- a frame that is a picture of its own
 
@@ -201,14 +201,14 @@ field_is own unit parts number params slices begun pic seen held header is frame
 
 -- what it leaves
 pub field_leaves : (order : Order) (frames : ℕ) (unit : DataUnit) (parts : HeaderParts) (number : ℕ) (params : Params) (slices : List (List ℕ)) (begun : Bool) (seen seen' : PictureSeen)
-    → unit ≡ Picture parts number params slices → are_fields parts ≡ true → seen'.samples ≡ placed order (frame_under parts) begun (picture_of (frame_under parts) params slices) seen.samples
+    → unit ≡ Picture parts number params slices → are_fields parts ≡ true → seen'.samples ≡ frame_with_field order (frame_under parts) begun (picture_of (frame_under parts) params slices) seen.samples
     → left_of order (cond begun (frames + 1) frames) (first_in order (not begun) (Some seen') (Some parts)) ≡ frames_after (left_of order frames (first_in order begun (Some seen) (Some parts))) unit
 field_leaves order frames unit parts number params slices begun seen seen' is fields put =
     let p = picture_of (frame_under parts) params slices in
     let own = left_of order frames (first_in order begun (Some seen) (Some parts)) in
     by begun put ∙ ap (λ (b : Bool). frames_more own b p own.first) (sym fields) ∙ ap (λ (u : DataUnit). frames_after own u) (sym is)
   where
-    by : (b : Bool) → seen'.samples ≡ placed order (frame_under parts) b (picture_of (frame_under parts) params slices) seen.samples
+    by : (b : Bool) → seen'.samples ≡ frame_with_field order (frame_under parts) b (picture_of (frame_under parts) params slices) seen.samples
         → left_of order (cond b (frames + 1) frames) (first_in order (not b) (Some seen') (Some parts))
         ≡ frames_more (left_of order frames (first_in order b (Some seen) (Some parts))) true (picture_of (frame_under parts) params slices) (first_in order b (Some seen) (Some parts))
     by true put = refl

@@ -6,7 +6,7 @@ pub mod WorkedRows
 pub mod HeaderRuns
 pub mod Decoding
 mod Passing
-pub mod Flat
+pub mod SteepOk
 pub mod EncodeTurns
 pub mod EncodeReplies
 pub mod EncodeChecked

@@ -2,7 +2,7 @@
 use Rattle.std.proofs.Common.{◌≡◌, ◌⊎◌, ℕ, ◌≤◌, Option, Some, None, List, [], ◌∷◌, ◌++◌, length, arith, lit≤}
 use Rattle.std.specs.Int.{is_in_range}
 use Rattle.std.proofs.lemmas.Bool.Decides.{nat_tests}
-use Rattle.field_rows.specs.Rows.{number_in, ◌or_else◌, first_broken, within, whole_bytes}
+use Rattle.field_rows.specs.Rows.{number_value, ◌or_else◌, first_broken, within, whole_bytes}
 use Rattle.parse_info.specs.declared.Code.{Code}
 use Rattle.parse_info.specs.declared.Code.TheVariants.{SequenceHeader, EndOfSequence, Auxiliary, Padding, LowDelayPicture}
 use Rattle.parse_info.specs.declared.ParseInfo.{ParseInfo}
@@ -30,7 +30,7 @@ IsLow p = p.slicing.depth ≤ 4
 
 depth_low : Make {R = TransformReason} (λ n. n ≤ 4) (within 0 4 DepthRefused)
 unfolding within
-depth_low = record { all = λ v kept. low_depth (number_in v) kept }
+depth_low = record { all = λ v kept. low_depth (number_value v) kept }
 
 slicing_low : Make (λ s. s.depth ≤ 4) slicing_rows
 unfolding slicing_rows

@@ -12,7 +12,7 @@ use Rattle.channel_schedule.specs.declared.schedule.Outcome.TheVariants as outco
 use Rattle.channel_schedule.specs.Rates.{IsSchedule}
 use Rattle.vc2_words.specs.declared.keys.WordFault.{WordFault}
 use Rattle.vc2_words.specs.declared.words.Command.{Command}
-use Rattle.vc2_words.specs.Commands.{AskedCommand, chain, header, decode, proxy, check, encode, trial, weave, split, frames, cut, seen, asked_by}
+use Rattle.vc2_words.specs.Commands.{AskedCommand, chain, header, decode, proxy, check, encode, trial, weave, split, frames, cut, command_seen, asked_by}
 use Rattle.vc2_words.proofs.Settled.{words_say}
 use Rattle.vc2_words.specs.declared.keys.WordFault.TheVariants.{SettingsRefused}
 use Rattle.vc2_words.specs.declared.keys.Rule.TheVariants.{MatrixTooSteep}
@@ -20,11 +20,11 @@ use Rattle.vc2_words.specs.Settings.{Asked}
 use Rattle.vc2_words.specs.declared.words.TrialPart.{TrialPart}
 use Rattle.vc2_words.specs.declared.settings.CutSettings.{CutSettings}
 use Rattle.vc2_words.specs.declared.settings.FieldVideo.{FieldVideo}
-use Rattle.vc2_words.specs.Lawful.{AreLawful, IsAskedSchedule, IsTrial, IsFieldVideo, IsCutSettings}
-use Rattle.stream_writer.specs.Writer.{IsSteepUnder}
+use Rattle.vc2_words.specs.Lawful.{AreLawfulWords, IsAskedSchedule, IsTrial, IsFieldVideo, IsCutSettings}
+use Rattle.stream_writer.specs.Writer.{IsSteepOkUnder}
 use Rattle.vc2_cli.specs.Encode.{written_under}
-use Rattle.vc2_cli.specs.Words.{seen_words, is_flat, unless_steep, checked, words_ask}
-use Rattle.vc2_cli.proofs.Flat.{flat_is_steep}
+use Rattle.vc2_cli.specs.Words.{seen_words, is_steep_ok, if_steep_ok, checked, words_ask}
+use Rattle.vc2_cli.proofs.SteepOk.{steep_from_ok}
 use Rattle.vc2_cli.specs.Reply.{Reply, Breaks, Stops, StopsShort, IsStatusOf, command_reply, command_due, status_of, ReadsAll}
 use Rattle.vc2_cli.specs.Settled.{Settles}
 use Rattle.vc2_cli.specs.Running.{running_of}
@@ -55,18 +55,18 @@ own (Ok asked) input = own_ending ((running_of asked).answer input).ending
 -- ---- the words
 
 -- what was read, and passed the last rule, is what the words ask for
-pub words_are : (words : List (List ℕ)) (read command : Result Command WordFault) → MatchResult read (λ told. asked_by words ≡ Ok (seen told)) (λ fault. asked_by words ≡ Err fault) → seen_words command ≡ checked (seen_words read) → seen_words command ≡ words_ask words
+pub words_are : (words : List (List ℕ)) (read command : Result Command WordFault) → MatchResult read (λ told. asked_by words ≡ Ok (command_seen told)) (λ fault. asked_by words ≡ Err fault) → seen_words command ≡ checked (seen_words read) → seen_words command ≡ words_ask words
 words_are words (Ok told) command is same = same ∙ ap checked (sym is)
 words_are words (Err fault) command is same = same ∙ ap checked (sym is)
 
 -- what passes the last rule was read, and is not too steep
-steep_or : (s : Asked) (asked told : AskedCommand) → unless_steep s asked ≡ Ok told → (asked ≡ told) × (is_flat s ≡ true)
-steep_or s asked told = by (is_flat s) refl
+steep_or : (s : Asked) (asked told : AskedCommand) → if_steep_ok s asked ≡ Ok told → (asked ≡ told) × (is_steep_ok s ≡ true)
+steep_or s asked told = by (is_steep_ok s) refl
   where
     fine : AskedCommand → Result AskedCommand WordFault
     fine c = Ok c
 
-    by : (flat : Bool) → is_flat s ≡ flat → cond flat (fine asked) (Err (SettingsRefused MatrixTooSteep)) ≡ fine told → (asked ≡ told) × (is_flat s ≡ true)
+    by : (steep : Bool) → is_steep_ok s ≡ steep → cond steep (fine asked) (Err (SettingsRefused MatrixTooSteep)) ≡ fine told → (asked ≡ told) × (is_steep_ok s ≡ true)
     by true t e = (cc, t)
     by false t e = absurd cc
 
@@ -84,12 +84,12 @@ check_was (Ok (split video)) schedule e = e
 check_was (Ok (cut other)) schedule e = e
 check_was (Err fault) schedule e = e
 
-pub encode_was : (read : Result AskedCommand WordFault) (s : Asked) → checked read ≡ Ok (encode s) → (read ≡ Ok (encode s)) × (is_flat s ≡ true)
+pub encode_was : (read : Result AskedCommand WordFault) (s : Asked) → checked read ≡ Ok (encode s) → (read ≡ Ok (encode s)) × (is_steep_ok s ≡ true)
 encode_was (Ok (encode t)) s e =
     let was = steep_or t (encode t) (encode s) e in
     let w : encode t ≡ encode s = was.0 in
     let same : t ≡ s = cc in
-    (ap (λ (x : Asked). asked_encode x) same, subst (λ (x : Asked). is_flat x ≡ true) same was.1)
+    (ap (λ (x : Asked). asked_encode x) same, subst (λ (x : Asked). is_steep_ok x ≡ true) same was.1)
   where
     asked_encode : Asked → Result AskedCommand WordFault
     asked_encode x = Ok (encode x)
@@ -105,12 +105,12 @@ encode_was (Ok (split video)) s e = absurd cc
 encode_was (Ok (cut other)) s e = absurd cc
 encode_was (Err fault) s e = absurd cc
 
-trial_was : (read : Result AskedCommand WordFault) (s : Asked) (part : TrialPart) → checked read ≡ Ok (trial s part) → (read ≡ Ok (trial s part)) × (is_flat s ≡ true)
+trial_was : (read : Result AskedCommand WordFault) (s : Asked) (part : TrialPart) → checked read ≡ Ok (trial s part) → (read ≡ Ok (trial s part)) × (is_steep_ok s ≡ true)
 trial_was (Ok (trial t other)) s part e =
     let was = steep_or t (trial t other) (trial s part) e in
     let w : trial t other ≡ trial s part = was.0 in
     let same : t ≡ s = cc in
-    (ap (λ (x : AskedCommand). fine x) w, subst (λ (x : Asked). is_flat x ≡ true) same was.1)
+    (ap (λ (x : AskedCommand). fine x) w, subst (λ (x : Asked). is_steep_ok x ≡ true) same was.1)
   where
     fine : AskedCommand → Result AskedCommand WordFault
     fine x = Ok x
@@ -188,18 +188,18 @@ schedule_is words command schedule same is =
     one.schedule
 
 -- settings that were read are lawful, and their matrix is not too steep
-pub settings_are : (words : List (List ℕ)) (command : Result Command WordFault) (s : Asked) → seen_words command ≡ words_ask words → seen_words command ≡ Ok (encode s) → AreLawful s × IsSteepUnder (written_under s)
+pub settings_are : (words : List (List ℕ)) (command : Result Command WordFault) (s : Asked) → seen_words command ≡ words_ask words → seen_words command ≡ Ok (encode s) → AreLawfulWords s × IsSteepOkUnder (written_under s)
 settings_are words command s same is =
     let was = encode_was (asked_by words) s (sym same ∙ is) in
-    let lawful : AreLawful s = words_say words (encode s) was.0 in
-    (lawful, flat_is_steep s lawful.params was.1)
+    let lawful : AreLawfulWords s = words_say words (encode s) was.0 in
+    (lawful, steep_from_ok s lawful.params was.1)
 
 -- a trial that was read is one, and its matrix is not too steep
-pub trial_is : (words : List (List ℕ)) (command : Result Command WordFault) (s : Asked) (part : TrialPart) → seen_words command ≡ words_ask words → seen_words command ≡ Ok (trial s part) → IsTrial s part × IsSteepUnder (written_under s)
+pub trial_is : (words : List (List ℕ)) (command : Result Command WordFault) (s : Asked) (part : TrialPart) → seen_words command ≡ words_ask words → seen_words command ≡ Ok (trial s part) → IsTrial s part × IsSteepOkUnder (written_under s)
 trial_is words command s part same is =
     let was = trial_was (asked_by words) s part (sym same ∙ is) in
     let one : IsTrial s part = words_say words (trial s part) was.0 in
-    (one, flat_is_steep s one.settings.params was.1)
+    (one, steep_from_ok s one.settings.params was.1)
 
 -- their fault is the one that was read
 pub fault_is : (command : Result Command WordFault) (asked : Result AskedCommand WordFault) (P : WordFault → Type 0) → seen_words command ≡ asked → IfErr command P → IfErr asked P

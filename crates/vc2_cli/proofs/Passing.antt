@@ -14,7 +14,7 @@ use Rattle.stream_reader.specs.Reader.{item_of, IsPictureOf, IsTakerOf}
 use Rattle.stream_reader.specs.ReaderInside.{seen_of}
 use Rattle.stream_reader.specs.StreamTable.{StreamTableSeen, IsMaker, DecoderBehind}
 use Rattle.vc2_words.proofs.Plainness.{some_same}
-use Rattle.vc2_cli.specs.Decode.{pictures_in}
+use Rattle.vc2_cli.specs.Decode.{unit_pictures}
 use Rattle.vc2_cli.specs.Telling.{PassesUnit, tells_picture}
 use Rattle.vc2_cli.proofs.Decoding.{pictures_few}
 
@@ -41,15 +41,15 @@ module _ (before now : StreamTableSeen) (item : Item) (p : PassesUnit before now
   place_is = ap (λ (z : Past). z.place) p.past ∙ after-place before.past p.unit p.bytes
 
   -- a picture has a byte
-  pub byte : pictures_in p.unit ≤ length p.bytes
+  pub byte : unit_pictures p.unit ≤ length p.bytes
   byte = omega (arith, pictures_few p.unit, p.some)
 
   module _ (told : tells_picture item ≡ true) where
     taken : Taken before.makes_pictures p.unit now.decoder
     taken = taken_by before.makes_pictures p.unit item before.decoder now.decoder p.tells.is_item p.tells.decoder told
 
-    pub one_is : pictures_in p.unit ≡ 1
-    one_is = ap pictures_in taken.is
+    pub one_is : unit_pictures p.unit ≡ 1
+    one_is = ap unit_pictures taken.is
 
     module _ (d : PictureDecoderSeen) (there : now.decoder ≡ Some d) where
       same : taken.d ≡ d

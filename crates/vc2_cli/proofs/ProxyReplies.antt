@@ -9,10 +9,10 @@ use Rattle.stream_rows.proofs.OneAnswer.{one_answer}
 use Rattle.stream_rows.proofs.Answering.{IsPlain, texts, own_behind, answer_stream, answer_refusal}
 use Rattle.vc2_cli.specs.declared.status.Note.TheVariants.{Decoded}
 use Rattle.vc2_cli.specs.declared.status.Ending.TheVariants.{Done, Refused}
-use Rattle.vc2_cli.specs.Decode.{unit_text, pictures_in, decode_machine}
+use Rattle.vc2_cli.specs.Decode.{unit_text, unit_pictures, decode_machine}
 use Rattle.vc2_cli.specs.Proxy.{Proxied, levels_in, proxy_text, proxying, proxy_machine}
 use Rattle.vc2_cli.specs.Reply.{reply_of}
-use Rattle.vc2_cli.specs.StreamReplies.{AreBytes, raw_texts, pictures_text, decoded_reply, refused_reply}
+use Rattle.vc2_cli.specs.StreamReplies.{AreBytes, raw_texts_of, pictures_text, decoded_reply, refused_reply}
 use Rattle.vc2_cli.specs.ProxyReplies.{proxies_of, proxies_text, proxied_reply, HaveAtMost, IsProxied}
 use Rattle.vc2_cli.proofs.Proxying.{full_text}
 use Rattle.vc2_cli.proofs.LowDepths.{stream_low, refusal_low}
@@ -25,7 +25,7 @@ module _ (level : ℕ) where
   plain = record {
     text = λ own unit. proxy_text own.level unit;
     is_text = λ z own unit bytes. refl;
-    step = λ own unit. record { level = own.level; pictures = own.pictures + pictures_in unit };
+    step = λ own unit. record { level = own.level; pictures = own.pictures + unit_pictures unit };
     is_step = λ z own unit bytes. refl;
   }
 
@@ -33,15 +33,15 @@ module _ (level : ℕ) where
   abbrev behind : ℕ → Proxied
   behind pictures = record { level = level; pictures = pictures }
 
-  pictures_behind : (es : List Entry) (pictures : ℕ) → own_behind plain.step (behind pictures) es ≡ behind (pictures + total pictures_in es)
+  pictures_behind : (es : List Entry) (pictures : ℕ) → own_behind plain.step (behind pictures) es ≡ behind (pictures + total unit_pictures es)
   pictures_behind [] pictures = ap behind (omega arith)
-  pictures_behind (e ∷ es) pictures = pictures_behind es (pictures + pictures_in e.unit) ∙ ap behind (omega arith)
+  pictures_behind (e ∷ es) pictures = pictures_behind es (pictures + unit_pictures e.unit) ∙ ap behind (omega arith)
 
   -- what is written for the units is the raw text of their proxies
   abbrev written : ℕ → List Entry → List ℕ
   written pictures es = texts plain.text plain.step (behind pictures) es
 
-  written_first : (unit : DataUnit) (others : List DataUnit) → proxy_text level unit ++ raw_texts (proxies_of level others) ≡ raw_texts (proxies_of level (unit ∷ others))
+  written_first : (unit : DataUnit) (others : List DataUnit) → proxy_text level unit ++ raw_texts_of (proxies_of level others) ≡ raw_texts_of (proxies_of level (unit ∷ others))
   written_first (Sequence parts) others = refl
   written_first Repeated others = refl
   written_first (Picture parts number params slices) others = refl
@@ -50,7 +50,7 @@ module _ (level : ℕ) where
 
   written_proxies : (es : List Entry) (pictures : ℕ) → written pictures es ≡ proxies_text level es
   written_proxies [] pictures = refl
-  written_proxies (e ∷ es) pictures = ap (λ l. proxy_text level e.unit ++ l) (written_proxies es (pictures + pictures_in e.unit)) ∙ written_first e.unit (map (λ x. x.unit) es)
+  written_proxies (e ∷ es) pictures = ap (λ l. proxy_text level e.unit ++ l) (written_proxies es (pictures + unit_pictures e.unit)) ∙ written_first e.unit (map (λ x. x.unit) es)
 
   -- ---- the replies
 
@@ -59,11 +59,11 @@ module _ (level : ℕ) where
       let left = s.stream.left in
       let a = answer_stream unit_rows stream_table (proxying level) plain bytes es last fits s in
       let own = own_behind plain.step (behind 0) es in
-      let counted : own.pictures ≡ total pictures_in es = ap (λ (w : Proxied). w.pictures) (pictures_behind es 0) ∙ omega arith in
-      let ending : Done (Decoded own.pictures (left.place + length a.0)) ≡ Done (Decoded (total pictures_in es) (length bytes)) = ap (λ n. Done (Decoded n (left.place + length a.0))) counted ∙ ap (λ k. Done (Decoded (total pictures_in es) k)) a.1 in
+      let counted : own.pictures ≡ total unit_pictures es = ap (λ (w : Proxied). w.pictures) (pictures_behind es 0) ∙ omega arith in
+      let ending : Done (Decoded own.pictures (left.place + length a.0)) ≡ Done (Decoded (total unit_pictures es) (length bytes)) = ap (λ n. Done (Decoded n (left.place + length a.0))) counted ∙ ap (λ k. Done (Decoded (total unit_pictures es) k)) a.1 in
       ap (reply_of []) a.2
       ∙ ap (λ e. reply_of [] (record { ending = e; text = written 0 es; last = [] })) ending
-      ∙ ap (λ l. reply_of [] (record { ending = Done (Decoded (total pictures_in es) (length bytes)); text = l; last = [] })) (written_proxies es 0)
+      ∙ ap (λ l. reply_of [] (record { ending = Done (Decoded (total unit_pictures es) (length bytes)); text = l; last = [] })) (written_proxies es 0)
       ∙ ap (λ l. record (decoded_reply bytes es) { out = l }) (append-nil (proxies_text level es))
 
   proxy_refused : (bytes : List ℕ) (refusal : Refusal) → AreBytes bytes → (r : IsRefusal bytes refusal) → reply_of [] (answer_to (proxy_machine level) bytes) ≡ refused_reply (proxies_text level r.units) refusal

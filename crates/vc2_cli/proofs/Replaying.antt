@@ -11,7 +11,7 @@ use Rattle.channel_schedule.specs.declared.schedule.Outcome.{Outcome}
 use Rattle.channel_schedule.specs.Courses.{course_of, count_in, IsOutcome}
 use Rattle.channel_schedule.proofs.Unique.{one_outcome}
 use Rattle.unit_reader.proofs.Opens.{IsOpenMachine}
-use Rattle.vc2_cli.specs.Endings.{MayEndOtherwise, replayed}
+use Rattle.vc2_cli.specs.Endings.{MayEndOtherwise, replayed_close}
 use Rattle.vc2_cli.specs.Telling.{PassesUnit}
 use Rattle.vc2_cli.proofs.Decoding.{stream_laws, stream_opens}
 use Rattle.vc2_cli.proofs.Passing.{place_is}
@@ -35,10 +35,10 @@ outcome_is shapes units total schedule outcome same_units same_total is =
 pub ending_is : (schedule : Schedule) (slices pictures taken : ℕ) (outcome : Outcome) (before now : StreamTableSeen) (item : Item) (shapes : UnitShapesSeen) (p : PassesUnit before now item)
     → taken ≡ now.past.place → shapes.units ≡ now.shapes.units → shapes.total ≡ now.past.place
     → IsOutcome (course_of shapes schedule.rate schedule.idle schedule.delay) schedule.size (count_in shapes) outcome
-    → replayed pictures slices taken outcome ≡ replaying_any.finished before.past (record { schedule = schedule; pictures = pictures; slices = slices; shapes = before.shapes.units }) p.unit p.bytes
+    → replayed_close pictures slices taken outcome ≡ replaying_any.finished before.past (record { schedule = schedule; pictures = pictures; slices = slices; shapes = before.shapes.units }) p.unit p.bytes
 ending_is schedule slices pictures taken outcome before now item shapes p is_taken is_units is_total is =
     let place : now.past.place ≡ before.past.place + length p.bytes = place_is before now item p in
     let all = before.shapes.units ++ shape_of before.past p.unit p.bytes ∷ [] in
     let same_outcome : outcome ≡ outcome_of schedule all (before.past.place + length p.bytes) = outcome_is shapes all (before.past.place + length p.bytes) schedule outcome (is_units ∙ p.tells.shapes) (is_total ∙ place) is in
-    ap (λ n. replayed pictures slices n outcome) (is_taken ∙ place)
-    ∙ ap (λ o. replayed pictures slices (before.past.place + length p.bytes) o) same_outcome
+    ap (λ n. replayed_close pictures slices n outcome) (is_taken ∙ place)
+    ∙ ap (λ o. replayed_close pictures slices (before.past.place + length p.bytes) o) same_outcome

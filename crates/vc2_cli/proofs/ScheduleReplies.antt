@@ -33,8 +33,8 @@ use Rattle.stream_reader.specs.Turns.{shape_of}
 use Rattle.vc2_cli.specs.declared.status.Ending.{Ending}
 use Rattle.vc2_cli.specs.declared.status.Ending.TheVariants.{Done, Scheduled, Refused}
 use Rattle.vc2_cli.specs.declared.status.Status.TheVariants as status
-use Rattle.vc2_cli.specs.Endings.{replayed}
-use Rattle.vc2_cli.specs.Decode.{pictures_in, slices_in, Counts, nothing_counted, counted, check_machine, checking}
+use Rattle.vc2_cli.specs.Endings.{replayed_close}
+use Rattle.vc2_cli.specs.Decode.{unit_pictures, unit_slices, Counts, nothing_counted, counts_with, check_machine, checking}
 use Rattle.vc2_cli.specs.Scheduled.{Replayed, nothing_replayed, shapes_in, outcome_of, replaying, replay_machine}
 use Rattle.vc2_cli.specs.Reply.{status_of, reply_of}
 use Rattle.vc2_cli.specs.StreamReplies.{AreBytes, refused_reply}
@@ -112,7 +112,7 @@ module _ (schedule : Schedule) where
   own_of own pictures slices shapes = record { schedule = own.schedule; pictures = pictures; slices = slices; shapes = shapes }
 
   own_is : (es : List Entry) (z : Past) (c : Cursor) (z' : Past) (c' : Cursor) (u : Units z c es z' c') (own : Replayed)
-      → own_over z c es z' c' u own ≡ own_of own (own.pictures + total pictures_in es) (own.slices + total slices_in es) (own.shapes ++ shapes_over z c es z' c' u)
+      → own_over z c es z' c' u own ≡ own_of own (own.pictures + total unit_pictures es) (own.slices + total unit_slices es) (own.shapes ++ shapes_over z c es z' c' u)
   own_is [] z c z' c' u own =
       let p : own.pictures ≡ own.pictures + 0 = omega arith in
       let s : own.slices ≡ own.slices + 0 = omega arith in
@@ -123,12 +123,12 @@ module _ (schedule : Schedule) where
       let bytes = bytes_between c u.0 in
       let here = shape_of z e.unit bytes in
       let others = shapes_over (after z e.unit bytes) u.0 es z' c' u.3 in
-      let p : own.pictures + pictures_in e.unit + total pictures_in es ≡ own.pictures + (pictures_in e.unit + total pictures_in es) = omega arith in
-      let s : own.slices + slices_in e.unit + total slices_in es ≡ own.slices + (slices_in e.unit + total slices_in es) = omega arith in
+      let p : own.pictures + unit_pictures e.unit + total unit_pictures es ≡ own.pictures + (unit_pictures e.unit + total unit_pictures es) = omega arith in
+      let s : own.slices + unit_slices e.unit + total unit_slices es ≡ own.slices + (unit_slices e.unit + total unit_slices es) = omega arith in
       own_is es (after z e.unit bytes) u.0 z' c' u.3 (more z own e.unit bytes)
-      ∙ ap (λ (n : ℕ). own_of own n (own.slices + slices_in e.unit + total slices_in es) ((own.shapes ++ here ∷ []) ++ others)) p
-      ∙ ap (λ (n : ℕ). own_of own (own.pictures + (pictures_in e.unit + total pictures_in es)) n ((own.shapes ++ here ∷ []) ++ others)) s
-      ∙ ap (λ (l : List UnitShape). own_of own (own.pictures + (pictures_in e.unit + total pictures_in es)) (own.slices + (slices_in e.unit + total slices_in es)) l) (append_assoc own.shapes (here ∷ []) others)
+      ∙ ap (λ (n : ℕ). own_of own n (own.slices + unit_slices e.unit + total unit_slices es) ((own.shapes ++ here ∷ []) ++ others)) p
+      ∙ ap (λ (n : ℕ). own_of own (own.pictures + (unit_pictures e.unit + total unit_pictures es)) n ((own.shapes ++ here ∷ []) ++ others)) s
+      ∙ ap (λ (l : List UnitShape). own_of own (own.pictures + (unit_pictures e.unit + total unit_pictures es)) (own.slices + (unit_slices e.unit + total unit_slices es)) l) (append_assoc own.shapes (here ∷ []) others)
 
   record Walked (z : Past) (own : Replayed) (v : List ℕ) (z' : Past) (c' : Cursor) (own' : Replayed) : Type 0 where
     tail : List ℕ
@@ -176,7 +176,7 @@ module _ (schedule : Schedule) where
   -- ---- a stream
 
   abbrev closing : ℕ → ℕ → ℕ → Outcome → Answer Ending
-  closing pictures slices size outcome = let close = replayed pictures slices size outcome in record { ending = close.ending; text = []; last = close.last }
+  closing pictures slices size outcome = let close = replayed_close pictures slices size outcome in record { ending = close.ending; text = []; last = close.last }
 
   outcome_is : (units : List UnitShape) (size : ℕ) (outcome : Outcome) → ComesTo schedule units size outcome → outcome_of schedule units size ≡ outcome
   outcome_is units size outcome is =
@@ -208,15 +208,15 @@ module _ (schedule : Schedule) where
       (let none = rest_none s.behind.rest (ends_empty last.unit s.behind s.last_one) in
       let end : length s.behind.rest ≡ length (bits_of (drop i.size t)) = ap (λ (k : Cursor). length k.rest) i.at in
       omega (arith, none, end, length-bits (drop i.size t), length-drop i.size t, i.inside, w.total_is, ap (λ (l : List ℕ). length l) last_bytes, length-take i.size t)) in
-      let pictures : 0 + total pictures_in es ≡ total pictures_in es = omega arith in
-      let slices : 0 + total slices_in es ≡ total slices_in es = omega arith in
+      let pictures : 0 + total unit_pictures es ≡ total unit_pictures es = omega arith in
+      let slices : 0 + total unit_slices es ≡ total unit_slices es = omega arith in
       let shapes = shapes_of bytes es last is in
       ap (reply_of []) (answer ∙ ap (ended own) last_bytes
       ∙ ap (λ (o : Replayed). ended o (bytes_between s.mid s.behind)) (own_is es nothing_yet (cursor_at bytes 0) s.left s.mid s.units start)
-      ∙ ap (λ (n : ℕ). closing (0 + total pictures_in es) (0 + total slices_in es) n (outcome_of schedule shapes n)) all
-      ∙ ap (λ (n : ℕ). closing n (0 + total slices_in es) (length bytes) (outcome_of schedule shapes (length bytes))) pictures
-      ∙ ap (λ (n : ℕ). closing (total pictures_in es) n (length bytes) (outcome_of schedule shapes (length bytes))) slices
-      ∙ ap (closing (total pictures_in es) (total slices_in es) (length bytes)) (outcome_is shapes (length bytes) outcome comes))
+      ∙ ap (λ (n : ℕ). closing (0 + total unit_pictures es) (0 + total unit_slices es) n (outcome_of schedule shapes n)) all
+      ∙ ap (λ (n : ℕ). closing n (0 + total unit_slices es) (length bytes) (outcome_of schedule shapes (length bytes))) pictures
+      ∙ ap (λ (n : ℕ). closing (total unit_pictures es) n (length bytes) (outcome_of schedule shapes (length bytes))) slices
+      ∙ ap (closing (total unit_pictures es) (total unit_slices es) (length bytes)) (outcome_is shapes (length bytes) outcome comes))
 
   -- ---- a refusal: where `check` refuses, so it does with a schedule
 
@@ -227,12 +227,12 @@ module _ (schedule : Schedule) where
       → (answer_from check_machine (record { past = z; own = counts }) v).ending ≡ Refused refusal → answer_from (replay_machine schedule) (at z own) v ≡ refused refusal
   refuses zero z counts own v refusal few h = absurd (omega (arith, few))
   refuses (suc turns) z counts own v refusal few h =
-      by (λ size unit bytes is h. refuses turns (after z unit bytes) (counted counts unit) (more z own unit bytes) (drop size v) refusal
+      by (λ size unit bytes is h. refuses turns (after z unit bytes) (counts_with counts unit) (more z own unit bytes) (drop size v) refusal
       (let fronts = within_laws limit past_limit units units_laws in omega (arith, few, length-drop size v, fronts.some z v size unit is, fronts.inside z v size unit is)) h)
       (front_within limit past_limit units z v) refl (sym (ap (λ (a : Answer Ending). a.ending) (answer_step check_machine check_laws (record { past = z; own = counts }) v)) ∙ h)
     where
       by : ((size : ℕ) (unit : DataUnit) (bytes : List ℕ) → front_within limit past_limit units z v ≡ Stands size unit
-          → (answer_from check_machine (record { past = after z unit bytes; own = counted counts unit }) (drop size v)).ending ≡ Refused refusal
+          → (answer_from check_machine (record { past = after z unit bytes; own = counts_with counts unit }) (drop size v)).ending ≡ Refused refusal
           → answer_from (replay_machine schedule) (at (after z unit bytes) (more z own unit bytes)) (drop size v) ≡ refused refusal)
           → (front : Front Reason DataUnit) → front_within limit past_limit units z v ≡ front
           → (after_step (step_by units checking z counts v front) (λ size left. answer_from check_machine left (drop size v))).ending ≡ Refused refusal

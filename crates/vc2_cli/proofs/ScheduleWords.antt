@@ -14,13 +14,13 @@ use Rattle.channel_schedule.specs.declared.schedule.Schedule.{Schedule}
 use Rattle.vc2_words.specs.declared.keys.Key.TheVariants as of_key
 use Rattle.vc2_words.specs.declared.keys.Name.TheVariants as names
 use Rattle.vc2_words.specs.declared.keys.WordFault.{WordFault}
-use Rattle.vc2_words.specs.Forms.{digits_from, number_in, in_range, single, cut_at, both_parts, value_in}
+use Rattle.vc2_words.specs.Forms.{digits_from, number_of_digits, in_range, single, cut_at, both_parts, value_in}
 use Rattle.field_rows.specs.Rows.{and_then}
 use Rattle.vc2_words.specs.Operands.{Table, nothing, with_value, cut_operand, operand, operands_from, missing, unless}
 use Rattle.vc2_words.specs.Commands.{AskedCommand, check, command_of}
 use Rattle.vc2_cli.specs.Words.{checked, words_ask}
 use Rattle.vc2_cli.specs.Texts.{schedule_line}
-use Rattle.vc2_cli.specs.ScheduleWords.{rate_word, delay_word, buffer_word, idle_word, idle_words, operands_of, words_of, spaced, HasWords, LineIsRead}
+use Rattle.vc2_cli.specs.ScheduleWords.{rate_word, delay_word, buffer_word, idle_word, idle_words, operands_of, words_of, spaced_words, HasWords, LineIsRead}
 
 -- ---- a number's digits
 
@@ -91,7 +91,7 @@ or_true true = refl
 or_true false = refl
 
 -- a number of at most 22 digits is read as it is written
-number_read : (n : ℕ) → n < 10 ^ 22 → number_in (decimal n) ≡ Some n
+number_read : (n : ℕ) → n < 10 ^ 22 → number_of_digits (decimal n) ≡ Some n
 number_read n small =
     let s = spelled 22 n small (omega arith) (omega (arith, small)) in
     let short = length-decimal-le_wide 22 n (omega arith) small (omega (arith, small)) in
@@ -124,16 +124,16 @@ rate_read : (num den : ℕ) → 1 ≤ num → num < 2 ^ 32 → 1 ≤ den → den
 rate_read num den a b c d =
     let s = spelled 22 num (omega (arith, b)) (omega arith) (omega (arith, b)) in
     ap (both_parts 1) (cut_there 47 (decimal num) (decimal den) (λ k lt. ne_eqb _ 47 (λ e. omega (arith, e, (s.digits k lt).0))))
-    ∙ rw (ranged 1 (2 ^ 32 - 1) num (number_in (decimal num)) (number_read num (omega (arith, b))) a (omega (arith, b)), ranged 1 (2 ^ 32 - 1) den (number_in (decimal den)) (number_read den (omega (arith, d))) c (omega (arith, d))) refl
+    ∙ rw (ranged 1 (2 ^ 32 - 1) num (number_of_digits (decimal num)) (number_read num (omega (arith, b))) a (omega (arith, b)), ranged 1 (2 ^ 32 - 1) den (number_of_digits (decimal den)) (number_read den (omega (arith, d))) c (omega (arith, d))) refl
 
 delay_read : (n : ℕ) → n ≤ 2 ^ 72 → value_in of_key.Delay (decimal n) ≡ Some (n ∷ [])
-delay_read n most = ap single (ranged 0 (2 ^ 72) n (number_in (decimal n)) (number_read n (omega (arith, most))) (omega arith) most)
+delay_read n most = ap single (ranged 0 (2 ^ 72) n (number_of_digits (decimal n)) (number_read n (omega (arith, most))) (omega arith) most)
 
 buffer_read : (n : ℕ) → n ≤ 2 ^ 40 → value_in of_key.Buffer (decimal n) ≡ Some (n ∷ [])
-buffer_read n most = ap single (ranged 0 (2 ^ 40) n (number_in (decimal n)) (number_read n (omega (arith, most))) (omega arith) most)
+buffer_read n most = ap single (ranged 0 (2 ^ 40) n (number_of_digits (decimal n)) (number_read n (omega (arith, most))) (omega arith) most)
 
 idle_read : (n : ℕ) → n ≤ 2 ^ 20 → value_in of_key.Idle (decimal n) ≡ Some (n ∷ [])
-idle_read n most = ap single (ranged 0 (2 ^ 20) n (number_in (decimal n)) (number_read n (omega (arith, most))) (omega arith) most)
+idle_read n most = ap single (ranged 0 (2 ^ 20) n (number_of_digits (decimal n)) (number_read n (omega (arith, most))) (omega arith) most)
 
 -- ---- the words
 
@@ -216,14 +216,14 @@ module _ (s : Schedule) (h : HasWords s) where
       by false t = ap (λ (r : Result Table WordFault). asked_with (and_then r (λ next. operands_from names.Check 5 next []))) idle_given
 
   -- the last words, and the line's end
-  last_words : (none : Bool) → spaced (buffer_word s ∷ cond none [] (idle_word s ∷ [])) ++ 10 ∷ [] ≡ codes "buffer=" ++ (decimal s.size ++ (cond none [] (codes " " ++ idle_word s) ++ 10 ∷ []))
+  last_words : (none : Bool) → spaced_words (buffer_word s ∷ cond none [] (idle_word s ∷ [])) ++ 10 ∷ [] ≡ codes "buffer=" ++ (decimal s.size ++ (cond none [] (codes " " ++ idle_word s) ++ 10 ∷ []))
   last_words true = refl
   last_words false = ap (λ (l : List ℕ). codes "buffer=" ++ l) (append_assoc (decimal s.size) (codes " " ++ idle_word s) (10 ∷ []))
 
-  line : schedule_line s ≡ spaced (operands_of s) ++ 10 ∷ []
+  line : schedule_line s ≡ spaced_words (operands_of s) ++ 10 ∷ []
   unfolding schedule_line
   line =
-      let tail = spaced (buffer_word s ∷ idle_words s) in
+      let tail = spaced_words (buffer_word s ∷ idle_words s) in
       let nl : List ℕ = 10 ∷ [] in
       let rest = codes " " ++ (delay_word s ++ (codes " " ++ tail)) in
       sym (

@@ -6,7 +6,7 @@ use Rattle.vc2_io.specs.Outside.{Rose, GrewShort}
 use Rattle.vc2_io.specs.Memory.{MemSinkSeen}
 use Rattle.vc2_io.proofs.Short.{IsProperPrefix-shorter}
 use Rattle.stream_writer.specs.EncodedStream.{Settings, header_unit, end_unit}
-use Rattle.stream_writer.specs.Writer.{StreamWriterSeen, next_previous, due_units, HasRoom, WritesPicture, WritesEnd, WriteCause, Starts, IsSteepUnder}
+use Rattle.stream_writer.specs.Writer.{StreamWriterSeen, next_previous, due_units, HasRoom, WritesPicture, WritesEnd, WriteCause, Starts, IsSteepOkUnder}
 use Rattle.stream_writer.specs.declared.write_stop.WriteStop.{WriteStop}
 use Rattle.stream_writer.specs.declared.write_stop.WriteStop.TheVariants as stops
 use Rattle.vc2_cli.specs.TrialTurn.{FailsWhenFull, told_of_sink, IsWant}
@@ -35,12 +35,12 @@ never_short s s' text full full' g fits rose =
 
 -- ---- what a writer stops for
 
-pub start_stop : (settings : Settings) (s s' : MemSinkSeen) (stop : WriteStop) → IsSteepUnder settings → FailsWhenFull s → FailsWhenFull s' → Starts settings (told_of_sink s) (told_of_sink s') (Err stop) → WriteCause {X = StreamWriterSeen} s.failures s'.failures (Err stop)
+pub start_stop : (settings : Settings) (s s' : MemSinkSeen) (stop : WriteStop) → IsSteepOkUnder settings → FailsWhenFull s → FailsWhenFull s' → Starts settings (told_of_sink s) (told_of_sink s') (Err stop) → WriteCause {X = StreamWriterSeen} s.failures s'.failures (Err stop)
     → length s.bytes + length (header_unit settings.parts) ≤ s.room → IsWant stop
-start_stop settings s s' stops.OutFault flat full full' starts why fits = absurd (never_short s s' (header_unit settings.parts) full full' starts.1 fits why.1)
-start_stop settings s s' stops.MatrixTooSteep flat full full' starts why fits = absurd (starts.0 flat)
-start_stop settings s s' stops.StreamTooLong flat full full' starts why fits = absurd starts
-start_stop settings s s' stops.NoMemory flat full full' starts why fits = tt
+start_stop settings s s' stops.OutFault steep full full' starts why fits = absurd (never_short s s' (header_unit settings.parts) full full' starts.1 fits why.1)
+start_stop settings s s' stops.MatrixTooSteep steep full full' starts why fits = absurd (starts.0 steep)
+start_stop settings s s' stops.StreamTooLong steep full full' starts why fits = absurd starts
+start_stop settings s s' stops.NoMemory steep full full' starts why fits = tt
 
 pub picture_stop : (w w' : StreamWriterSeen) (slices : List (List ℕ)) (s s' : MemSinkSeen) (stop : WriteStop) → HasRoom w → FailsWhenFull s → FailsWhenFull s' → WritesPicture w w' slices (told_of_sink s) (told_of_sink s') (Err stop) → WriteCause {X = Unit {0}} s.failures s'.failures (Err stop)
     → length s.bytes + length (due_units w slices) ≤ s.room → IsWant stop

@@ -20,7 +20,7 @@ use Rattle.stream_rows.specs.declared.reason.Reason.{Reason}
 use Rattle.stream_rows.specs.Units.{Past, nothing_yet, DataUnit, Sequence, after}
 use Rattle.stream_rows.specs.Streams.{limit, frame_under}
 use Rattle.stream_writer.specs.EncodedStream.{begins_at, header_length, header_unit, number_after, units_behind, AreLawful, IsSliced}
-use Rattle.stream_writer.specs.Writer.{bytes_before, IsSteepUnder}
+use Rattle.stream_writer.specs.Writer.{head_bytes_before, IsSteepOkUnder}
 use Rattle.stream_writer.proofs.EncodedUnits.{length-header_unit}
 use Rattle.stream_writer.proofs.EncodedStreams.{Going, header_small, going_start}
 use Rattle.stream_rows.proofs.Answering.{machine}
@@ -91,7 +91,7 @@ module _ (s : Asked) (seed : ℕ) (f : AreLawful (written_under s)) (start : Com
       let here : Between Past Comparison = record { past = z; own = own_at n (suc count) most } in
       let past = (behind_due command quiet (written_under s) f begins here previous number coded).past in
       let next : suc n ≡ n + 1 = omega arith in
-      let place : past.place ≡ stream_place s (n + 1) = due_place command quiet (written_under s) f coded all.0 number n fits begins here previous ∙ ap (λ (k : ℕ). k + bytes_before s.parts begins + unit_length s.params) at ∙ sym (place_next s n) ∙ ap (stream_place s) next in
+      let place : past.place ≡ stream_place s (n + 1) = due_place command quiet (written_under s) f coded all.0 number n fits begins here previous ∙ ap (λ (k : ℕ). k + head_bytes_before s.parts begins + unit_length s.params) at ∙ sym (place_next s n) ∙ ap (stream_place s) next in
       front_due command quiet (written_under s) f coded all.0 number n fits begins here previous rest refl short g (omega (arith, at, whole, within))
       ∙ ap (λ (own : Comparison). answer_from (machine command) (record { past = past; own = own }) rest) (compared_due begins n count most previous number z)
       ∙ walked count (n + 1) m (max most (worst p (decoded p))) (unit_length s.params) (number_after number) past few (omega arith)
@@ -111,11 +111,11 @@ from_none : (a : ℕ) → max 0 a ≡ a
 from_none a = grind arith
 
 -- what the comparison over the whole stream ends with
-pub compared_whole : (s : Asked) (part : TrialPart) (t : IsTrial s part) → IsSteepUnder (written_under s) → (answer_to (machine (comparing (nothing_compared s part))) (stream_of s (trial_pictures s part))).ending ≡ Compared (trial_worst s part)
-compared_whole s part t flat =
+pub compared_whole : (s : Asked) (part : TrialPart) (t : IsTrial s part) → IsSteepOkUnder (written_under s) → (answer_to (machine (comparing (nothing_compared s part))) (stream_of s (trial_pictures s part))).ending ≡ Compared (trial_worst s part)
+compared_whole s part t steep =
     let start = nothing_compared s part in
     let pictures = trial_pictures s part in
-    let settings = trial_settings s t.settings flat in
+    let settings = trial_settings s t.settings steep in
     let may = trial_may s part t in
     let unit = header_unit s.parts in
     let rest = units_behind (written_under s) 0 (header_length s.parts) s.first (map (slices_of (frame_under s.parts) s.params) pictures) in
@@ -145,7 +145,7 @@ pub begins_as : (s : Asked) (part : TrialPart) (video : TrialVideoSeen) (shape :
 begins_as s part video shape new frame =
     ap (λ (v : TrialVideoSeen). comparison_of v part.pictures 0) new ∙ ap (λ (f : Frame). record { frame = f; seed = part.seed; pictures = 0; left = part.pictures; worst = 0 }) frame
 
-pub compared_here : (s : Asked) (part : TrialPart) (t : IsTrial s part) → IsSteepUnder (written_under s) → (start : Comparison) (stream : List ℕ) → start ≡ nothing_compared s part → stream ≡ stream_of s (trial_pictures s part)
+pub compared_here : (s : Asked) (part : TrialPart) (t : IsTrial s part) → IsSteepOkUnder (written_under s) → (start : Comparison) (stream : List ℕ) → start ≡ nothing_compared s part → stream ≡ stream_of s (trial_pictures s part)
     → (answer_to (machine (comparing start)) stream).ending ≡ Compared (trial_worst s part)
-compared_here s part t flat start stream start_is stream_is =
-    ap (λ (x : Comparison). (answer_to (machine (comparing x)) stream).ending) start_is ∙ ap (λ (l : List ℕ). (answer_to (machine (comparing (nothing_compared s part))) l).ending) stream_is ∙ compared_whole s part t flat
+compared_here s part t steep start stream start_is stream_is =
+    ap (λ (x : Comparison). (answer_to (machine (comparing x)) stream).ending) start_is ∙ ap (λ (l : List ℕ). (answer_to (machine (comparing (nothing_compared s part))) l).ending) stream_is ∙ compared_whole s part t steep

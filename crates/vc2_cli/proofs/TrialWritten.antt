@@ -21,13 +21,13 @@ use Rattle.trial_video.proofs.Fits.{pictures_fit}
 use Rattle.channel_schedule.specs.Plans.{plan_of}
 use Rattle.stream_rows.specs.Streams.{limit, frame_under}
 use Rattle.stream_writer.specs.EncodedStream.{begins_at, header_length, header_unit, end_unit, number_after, units_with, units_behind, IsGroup}
-use Rattle.stream_writer.specs.Writer.{StreamWriterSeen, total_length, next_place, next_previous, plain_shape, started, HasRoom, WritesPicture, WritesEnd, IsSteepUnder}
+use Rattle.stream_writer.specs.Writer.{StreamWriterSeen, total_length, next_place, next_previous, plain_shape, writer_begun, HasRoom, WritesPicture, WritesEnd, IsSteepOkUnder}
 use Rattle.stream_writer.proofs.WrittenShapes.{plain_length}
 use Rattle.stream_rows.proofs.Frames.{frame_is}
 use Rattle.vc2_words.specs.declared.words.TrialPart.{TrialPart}
 use Rattle.vc2_words.specs.Settings.{Asked, asked_length}
 use Rattle.vc2_words.specs.Lawful as words
-use Rattle.vc2_words.specs.Lawful.{AreLawful, IsTrial}
+use Rattle.vc2_words.specs.Lawful.{AreLawfulWords, IsTrial}
 use Rattle.vc2_cli.specs.Encode.{written_under, stream_place, previous_at, number_of_next, shapes_at, ended_plan}
 use Rattle.vc2_cli.specs.EncodeReply.{AreSettings, MayBeWritten}
 use Rattle.vc2_cli.specs.WholePictures.{stream_of, plan_for}
@@ -46,14 +46,14 @@ group_of : (coding : ℕ) (group : Option ℕ) → words.IsAskedGroup coding gro
 group_of coding None g = tt
 group_of coding (Some n) g = (g.0, g.2)
 
-pub trial_settings : (s : Asked) → AreLawful s → IsSteepUnder (written_under s) → AreSettings s
-trial_settings s l flat = record {
+pub trial_settings : (s : Asked) → AreLawfulWords s → IsSteepOkUnder (written_under s) → AreSettings s
+trial_settings s l steep = record {
   lawful = record { header = l.header; params = l.params; first = l.first; even = l.even; group = group_of s.parts.coding s.group l.group };
   rate = l.rate;
   bytes = l.bytes;
   slots = l.slots;
   idle = l.idle;
-  flat = flat;
+  steep = steep;
 }
 
 pub trial_count : (s : Asked) (part : TrialPart) → length (trial_pictures s part) ≡ part.pictures
@@ -92,8 +92,8 @@ module _ (s : Asked) (part : TrialPart) (t : IsTrial s part) where
       }
 
   -- the stream's length
-  pub trial_length : IsSteepUnder (written_under s) → length (stream_of s (trial_pictures s part)) ≡ asked_length s.parts s.params s.group part.pictures
-  trial_length flat = length_is s (trial_pictures s part) (trial_settings s t.settings flat) trial_may ∙ ap (λ (k : ℕ). stream_place s k + 13) (trial_count s part) ∙ length_behind s part.pictures
+  pub trial_length : IsSteepOkUnder (written_under s) → length (stream_of s (trial_pictures s part)) ≡ asked_length s.parts s.params s.group part.pictures
+  trial_length steep = length_is s (trial_pictures s part) (trial_settings s t.settings steep) trial_may ∙ ap (λ (k : ℕ). stream_place s k + 13) (trial_count s part) ∙ length_behind s part.pictures
 
 -- ---- the units from a picture on
 
@@ -108,9 +108,9 @@ units_are s n previous (p ∷ pictures) is =
     (rest ∙ ap (λ (k : ℕ). units_behind (written_under s) (suc n) (unit_length s.params) k (map (slices_of (frame_under s.parts) s.params) pictures)) (sym (number_next s n))
     ∙ ap (λ (k : ℕ). units_behind (written_under s) k (unit_length s.params) (number_after (number_of_next s n)) (map (slices_of (frame_under s.parts) s.params) pictures)) next)
 
-pub begins : (s : Asked) (part : TrialPart) (t : IsTrial s part) (flat : IsSteepUnder (written_under s)) (video : TrialVideoSeen) (w : StreamWriterSeen) (sink sink' : MemSinkSeen) → frame_of video.shape ≡ frame_under s.parts → video.seed ≡ part.seed → video.pictures ≡ 0
-    → w ≡ started (written_under s) → sink.bytes ≡ [] → sink.room ≡ asked_length s.parts s.params s.group part.pictures → Appends (told_of_sink sink) (told_of_sink sink') (header_unit s.parts) → HasWritten s part 0 video w sink'
-begins s part t flat video w sink sink' frame seed given new empty room grew =
+pub begins : (s : Asked) (part : TrialPart) (t : IsTrial s part) (steep : IsSteepOkUnder (written_under s)) (video : TrialVideoSeen) (w : StreamWriterSeen) (sink sink' : MemSinkSeen) → frame_of video.shape ≡ frame_under s.parts → video.seed ≡ part.seed → video.pictures ≡ 0
+    → w ≡ writer_begun (written_under s) → sink.bytes ≡ [] → sink.room ≡ asked_length s.parts s.params s.group part.pictures → Appends (told_of_sink sink) (told_of_sink sink') (header_unit s.parts) → HasWritten s part 0 video w sink'
+begins s part t steep video w sink sink' frame seed given new empty room grew =
     let grown = grew_rest sink sink' (header_unit s.parts) grew in
     let all : part.pictures - 0 ≡ part.pictures = omega arith in
     let number : number_of_next s 0 ≡ s.first = omega (arith, t.settings.first) in
@@ -120,7 +120,7 @@ begins s part t flat video w sink sink' frame seed given new empty room grew =
       seed = seed;
       given = given;
       stands = new;
-      room = grown.0 ∙ room ∙ sym (trial_length s part t flat);
+      room = grown.0 ∙ room ∙ sym (trial_length s part t steep);
       bytes =
           ap (λ (k : ℕ). sink'.bytes ++ units_from s 0 (pictures_from (frame_under s.parts) part.seed 0 k)) all
           ∙ ap (λ (l : List ℕ). l ++ units_from s 0 (trial_pictures s part)) (grown.1 ∙ ap (λ (l : List ℕ). l ++ header_unit s.parts) empty)

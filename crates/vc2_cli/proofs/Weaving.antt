@@ -13,10 +13,10 @@ use Rattle.sequence_header.specs.Checking.{PassesRules}
 use Rattle.sequence_header.specs.declared.parts.HeaderParts.{HeaderParts}
 use Rattle.stream_rows.specs.Streams.{frame_under}
 use Rattle.stream_rows.proofs.Frames.{frame_is}
-use Rattle.field_weave.specs.Weaving.{doubled}
+use Rattle.field_weave.specs.Weaving.{frame_of_two}
 use Rattle.field_weave.specs.declared.weaver.WeaveStop.{WeaveStop}
 use Rattle.field_weave.specs.declared.weaver.WeaveStop.TheVariants as stops
-use Rattle.field_weave.specs.WeaveRuns.{WeaveEnd, weaving, splitting, told, Weaves}
+use Rattle.field_weave.specs.WeaveRuns.{WeaveEnd, weaving, splitting, weave_result, Weaves}
 use Rattle.field_weave.specs.WeaveRuns as weaver
 use Rattle.raw_video.proofs.PictureTurns.{picture_laws, some_raw}
 use Rattle.vc2_words.specs.declared.settings.FieldVideo.{FieldVideo}
@@ -34,13 +34,13 @@ some_field : (p : HeaderParts) → PassesRules p → 0 < raw_length (frame_under
 some_field p q = subst (λ (f : Frame). 0 < raw_length f) (frame_is p (header_shape p q) (header_has p q)) (some_raw (header_shape p q))
 
 -- the bytes of a frame are those of two fields
-frame_bytes : (f : Frame) → raw_length (doubled f) ≡ 2 * raw_length f
+frame_bytes : (f : Frame) → raw_length (frame_of_two f) ≡ 2 * raw_length f
 frame_bytes f = bytes (sample_size (is_wide f)) f.luma.h f.luma.w f.colour.h f.colour.w
   where
     bytes : (s h w k v : ℕ) → s * (2 * h * w + 2 * (2 * k * v)) ≡ 2 * (s * (h * w + 2 * (k * v)))
     bytes s h w k v = grind arith
 
-some_frame : (f : Frame) → 0 < raw_length f → 0 < raw_length (doubled f)
+some_frame : (f : Frame) → 0 < raw_length f → 0 < raw_length (frame_of_two f)
 some_frame f some = omega (arith, some, frame_bytes f)
 
 abbrev ok_of : Ending → Result Ending Halt
@@ -54,10 +54,10 @@ weave_laws video is =
 pub split_laws : (video : FieldVideo) → IsFieldVideo video → IsMachine (split_command_machine video)
 split_laws video is =
     let f = frame_under video.header in
-    told_laws ending_of (weaver.split_machine (order_of video.top) f) (picture_laws (doubled f) (splitting (order_of video.top) f) (some_frame f (some_field video.header is.header.passes)))
+    told_laws ending_of (weaver.split_machine (order_of video.top) f) (picture_laws (frame_of_two f) (splitting (order_of video.top) f) (some_frame f (some_field video.header is.header.passes)))
 
 module _ {Z : Type 0} (machine : Machine Z WeaveEnd) (rest0 rest1 out0 out1 : Option (List ℕ)) (src0 src1 to0 to1 : ℕ) where
-  causes : (result : Result ℕ WeaveStop) → HaltHasCause {X = WeaveEnd} src0 src1 to0 to1 (told result) → HaltHasCause {X = Ending} src0 src1 to0 to1 (outcome_of result)
+  causes : (result : Result ℕ WeaveStop) → HaltHasCause {X = WeaveEnd} src0 src1 to0 to1 (weave_result result) → HaltHasCause {X = Ending} src0 src1 to0 to1 (outcome_of result)
   causes (Ok frames) why = why
   causes (Err (stops.SampleTooLarge place)) why = why
   causes (Err (stops.RawTruncated place)) why = why
@@ -81,7 +81,7 @@ module _ {Z : Type 0} (machine : Machine Z WeaveEnd) (rest0 rest1 out0 out1 : Op
   pub runs_told : (result : Result ℕ WeaveStop) → Weaves machine rest0 rest1 out0 out1 src0 src1 to0 to1 result
       → Runs (told_as ending_of machine) IsDone (record { was = rest0; is = rest1; faults_were = src0; faults_are = src1 }) (record { was = out0; is = out1; faults_were = to0; faults_are = to1 }) (outcome_of result)
   runs_told result w = record {
-    ran = told_ran ending_of machine rest0 rest1 out0 out1 (told result) w.ran;
+    ran = told_ran ending_of machine rest0 rest1 out0 out1 (weave_result result) w.ran;
     limit = w.limit;
     cause = causes result w.cause;
     end = ended result w;

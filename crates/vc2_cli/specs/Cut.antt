@@ -20,9 +20,9 @@ ending_of rate idle (Whole shapes total) = ending.Done (notes.Encoded (plan_of (
 ending_of rate idle (Refused refusal) = ending.Refused refusal
 
 -- the frames that are asked for
-abbrev pub frames_of : CutSettings → Frames
-frames_of c = record { from = c.from; to = c.to }
+abbrev pub frames_asked : CutSettings → Frames
+frames_asked c = record { from = c.from; to = c.to }
 
 -- cut, with its ending told
 abbrev pub cut_command_machine : CutSettings → Machine (Between Past CutSoFar) Ending
-cut_command_machine c = told_as (ending_of c.rate c.idle) (cutter.cut_machine (frames_of c))
+cut_command_machine c = told_as (ending_of c.rate c.idle) (cutter.cut_machine (frames_asked c))

@@ -13,7 +13,7 @@ use Rattle.stream_rows.specs.Streams.{limit, past_limit, refusal_of, frame_under
 use Rattle.stream_reader.specs.StreamTable.{StreamTableSeen}
 use Rattle.stream_reader.specs.declared.stop.Item.{Item}
 use Rattle.stream_reader.specs.declared.stop.Item.TheVariants as items
-use Rattle.vc2_cli.specs.Endings.{closed, accepted}
+use Rattle.vc2_cli.specs.Endings.{plain_close, accepted_close}
 use Rattle.vc2_cli.specs.declared.status.Ending.{Ending}
 use Rattle.vc2_cli.specs.declared.status.Ending.TheVariants.{Done, Refused}
 use Rattle.vc2_cli.specs.declared.status.Note.TheVariants.{Nothing, Decoded}
@@ -27,12 +27,12 @@ unit_text Skipped = []
 unit_text End = []
 
 -- the pictures of a unit
-abbrev pub pictures_in : DataUnit → ℕ
-pictures_in (Picture parts number params slices) = 1
-pictures_in (Sequence parts) = 0
-pictures_in Repeated = 0
-pictures_in Skipped = 0
-pictures_in End = 0
+abbrev pub unit_pictures : DataUnit → ℕ
+unit_pictures (Picture parts number params slices) = 1
+unit_pictures (Sequence parts) = 0
+unit_pictures Repeated = 0
+unit_pictures Skipped = 0
+unit_pictures End = 0
 
 -- `decode`, which counts the pictures of all sequences: each picture's raw text, and at the end the number of pictures and of
 -- bytes
@@ -40,21 +40,21 @@ abbrev pub decoding : Command Past Reason DataUnit ℕ Ending
 decoding = record {
   opening = [];
   start = 0;
-  next = λ z pictures unit bytes. pictures + pictures_in unit;
+  next = λ z pictures unit bytes. pictures + unit_pictures unit;
   text = λ z pictures unit bytes. unit_text unit;
-  finished = λ z pictures unit bytes. closed (Done (Decoded pictures (z.place + length bytes)));
-  rested = λ z pictures. closed (Done Nothing);
-  refused = λ z pictures fault. closed (Refused (refusal_of fault));
+  finished = λ z pictures unit bytes. plain_close (Done (Decoded pictures (z.place + length bytes)));
+  rested = λ z pictures. plain_close (Done Nothing);
+  refused = λ z pictures fault. plain_close (Refused (refusal_of fault));
   endless = Done Nothing;
 }
 
 -- the slices of a unit
-abbrev pub slices_in : DataUnit → ℕ
-slices_in (Picture parts number params slices) = slice_count params.slicing
-slices_in (Sequence parts) = 0
-slices_in Repeated = 0
-slices_in Skipped = 0
-slices_in End = 0
+abbrev pub unit_slices : DataUnit → ℕ
+unit_slices (Picture parts number params slices) = slice_count params.slicing
+unit_slices (Sequence parts) = 0
+unit_slices Repeated = 0
+unit_slices Skipped = 0
+unit_slices End = 0
 
 -- the pictures and the slices of units
 pub record Counts : Type 0 where
@@ -66,8 +66,8 @@ abbrev pub nothing_counted : Counts
 nothing_counted = record { pictures = 0; slices = 0 }
 
 -- the counts with one unit more
-abbrev pub counted : Counts → DataUnit → Counts
-counted own unit = record { pictures = own.pictures + pictures_in unit; slices = own.slices + slices_in unit }
+abbrev pub counts_with : Counts → DataUnit → Counts
+counts_with own unit = record { pictures = own.pictures + unit_pictures unit; slices = own.slices + unit_slices unit }
 
 -- `check`, which counts the pictures and slices of all sequences: nothing before the end, and there their numbers and that of
 -- bytes
@@ -75,11 +75,11 @@ abbrev pub checking : Command Past Reason DataUnit Counts Ending
 checking = record {
   opening = [];
   start = nothing_counted;
-  next = λ z own unit bytes. counted own unit;
+  next = λ z own unit bytes. counts_with own unit;
   text = λ z own unit bytes. [];
-  finished = λ z own unit bytes. accepted own.pictures own.slices (z.place + length bytes);
-  rested = λ z own. closed (Done Nothing);
-  refused = λ z own fault. closed (Refused (refusal_of fault));
+  finished = λ z own unit bytes. accepted_close own.pictures own.slices (z.place + length bytes);
+  rested = λ z own. plain_close (Done Nothing);
+  refused = λ z own fault. plain_close (Refused (refusal_of fault));
   endless = Done Nothing;
 }
 

@@ -15,7 +15,7 @@ use Rattle.stream_rows.specs.declared.reason.Reason.{Reason}
 use Rattle.stream_rows.specs.declared.reason.Reason.TheVariants.{HalfFrame, StreamTooLong, SampleTooLarge, RawTruncated}
 use Rattle.stream_rows.specs.Streams.{limit, frame_under}
 use Rattle.stream_writer.specs.EncodedStream.{Settings, begins_at, header_length, header_unit, end_unit, units_with}
-use Rattle.stream_writer.specs.Writer.{total_length, last_length, bytes_before, due_shapes, plain_shape}
+use Rattle.stream_writer.specs.Writer.{total_length, last_length, head_bytes_before, due_shapes, plain_shape}
 use Rattle.slice_geometry.specs.declared.unit_list.UnitShape.{UnitShape}
 use Rattle.channel_schedule.specs.declared.schedule.Schedule.{Schedule}
 use Rattle.channel_schedule.specs.Plans.{plan_of}
@@ -61,7 +61,7 @@ units_at s n slices = units_with s.parts s.params (begins_at s.group n) (previou
 
 -- the bytes of the stream behind these units
 abbrev pub place_due : Asked → ℕ → ℕ
-place_due s n = stream_place s n + bytes_before s.parts (begins_at s.group n) + unit_length s.params
+place_due s n = stream_place s n + head_bytes_before s.parts (begins_at s.group n) + unit_length s.params
 
 -- they and the last end fit before the limit
 abbrev pub has_room : Asked → ℕ → Bool

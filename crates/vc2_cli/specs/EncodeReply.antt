@@ -10,7 +10,7 @@ use Rattle.stream_rows.specs.Streams.{limit, frame_under}
 use Rattle.channel_schedule.specs.declared.schedule.Outcome.TheVariants.{Runs}
 use Rattle.channel_schedule.specs.Rates.{IsRate}
 use Rattle.stream_writer.specs.EncodedStream.{AreLawful}
-use Rattle.stream_writer.specs.Writer.{IsSteepUnder}
+use Rattle.stream_writer.specs.Writer.{IsSteepOkUnder}
 use Rattle.vc2_words.specs.Settings.{Asked}
 use Rattle.vc2_words.specs.Commands.{decode, encode}
 use Rattle.vc2_cli.specs.declared.status.Status.TheVariants as status
@@ -28,7 +28,7 @@ pub record AreSettings (s : Asked) : Type 0 where
   pub bytes : s.rate.num < 2 ^ 32
   pub slots : s.rate.den < 2 ^ 32
   pub idle : s.idle ≤ 2 ^ 20
-  pub flat : IsSteepUnder (written_under s)
+  pub steep : IsSteepOkUnder (written_under s)
 
 -- Whole pictures that may be written: whatever their samples are, where pictures are fields of an even number, and within
 -- 2 ^ 40 bytes.

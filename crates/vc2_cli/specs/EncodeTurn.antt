@@ -9,12 +9,12 @@ use Rattle.stream_writer.specs.Writer.{StreamWriterSeen}
 use Rattle.vc2_cli.specs.Encode.{written_under, shapes_at, encoding}
 
 -- the writer behind n pictures
-abbrev pub behind : Asked → ℕ → StreamWriterSeen
-behind s n = record { settings = written_under s; shapes = shapes_at s n; ended = false; stop = None }
+abbrev pub turn_behind : Asked → ℕ → StreamWriterSeen
+turn_behind s n = record { settings = written_under s; shapes = shapes_at s n; ended = false; stop = None }
 
 -- the writer stands behind n pictures
 abbrev pub IsBehind : Asked → ℕ → StreamWriterSeen → Type 0
-IsBehind s n w = w ≡ behind s n
+IsBehind s n w = w ≡ turn_behind s n
 
 -- n pictures are read and written
 pub record WritesPictures (s : Asked) (n : ℕ) (rest0 rest1 out0 out1 : Option (List ℕ)) (r : RawReaderSeen) (w : StreamWriterSeen) : Type 0 where

@@ -20,13 +20,13 @@ MayEndOtherwise (Refused refusal) = is_truncated refusal.reason ≡ true
 MayEndOtherwise other = Unit {0}
 
 -- an ending without a last text
-abbrev pub closed : Ending → Close Ending
-closed ending = record { ending = ending; last = [] }
+abbrev pub plain_close : Ending → Close Ending
+plain_close ending = record { ending = ending; last = [] }
 
 -- that of a stream of so many pictures, slices and bytes which was accepted, with its line
-abbrev pub accepted : ℕ → ℕ → ℕ → Close Ending
-accepted pictures slices bytes = record { ending = Done Nothing; last = accepted_line pictures slices bytes }
+abbrev pub accepted_close : ℕ → ℕ → ℕ → Close Ending
+accepted_close pictures slices bytes = record { ending = Done Nothing; last = accepted_line pictures slices bytes }
 
 -- and with how a schedule came out, with its lines
-abbrev pub replayed : ℕ → ℕ → ℕ → Outcome → Close Ending
-replayed pictures slices bytes outcome = record { ending = Scheduled outcome; last = replayed_lines pictures slices bytes outcome }
+abbrev pub replayed_close : ℕ → ℕ → ℕ → Outcome → Close Ending
+replayed_close pictures slices bytes outcome = record { ending = Scheduled outcome; last = replayed_lines pictures slices bytes outcome }

@@ -12,9 +12,9 @@ use Rattle.stream_rows.specs.Streams.{limit, past_limit, refusal_of, frame_under
 use Rattle.stream_reader.specs.StreamTable.{StreamTableSeen}
 use Rattle.field_weave.specs.declared.Order.{Order}
 use Rattle.field_weave.specs.declared.Order.TheVariants.{Top}
-use Rattle.field_weave.specs.Weaving.{doubled, split}
+use Rattle.field_weave.specs.Weaving.{frame_of_two, split}
 use Rattle.field_weave.specs.WeaveRuns.{field_text}
-use Rattle.vc2_cli.specs.Endings.{closed}
+use Rattle.vc2_cli.specs.Endings.{plain_close}
 use Rattle.vc2_cli.specs.declared.status.Ending.{Ending}
 use Rattle.vc2_cli.specs.declared.status.Ending.TheVariants.{Done, Refused}
 use Rattle.vc2_cli.specs.declared.status.Note.TheVariants.{Nothing, Framed}
@@ -73,9 +73,9 @@ framing order = record {
   start = no_frames order;
   next = λ z own unit bytes. frames_after own unit;
   text = λ z own unit bytes. frames_text own unit;
-  finished = λ z own unit bytes. closed (Done (Framed own.frames (z.place + length bytes)));
-  rested = λ z own. closed (Done Nothing);
-  refused = λ z own fault. closed (Refused (refusal_of fault));
+  finished = λ z own unit bytes. plain_close (Done (Framed own.frames (z.place + length bytes)));
+  rested = λ z own. plain_close (Done Nothing);
+  refused = λ z own fault. plain_close (Refused (refusal_of fault));
   endless = Done Nothing;
 }
 
@@ -98,7 +98,7 @@ first_in order false frame header = None
 -- the frame of fields under this header
 abbrev pub IsFrameFor : HeaderParts → Option PictureSeen → Type 0
 IsFrameFor parts frame = are_fields parts ≡ true
-    → (seen : PictureSeen) × (frame ≡ Some seen) × (frame_of seen.shape ≡ doubled (frame_under parts))
+    → (seen : PictureSeen) × (frame ≡ Some seen) × (frame_of seen.shape ≡ frame_of_two (frame_under parts))
 
 -- behind the units so far: no more frames than bytes; and the sequence's header is the one that was read last, with a frame
 -- for its fields

@@ -17,7 +17,7 @@ use Rattle.vc2_cli.specs.Soon.{StopsSoon, IfUnits}
 
 -- What a run with these words comes to, of the source and the sinks before and after it. The first clauses are of an input
 -- that the source tells, the last ones of every source: of bytes they too speak only where source and sinks tell theirs.
-pub record Ran (words : List (List ℕ)) (src out note : Change) (told : Status) : Type 0 where
+pub record ProgramRan (words : List (List ℕ)) (src out note : Change) (told : Status) : Type 0 where
   -- The status is that of the reply to these words and this input, or something outside failed.
   pub status : IfSome src.was (λ input. IsStatusOf (reply_to words input) told)
   -- Where it is the reply's, both texts were written, and all of them.
@@ -59,7 +59,7 @@ pub record Ran (words : List (List ℕ)) (src out note : Change) (told : Status)
 
 -- The exit status is that of a run with these words; or no memory was found for the words.
 abbrev pub Exits : List (List ℕ) → Change → Change → Change → ℕ → Type 0
-Exits words src out note code = ((told : Status) × Ran words src out note told × (code ≡ exit_code_of told))
+Exits words src out note code = ((told : Status) × ProgramRan words src out note told × (code ≡ exit_code_of told))
     ⊎ ((code ≡ exit_code_of st.NoMemory) × IsUntouched src × IsUntouched out × IsUntouched note)
 
 -- the exit status where the system gives no words

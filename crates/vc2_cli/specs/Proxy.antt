@@ -12,8 +12,8 @@ use Rattle.stream_rows.specs.Streams.{limit, past_limit, refusal_of, frame_under
 use Rattle.stream_reader.specs.StreamTable.{StreamTableSeen}
 use Rattle.proxy_picture.specs.Proxy.{proxy_frame, proxy_picture}
 use Rattle.proxy_picture.specs.Making.{ProxyDecoderSeen}
-use Rattle.vc2_cli.specs.Decode.{pictures_in, KeepsPictures}
-use Rattle.vc2_cli.specs.Endings.{closed}
+use Rattle.vc2_cli.specs.Decode.{unit_pictures, KeepsPictures}
+use Rattle.vc2_cli.specs.Endings.{plain_close}
 use Rattle.vc2_cli.specs.declared.status.Ending.{Ending}
 use Rattle.vc2_cli.specs.declared.status.Ending.TheVariants.{Done, Refused}
 use Rattle.vc2_cli.specs.declared.status.Note.TheVariants.{Nothing, Decoded}
@@ -41,11 +41,11 @@ abbrev pub proxying : ℕ → Command Past Reason DataUnit Proxied Ending
 proxying level = record {
   opening = [];
   start = nothing_proxied level;
-  next = λ z own unit bytes. record { level = own.level; pictures = own.pictures + pictures_in unit };
+  next = λ z own unit bytes. record { level = own.level; pictures = own.pictures + unit_pictures unit };
   text = λ z own unit bytes. proxy_text own.level unit;
-  finished = λ z own unit bytes. closed (Done (Decoded own.pictures (z.place + length bytes)));
-  rested = λ z own. closed (Done Nothing);
-  refused = λ z own fault. closed (Refused (refusal_of fault));
+  finished = λ z own unit bytes. plain_close (Done (Decoded own.pictures (z.place + length bytes)));
+  rested = λ z own. plain_close (Done Nothing);
+  refused = λ z own fault. plain_close (Refused (refusal_of fault));
   endless = Done Nothing;
 }
 

@@ -10,7 +10,7 @@ use Rattle.proxy_picture.specs.Proxy.{proxy_frame, proxy_picture}
 use Rattle.vc2_words.specs.Commands.{decode, proxy}
 use Rattle.vc2_cli.specs.Proxy.{levels_in}
 use Rattle.vc2_cli.specs.Reply.{Reply, command_reply}
-use Rattle.vc2_cli.specs.StreamReplies.{raw_texts, decoded_reply, refused_reply}
+use Rattle.vc2_cli.specs.StreamReplies.{raw_texts_of, decoded_reply, refused_reply}
 
 -- the proxy of each picture unit, in order, with its sizes and depths
 abbrev pub proxies_of : ℕ → List DataUnit → List (Frame × PictureSamples)
@@ -21,7 +21,7 @@ proxies_of level (other ∷ others) = proxies_of level others
 
 -- their raw text
 abbrev pub proxies_text : ℕ → List Entry → List ℕ
-proxies_text level units = raw_texts (proxies_of level (map (λ entry. entry.unit) units))
+proxies_text level units = raw_texts_of (proxies_of level (map (λ entry. entry.unit) units))
 
 -- a stream of these units and the last one: all their proxies, and the note of `decode`
 abbrev pub proxied_reply : ℕ → List ℕ → List Entry → Reply

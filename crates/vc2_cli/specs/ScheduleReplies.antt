@@ -11,7 +11,7 @@ use Rattle.stream_rows.specs.Streams.{bytes_between, Entry, total, Units, IsStre
 use Rattle.stream_reader.specs.Turns.{shape_of}
 use Rattle.vc2_words.specs.Commands.{check}
 use Rattle.vc2_cli.specs.Texts.{replayed_lines}
-use Rattle.vc2_cli.specs.Decode.{pictures_in, slices_in}
+use Rattle.vc2_cli.specs.Decode.{unit_pictures, unit_slices}
 use Rattle.vc2_cli.specs.Scheduled.{shapes_in}
 use Rattle.vc2_cli.specs.Reply.{Reply, fault_of, schedule_status, schedule_note, command_reply}
 use Rattle.vc2_cli.specs.StreamReplies.{refused_reply}
@@ -37,7 +37,7 @@ abbrev pub scheduled_reply : List ℕ → List Entry → Outcome → Reply
 scheduled_reply bytes units outcome = record {
   status = schedule_status (fault_of outcome);
   rest = [];
-  out = replayed_lines (total pictures_in units) (total slices_in units) (length bytes) outcome;
+  out = replayed_lines (total unit_pictures units) (total unit_slices units) (length bytes) outcome;
   note = schedule_note (fault_of outcome);
 }
 

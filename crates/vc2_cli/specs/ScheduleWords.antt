@@ -35,10 +35,10 @@ abbrev pub words_of : Schedule → List (List ℕ)
 words_of s = codes "check" ∷ operands_of s
 
 -- words with a space between them
-abbrev pub spaced : List (List ℕ) → List ℕ
-spaced [] = []
-spaced (word ∷ []) = word
-spaced (word ∷ other ∷ words) = word ++ (codes " " ++ spaced (other ∷ words))
+abbrev pub spaced_words : List (List ℕ) → List ℕ
+spaced_words [] = []
+spaced_words (word ∷ []) = word
+spaced_words (word ∷ other ∷ words) = word ++ (codes " " ++ spaced_words (other ∷ words))
 
 -- numbers that words can have
 pub record HasWords (s : Schedule) : Type 0 where
@@ -50,5 +50,5 @@ pub record HasWords (s : Schedule) : Type 0 where
 
 -- The line is the operands with a space between them, and the words ask for the schedule.
 pub record LineIsRead (s : Schedule) : Type 0 where
-  pub line : schedule_line s ≡ spaced (operands_of s) ++ 10 ∷ []
+  pub line : schedule_line s ≡ spaced_words (operands_of s) ++ 10 ∷ []
   pub asked : words_ask (words_of s) ≡ Ok (check (Some s))

@@ -11,8 +11,8 @@ use Rattle.stream_reader.specs.Turns.{shape_of}
 use Rattle.channel_schedule.specs.declared.schedule.Schedule.{Schedule}
 use Rattle.channel_schedule.specs.declared.schedule.Outcome.{Outcome}
 use Rattle.channel_schedule.specs.Courses.{course_of, count_in, outcome_from}
-use Rattle.vc2_cli.specs.Decode.{pictures_in, slices_in}
-use Rattle.vc2_cli.specs.Endings.{closed, replayed}
+use Rattle.vc2_cli.specs.Decode.{unit_pictures, unit_slices}
+use Rattle.vc2_cli.specs.Endings.{plain_close, replayed_close}
 use Rattle.vc2_cli.specs.declared.status.Ending.{Ending}
 use Rattle.vc2_cli.specs.declared.status.Ending.TheVariants.{Done, Refused}
 use Rattle.vc2_cli.specs.declared.status.Note.TheVariants.{Nothing}
@@ -44,15 +44,15 @@ replaying schedule = record {
   start = nothing_replayed schedule;
   next = λ z own unit bytes. record {
     schedule = own.schedule;
-    pictures = own.pictures + pictures_in unit;
-    slices = own.slices + slices_in unit;
+    pictures = own.pictures + unit_pictures unit;
+    slices = own.slices + unit_slices unit;
     shapes = own.shapes ++ shape_of z unit bytes ∷ [];
   };
   text = λ z own unit bytes. [];
-  finished = λ z own unit bytes. replayed own.pictures own.slices (z.place + length bytes)
+  finished = λ z own unit bytes. replayed_close own.pictures own.slices (z.place + length bytes)
       (outcome_of own.schedule (own.shapes ++ shape_of z unit bytes ∷ []) (z.place + length bytes));
-  rested = λ z own. closed (Done Nothing);
-  refused = λ z own fault. closed (Refused (refusal_of fault));
+  rested = λ z own. plain_close (Done Nothing);
+  refused = λ z own fault. plain_close (Refused (refusal_of fault));
   endless = Done Nothing;
 }
 

@@ -10,7 +10,7 @@ use Rattle.stream_writer.specs.StreamPictures.{pictures_of}
 use Rattle.vc2_words.specs.Commands.{decode, check}
 use Rattle.vc2_cli.specs.declared.status.Status.TheVariants as status
 use Rattle.vc2_cli.specs.Texts.{refusal_line, decoded_line, accepted_line}
-use Rattle.vc2_cli.specs.Decode.{pictures_in, slices_in}
+use Rattle.vc2_cli.specs.Decode.{unit_pictures, unit_slices}
 use Rattle.vc2_cli.specs.Reply.{Reply, command_reply}
 
 -- numbers below 256
@@ -18,12 +18,12 @@ abbrev pub AreBytes : List ℕ → Type 0
 AreBytes bytes = AllByRecursion (λ byte. byte < 256) bytes
 
 -- the raw text of pictures, one after another
-abbrev pub raw_texts : List (Frame × PictureSamples) → List ℕ
-raw_texts pictures = flat_map (λ picture. raw_text picture.0 picture.1) pictures
+abbrev pub raw_texts_of : List (Frame × PictureSamples) → List ℕ
+raw_texts_of pictures = flat_map (λ picture. raw_text picture.0 picture.1) pictures
 
 -- that of the pictures of these units
 abbrev pub pictures_text : List Entry → List ℕ
-pictures_text units = raw_texts (pictures_of (map (λ entry. entry.unit) units))
+pictures_text units = raw_texts_of (pictures_of (map (λ entry. entry.unit) units))
 
 -- a stream of these units and the last one: all their pictures, and how many pictures and bytes there were
 abbrev pub decoded_reply : List ℕ → List Entry → Reply
@@ -31,7 +31,7 @@ decoded_reply bytes units = record {
   status = status.Done;
   rest = [];
   out = pictures_text units;
-  note = decoded_line (total pictures_in units) (length bytes);
+  note = decoded_line (total unit_pictures units) (length bytes);
 }
 
 -- or how many pictures, slices and bytes
@@ -39,7 +39,7 @@ abbrev pub accepted_reply : List ℕ → List Entry → Reply
 accepted_reply bytes units = record {
   status = status.Done;
   rest = [];
-  out = accepted_line (total pictures_in units) (total slices_in units) (length bytes);
+  out = accepted_line (total unit_pictures units) (total unit_slices units) (length bytes);
   note = [];
 }
 

@@ -9,7 +9,7 @@ use Rattle.field_weave.specs.declared.Order.TheVariants.{Top, Bottom}
 use Rattle.field_weave.specs.declared.weaver.WeaveStop.{WeaveStop}
 use Rattle.field_weave.specs.declared.weaver.WeaveStop.TheVariants as stops
 use Rattle.raw_video.specs.PictureRuns.{BehindPictures}
-use Rattle.field_weave.specs.WeaveRuns.{FieldsSoFar, WeaveEnd, told}
+use Rattle.field_weave.specs.WeaveRuns.{FieldsSoFar, WeaveEnd, weave_result}
 use Rattle.field_weave.specs.WeaveRuns as weaver
 use Rattle.vc2_words.specs.declared.settings.FieldVideo.{FieldVideo}
 use Rattle.vc2_cli.specs.declared.status.Ending.{Ending}
@@ -44,4 +44,4 @@ split_command_machine video = told_as ending_of (weaver.split_machine (order_of 
 
 -- what a weaver's result comes to
 abbrev pub outcome_of : Result ℕ WeaveStop → Result Ending Halt
-outcome_of result = result_told ending_of (told result)
+outcome_of result = result_told ending_of (weave_result result)

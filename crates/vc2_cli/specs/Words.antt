@@ -7,11 +7,11 @@ use Rattle.vc2_words.specs.declared.keys.WordFault.TheVariants.{SettingsRefused}
 use Rattle.vc2_words.specs.declared.keys.Rule.TheVariants.{MatrixTooSteep}
 use Rattle.vc2_words.specs.declared.words.Command.{Command}
 use Rattle.vc2_words.specs.Settings.{Asked}
-use Rattle.vc2_words.specs.Commands.{AskedCommand, encode, trial, seen, asked_by}
+use Rattle.vc2_words.specs.Commands.{AskedCommand, encode, trial, command_seen, asked_by}
 
 -- the command that they ask for, or their fault
 abbrev pub seen_words : Result Command WordFault → Result AskedCommand WordFault
-seen_words (Ok command) = Ok (seen command)
+seen_words (Ok command) = Ok (command_seen command)
 seen_words (Err fault) = Err fault
 
 -- ---- the last rule of settings: each entry of the matrix leaves index 127 so coarse that every slice can be written
@@ -21,18 +21,18 @@ abbrev pub greater_depth : Asked → ℕ
 greater_depth s = max (luma_depth s.parts) (colour_depth s.parts)
 
 -- at index 127 each quantiser makes 0 of each coefficient of any picture, so there is an index for each slice
-abbrev pub is_flat : Asked → Bool
-is_flat s =
+abbrev pub is_steep_ok : Asked → Bool
+is_steep_ok s =
     list_all (λ entry. nat_le (entry + 4 * (greater_depth s + 2 + 3 * s.params.slicing.depth)) 127) s.params.matrix.entries
 
 -- a command, if its matrix passes
-abbrev pub unless_steep : Asked → AskedCommand → Result AskedCommand WordFault
-unless_steep s command = if is_flat s then Ok command else Err (SettingsRefused MatrixTooSteep)
+abbrev pub if_steep_ok : Asked → AskedCommand → Result AskedCommand WordFault
+if_steep_ok s command = if is_steep_ok s then Ok command else Err (SettingsRefused MatrixTooSteep)
 
 -- what is asked for, if its matrix passes
 abbrev pub checked : Result AskedCommand WordFault → Result AskedCommand WordFault
-checked (Ok (encode s)) = unless_steep s (encode s)
-checked (Ok (trial s part)) = unless_steep s (trial s part)
+checked (Ok (encode s)) = if_steep_ok s (encode s)
+checked (Ok (trial s part)) = if_steep_ok s (trial s part)
 checked other = other
 
 -- the words' command, or their first fault

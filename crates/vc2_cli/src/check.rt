@@ -4,7 +4,7 @@ ghost use Rattle.std.specs.Prelude.{◌≡◌, refl};
 ghost use Rattle.stream_rows.specs.Units.{nothing_yet};
 ghost use Rattle.run_theory.specs.Ran.{HaltHasCause};
 ghost use Rattle.run_theory.specs.Runs.{change, Runs, Closes};
-ghost use Rattle.vc2_cli.specs.Endings.{IsDone, MayEndOtherwise, accepted};
+ghost use Rattle.vc2_cli.specs.Endings.{IsDone, MayEndOtherwise, accepted_close};
 ghost use Rattle.unit_reader.specs.Soon.{Soon};
 ghost use Rattle.vc2_cli.specs.Decode.{Counts, nothing_counted, checking, check_machine, pictures_told, IsLastCount, KeepsFew};
 
@@ -24,8 +24,8 @@ fn accept<K: Sink>(
     slices: u64,
     bytes: u64,
 ) -> Result<Ending, Halt>
-    ensures wrote { Closes (accepted pictures slices bytes).ending
-        (accepted pictures slices bytes).last (K.written out.old) (K.written out.new) result }
+    ensures wrote { Closes (accepted_close pictures slices bytes).ending
+        (accepted_close pictures slices bytes).last (K.written out.old) (K.written out.new) result }
     ensures cause { HaltHasCause 0 0 (K.faults out.old) (K.faults out.new) result }
 {
     let line = match accepted_text(alloc, pictures, slices, bytes) {

@@ -1,6 +1,6 @@
 // The pictures of a stream beside those of a video.
 ghost use Rattle.std.specs.Prelude.{◌≡◌, ◌≤◌, ◌+◌, ◌^◌, ℕ, true, refl, IfOk};
-ghost use Rattle.stream_writer.specs.Writer.{IsSteepUnder};
+ghost use Rattle.stream_writer.specs.Writer.{IsSteepOkUnder};
 ghost use Rattle.vc2_words.specs.Shown.{shown};
 ghost use Rattle.vc2_words.specs.Lawful.{IsTrial};
 ghost use Rattle.stream_rows.specs.Units.{nothing_yet};
@@ -143,7 +143,7 @@ pub(crate) fn compare_video(
     stream: &[u8],
 ) -> Result<u16, NoMemory>
     requires lawful { IsTrial (shown settings.now) part }
-    requires flat { IsSteepUnder (written_under (shown settings.now)) }
+    requires steep { IsSteepOkUnder (written_under (shown settings.now)) }
     requires stream { stream.now ≡ stream_of (shown settings.now)
         (trial_pictures (shown settings.now) part) }
     ensures { IfOk result (λ worst. worst ≡ trial_worst (shown settings.now) part) }

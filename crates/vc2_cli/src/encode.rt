@@ -4,9 +4,9 @@ ghost use Rattle.slice_geometry.specs.Slicing.{slice_count};
 ghost use Rattle.sequence_header.specs.Coding.{IsShapeOf};
 ghost use Rattle.channel_schedule.specs.Rates.{IsRate};
 ghost use Rattle.vc2_words.specs.Shown.{shown};
-ghost use Rattle.vc2_words.specs.Lawful.{AreLawful};
+ghost use Rattle.vc2_words.specs.Lawful.{AreLawfulWords};
 ghost use Rattle.run_theory.specs.Ran.{HaltHasCause};
-ghost use Rattle.stream_writer.specs.Writer.{next_place, next_previous, IsSteepUnder};
+ghost use Rattle.stream_writer.specs.Writer.{next_place, next_previous, IsSteepOkUnder};
 ghost use Rattle.run_theory.specs.Runs.{change, Runs, Closes};
 ghost use Rattle.vc2_cli.specs.Endings.{IsDone};
 ghost use Rattle.vc2_cli.specs.Encode.{written_under, raw_size, encode_machine, refused_at, is_half, ended_plan, ended_at, last_text, told_of_fault, told_of_stop};
@@ -151,8 +151,8 @@ pub(crate) fn encode<S: Source, K: Sink>(
     src: &mut S,
     out: &mut K,
 ) -> Result<Ending, Halt>
-    requires lawful { AreLawful (shown settings.now) }
-    requires flat { IsSteepUnder (written_under (shown settings.now)) }
+    requires lawful { AreLawfulWords (shown settings.now) }
+    requires steep { IsSteepOkUnder (written_under (shown settings.now)) }
     ensures { Runs (encode_machine (shown settings.now)) IsDone
         (change S.rest S.faults src.old src.new)
         (change K.written K.faults out.old out.new) result }

@@ -8,7 +8,7 @@ ghost use Rattle.slice_geometry.specs.Frames.{frame_of};
 ghost use Rattle.sequence_header.specs.declared.parts.HeaderParts.{HeaderParts};
 ghost use Rattle.picture_codec.specs.Samples.{PictureSeen, PictureSamples};
 ghost use Rattle.stream_rows.specs.Units.{nothing_yet};
-ghost use Rattle.field_weave.specs.Weaving.{doubled, split};
+ghost use Rattle.field_weave.specs.Weaving.{frame_of_two, split};
 ghost use Rattle.run_theory.specs.Runs.{change, Runs, WritesText};
 ghost use Rattle.vc2_cli.specs.Endings.{IsDone, MayEndOtherwise};
 ghost use Rattle.unit_reader.specs.Soon.{Soon};

@@ -5,7 +5,7 @@ ghost use Rattle.stream_rows.specs.Units.{nothing_yet};
 ghost use Rattle.run_theory.specs.Ran.{HaltHasCause};
 ghost use Rattle.channel_schedule.specs.Rates.{IsSchedule};
 ghost use Rattle.run_theory.specs.Runs.{change, Runs, Closes};
-ghost use Rattle.vc2_cli.specs.Endings.{IsDone, MayEndOtherwise, replayed};
+ghost use Rattle.vc2_cli.specs.Endings.{IsDone, MayEndOtherwise, replayed_close};
 ghost use Rattle.unit_reader.specs.Soon.{Soon};
 ghost use Rattle.vc2_cli.specs.Decode.{KeepsFew};
 ghost use Rattle.vc2_cli.specs.Scheduled.{Replayed, nothing_replayed, replaying_any, replay_machine};
@@ -29,8 +29,8 @@ fn accept<K: Sink>(
     bytes: u64,
     outcome: Outcome,
 ) -> Result<Ending, Halt>
-    ensures wrote { Closes (replayed pictures slices bytes outcome).ending
-        (replayed pictures slices bytes outcome).last (K.written out.old)
+    ensures wrote { Closes (replayed_close pictures slices bytes outcome).ending
+        (replayed_close pictures slices bytes outcome).last (K.written out.old)
         (K.written out.new) result }
     ensures cause { HaltHasCause 0 0 (K.faults out.old) (K.faults out.new) result }
 {

@@ -5,18 +5,18 @@ ghost use Rattle.run_theory.specs.Ran.{TakesAtMost};
 ghost use Rattle.channel_schedule.specs.declared.schedule.Schedule.{Schedule};
 ghost use Rattle.channel_schedule.specs.Rates.{IsSchedule};
 ghost use Rattle.vc2_words.specs.Commands as asked;
-ghost use Rattle.vc2_words.specs.Commands.{seen};
+ghost use Rattle.vc2_words.specs.Commands.{command_seen};
 ghost use Rattle.vc2_words.specs.Settings.{Asked};
 ghost use Rattle.vc2_words.specs.declared.words.TrialPart.{TrialPart};
 ghost use Rattle.vc2_words.specs.declared.settings.CutSettings.{CutSettings};
 ghost use Rattle.vc2_words.specs.declared.settings.FieldVideo.{FieldVideo};
-ghost use Rattle.vc2_words.specs.Lawful.{AreLawful, IsTrial, IsFieldVideo, IsCutSettings};
-ghost use Rattle.stream_writer.specs.Writer.{IsSteepUnder};
+ghost use Rattle.vc2_words.specs.Lawful.{AreLawfulWords, IsTrial, IsFieldVideo, IsCutSettings};
+ghost use Rattle.stream_writer.specs.Writer.{IsSteepOkUnder};
 ghost use Rattle.vc2_cli.specs.Encode.{written_under};
 ghost use Rattle.vc2_cli.specs.Words.{seen_words};
 ghost use Rattle.vc2_cli.specs.Trial.{trial_text};
 ghost use Rattle.run_theory.specs.Runs.{change};
-ghost use Rattle.vc2_cli.specs.Program.{Ran};
+ghost use Rattle.vc2_cli.specs.Program.{ProgramRan};
 ghost use Rattle.vc2_cli.specs.Reply.{command_reply, command_due, status_of, note_line, note_of, fault_of, schedule_status, schedule_note, HasCauses, AnswersUsage, AnswersTrial, IfTrial, IfHeader};
 ghost use Rattle.vc2_cli.specs.Soon.{StopsSoon, IfUnits};
 ghost use Rattle.vc2_cli.specs.RunsAs.{Does};
@@ -160,17 +160,19 @@ fn perform<S: Source, K: Sink>(
     src: &mut S,
     out: &mut K,
 ) -> Result<Ending, Halt>
-    requires schedule { (schedule : Schedule) → seen command ≡ asked.check (Some schedule)
+    requires schedule { (schedule : Schedule) → command_seen command ≡ asked.check (Some schedule)
         → IsSchedule schedule }
-    requires settings { (s : Asked) → seen command ≡ asked.encode s → AreLawful s
-        × IsSteepUnder (written_under s) }
-    requires trial { (s : Asked) (part : TrialPart) → seen command ≡ asked.trial s part
-        → IsTrial s part × IsSteepUnder (written_under s) }
-    requires weave { (video : FieldVideo) → seen command ≡ asked.weave video → IsFieldVideo video }
-    requires split { (video : FieldVideo) → seen command ≡ asked.split video → IsFieldVideo video }
-    requires cut { (settings : CutSettings) → seen command ≡ asked.cut settings
+    requires settings { (s : Asked) → command_seen command ≡ asked.encode s → AreLawfulWords s
+        × IsSteepOkUnder (written_under s) }
+    requires trial { (s : Asked) (part : TrialPart) → command_seen command ≡ asked.trial s part
+        → IsTrial s part × IsSteepOkUnder (written_under s) }
+    requires weave { (video : FieldVideo) → command_seen command ≡ asked.weave video
+        → IsFieldVideo video }
+    requires split { (video : FieldVideo) → command_seen command ≡ asked.split video
+        → IsFieldVideo video }
+    requires cut { (settings : CutSettings) → command_seen command ≡ asked.cut settings
         → IsCutSettings settings }
-    ensures { Does (seen command) (change S.rest S.faults src.old src.new)
+    ensures { Does (command_seen command) (change S.rest S.faults src.old src.new)
         (change K.written K.faults out.old out.new) result }
 {
     match command {
@@ -201,10 +203,10 @@ fn answer<S: Source, K: Sink, N: Sink>(
 ) -> Status
     requires schedule { (schedule : Schedule)
         → seen_words command ≡ Ok (asked.check (Some schedule)) → IsSchedule schedule }
-    requires settings { (s : Asked) → seen_words command ≡ Ok (asked.encode s) → AreLawful s
-        × IsSteepUnder (written_under s) }
+    requires settings { (s : Asked) → seen_words command ≡ Ok (asked.encode s) → AreLawfulWords s
+        × IsSteepOkUnder (written_under s) }
     requires trial { (s : Asked) (part : TrialPart) → seen_words command ≡ Ok (asked.trial s part)
-        → IsTrial s part × IsSteepUnder (written_under s) }
+        → IsTrial s part × IsSteepOkUnder (written_under s) }
     requires weave { (video : FieldVideo) → seen_words command ≡ Ok (asked.weave video)
         → IsFieldVideo video }
     requires split { (video : FieldVideo) → seen_words command ≡ Ok (asked.split video)
@@ -241,7 +243,7 @@ fn answer<S: Source, K: Sink, N: Sink>(
 /// Does what the words ask for: reads the input from `src`, writes to `out`, and at last to `note`. `words` are the words
 /// after the program's name. Work goes on unit by unit, and what is due is written before the next read.
 ///
-/// What a run comes to is the record `Ran` (specs/Program), clause by clause.
+/// What a run comes to is the record `ProgramRan` (specs/Program), clause by clause.
 pub fn run<S: Source, K: Sink, N: Sink>(
     alloc: Global,
     words: &[String],
@@ -249,7 +251,7 @@ pub fn run<S: Source, K: Sink, N: Sink>(
     out: &mut K,
     note: &mut N,
 ) -> Status
-    ensures { Ran (map string_bytes words.now) (change S.rest S.faults src.old src.new)
+    ensures { ProgramRan (map string_bytes words.now) (change S.rest S.faults src.old src.new)
         (change K.written K.faults out.old out.new)
         (change N.written N.faults note.old note.new) result }
 {

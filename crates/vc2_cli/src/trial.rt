@@ -7,7 +7,7 @@ ghost use Rattle.vc2_words.specs.Settings.{asked_length};
 ghost use Rattle.vc2_words.specs.Shown.{shown};
 ghost use Rattle.vc2_words.specs.Lawful.{IsTrial};
 ghost use Rattle.run_theory.specs.Ran.{HaltHasCause};
-ghost use Rattle.stream_writer.specs.Writer.{IsSteepUnder};
+ghost use Rattle.stream_writer.specs.Writer.{IsSteepOkUnder};
 ghost use Rattle.vc2_cli.specs.declared.status.Ending.TheVariants as ending;
 ghost use Rattle.vc2_cli.specs.declared.status.Note.TheVariants as note;
 ghost use Rattle.run_theory.specs.Runs.{Closes};
@@ -117,7 +117,7 @@ fn encode_video(
     sink: &mut StreamSink,
 ) -> Result<Schedule, NoMemory>
     requires lawful { IsTrial (shown settings.now) part }
-    requires flat { IsSteepUnder (written_under (shown settings.now)) }
+    requires steep { IsSteepOkUnder (written_under (shown settings.now)) }
     requires empty { sink.old.bytes ≡ [] }
     requires room { sink.old.room
         ≡ asked_length (shown settings.now).parts (shown settings.now).params
@@ -156,7 +156,7 @@ fn encode_video(
 // Encodes the video and decodes its stream, which alone is held whole.
 fn go_through(alloc: Global, settings: &Settings, part: TrialPart) -> Result<Found, NoMemory>
     requires lawful { IsTrial (shown settings.now) part }
-    requires flat { IsSteepUnder (written_under (shown settings.now)) }
+    requires steep { IsSteepOkUnder (written_under (shown settings.now)) }
     ensures bytes { IfOk result (λ found. found.bytes
         ≡ length (stream_of (shown settings.now) (trial_pictures (shown settings.now) part))) }
     ensures plan { IfOk result (λ found. found.schedule
@@ -191,7 +191,7 @@ pub(crate) fn trial<K: Sink>(
     out: &mut K,
 ) -> Result<Ending, Halt>
     requires lawful { IsTrial (shown settings.now) part }
-    requires flat { IsSteepUnder (written_under (shown settings.now)) }
+    requires steep { IsSteepOkUnder (written_under (shown settings.now)) }
     ensures told { Closes (ending.Done note.Nothing) (trial_text (shown settings.now) part)
         (K.written out.old) (K.written out.new) result }
     ensures cause { HaltHasCause 0 0 (K.faults out.old) (K.faults out.new) result }

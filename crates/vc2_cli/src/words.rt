@@ -3,14 +3,14 @@ ghost use Rattle.std.specs.Prelude.{◌≡◌};
 ghost use Rattle.vc2_words.specs.Commands as asked;
 ghost use Rattle.vc2_words.specs.Shown.{shown};
 ghost use Rattle.vc2_cli.specs.Words as words;
-ghost use Rattle.vc2_cli.specs.Words.{seen_words, is_flat};
+ghost use Rattle.vc2_cli.specs.Words.{seen_words, is_steep_ok};
 
 use slice_encoder::steep_ok;
 use vc2_words::{Command, Rule, Settings, WordFault};
 
 // Whether the matrix leaves every slice writable.
-fn is_flat(settings: &Settings) -> bool
-    ensures { result ≡ is_flat (shown settings.now) }
+fn is_steep_ok(settings: &Settings) -> bool
+    ensures { result ≡ is_steep_ok (shown settings.now) }
 {
     // The rules of parameters.
     let _ = settings.params.unit_len();
@@ -22,10 +22,11 @@ fn is_flat(settings: &Settings) -> bool
     )
 }
 
-fn unless_steep(settings: &Settings, command: Command) -> Result<Command, WordFault>
-    ensures { seen_words result ≡ words.unless_steep (shown settings.now) (asked.seen command) }
+fn if_steep_ok(settings: &Settings, command: Command) -> Result<Command, WordFault>
+    ensures { seen_words result
+        ≡ words.if_steep_ok (shown settings.now) (asked.command_seen command) }
 {
-    if is_flat(settings) {
+    if is_steep_ok(settings) {
         Ok(command)
     } else {
         Err(WordFault::SettingsRefused(Rule::MatrixTooSteep))
@@ -39,11 +40,11 @@ pub(crate) fn checked(command: Result<Command, WordFault>) -> Result<Command, Wo
     match command {
         Ok(Command::Encode(settings)) => {
             let command = Command::Encode(settings);
-            unless_steep(&settings, command)
+            if_steep_ok(&settings, command)
         }
         Ok(Command::Trial(settings, part)) => {
             let command = Command::Trial(settings, part);
-            unless_steep(&settings, command)
+            if_steep_ok(&settings, command)
         }
         other => other,
     }

@@ -12,7 +12,7 @@ use Rattle.sequence_header.specs.Checking.{PassesRules, IsLawfulHeader}
 use Rattle.sequence_header.proofs.FieldKinds.{version_kinds, size_kinds, sampling_kinds, scan_kinds_none, scan_kinds, rate_kinds, rate_kinds_pair, aspect_kinds_none, clean_kinds_none, signal_kinds, signal_kinds_custom, colour_kinds_none, coding_kinds}
 use Rattle.sequence_header.proofs.WroteText.{HaveKinds, header_kinds}
 use Rattle.vc2_words.specs.declared.keys.Key.TheVariants as of_key
-use Rattle.vc2_words.specs.Forms.{greatest}
+use Rattle.vc2_words.specs.Forms.{greatest_number}
 use Rattle.vc2_words.specs.Operands.{Table, value_of}
 use Rattle.vc2_words.specs.Plain.{IsPlain, IsPlainScan, IsPlainRate, IsPlainSignal}
 use Rattle.vc2_words.specs.Read.{IsTableRead}
@@ -30,9 +30,9 @@ rated (rates.Pair n d) plain = rate_kinds_pair n d plain.2 plain.3
 -- the numbers of a range have at most 32 bits
 abbrev HasLow : SignalField → Type 0
 HasLow (signals.Index n) = Unit {0}
-HasLow (signals.Custom r) = (r.luma_offset ≤ greatest) × (r.luma_excursion ≤ greatest) × (r.colour_offset ≤ greatest) × (r.colour_excursion ≤ greatest)
+HasLow (signals.Custom r) = (r.luma_offset ≤ greatest_number) × (r.luma_excursion ≤ greatest_number) × (r.colour_offset ≤ greatest_number) × (r.colour_excursion ≤ greatest_number)
 
-signal_low : (v : Option (List ℕ)) → ((i : ℕ) → number_of v i ≤ greatest) → HasLow (signal_of v)
+signal_low : (v : Option (List ℕ)) → ((i : ℕ) → number_of v i ≤ greatest_number) → HasLow (signal_of v)
 signal_low None low = tt
 signal_low (Some ns) low = by (length ns == 1)
   where

@@ -14,11 +14,11 @@ use Rattle.channel_schedule.specs.Rates.{IsRate}
 use Rattle.std.proofs.Math.Nat.{mul-le-mul_left}
 use Rattle.vc2_words.specs.declared.keys.Key.TheVariants as of_key
 use Rattle.vc2_words.specs.declared.keys.Rule as settings
-use Rattle.vc2_words.specs.Forms.{greatest, cut_at, slash, number_in, number_from}
+use Rattle.vc2_words.specs.Forms.{greatest_number, cut_at, slash, number_of_digits, number_at_least}
 use Rattle.field_rows.specs.Rows.{and_then}
 use Rattle.vc2_words.specs.Operands.{Table, value_of, has_schedule, operands_of}
 use Rattle.vc2_words.specs.Plain.{IsPlain, IsPlainFor}
-use Rattle.vc2_words.specs.Lawful.{AreLawful, IsAskedGroup, IsAskedSchedule, IsTrial, IsFieldVideo, IsCutSettings}
+use Rattle.vc2_words.specs.Lawful.{AreLawfulWords, IsAskedGroup, IsAskedSchedule, IsTrial, IsFieldVideo, IsCutSettings}
 use Rattle.vc2_words.specs.declared.keys.Name.{Name}
 use Rattle.vc2_words.specs.declared.keys.Name.TheVariants as names
 use Rattle.vc2_words.specs.declared.keys.WordFault.{WordFault}
@@ -138,12 +138,12 @@ group_lawful : (coding : ℕ) (v : Option (List ℕ)) → ((ns : List ℕ) → v
 group_lawful coding None read even = tt
 group_lawful coding (Some ns) read even =
     let value = read ns refl in
-    let one = single_is (number_from 1 value.text) ns value.reads in
-    let range = range_is 1 greatest (number_in value.text) one.0 one.1 in
+    let one = single_is (number_at_least 1 value.text) ns value.reads in
+    let range = range_is 1 greatest_number (number_of_digits value.text) one.0 one.1 in
     let is : slice_index ns 0 ≡ one.0 = ap (λ (l : List ℕ). slice_index l 0) one.2 in
     (omega (arith, is, range.0), omega (arith, is, range.1), even_with coding (slice_index ns 0) even)
 
-lawful : (given : Table) (pictures : Option ℕ) → IsTableRead given → IsPlain (parts_of given) → broken_rule given pictures ≡ None → AreLawful (asked_of given)
+lawful : (given : Table) (pictures : Option ℕ) → IsTableRead given → IsPlain (parts_of given) → broken_rule given pictures ≡ None → AreLawfulWords (asked_of given)
 lawful given pictures read plain none =
     let first = given_number given of_key.First 0 in
     let low = number_small given of_key.First 0 read in
@@ -248,7 +248,7 @@ cut_lawful given whole none =
 
 abbrev Says : AskedCommand → Type 0
 Says (check schedule) = SaysOf schedule
-Says (encode s) = AreLawful s
+Says (encode s) = AreLawfulWords s
 Says (trial s part) = IsTrial s part
 Says (weave video) = IsFieldVideo video
 Says (split video) = IsFieldVideo video

@@ -7,7 +7,7 @@ use Rattle.vc2_words.specs.declared.keys.TheConstants.{KEY_COUNT}
 use Rattle.vc2_words.specs.declared.keys.Key.{Key}
 use Rattle.vc2_words.specs.declared.keys.Key.TheVariants as of_key
 use Rattle.vc2_words.specs.Forms as Forms
-use Rattle.vc2_words.specs.Forms.{greatest, slash, cross, comma, value_in, cut_at, number_in, number_from, in_range, single, both_parts, more, exactly, list_in, list_behind, signal_at}
+use Rattle.vc2_words.specs.Forms.{greatest_number, slash, cross, comma, value_in, cut_at, number_of_digits, number_at_least, in_range, single, both_parts, more, exactly, list_in, list_behind, signal_at}
 use Rattle.vc2_words.specs.Read.{IsTableRead, bound_of, IsFit, IsFitValue}
 use Rattle.vc2_words.specs.Keys.{place_of}
 use Rattle.std.proofs.lemmas.Bool.{eqb-true, eq-eqb, false≢true}
@@ -20,42 +20,42 @@ abbrev pub AreUpTo : ℕ → List ℕ → Type 0
 AreUpTo bound ns = AllByRecursion (λ (n : ℕ). n ≤ bound) ns
 
 abbrev pub AreSmall : List ℕ → Type 0
-AreSmall ns = AreUpTo greatest ns
+AreSmall ns = AreUpTo greatest_number ns
 
 one_up_to : (bound : ℕ) (r : Option ℕ) (ns : List ℕ) → ((n : ℕ) → r ≡ Some n → n ≤ bound) → single r ≡ Some ns → AreUpTo bound ns
 one_up_to bound r ns low e =
     let one = single_is r ns e in
     rw one.2 (low one.0 one.1, tt)
 
-one_small : (r : Option ℕ) (ns : List ℕ) → ((n : ℕ) → r ≡ Some n → n ≤ greatest) → single r ≡ Some ns → AreSmall ns
-one_small r ns low e = one_up_to greatest r ns low e
+one_small : (r : Option ℕ) (ns : List ℕ) → ((n : ℕ) → r ≡ Some n → n ≤ greatest_number) → single r ≡ Some ns → AreSmall ns
+one_small r ns low e = one_up_to greatest_number r ns low e
 
-range_up_to : (low high : ℕ) (text ns : List ℕ) → single (in_range low high (number_in text)) ≡ Some ns → AreUpTo high ns
-range_up_to low high text ns e = one_up_to high (in_range low high (number_in text)) ns (λ n is. (range_is low high (number_in text) n is).1) e
+range_up_to : (low high : ℕ) (text ns : List ℕ) → single (in_range low high (number_of_digits text)) ≡ Some ns → AreUpTo high ns
+range_up_to low high text ns e = one_up_to high (in_range low high (number_of_digits text)) ns (λ n is. (range_is low high (number_of_digits text) n is).1) e
 
-range_small : (low high : ℕ) (text ns : List ℕ) → high ≤ greatest → single (in_range low high (number_in text)) ≡ Some ns → AreSmall ns
-range_small low high text ns top e = one_small (in_range low high (number_in text)) ns (λ n is. let range = range_is low high (number_in text) n is in omega (arith, top, range.1)) e
+range_small : (low high : ℕ) (text ns : List ℕ) → high ≤ greatest_number → single (in_range low high (number_of_digits text)) ≡ Some ns → AreSmall ns
+range_small low high text ns top e = one_small (in_range low high (number_of_digits text)) ns (λ n is. let range = range_is low high (number_of_digits text) n is in omega (arith, top, range.1)) e
 
 pair_small : (low : ℕ) (p : Option (List ℕ × List ℕ)) (ns : List ℕ) → both_parts low p ≡ Some ns → AreSmall ns
 pair_small low p ns e =
     let pair = pair_is low p ns e in
     rw pair.2 (pair.4, (pair.6, tt))
 
-more_small : (x : Option ℕ) (r : Option (List ℕ)) (ns : List ℕ) → ((n : ℕ) → x ≡ Some n → n ≤ greatest) → ((l : List ℕ) → r ≡ Some l → AreSmall l) → more x r ≡ Some ns → AreSmall ns
+more_small : (x : Option ℕ) (r : Option (List ℕ)) (ns : List ℕ) → ((n : ℕ) → x ≡ Some n → n ≤ greatest_number) → ((l : List ℕ) → r ≡ Some l → AreSmall l) → more x r ≡ Some ns → AreSmall ns
 more_small None r ns low others e = none_some e
 more_small (Some n) None ns low others e = none_some e
 more_small (Some n) (Some l) ns low others e = subst (λ (k : List ℕ). AreSmall k) (some_same e) (low n refl, others l refl)
 
-from_small : (text : List ℕ) (n : ℕ) → number_from 0 text ≡ Some n → n ≤ greatest
-from_small text n is = (range_is 0 greatest (number_in text) n is).1
+from_small : (text : List ℕ) (n : ℕ) → number_at_least 0 text ≡ Some n → n ≤ greatest_number
+from_small text n is = (range_is 0 greatest_number (number_of_digits text) n is).1
 
 list_small : (most : ℕ) (text ns : List ℕ) → list_in most text ≡ Some ns → AreSmall ns
 list_small zero text ns e = none_some e
 list_small (suc most) text ns e = here (λ t l is. list_small most t l is) (cut_at comma text) e
   where
     here : ((t l : List ℕ) → list_in most t ≡ Some l → AreSmall l) → (p : Option (List ℕ × List ℕ)) → list_behind (list_in most) text p ≡ Some ns → AreSmall ns
-    here others None e = one_small (number_from 0 text) ns (from_small text) e
-    here others (Some p) e = more_small (number_from 0 p.0) (list_in most p.1) ns (from_small p.0) (others p.1) e
+    here others None e = one_small (number_at_least 0 text) ns (from_small text) e
+    here others (Some p) e = more_small (number_at_least 0 p.0) (list_in most p.1) ns (from_small p.0) (others p.1) e
 
 exactly_small : (count : ℕ) (r : Option (List ℕ)) (ns : List ℕ) → ((l : List ℕ) → r ≡ Some l → AreSmall l) → exactly count r ≡ Some ns → AreSmall ns
 exactly_small count None ns low e = none_some e
@@ -77,23 +77,23 @@ value_small of_key.Fps text ns e = pair_small 1 (cut_at slash text) ns e
 value_small of_key.Signal text ns e = signal_small text ns (cut_at comma text) e
 value_small of_key.Wavelet text ns e =
     one_small (Forms.wavelet text) ns (λ n is. let low = three (bytes_eq text (codes "legall")) (bytes_eq text (codes "haar-flat")) (bytes_eq text (codes "haar-shift")) n is in omega (arith, low)) e
-value_small of_key.Depth text ns e = range_small 0 greatest text ns (omega arith) e
+value_small of_key.Depth text ns e = range_small 0 greatest_number text ns (omega arith) e
 value_small of_key.Slices text ns e = pair_small 0 (cut_at cross text) ns e
 value_small of_key.Bytes text ns e = pair_small 0 (cut_at slash text) ns e
 value_small of_key.Matrix text ns e = list_small 13 text ns e
 value_small of_key.Scan text ns e = range_small 0 1 text ns (omega arith) e
 value_small of_key.Fields text ns e = one_small (Forms.yes_or_no text) ns (λ n is. let low = two (bytes_eq text (codes "no")) (bytes_eq text (codes "yes")) n is in omega (arith, low)) e
-value_small of_key.First text ns e = range_small 0 greatest text ns (omega arith) e
+value_small of_key.First text ns e = range_small 0 greatest_number text ns (omega arith) e
 value_small of_key.Rate text ns e = pair_small 1 (cut_at slash text) ns e
 value_small of_key.Delay text ns e = range_up_to 0 (2 ^ 72) text ns e
 value_small of_key.Buffer text ns e = range_up_to 0 (2 ^ 40) text ns e
 value_small of_key.Seed text ns e = range_small 0 65535 text ns (omega arith) e
 value_small of_key.Pictures text ns e = range_small 1 1000 text ns (omega arith) e
-value_small of_key.Group text ns e = range_small 1 greatest text ns (omega arith) e
+value_small of_key.Group text ns e = range_small 1 greatest_number text ns (omega arith) e
 value_small of_key.Idle text ns e = range_up_to 0 (2 ^ 20) text ns e
 value_small of_key.Order text ns e = one_small (Forms.top_or_bottom text) ns (λ n is. let low = two (bytes_eq text (codes "bottom")) (bytes_eq text (codes "top")) n is in omega (arith, low)) e
-value_small of_key.From text ns e = range_small 0 greatest text ns (omega arith) e
-value_small of_key.To text ns e = range_small 0 greatest text ns (omega arith) e
+value_small of_key.From text ns e = range_small 0 greatest_number text ns (omega arith) e
+value_small of_key.To text ns e = range_small 0 greatest_number text ns (omega arith) e
 value_small of_key.Level text ns e = range_small 0 4 text ns (omega arith) e
 
 index_up_to : (bound : ℕ) (ns : List ℕ) (i : ℕ) → AreUpTo bound ns → slice_index ns i ≤ bound

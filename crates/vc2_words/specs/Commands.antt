@@ -80,15 +80,15 @@ asked_by [] = Err faults.NoCommand
 asked_by (word ∷ words) = command_named (name_of word) words
 
 -- what is seen of a command
-abbrev pub seen : Command → AskedCommand
-seen commands.Chain = chain
-seen commands.Header = header
-seen commands.Decode = decode
-seen (commands.Check schedule) = check schedule
-seen (commands.Encode s) = encode (shown s)
-seen (commands.Trial s part) = trial (shown s) part
-seen (commands.Weave video) = weave video
-seen (commands.Split video) = split video
-seen (commands.Frames top) = frames top
-seen (commands.Proxy level) = proxy level
-seen (commands.Cut settings) = cut settings
+abbrev pub command_seen : Command → AskedCommand
+command_seen commands.Chain = chain
+command_seen commands.Header = header
+command_seen commands.Decode = decode
+command_seen (commands.Check schedule) = check schedule
+command_seen (commands.Encode s) = encode (shown s)
+command_seen (commands.Trial s part) = trial (shown s) part
+command_seen (commands.Weave video) = weave video
+command_seen (commands.Split video) = split video
+command_seen (commands.Frames top) = frames top
+command_seen (commands.Proxy level) = proxy level
+command_seen (commands.Cut settings) = cut settings

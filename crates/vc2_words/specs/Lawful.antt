@@ -15,7 +15,7 @@ IsAskedGroup coding None = Unit {0}
 IsAskedGroup coding (Some group) = (1 ≤ group) × (group < 2 ^ 32) × (coding ≡ 1 → group % 2 ≡ 0)
 
 -- The header and the parameters break no rule, and each number is one that its field holds.
-pub record AreLawful (s : Asked) : Type 0 where
+pub record AreLawfulWords (s : Asked) : Type 0 where
   pub header : checking.IsLawfulHeader s.parts
   pub params : AreLawfulParams s.params
   pub first : s.first < 2 ^ 32
@@ -38,7 +38,7 @@ pub record IsFieldVideo (video : FieldVideo) : Type 0 where
 
 -- A trial: its fields make whole frames, and their stream is no longer than 2 ^ 28 bytes.
 pub record IsTrial (s : Asked) (part : TrialPart) : Type 0 where
-  pub settings : AreLawful s
+  pub settings : AreLawfulWords s
   pub seed : part.seed ≤ 65535
   pub some : 1 ≤ part.pictures
   pub few : part.pictures ≤ 1000

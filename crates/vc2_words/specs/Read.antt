@@ -3,7 +3,7 @@ use Rattle.std.specs.Prelude.{◌≡◌, ◌≤◌, ◌^◌, ℕ, List, Some, le
 use Rattle.vc2_words.specs.declared.keys.TheConstants.{KEY_COUNT}
 use Rattle.vc2_words.specs.declared.keys.Key.{Key}
 use Rattle.vc2_words.specs.declared.keys.Key.TheVariants as of_key
-use Rattle.vc2_words.specs.Forms.{value_in, greatest}
+use Rattle.vc2_words.specs.Forms.{value_in, greatest_number}
 use Rattle.vc2_words.specs.Operands.{Table, value_of}
 
 -- these numbers are the value of a text
@@ -21,7 +21,7 @@ abbrev pub bound_of : Key → ℕ
 bound_of of_key.Delay = 2 ^ 72
 bound_of of_key.Buffer = 2 ^ 40
 bound_of of_key.Idle = 2 ^ 20
-bound_of _ = greatest
+bound_of _ = greatest_number
 
 -- numbers within the bound of their key
 abbrev pub IsFitValue : Key → List ℕ → Type 0

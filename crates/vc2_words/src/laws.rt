@@ -7,7 +7,7 @@ ghost use Rattle.vc2_words.specs.declared.settings.CutSettings.{CutSettings};
 ghost use Rattle.vc2_words.specs.declared.settings.FieldVideo.{FieldVideo};
 ghost use Rattle.vc2_words.specs.Settings.{Asked};
 ghost use Rattle.vc2_words.specs.Commands.{asked_by, check, encode, trial, weave, split, cut};
-ghost use Rattle.vc2_words.specs.Lawful.{AreLawful, IsAskedSchedule, IsTrial, IsFieldVideo, IsCutSettings};
+ghost use Rattle.vc2_words.specs.Lawful.{AreLawfulWords, IsAskedSchedule, IsTrial, IsFieldVideo, IsCutSettings};
 ghost use Rattle.vc2_words.specs.Order.{FirstFaultIsTold, OrderIsFree};
 
 /// The settings that words ask for are lawful: their header and parameters pass the rules, each number is one that its field
@@ -16,7 +16,7 @@ ghost use Rattle.vc2_words.specs.Order.{FirstFaultIsTold, OrderIsFree};
 /// pictures, with field coding an even number of them, and their stream has at most 2^28 bytes.
 pub fn settings_are_lawful()
     ensures encode { (words : List (List ℕ)) (s : Asked) → asked_by words ≡ Ok (encode s)
-        → AreLawful s }
+        → AreLawfulWords s }
     ensures trial { (words : List (List ℕ)) (s : Asked) (part : TrialPart)
         → asked_by words ≡ Ok (trial s part) → IsTrial s part }
 {}

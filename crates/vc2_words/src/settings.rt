@@ -6,7 +6,7 @@ ghost use Rattle.transform_params.specs.Views as views;
 ghost use Rattle.vc2_words.specs.declared.keys.Key.TheVariants as of_key;
 ghost use Rattle.vc2_words.specs.Operands.{value_of};
 ghost use Rattle.vc2_words.specs.Plain.{IsPlain};
-ghost use Rattle.vc2_words.specs.Forms.{greatest};
+ghost use Rattle.vc2_words.specs.Forms.{greatest_number};
 ghost use Rattle.vc2_words.specs.Read.{bound_of};
 ghost use Rattle.vc2_words.specs.Shown.{shown};
 ghost use Rattle.vc2_words.specs.Settings as asked;
@@ -58,7 +58,7 @@ pub struct CutSettings {
 
 /// The number of this place in a key's value, or 0.
 fn number(given: &Given, key: Key, i: usize) -> u32
-    requires { bound_of key ≤ greatest }
+    requires { bound_of key ≤ greatest_number }
     ensures { result ≡ given_number given.now.values key i }
 {
     match given.get(key) {
@@ -471,7 +471,7 @@ pub fn settings_of(given: &Given, pictures: Option<u32>) -> Result<Settings, Rul
 
 /// The one number of a key, or 0.
 pub fn single(given: &Given, key: Key) -> u32
-    requires { bound_of key ≤ greatest }
+    requires { bound_of key ≤ greatest_number }
     ensures { result ≡ given_number given.now.values key 0 }
 {
     number(given, key, 0)

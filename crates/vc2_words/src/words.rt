@@ -3,7 +3,7 @@
 ghost use Rattle.std.specs.Prelude.{◌≡◌, ◌<◌, Ok, Err, map, string_bytes, MatchResult};
 ghost use Rattle.vc2_words.specs.declared.keys.Name.TheVariants as names;
 ghost use Rattle.vc2_words.specs.Commands as commands;
-ghost use Rattle.vc2_words.specs.Commands.{seen, asked_by};
+ghost use Rattle.vc2_words.specs.Commands.{command_seen, asked_by};
 ghost use Rattle.vc2_words.specs.Settings.{parts_of, field_parts};
 ghost use Rattle.vc2_words.specs.Plain.{IsPlain, IsPlainFor};
 
@@ -57,7 +57,7 @@ fn schedule_of(given: &Given) -> Option<Schedule>
 fn encode_of(given: &Given) -> Result<Command, WordFault>
     requires { IsPlain (parts_of given.now.values) }
     ensures { MatchResult result (λ command. commands.command_of names.Encode given.now.values
-        ≡ Ok (seen command)) (λ fault. commands.command_of names.Encode given.now.values
+        ≡ Ok (command_seen command)) (λ fault. commands.command_of names.Encode given.now.values
         ≡ Err fault) }
 {
     match settings_of(given, None) {
@@ -69,7 +69,7 @@ fn encode_of(given: &Given) -> Result<Command, WordFault>
 fn trial_of(given: &Given) -> Result<Command, WordFault>
     requires { IsPlain (parts_of given.now.values) }
     ensures { MatchResult result (λ command. commands.command_of names.Trial given.now.values
-        ≡ Ok (seen command)) (λ fault. commands.command_of names.Trial given.now.values
+        ≡ Ok (command_seen command)) (λ fault. commands.command_of names.Trial given.now.values
         ≡ Err fault) }
 {
     let part = TrialPart {
@@ -85,7 +85,7 @@ fn trial_of(given: &Given) -> Result<Command, WordFault>
 fn weave_of(given: &Given) -> Result<Command, WordFault>
     requires { IsPlain (field_parts given.now.values) }
     ensures { MatchResult result (λ command. commands.command_of names.Weave given.now.values
-        ≡ Ok (seen command)) (λ fault. commands.command_of names.Weave given.now.values
+        ≡ Ok (command_seen command)) (λ fault. commands.command_of names.Weave given.now.values
         ≡ Err fault) }
 {
     match video_of(given) {
@@ -97,7 +97,7 @@ fn weave_of(given: &Given) -> Result<Command, WordFault>
 fn split_of(given: &Given) -> Result<Command, WordFault>
     requires { IsPlain (field_parts given.now.values) }
     ensures { MatchResult result (λ command. commands.command_of names.Split given.now.values
-        ≡ Ok (seen command)) (λ fault. commands.command_of names.Split given.now.values
+        ≡ Ok (command_seen command)) (λ fault. commands.command_of names.Split given.now.values
         ≡ Err fault) }
 {
     match video_of(given) {
@@ -108,7 +108,8 @@ fn split_of(given: &Given) -> Result<Command, WordFault>
 
 fn cut_command_of(given: &Given) -> Result<Command, WordFault>
     ensures { MatchResult result (λ command. commands.command_of names.Cut given.now.values
-        ≡ Ok (seen command)) (λ fault. commands.command_of names.Cut given.now.values ≡ Err fault) }
+        ≡ Ok (command_seen command)) (λ fault. commands.command_of names.Cut given.now.values
+        ≡ Err fault) }
 {
     match cut_of(given) {
         Ok(settings) => Ok(Command::Cut(settings)),
@@ -119,7 +120,8 @@ fn cut_command_of(given: &Given) -> Result<Command, WordFault>
 fn command_of(name: Name, given: &Given) -> Result<Command, WordFault>
     requires { IsPlainFor name (parts_of given.now.values) }
     ensures { MatchResult result (λ command. commands.command_of name given.now.values
-        ≡ Ok (seen command)) (λ fault. commands.command_of name given.now.values ≡ Err fault) }
+        ≡ Ok (command_seen command)) (λ fault. commands.command_of name given.now.values
+        ≡ Err fault) }
 {
     match name {
         Name::Chain => Ok(Command::Chain),
@@ -139,7 +141,7 @@ fn command_of(name: Name, given: &Given) -> Result<Command, WordFault>
 /// The command that the words name with its settings, or their first fault. The words are those after the program's name.
 pub fn read_words(words: &[String]) -> Result<Command, WordFault>
     ensures { MatchResult result (λ command. asked_by (map string_bytes words.now)
-        ≡ Ok (seen command)) (λ fault. asked_by (map string_bytes words.now) ≡ Err fault) }
+        ≡ Ok (command_seen command)) (λ fault. asked_by (map string_bytes words.now) ≡ Err fault) }
 {
     if words.is_empty() {
         return Err(WordFault::NoCommand);

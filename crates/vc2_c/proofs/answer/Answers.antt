@@ -1,5 +1,5 @@
 use Rattle.std.proofs.Common.{◌≡◌, ℕ, List, length, map, take, string_bytes, sym, subst, ◌∙◌}
-use Rattle.vc2_cli.specs.Program.{Ran}
+use Rattle.vc2_cli.specs.Program.{ProgramRan}
 use Rattle.vc2_cli.specs.Reply.{reply_to}
 use Rattle.vc2_c.specs.Call.{IsAnswer}
 use Rattle.vc2_c.proofs.Rooms.{seen, changed, read, filled, answered}
@@ -12,7 +12,7 @@ returns c =
     let out = seen c.run-status.new.out in
     let note0 = seen c.args.note.now in
     let note = seen c.run-status.new.note in
-    let ran = subst (λ (input : List ℕ). Ran words (read input c.run-status.new.src) (changed out0 out) (changed note0 note) c.run-status.result) c.new-src.ensures c.run-status.ensures in
+    let ran = subst (λ (input : List ℕ). ProgramRan words (read input c.run-status.new.src) (changed out0 out) (changed note0 note) c.run-status.result) c.new-src.ensures c.run-status.ensures in
     let a = answered words c.args.input.now c.run-status.new.src out0 out note0 note c.run-status.result (c.requires.empty.0, c.requires.sound.0) (c.requires.empty.1, c.requires.sound.1) c.run-status.new.out.fails_full c.run-status.new.note.fails_full ran in
     record {
       loans = (a.same_out.0, a.same_note.0);

@@ -1,5 +1,5 @@
 use Rattle.std.proofs.Common.{◌≡◌, ℕ, ◌+◌, ◌*◌, min, arith, subst, sym, ap, ◌∙◌, refl}
-use Rattle.channel_schedule.specs.Courses.{unit_course, held}
+use Rattle.channel_schedule.specs.Courses.{unit_course, bytes_held}
 use Rattle.channel_schedule.specs.Plans.{IsGreatest}
 use Rattle.channel_schedule.specs.Slices.{arrived}
 use Rattle.channel_schedule.specs.Stepping.{Arrives}
@@ -38,7 +38,7 @@ loop-j-preserved c =
     let u = c.args.unit in
     let next : c.args.slot + l._j + 1 ≡ c.args.slot + (l._j + 1) = omega arith in
     let is : min l.have.quotient c.args.total ≡ arrived c.args.total c.args.rate (c.args.slot + l._j) = arrives_is l.have c.args.total c.args.rate (c.args.slot + l._j) l.invariant.arrives in
-    let here : held (unit_course u c.args.total c.args.rate c.args.slot c.args.gone) l._j ≡ c.saturating_sub-fill.result =
+    let here : bytes_held (unit_course u c.args.total c.args.rate c.args.slot c.args.gone) l._j ≡ c.saturating_sub-fill.result =
     rw (c.saturating_sub-fill.ensures, c.min.ensures, is, l.invariant.gone_is) refl in
     let rises = step_low l.have c.args.rate.num c.args.rate.den (l.have.quotient * c.args.rate.den + l.have.remainder) l.invariant.arrives.at in
     record {
@@ -46,11 +46,11 @@ loop-j-preserved c =
       low = omega (arith, l.invariant.low, c.next-have.ensures.high, rises);
       ends = ends-next l.ends c.next-ends.result u l._j c.next-ends.ensures.at l.invariant.ends;
       gone_is = ap (λ n. u.start + u.head + n) (ends_is l.ends u l._j l.invariant.ends) ∙ sym (gone-next c.args.gone u l._j);
-      most = rw c.max-most.ensures (greatest_more (held (unit_course u c.args.total c.args.rate c.args.slot c.args.gone)) l._j l.most c.saturating_sub-fill.result l.invariant.most here);
+      most = rw c.max-most.ensures (greatest_more (bytes_held (unit_course u c.args.total c.args.rate c.args.slot c.args.gone)) l._j l.most c.saturating_sub-fill.result l.invariant.most here);
     }
 
 pub returns : goal.returns
 returns c =
     let l = c.loop-j in
     let e : l._j ≡ c.args.unit.slices = omega arith in
-    subst (λ (n : ℕ). IsGreatest (held (unit_course c.args.unit c.args.total c.args.rate c.args.slot c.args.gone)) n l.most) e l.invariant.most
+    subst (λ (n : ℕ). IsGreatest (bytes_held (unit_course c.args.unit c.args.total c.args.rate c.args.slot c.args.gone)) n l.most) e l.invariant.most

@@ -1,5 +1,5 @@
 use Rattle.std.proofs.Common.{◌≡◌, ◌+◌, ◌*◌, ◌^◌, ◌≤◌}
-use Rattle.channel_schedule.specs.Courses.{unit_course, gone_in, held}
+use Rattle.channel_schedule.specs.Courses.{unit_course, gone_in, bytes_held}
 use Rattle.channel_schedule.specs.Plans.{IsGreatest}
 use Rattle.channel_schedule.specs.Stepping.{Arrives}
 use Rattle.channel_schedule.proofs.Steps.{EndsAt}
@@ -11,5 +11,5 @@ invariant-loop-j l = record {
   low : l.have.quotient ≤ l.total + l._j * 2 ^ 33;
   ends : EndsAt l.ends l.fn.unit l._j;
   gone_is : l.gone ≡ gone_in l.fn.gone l.fn.unit l._j;
-  most : IsGreatest (held (unit_course l.fn.unit l.total l.fn.rate l.slot l.fn.gone)) l._j l.most;
+  most : IsGreatest (bytes_held (unit_course l.fn.unit l.total l.fn.rate l.slot l.fn.gone)) l._j l.most;
 }

@@ -1,5 +1,5 @@
 use Rattle.std.proofs.Common.{◌≡◌, ℕ, ◌+◌, ◌*◌, arith, subst, sym, ap, ◌∙◌, refl}
-use Rattle.channel_schedule.specs.Courses.{unit_course, held, Run}
+use Rattle.channel_schedule.specs.Courses.{unit_course, bytes_held, Run}
 use Rattle.channel_schedule.specs.Slices.{arrived}
 use Rattle.channel_schedule.specs.Stepping.{Arrives}
 use Rattle.channel_schedule.proofs.Steps.{ends_is, ends_low, ends_step, ends-first, ends-next, arrives_is, arrives_step, arrives-next, step_low}
@@ -66,7 +66,7 @@ loop-j-preserved c =
     let course = unit_course u c.args.total c.args.rate c.args.slot c.args.gone in
     let next : c.args.slot + l.j + 1 ≡ c.args.slot + (l.j + 1) = omega arith in
     let have : c.min-have.result ≡ arrived c.args.total c.args.rate (c.args.slot + l.j) = c.min-have.ensures ∙ arrives_is l.steps c.args.total c.args.rate (c.args.slot + l.j) l.invariant.arrives in
-    let fill : c.saturating_sub-fill.result ≡ held course l.j = rw (c.saturating_sub-fill.ensures, have, l.invariant.gone_is) refl in
+    let fill : c.saturating_sub-fill.result ≡ bytes_held course l.j = rw (c.saturating_sub-fill.ensures, have, l.invariant.gone_is) refl in
     let rises = step_low l.steps c.args.rate.num c.args.rate.den (l.steps.quotient * c.args.rate.den + l.steps.remainder) l.invariant.arrives.at in
     record {
       arrives = subst (λ (t : ℕ). Arrives c.next-steps.result c.args.total c.args.rate t) next (arrives-next l.steps c.next-steps.result c.args.total c.args.rate (c.args.slot + l.j) c.next-steps.ensures.at l.invariant.arrives);

@@ -7,7 +7,7 @@ use Rattle.raw_video.specs.Reading.{RawReaderSeen, ReadsFront, reader_after}
 use Rattle.raw_video.specs.declared.reader.RawStep.{RawStep}
 use Rattle.raw_video.specs.declared.reader.RawStep.TheVariants.{Picture, End}
 use Rattle.field_weave.specs.declared.weaver.WeaveStop.{WeaveStop}
-use Rattle.field_weave.specs.Weaving.{doubled}
+use Rattle.field_weave.specs.Weaving.{frame_of_two}
 use Rattle.raw_video.specs.PictureRuns.{BehindPictures, Goes}
 use Rattle.field_weave.specs.WeaveRuns.{splitting, split_machine, Weaves}
 use Rattle.raw_video.proofs.PictureTurns.{some_raw, goes_first, goes_more}
@@ -18,7 +18,7 @@ abbrev behind : ℕ → ℕ → BehindPictures ℕ
 behind place frames = record { place = place; own = frames }
 
 -- the frames of these fields have a byte
-some_frame : (frame : PictureShape) (f : Frame) → frame_of frame ≡ doubled f → 0 < raw_length (doubled f)
+some_frame : (frame : PictureShape) (f : Frame) → frame_of frame ≡ frame_of_two f → 0 < raw_length (frame_of_two f)
 some_frame frame f is = subst (λ (h : Frame). 0 < raw_length h) is (some_raw frame)
 
 pub frames-init : goal.frames-init
@@ -32,8 +32,8 @@ frames-init g c =
       shape = ap (λ (r : RawReaderSeen). r.shape) c.new-reader.ensures ∙ c.shape.ensures;
       frame_shape = refl;
       few = omega arith;
-      goes = subst (λ (k : ℕ). Goes (doubled f) (splitting order f) (behind k 0) rest rest out out) (sym (ap (λ (r : RawReaderSeen). r.place) c.new-reader.ensures))
-          (goes_first (doubled f) (splitting order f) (some_frame c.args.frame.now.shape f c.requires) rest out out (Appends-none out out refl));
+      goes = subst (λ (k : ℕ). Goes (frame_of_two f) (splitting order f) (behind k 0) rest rest out out) (sym (ap (λ (r : RawReaderSeen). r.place) c.new-reader.ensures))
+          (goes_first (frame_of_two f) (splitting order f) (some_frame c.args.frame.now.shape f c.requires) rest out out (Appends-none out out refl));
       steady = refl;
       steady_out = refl;
     }
@@ -52,7 +52,7 @@ returns-in-Ok-End-clause-weaves g c =
     let shape = ap (λ (s : PictureShape). frame_of s) (i.shape ∙ i.frame_shape) ∙ c.requires in
     let front = subst (λ (h : Frame). ReadsFront h l.reader.place (rest l.src) (rest c.next.new.src) p (Ok End)) shape
     (subst (λ (s : RawStep). ReadsFront (frame_of l.reader.shape) l.reader.place (rest l.src) (rest c.next.new.src) p (Ok s)) c.in-Ok-End.field-0-is c.in-Ok-End.ensures.front) in
-    weaves_ended (doubled f) (splitting order f) (some_frame c.args.frame.now.shape f c.requires) refl (behind l.reader.place l.frames) (rest c.args.src.now) (rest l.src) (written c.args.out.now) (written l.out) i.goes
+    weaves_ended (frame_of_two f) (splitting order f) (some_frame c.args.frame.now.shape f c.requires) refl (behind l.reader.place l.frames) (rest c.args.src.now) (rest l.src) (written c.args.out.now) (written l.out) i.goes
     (faults c.args.src.now) (faults l.src) (faults c.next.new.src) (out_faults c.args.out.now) (out_faults l.out) i.steady i.steady_out (rest c.next.new.src) p l.frames front refl refl c.in-Ok-End.ensures.cause
 
 pub returns-in-Err-clause-weaves : goal.returns-in-Err-clause-weaves
@@ -70,7 +70,7 @@ returns-in-Err-clause-weaves g c =
     let front = subst (λ (h : Frame). ReadsFront h l.reader.place (rest l.src) (rest c.next.new.src) p (Err c.in-Err.fault)) shape c.in-Err.ensures.front in
     subst (λ (s : WeaveStop). Weaves (split_machine order f) (rest c.args.src.now) (rest c.next.new.src) (written c.args.out.now) (written l.out) (faults c.args.src.now) (faults c.next.new.src) (out_faults c.args.out.now) (out_faults l.out) (Err s))
     (sym c.stop_of.ensures)
-    (weaves_refused (doubled f) (splitting order f) (some_frame c.args.frame.now.shape f c.requires) refl (behind l.reader.place l.frames) (rest c.args.src.now) (rest l.src) (written c.args.out.now) (written l.out) i.goes
+    (weaves_refused (frame_of_two f) (splitting order f) (some_frame c.args.frame.now.shape f c.requires) refl (behind l.reader.place l.frames) (rest c.args.src.now) (rest l.src) (written c.args.out.now) (written l.out) i.goes
     (faults c.args.src.now) (faults l.src) (faults c.next.new.src) (out_faults c.args.out.now) (out_faults l.out) i.steady i.steady_out (rest c.next.new.src) p c.in-Err.fault front c.in-Err.ensures.cause)
 
 pub returns-in-Err-write_fields-clause-weaves : goal.returns-in-Err-write_fields-clause-weaves
@@ -88,7 +88,7 @@ returns-in-Err-write_fields-clause-weaves g c =
     let front = subst (λ (h : Frame). ReadsFront h l.reader.place (rest l.src) (rest c.next.new.src) p (Ok Picture)) shape
     (subst (λ (s : RawStep). ReadsFront (frame_of l.reader.shape) l.reader.place (rest l.src) (rest c.next.new.src) p (Ok s)) c.in-Ok-Picture.field-0-is c.in-Ok-Picture.ensures.front) in
     let short = c.in-Err-write_fields.ensures.err in
-    weaves_short (doubled f) (splitting order f) (some_frame c.args.frame.now.shape f c.requires) refl (behind l.reader.place l.frames) (rest c.args.src.now) (rest l.src) (written c.args.out.now) (written l.out) i.goes
+    weaves_short (frame_of_two f) (splitting order f) (some_frame c.args.frame.now.shape f c.requires) refl (behind l.reader.place l.frames) (rest c.args.src.now) (rest l.src) (written c.args.out.now) (written l.out) i.goes
     (faults c.args.src.now) (faults l.src) (faults c.next.new.src) (out_faults c.args.out.now) (out_faults l.out) i.steady i.steady_out (rest c.next.new.src) p (written c.write_fields.new.out) (out_faults c.write_fields.new.out) front refl short
     c.in-Ok-Picture.ensures.cause c.in-Err-write_fields.ensures.cause
 
@@ -105,7 +105,7 @@ frames-preserved g c =
     let out2 = written c.write_fields.new.out in
     let shape = ap (λ (s : PictureShape). frame_of s) (i.shape ∙ i.frame_shape) ∙ c.requires in
     let after : c.next.new.self ≡ reader_after l.reader (Ok Picture) = subst (λ (s : RawStep). c.next.new.self ≡ reader_after l.reader (Ok s)) c.in-Ok-Picture.field-0-is c.in-Ok-Picture.ensures.after in
-    let place : c.next.new.self.place ≡ l.reader.place + raw_length (doubled f) = ap (λ (r : RawReaderSeen). r.place) after ∙ ap (λ (h : Frame). l.reader.place + raw_length h) shape in
+    let place : c.next.new.self.place ≡ l.reader.place + raw_length (frame_of_two f) = ap (λ (r : RawReaderSeen). r.place) after ∙ ap (λ (h : Frame). l.reader.place + raw_length h) shape in
     let front = subst (λ (h : Frame). ReadsFront h l.reader.place (rest l.src) (rest c.next.new.src) p (Ok Picture)) shape
     (subst (λ (s : RawStep). ReadsFront (frame_of l.reader.shape) l.reader.place (rest l.src) (rest c.next.new.src) p (Ok s)) c.in-Ok-Picture.field-0-is c.in-Ok-Picture.ensures.front) in
     let wrote = c.in-Ok.ensures.ok in
@@ -115,8 +115,8 @@ frames-preserved g c =
       shape = ap (λ (r : RawReaderSeen). r.shape) after ∙ i.shape ∙ sym c.in-Ok-Picture.ensures.same_shape;
       frame_shape = c.in-Ok-Picture.ensures.same_shape ∙ i.frame_shape;
       few = omega (arith, i.few, place, some);
-      goes = subst (λ (k : ℕ). Goes (doubled f) (splitting order f) (behind k (l.frames + 1)) (rest c.args.src.now) (rest c.next.new.src) (written c.args.out.now) out2) (sym place)
-          (goes_more (doubled f) (splitting order f) some (behind l.reader.place l.frames) (rest c.args.src.now) (rest l.src) (written c.args.out.now) out1 i.goes (rest c.next.new.src) p front out2 refl wrote);
+      goes = subst (λ (k : ℕ). Goes (frame_of_two f) (splitting order f) (behind k (l.frames + 1)) (rest c.args.src.now) (rest c.next.new.src) (written c.args.out.now) out2) (sym place)
+          (goes_more (frame_of_two f) (splitting order f) some (behind l.reader.place l.frames) (rest c.args.src.now) (rest l.src) (written c.args.out.now) out1 i.goes (rest c.next.new.src) p front out2 refl wrote);
       steady = c.in-Ok-Picture.ensures.cause ∙ i.steady;
       steady_out = c.in-Ok.ensures.cause ∙ i.steady_out;
     }

@@ -1,6 +1,6 @@
 use Rattle.std.proofs.Common.{◌≡◌, ◌≤◌, ◌-◌, ◌^◌, false}
 use Rattle.slice_geometry.specs.Frames.{frame_of}
-use Rattle.field_weave.specs.Weaving.{doubled}
+use Rattle.field_weave.specs.Weaving.{frame_of_two}
 use Rattle.raw_video.specs.PictureRuns.{Goes}
 use Rattle.field_weave.specs.WeaveRuns.{splitting}
 use Rattle.field_weave.proofs.weaver.split_frames.Given as goal
@@ -15,7 +15,7 @@ invariant-frames g l =
       shape : l.reader.shape ≡ l.frame.shape;
       frame_shape : l.frame.shape ≡ l.fn.frame.shape;
       few : l.frames ≤ l.reader.place;
-      goes : Goes (doubled f) (splitting l.order f) (record { place = l.reader.place; own = l.frames }) (rest l.fn.src) (rest l.src) (written l.fn.out) (written l.out);
+      goes : Goes (frame_of_two f) (splitting l.order f) (record { place = l.reader.place; own = l.frames }) (rest l.fn.src) (rest l.src) (written l.fn.out) (written l.out);
       steady : g.S.Source.faults l.src ≡ g.S.Source.faults l.fn.src;
       steady_out : g.K.Sink.faults l.out ≡ g.K.Sink.faults l.fn.out;
     }

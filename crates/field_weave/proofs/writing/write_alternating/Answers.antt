@@ -3,7 +3,7 @@ use Rattle.slice_geometry.specs.declared.Size.{Size}
 use Rattle.slice_geometry.specs.declared.PictureShape.{PictureShape}
 use Rattle.slice_geometry.specs.Frames.{frame_of}
 use Rattle.picture_codec.specs.Pictures.{size_of}
-use Rattle.picture_codec.specs.Samples.{shown}
+use Rattle.picture_codec.specs.Samples.{component_shown}
 use Rattle.raw_video.specs.RawText.{text_of}
 use Rattle.raw_video.specs.Waiting.{PassesOn}
 use Rattle.raw_video.proofs.Pieces.{OnErr-always}
@@ -19,7 +19,7 @@ loop-y-init g c =
     let size = size_of (frame_of c.args.upper.now.shape) c.args.c in
     record {
       wide = refl;
-      passed = no_rows c.args.writer.now.wide size.w (2 * 0) (alternating_lines size (shown c.args.upper.now c.args.c) (shown c.args.lower.now c.args.c)).cells (g.K.Sink.written c.args.out.now) c.args.writer.now.waiting refl;
+      passed = no_rows c.args.writer.now.wide size.w (2 * 0) (alternating_lines size (component_shown c.args.upper.now c.args.c) (component_shown c.args.lower.now c.args.c)).cells (g.K.Sink.written c.args.out.now) c.args.writer.now.waiting refl;
       steady = refl;
     }
 
@@ -28,8 +28,8 @@ returns-in_err-put-clause-err g c =
     let written = g.K.Sink.written in
     let k = c.args.c in
     let size = size_of (frame_of c.args.upper.now.shape) k in
-    let upper = shown c.args.upper.now k in
-    let lower = shown c.args.lower.now k in
+    let upper = component_shown c.args.upper.now k in
+    let lower = component_shown c.args.lower.now k in
     let y = c.loop-y.y in
     let i = c.loop-y.invariant in
     let w = c.size_of-size.result.w in
@@ -59,8 +59,8 @@ returns-in_err-put-2-clause-err g c =
     let written = g.K.Sink.written in
     let k = c.args.c in
     let size = size_of (frame_of c.args.upper.now.shape) k in
-    let upper = shown c.args.upper.now k in
-    let lower = shown c.args.lower.now k in
+    let upper = component_shown c.args.upper.now k in
+    let lower = component_shown c.args.lower.now k in
     let y = c.loop-y.y in
     let i = c.loop-y.invariant in
     let w = c.size_of-size.result.w in
@@ -105,8 +105,8 @@ loop-y-preserved g c =
     let written = g.K.Sink.written in
     let k = c.args.c in
     let size = size_of (frame_of c.args.upper.now.shape) k in
-    let upper = shown c.args.upper.now k in
-    let lower = shown c.args.lower.now k in
+    let upper = component_shown c.args.upper.now k in
+    let lower = component_shown c.args.lower.now k in
     let y = c.loop-y.y in
     let i = c.loop-y.invariant in
     let w = c.size_of-size.result.w in
@@ -159,5 +159,5 @@ returns-clause-ok g c =
     let k = c.args.c in
     let size = size_of (frame_of c.args.upper.now.shape) k in
     let sized : c.size_of-size.result ≡ size = c.size_of-size.ensures.value ∙ ap (λ (s : PictureShape). size_of (frame_of s) k) c.shape.ensures in
-    rows_passed c.args.writer.now.wide (twice_high size) (turn_of (shown c.args.upper.now k) (shown c.args.lower.now k)) (2 * c.loop-y.y) (written c.args.out.now) (written c.loop-y.out) c.args.writer.now.waiting c.loop-y.writer.waiting
+    rows_passed c.args.writer.now.wide (twice_high size) (turn_of (component_shown c.args.upper.now k) (component_shown c.args.lower.now k)) (2 * c.loop-y.y) (written c.args.out.now) (written c.loop-y.out) c.args.writer.now.waiting c.loop-y.writer.waiting
     (omega (arith, c.loop-y-test.false, ap (λ (z : Size). z.h) sized)) c.loop-y.invariant.passed

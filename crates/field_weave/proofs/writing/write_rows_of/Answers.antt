@@ -6,7 +6,7 @@ use Rattle.raw_video.specs.RawText.{is_wide, raw_text}
 use Rattle.raw_video.specs.Waiting.{RawWriterSeen}
 use Rattle.raw_video.proofs.Pieces.{OnErr-always}
 use Rattle.raw_video.proofs.Waits.{passes_all, short_at_last}
-use Rattle.field_weave.specs.Weaving.{doubled}
+use Rattle.field_weave.specs.Weaving.{frame_of_two}
 use Rattle.field_weave.specs.Writing.{alternating}
 use Rattle.field_weave.proofs.WrittenLines.{passes_by, short_by, passes_from, short_from, luma_short, c1_short, c2_short, c2_passes}
 use Rattle.field_weave.proofs.writing.write_rows_of.Goals as goal
@@ -14,7 +14,7 @@ use Rattle.field_weave.proofs.writing.write_rows_of.Goals as goal
 pub returns-in_err-write_alternating-clause-err : goal.returns-in_err-write_alternating-clause-err
 returns-in_err-write_alternating-clause-err g c =
     let written = g.K.Sink.written in
-    let f = doubled (frame_of c.args.upper.now.shape) in
+    let f = frame_of_two (frame_of c.args.upper.now.shape) in
     let s = alternating (frame_of c.args.upper.now.shape) c.args.upper.now.samples c.args.lower.now.samples in
     let out0 = written c.args.out.now in
     let b = c.new-writer.result.wide in
@@ -27,7 +27,7 @@ returns-in_err-write_alternating-clause-err g c =
 pub returns-in_err-write_alternating-2-clause-err : goal.returns-in_err-write_alternating-2-clause-err
 returns-in_err-write_alternating-2-clause-err g c =
     let written = g.K.Sink.written in
-    let f = doubled (frame_of c.args.upper.now.shape) in
+    let f = frame_of_two (frame_of c.args.upper.now.shape) in
     let s = alternating (frame_of c.args.upper.now.shape) c.args.upper.now.samples c.args.lower.now.samples in
     let out0 = written c.args.out.now in
     let b = c.new-writer.result.wide in
@@ -46,7 +46,7 @@ returns-in_err-write_alternating-2-clause-err g c =
 pub returns-in_err-write_alternating-3-clause-err : goal.returns-in_err-write_alternating-3-clause-err
 returns-in_err-write_alternating-3-clause-err g c =
     let written = g.K.Sink.written in
-    let f = doubled (frame_of c.args.upper.now.shape) in
+    let f = frame_of_two (frame_of c.args.upper.now.shape) in
     let s = alternating (frame_of c.args.upper.now.shape) c.args.upper.now.samples c.args.lower.now.samples in
     let out0 = written c.args.out.now in
     let b = c.new-writer.result.wide in
@@ -70,7 +70,7 @@ returns-in_err-write_alternating-3-clause-err g c =
 pub returns-clause-ok : goal.returns-clause-ok
 returns-clause-ok g c =
     let written = g.K.Sink.written in
-    let f = doubled (frame_of c.args.upper.now.shape) in
+    let f = frame_of_two (frame_of c.args.upper.now.shape) in
     let s = alternating (frame_of c.args.upper.now.shape) c.args.upper.now.samples c.args.lower.now.samples in
     let out0 = written c.args.out.now in
     let b = c.new-writer.result.wide in
@@ -96,7 +96,7 @@ returns-clause-ok g c =
 pub returns-clause-err : goal.returns-clause-err
 returns-clause-err g c =
     let written = g.K.Sink.written in
-    let f = doubled (frame_of c.args.upper.now.shape) in
+    let f = frame_of_two (frame_of c.args.upper.now.shape) in
     let s = alternating (frame_of c.args.upper.now.shape) c.args.upper.now.samples c.args.lower.now.samples in
     let out0 = written c.args.out.now in
     let b = c.new-writer.result.wide in

@@ -2,7 +2,7 @@ use Rattle.std.proofs.Common.{◌≡◌, ℕ, List, ◌+◌, ◌-◌, ◌*◌, �
 use Rattle.slice_geometry.specs.declared.Size.{Size}
 use Rattle.slice_geometry.specs.Frames.{frame_of}
 use Rattle.picture_codec.specs.Pictures.{size_of}
-use Rattle.picture_codec.specs.Samples.{sample_at, shown}
+use Rattle.picture_codec.specs.Samples.{sample_at, component_shown}
 use Rattle.raw_video.proofs.Pieces.{OnErr-always}
 use Rattle.field_weave.specs.Weaving.{split_lines}
 use Rattle.field_weave.proofs.Tables.{row_inside}
@@ -15,13 +15,12 @@ loop-y-init g c =
     let size = size_of (frame_of c.args.field.now) c.args.c in
     record {
       wide = refl;
-      passed = no_rows c.args.writer.now.wide size.w 0 (split_lines size c.args.line (shown c.args.frame.now c.args.c)).cells (g.K.Sink.written c.args.out.now) c.args.writer.now.waiting refl;
+      passed = no_rows c.args.writer.now.wide size.w 0 (split_lines size c.args.line (component_shown c.args.frame.now c.args.c)).cells (g.K.Sink.written c.args.out.now) c.args.writer.now.waiting refl;
       steady = refl;
     }
 
 pub slice_bounds-put-end : goal.slice_bounds-put-end
 slice_bounds-put-end g c =
-    let written = g.K.Sink.written in
     let frame = c.args.frame.now in
     let k = c.args.c in
     let size = size_of (frame_of c.args.field.now) k in
@@ -62,11 +61,11 @@ returns-in_err-put-clause-err g c =
     let fits : from + w ≤ length cells =
     subst (λ (n : ℕ). (2 * y + line) * n + n ≤ length cells) (sym wide) (omega (arith, all, row_inside (2 * y + line) size.w (2 * size.h) few)) in
     let row = take (from + w - from) (drop from cells) in
-    let g1 : ℕ → ℕ → ℕ = λ y x. sample_at (shown frame k) (2 * y + line) x in
+    let g1 : ℕ → ℕ → ℕ = λ y x. sample_at (component_shown frame k) (2 * y + line) x in
     let long : length row ≡ size.w = lent_long cells from w fits ∙ wide in
     let each : (x : ℕ) → x < size.w → get_or row x 0 ≡ g1 y x = λ x across.
     lent_at cells from w x (omega (arith, across, wide)) ∙ ap (λ (l : List ℕ). get_or l (from + x) 0) c.samples-samples.ensures.value
-    ∙ ap (λ (n : ℕ). get_or (shown frame k).cells ((2 * y + line) * n + x) 0) (wide ∙ sym (ap (λ (z : Size). z.w) twice) ∙ sym c.samples-samples.ensures.width) in
+    ∙ ap (λ (n : ℕ). get_or (component_shown frame k).cells ((2 * y + line) * n + x) 0) (wide ∙ sym (ap (λ (z : Size). z.w) twice) ∙ sym c.samples-samples.ensures.width) in
     let b = c.args.writer.now.wide in
     let out0 = written c.args.out.now in
     let out1 = written c.loop-y.out in
@@ -96,11 +95,11 @@ loop-y-preserved g c =
     let fits : from + w ≤ length cells =
     subst (λ (n : ℕ). (2 * y + line) * n + n ≤ length cells) (sym wide) (omega (arith, all, row_inside (2 * y + line) size.w (2 * size.h) few)) in
     let row = take (from + w - from) (drop from cells) in
-    let g1 : ℕ → ℕ → ℕ = λ y x. sample_at (shown frame k) (2 * y + line) x in
+    let g1 : ℕ → ℕ → ℕ = λ y x. sample_at (component_shown frame k) (2 * y + line) x in
     let long : length row ≡ size.w = lent_long cells from w fits ∙ wide in
     let each : (x : ℕ) → x < size.w → get_or row x 0 ≡ g1 y x = λ x across.
     lent_at cells from w x (omega (arith, across, wide)) ∙ ap (λ (l : List ℕ). get_or l (from + x) 0) c.samples-samples.ensures.value
-    ∙ ap (λ (n : ℕ). get_or (shown frame k).cells ((2 * y + line) * n + x) 0) (wide ∙ sym (ap (λ (z : Size). z.w) twice) ∙ sym c.samples-samples.ensures.width) in
+    ∙ ap (λ (n : ℕ). get_or (component_shown frame k).cells ((2 * y + line) * n + x) 0) (wide ∙ sym (ap (λ (z : Size). z.w) twice) ∙ sym c.samples-samples.ensures.width) in
     let b = c.args.writer.now.wide in
     let out0 = written c.args.out.now in
     let out1 = written c.loop-y.out in
@@ -120,5 +119,5 @@ returns-clause-ok g c =
     let k = c.args.c in
     let size = size_of (frame_of c.args.field.now) k in
     let line = c.args.line in
-    rows_passed c.args.writer.now.wide size (λ y x. sample_at (shown c.args.frame.now k) (2 * y + line) x) c.loop-y.y (written c.args.out.now) (written c.loop-y.out) c.args.writer.now.waiting c.loop-y.writer.waiting
+    rows_passed c.args.writer.now.wide size (λ y x. sample_at (component_shown c.args.frame.now k) (2 * y + line) x) c.loop-y.y (written c.args.out.now) (written c.loop-y.out) c.args.writer.now.waiting c.loop-y.writer.waiting
     (omega (arith, c.loop-y-test.false, ap (λ (z : Size). z.h) c.size_of-size.ensures.value)) c.loop-y.invariant.passed

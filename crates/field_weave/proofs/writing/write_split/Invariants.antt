@@ -1,7 +1,7 @@
 use Rattle.std.proofs.Common.{◌≡◌, ◌*◌, take}
 use Rattle.slice_geometry.specs.Frames.{frame_of}
 use Rattle.picture_codec.specs.Pictures.{size_of}
-use Rattle.picture_codec.specs.Samples.{shown}
+use Rattle.picture_codec.specs.Samples.{component_shown}
 use Rattle.raw_video.specs.RawText.{text_of}
 use Rattle.raw_video.specs.Waiting.{PassesOn}
 use Rattle.field_weave.specs.Weaving.{split_lines}
@@ -13,6 +13,6 @@ invariant-loop-y g l =
     let size = size_of (frame_of l.fn.field) l.fn.c in
     record {
       wide : l.writer.wide ≡ l.fn.writer.wide;
-      passed : PassesOn (written l.fn.out) (written l.out) l.fn.writer.waiting l.writer.waiting (text_of l.fn.writer.wide (take (l.y * size.w) (split_lines size l.line (shown l.frame l.fn.c)).cells));
+      passed : PassesOn (written l.fn.out) (written l.out) l.fn.writer.waiting l.writer.waiting (text_of l.fn.writer.wide (take (l.y * size.w) (split_lines size l.line (component_shown l.frame l.fn.c)).cells));
       steady : g.K.Sink.faults l.out ≡ g.K.Sink.faults l.fn.out;
     }

@@ -7,7 +7,7 @@ use Rattle.slice_geometry.specs.Geometry.{padded_size}
 use Rattle.slice_geometry.specs.Frames.{frame_of}
 use Rattle.lifting.specs.SampleRoom.{HaveRoom, AreSmallIn, synthesis_of}
 use Rattle.picture_codec.specs.Pictures.{size_of}
-use Rattle.picture_codec.specs.Samples.{SamplesSeen, PictureSeen, bits_of, with_component, with_shown}
+use Rattle.picture_codec.specs.Samples.{SamplesSeen, PictureSeen, sample_bits, with_component, with_shown}
 use Rattle.picture_codec.proofs.Sizes as sizes
 use Rattle.picture_codec.proofs.decoded_bands.show_in_64_bits.Goals as goal
 
@@ -72,4 +72,4 @@ returns-clause-picture c =
     let with_rows : SamplesSeen → PictureSeen = λ rows. record p { samples = with_component p.samples c.args.c rows } in
     c.synthesise.ensures.samples
     ∙ ap (λ (z : Size). with_shown p c.args.c (synthesis_of c.args.params.now.wavelet c.args.bands.now z.w z.h)) padded
-    ∙ ap with_rows (sizes.synthesised_is s size c.args.bands.now (slice_count s) taken low is c.args.params.now.wavelet (bits_of p c.args.c))
+    ∙ ap with_rows (sizes.synthesised_is s size c.args.bands.now (slice_count s) taken low is c.args.params.now.wavelet (sample_bits p c.args.c))

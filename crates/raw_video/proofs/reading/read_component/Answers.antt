@@ -5,7 +5,7 @@ use Rattle.std.proofs.lemmas.Result.{err_from_is_err_and}
 use Rattle.slice_geometry.specs.declared.PictureShape.{PictureShape}
 use Rattle.picture_codec.specs.Pictures.{depth_of}
 use Rattle.slice_geometry.specs.Frames.{frame_of}
-use Rattle.picture_codec.specs.Samples.{PictureSeen, SamplesSeen, shown, with_run, width_of, height_of, bits_of}
+use Rattle.picture_codec.specs.Samples.{PictureSeen, SamplesSeen, component_shown, with_run, width_of, height_of, sample_bits}
 use Rattle.raw_video.specs.RawText.{is_wide}
 use Rattle.raw_video.specs.RawParse.{sample_size}
 use Rattle.raw_video.specs.Reading.{ReadsSamples}
@@ -21,7 +21,7 @@ loop-piece-init g c =
     let most = c.samples_a_read-most.result in
     let picture = c.args.picture.now in
     let wide = c.are_wide-wide.ensures ∙ ap (λ (s : PictureShape). is_wide (frame_of s)) c.shape.ensures in
-    let bound : c.bound_of-bound.result ≡ 2 ^ bits_of picture c.args.c = c.bound_of-bound.ensures ∙ ap (λ (d : ℕ). 2 ^ d) (c.depth_of.ensures.value ∙ ap (λ (s : PictureShape). depth_of (frame_of s) c.args.c) c.shape-2.ensures) in
+    let bound : c.bound_of-bound.result ≡ 2 ^ sample_bits picture c.args.c = c.bound_of-bound.ensures ∙ ap (λ (d : ℕ). 2 ^ d) (c.depth_of.ensures.value ∙ ap (λ (s : PictureShape). depth_of (frame_of s) c.args.c) c.shape-2.ensures) in
     record {
       bytes_long = refl;
       long = refl;
@@ -30,7 +30,7 @@ loop-piece-init g c =
       size = sym c.samples-count.ensures.count;
       below = sym bound;
       so_far =
-          reads_nothing c.are_wide-wide.result c.args.start c.args.room c.bound_of-bound.result rest (shown picture c.args.c).cells (min count (most * 0)) (omega arith)
+          reads_nothing c.are_wide-wide.result c.args.start c.args.room c.bound_of-bound.result rest (component_shown picture c.args.c).cells (min count (most * 0)) (omega arith)
           (subst (λ (w : Bool). sample_size w * c.args.start ≤ c.args.room) (sym wide) c.requires.inside);
       others = λ other ne. refl;
       steady = refl;
@@ -46,15 +46,15 @@ returns-in_err-read_piece-clause-read g c =
     let inside : from < count = piece_inside c.are_wide-wide.result c.samples_a_read-most.result count c.loop-piece.piece c.samples_a_read-most.ensures c.loop-piece-test.true in
     let done : min count from ≡ from = omega (arith, inside) in
     let wide = c.are_wide-wide.ensures ∙ ap (λ (s : PictureShape). is_wide (frame_of s)) c.shape.ensures in
-    let bound : c.bound_of-bound.result ≡ 2 ^ bits_of c.args.picture.now c.args.c = c.bound_of-bound.ensures ∙ ap (λ (d : ℕ). 2 ^ d) (c.depth_of.ensures.value ∙ ap (λ (s : PictureShape). depth_of (frame_of s) c.args.c) c.shape-2.ensures) in
+    let bound : c.bound_of-bound.result ≡ 2 ^ sample_bits c.args.picture.now c.args.c = c.bound_of-bound.ensures ∙ ap (λ (d : ℕ). 2 ^ d) (c.depth_of.ensures.value ∙ ap (λ (s : PictureShape). depth_of (frame_of s) c.args.c) c.shape-2.ensures) in
     let p = err_from_is_err_and c.from_residual.result c.from_residual.ensures.1 in
     rw (p.1, p.2)
-    (let cells = (shown c.loop-piece.picture c.args.c).cells in
+    (let cells = (component_shown c.loop-piece.picture c.args.c).cells in
     let so_far = subst (λ (m : ℕ). ReadsSamples c.are_wide-wide.result c.args.start c.args.room (replicate m c.bound_of-bound.result) (rest c.args.src.now) (rest c.loop-piece.src) (take m cells) (Ok tt)) done i.so_far in
     let all = piece_halted c.are_wide-wide.result c.args.start c.args.room from n c.bound_of-bound.result (rest c.args.src.now) (rest c.loop-piece.src) (rest c.read_piece.new.src) (take from cells) so_far
     (take n c.read_piece.new.samples) cells count _ (omega (arith, c.min-n.ensures, inside)) c.in_err-read_piece.ensures.piece in
-    subst (λ w. ReadsSamples w c.args.start c.args.room (replicate (height_of c.args.picture.now c.args.c * width_of c.args.picture.now c.args.c) (2 ^ bits_of c.args.picture.now c.args.c)) (rest c.args.src.now) (rest c.read_piece.new.src) cells (Err c.in_err-read_piece.field-0.0)) wide
-    (subst (λ (m : ℕ). ReadsSamples c.are_wide-wide.result c.args.start c.args.room (replicate m (2 ^ bits_of c.args.picture.now c.args.c)) (rest c.args.src.now) (rest c.read_piece.new.src) cells (Err c.in_err-read_piece.field-0.0)) c.samples-count.ensures.count
+    subst (λ w. ReadsSamples w c.args.start c.args.room (replicate (height_of c.args.picture.now c.args.c * width_of c.args.picture.now c.args.c) (2 ^ sample_bits c.args.picture.now c.args.c)) (rest c.args.src.now) (rest c.read_piece.new.src) cells (Err c.in_err-read_piece.field-0.0)) wide
+    (subst (λ (m : ℕ). ReadsSamples c.are_wide-wide.result c.args.start c.args.room (replicate m (2 ^ sample_bits c.args.picture.now c.args.c)) (rest c.args.src.now) (rest c.read_piece.new.src) cells (Err c.in_err-read_piece.field-0.0)) c.samples-count.ensures.count
     (subst (λ (b : ℕ). ReadsSamples c.are_wide-wide.result c.args.start c.args.room (replicate count b) (rest c.args.src.now) (rest c.read_piece.new.src) cells (Err c.in_err-read_piece.field-0.0)) bound all)))
 
 pub put_samples-requires-clause-small : goal.put_samples-requires-clause-small
@@ -72,13 +72,13 @@ loop-piece-preserved g c =
     let n = c.min-n.result in
     let old = c.loop-piece.picture in
     let new = c.put_samples.new.self in
-    let rows : SamplesSeen = shown old c.args.c in
+    let rows : SamplesSeen = component_shown old c.args.c in
     let samples = take n c.read_piece.new.samples in
     let inside : from < count = piece_inside c.are_wide-wide.result c.samples_a_read-most.result count c.loop-piece.piece c.samples_a_read-most.ensures c.loop-piece-test.true in
     let done : min count from ≡ from = omega (arith, inside) in
     let many : length samples ≡ n = omega (arith, length-take n c.read_piece.new.samples, c.read_piece.ensures.len, c.min-n.ensures, (size_is c.are_wide-wide.result).1, c.samples_a_read-most.ensures) in
     let is = c.put_samples.ensures in
-    let here : shown new c.args.c ≡ with_run rows from samples = ap (λ (p : PictureSeen). shown p c.args.c) is ∙ put_here old.samples c.args.c (with_run rows from samples) in
+    let here : component_shown new c.args.c ≡ with_run rows from samples = ap (λ (p : PictureSeen). component_shown p c.args.c) is ∙ put_here old.samples c.args.c (with_run rows from samples) in
     let same_shape : new.shape ≡ old.shape = ap (λ (p : PictureSeen). p.shape) is in
     let so_far = subst (λ (m : ℕ). ReadsSamples c.are_wide-wide.result c.args.start c.args.room (replicate m c.bound_of-bound.result) (rest c.args.src.now) (rest c.loop-piece.src) (take m rows.cells) (Ok tt)) done i.so_far in
     let next : min count (c.samples_a_read-most.result * (c.loop-piece.piece + 1)) ≡ from + n = omega (arith, c.min-n.ensures, inside, piece_next c.are_wide-wide.result c.samples_a_read-most.result count c.loop-piece.piece c.samples_a_read-most.ensures) in
@@ -88,13 +88,13 @@ loop-piece-preserved g c =
       same_shape = same_shape ∙ i.same_shape;
       many = ap (λ (r : SamplesSeen). length r.cells) here ∙ run_long rows from samples (omega (arith, many, i.many, c.min-n.ensures, inside)) ∙ i.many;
       size = ap (λ (p : PictureSeen). height_of p c.args.c * width_of p c.args.c) is ∙ i.size;
-      below = ap (λ (p : PictureSeen). 2 ^ bits_of p c.args.c) is ∙ i.below;
+      below = ap (λ (p : PictureSeen). 2 ^ sample_bits p c.args.c) is ∙ i.below;
       so_far =
           piece_more c.are_wide-wide.result c.args.start c.args.room from n c.bound_of-bound.result (rest c.args.src.now) (rest c.loop-piece.src) (rest c.read_piece.new.src) (take from rows.cells) so_far samples
-          (take (min count (c.samples_a_read-most.result * (c.loop-piece.piece + 1))) (shown new c.args.c).cells) (min count (c.samples_a_read-most.result * (c.loop-piece.piece + 1))) next
-          (ap (λ (m : ℕ). take m (shown new c.args.c).cells) next ∙ ap (λ (r : SamplesSeen). take (from + n) r.cells) here ∙ run_front rows from n samples (omega (arith, i.many, inside)) many)
+          (take (min count (c.samples_a_read-most.result * (c.loop-piece.piece + 1))) (component_shown new c.args.c).cells) (min count (c.samples_a_read-most.result * (c.loop-piece.piece + 1))) next
+          (ap (λ (m : ℕ). take m (component_shown new c.args.c).cells) next ∙ ap (λ (r : SamplesSeen). take (from + n) r.cells) here ∙ run_front rows from n samples (omega (arith, i.many, inside)) many)
           c.in_ok-read_piece.ensures.piece;
-      others = λ other ne. ap (λ (p : PictureSeen). shown p other) is ∙ put_others old.samples c.args.c other (with_run rows from samples) ne ∙ i.others other ne;
+      others = λ other ne. ap (λ (p : PictureSeen). component_shown p other) is ∙ put_others old.samples c.args.c other (with_run rows from samples) ne ∙ i.others other ne;
       steady = c.in_ok-read_piece.ensures.cause ∙ i.steady;
     }
 

@@ -3,7 +3,7 @@ use Rattle.slice_geometry.specs.declared.Size.{Size}
 use Rattle.slice_geometry.specs.declared.PictureShape.{PictureShape}
 use Rattle.slice_geometry.specs.Frames.{frame_of}
 use Rattle.picture_codec.specs.Pictures.{size_of, depth_of}
-use Rattle.picture_codec.specs.Samples.{SamplesSeen, PictureSeen, shown, width_of, height_of, bits_of, sample_at, with_run}
+use Rattle.picture_codec.specs.Samples.{SamplesSeen, PictureSeen, component_shown, width_of, height_of, sample_bits, sample_at, with_run}
 use Rattle.raw_video.proofs.ComponentTurns.{run_long, put_here, put_others}
 use Rattle.trial_video.specs.Video.{state_at, video_rows}
 use Rattle.trial_video.proofs.States.{sample_from, more_steps}
@@ -52,7 +52,7 @@ put_samples-requires-clause-inside c =
 
 pub put_samples-requires-clause-small : goal.put_samples-requires-clause-small
 put_samples-requires-clause-small c =
-    let deep : c.depth_of-depth.result ≡ bits_of c.loop-y.picture c.args.c = c.depth_of-depth.ensures.value ∙ ap (λ (s : PictureShape). depth_of (frame_of s) c.args.c) (c.shape-2.ensures ∙ sym c.loop-y.invariant.same_shape) in
+    let deep : c.depth_of-depth.result ≡ sample_bits c.loop-y.picture c.args.c = c.depth_of-depth.ensures.value ∙ ap (λ (s : PictureShape). depth_of (frame_of s) c.args.c) (c.shape-2.ensures ∙ sym c.loop-y.invariant.same_shape) in
     subst (λ (b : ℕ). All (λ v. v < 2 ^ b) c.fill_row-state.new.row) deep c.fill_row-state.ensures.below
 
 pub loop-y-preserved : goal.loop-y-preserved
@@ -66,11 +66,11 @@ loop-y-preserved c =
     let line = c.fill_row-state.new.row in
     let old = c.loop-y.picture in
     let new = c.put_samples.new.self in
-    let rows : SamplesSeen = shown old c.args.c in
+    let rows : SamplesSeen = component_shown old c.args.c in
     let is = c.put_samples.ensures in
     let long : length line ≡ w = c.fill_row-state.ensures.len ∙ i.long in
-    let here : shown new c.args.c ≡ with_run rows (y * w) line =
-    ap (λ (q : PictureSeen). shown q c.args.c) is ∙ put_here old.samples c.args.c (with_run rows (y * length line) line) ∙ ap (λ (n : ℕ). with_run rows (y * n) line) long in
+    let here : component_shown new c.args.c ≡ with_run rows (y * w) line =
+    ap (λ (q : PictureSeen). component_shown q c.args.c) is ∙ put_here old.samples c.args.c (with_run rows (y * length line) line) ∙ ap (λ (n : ℕ). with_run rows (y * n) line) long in
     let fits : y * w + length line ≤ length rows.cells = omega (arith, long, i.many, row_ends y w h c.loop-y-test.true) in
     let first : 2 * c.from.result + 3 * c.args.p ≡ 2 * y + 3 * c.args.p = omega (arith, c.from.ensures) in
     record {
@@ -91,7 +91,7 @@ loop-y-preserved c =
           ∙ ap (λ (n : ℕ). (z + n + state_at c.loop-y.state (z + 1) / 4096) % 2 ^ depth) first
           ∙ ap (λ (s : ℕ). (z + (2 * y + 3 * c.args.p) + state_at s (z + 1) / 4096) % 2 ^ depth) i.state)
           k x lt across;
-      others = λ other ne. ap (λ (q : PictureSeen). shown q other) is ∙ put_others old.samples c.args.c other (with_run rows (y * length line) line) ne ∙ i.others other ne;
+      others = λ other ne. ap (λ (q : PictureSeen). component_shown q other) is ∙ put_others old.samples c.args.c other (with_run rows (y * length line) line) ne ∙ i.others other ne;
     }
   where
     next_row : (y w : ℕ) → y * w + w ≡ (y + 1) * w
@@ -103,13 +103,13 @@ returns-clause-rows c = λ seed first e.
     let size = c.size_of-size.result in
     let depth = c.depth_of-depth.result in
     let start = c.args.start in
-    let rows : SamplesSeen = shown c.loop-y.picture c.args.c in
+    let rows : SamplesSeen = component_shown c.loop-y.picture c.args.c in
     let sized : size ≡ size_of (frame_of c.args.picture.now.shape) c.args.c = c.size_of-size.ensures.value ∙ ap (λ (s : PictureShape). size_of (frame_of s) c.args.c) c.shape.ensures in
-    let deep : depth ≡ bits_of c.args.picture.now c.args.c = c.depth_of-depth.ensures.value ∙ ap (λ (s : PictureShape). depth_of (frame_of s) c.args.c) c.shape-2.ensures in
+    let deep : depth ≡ sample_bits c.args.picture.now c.args.c = c.depth_of-depth.ensures.value ∙ ap (λ (s : PictureShape). depth_of (frame_of s) c.args.c) c.shape-2.ensures in
     let wide : length c.args.line.now ≡ size.w = c.requires.long ∙ sym (ap (λ (z : Size). z.w) sized) in
     rows_are rows size seed first start c.args.p depth (i.width ∙ wide) i.height (i.many ∙ ap (λ (n : ℕ). size.h * n) wide) e
     (subst (λ (n : ℕ). (y x : ℕ) → y < size.h → x < n → sample_at rows y x ≡ sample_from start c.args.p depth n y x) wide (λ y x down across. i.done y x (omega (arith, down, c.loop-y-test.false)) across))
-    ∙ ap (λ (d : ℕ). video_rows seed c.args.p first d size) deep ∙ ap (λ (z : Size). video_rows seed c.args.p first (bits_of c.args.picture.now c.args.c) z) sized
+    ∙ ap (λ (d : ℕ). video_rows seed c.args.p first d size) deep ∙ ap (λ (z : Size). video_rows seed c.args.p first (sample_bits c.args.picture.now c.args.c) z) sized
 
 pub returns-clause-state : goal.returns-clause-state
 returns-clause-state c =

@@ -12,7 +12,7 @@ found_worst-requires c =
     let a = c.args in
     let s : Asked = shown a.settings.now in
     let start_is : comparison_of c.new-2.result a.part.pictures 0 ≡ nothing_compared s a.part = begins_as s a.part c.new-2.result c.picture_shape-shape.result c.new-2.ensures (frame_is s.parts c.picture_shape-shape.result c.picture_shape-shape.ensures) in
-    let e = compared_here s a.part c.requires.lawful c.requires.flat (comparison_of c.new-2.result a.part.pictures 0) c.new-src.result start_is (c.new-src.ensures ∙ c.requires.stream) in
+    let e = compared_here s a.part c.requires.lawful c.requires.steep (comparison_of c.new-2.result a.part.pictures 0) c.new-src.result start_is (c.new-src.ensures ∙ c.requires.stream) in
     (trial_worst s a.part, is_compared _ _ c.new-src.result (trial_worst s a.part) c.run_units-outcome.result c.run_units-outcome.ensures.runs.ran c.run_units-outcome.ensures.runs.cause e)
 
 pub returns-in-Ok-made : goal.returns-in-Ok-made
@@ -20,5 +20,5 @@ returns-in-Ok-made c =
     let a = c.args in
     let s : Asked = shown a.settings.now in
     let start_is : comparison_of c.new-2.result a.part.pictures 0 ≡ nothing_compared s a.part = begins_as s a.part c.new-2.result c.picture_shape-shape.result c.new-2.ensures (frame_is s.parts c.picture_shape-shape.result c.picture_shape-shape.ensures) in
-    let e = compared_here s a.part c.requires.lawful c.requires.flat (comparison_of c.new-2.result a.part.pictures 0) c.new-src.result start_is (c.new-src.ensures ∙ c.requires.stream) in
+    let e = compared_here s a.part c.requires.lawful c.requires.steep (comparison_of c.new-2.result a.part.pictures 0) c.new-src.result start_is (c.new-src.ensures ∙ c.requires.stream) in
     c.found_worst.ensures (trial_worst s a.part) (is_compared _ _ c.new-src.result (trial_worst s a.part) c.run_units-outcome.result c.run_units-outcome.ensures.runs.ran c.run_units-outcome.ensures.runs.cause e)

@@ -42,4 +42,4 @@ returns g c =
     let to0 = g.K.Sink.faults c.args.out.now in
     let to1 = g.K.Sink.faults c.start-started.new.sink in
     subst (λ (x : Result Ending Halt). Runs (encode_machine e) IsDone (record { was = rest; is = rest; faults_were = faults; faults_are = faults }) (record { was = out0; is = out1; faults_were = to0; faults_are = to1 }) x) (sym c.without_unit.ensures)
-    (runs_unopened e rest out0 out1 faults to0 to1 c.in-Err-started.stop c.requires.flat c.in-Err-started.ensures.starts c.in-Err-started.ensures.cause)
+    (runs_unopened e rest out0 out1 faults to0 to1 c.in-Err-started.stop c.requires.steep c.in-Err-started.ensures.starts c.in-Err-started.ensures.cause)

@@ -7,7 +7,7 @@ use Rattle.picture_codec.specs.Samples.{PictureSeen}
 use Rattle.stream_rows.specs.Streams.{frame_under}
 use Rattle.stream_rows.proofs.Frames.{frame_is}
 use Rattle.vc2_words.proofs.Plainness.{some_same}
-use Rattle.field_weave.specs.Weaving.{doubled}
+use Rattle.field_weave.specs.Weaving.{frame_of_two}
 use Rattle.vc2_cli.proofs.FieldSizes.{luma_doubled, colour_doubled}
 use Rattle.vc2_cli.proofs.frames.frame_for.Goals as goal
 
@@ -32,5 +32,5 @@ returns-in-Ok c = λ parts is fields.
       c.in-Ok.frame,
       refl,
       ap (λ (p : PictureSeen). frame_of p.shape) c.in-Ok.ensures ∙ c.frame_shape-shape.ensures
-          ∙ ap doubled (frame_is header c.picture_shape.result c.picture_shape.ensures ∙ ap (λ (p : HeaderParts). frame_under p) same),
+          ∙ ap frame_of_two (frame_is header c.picture_shape.result c.picture_shape.ensures ∙ ap (λ (p : HeaderParts). frame_under p) same),
     )

@@ -3,12 +3,12 @@ use Rattle.std.specs.Vec.Iter.{into_iter_items}
 use Rattle.vc2_cli.specs.declared.status.Status.{Status}
 use Rattle.vc2_cli.specs.Exit.{exit_code_of}
 use Rattle.run_theory.specs.Runs.{Change, change}
-use Rattle.vc2_cli.specs.Program.{Ran, Exits}
+use Rattle.vc2_cli.specs.Program.{ProgramRan, Exits}
 use Rattle.vc2_cli.proofs.program.run_to_exit.Goals as goal
 
 -- the same words
-exits_by : (words other : List (List ℕ)) (src out note : Change) (told : Status) (code : ℕ) → other ≡ words → Ran other src out note told → code ≡ exit_code_of told → Exits words src out note code
-exits_by words other src out note told code same ran is = inl (told, subst (λ l. Ran l src out note told) same ran, is)
+exits_by : (words other : List (List ℕ)) (src out note : Change) (told : Status) (code : ℕ) → other ≡ words → ProgramRan other src out note told → code ≡ exit_code_of told → Exits words src out note code
+exits_by words other src out note told code same ran is = inl (told, subst (λ l. ProgramRan l src out note told) same ran, is)
 
 if_ok : {T E : Type 0} (P : T → Type 0) (r : Result T E) (x : T) → r ≡ Ok x → P x → IfOk r P
 if_ok {T} {E} P r x is p = subst (λ (y : Result T E). IfOk y P) (sym is) p

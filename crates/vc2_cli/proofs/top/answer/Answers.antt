@@ -2,7 +2,7 @@ use Rattle.std.proofs.Common.{Ok, Result, ap, ◌∙◌, subst, sym}
 use Rattle.run_theory.specs.Runs.{change}
 use Rattle.vc2_words.specs.declared.words.Command.{Command}
 use Rattle.vc2_words.specs.declared.keys.WordFault.{WordFault}
-use Rattle.vc2_words.specs.Commands.{seen}
+use Rattle.vc2_words.specs.Commands.{command_seen}
 use Rattle.vc2_cli.specs.Words.{seen_words}
 use Rattle.vc2_cli.specs.Reply.{command_reply, command_due}
 use Rattle.vc2_cli.specs.Running.{running_of}
@@ -21,7 +21,7 @@ returns-in-Ok-clause-settled g c = λ input e.
     let note0 = g.N.Sink.written c.args.note.now in
     let note1 = g.N.Sink.written c.conclude.new.note in
     subst (λ (r : Result Command WordFault). Settles (command_reply (seen_words r) input) (command_due (seen_words r)) input rest1 out0 out1 note0 note1 c.conclude.result) (sym c.in-Ok.is)
-    (settles (running_of (seen c.in-Ok.command)) rest1 out0 out1 note0 note1 input c.perform.result c.conclude.result (c.perform.ensures.runs.comes input e) c.conclude.ensures.told)
+    (settles (running_of (command_seen c.in-Ok.command)) rest1 out0 out1 note0 note1 input c.perform.result c.conclude.result (c.perform.ensures.runs.comes input e) c.conclude.ensures.told)
 
 pub returns-in-Ok-clause-limit : goal.returns-in-Ok-clause-limit
 returns-in-Ok-clause-limit g c = c.perform.ensures.runs.limit
@@ -38,18 +38,18 @@ returns-in-Ok-clause-trial g c =
     let src = change g.S.Source.rest g.S.Source.faults c.args.src.now c.perform.new.src in
     let out = change g.K.Sink.written g.K.Sink.faults c.args.out.now c.perform.new.out in
     trial_at _ _ _ c.in-Ok.is
-    (if_trial (seen c.in-Ok.command) src out (g.N.Sink.written c.args.note.now) (g.N.Sink.written c.conclude.new.note) c.perform.result c.conclude.result c.perform.ensures.more c.conclude.ensures.told)
+    (if_trial (command_seen c.in-Ok.command) src out (g.N.Sink.written c.args.note.now) (g.N.Sink.written c.conclude.new.note) c.perform.result c.conclude.result c.perform.ensures.more c.conclude.ensures.told)
 
 pub returns-in-Ok-clause-header : goal.returns-in-Ok-clause-header
 returns-in-Ok-clause-header g c =
     let src = change g.S.Source.rest g.S.Source.faults c.args.src.now c.perform.new.src in
     let out = change g.K.Sink.written g.K.Sink.faults c.args.out.now c.perform.new.out in
-    header_at _ _ _ c.in-Ok.is (if_header (seen c.in-Ok.command) src out c.perform.result c.perform.ensures.more)
+    header_at _ _ _ c.in-Ok.is (if_header (command_seen c.in-Ok.command) src out c.perform.result c.perform.ensures.more)
 
 pub returns-in-Ok-clause-soon : goal.returns-in-Ok-clause-soon
 returns-in-Ok-clause-soon g c = λ input e.
     units_at (λ r most. StopsSoon (command_reply r) most input (g.S.Source.rest c.perform.new.src) c.conclude.result) _ _ c.in-Ok.is
-    (units_soon (running_of (seen c.in-Ok.command)) (g.S.Source.rest c.args.src.now) (g.S.Source.rest c.perform.new.src) (g.N.Sink.written c.args.note.now) (g.N.Sink.written c.conclude.new.note) input c.perform.result c.conclude.result e c.perform.ensures.runs.soon c.conclude.ensures.told)
+    (units_soon (running_of (command_seen c.in-Ok.command)) (g.S.Source.rest c.args.src.now) (g.S.Source.rest c.perform.new.src) (g.N.Sink.written c.args.note.now) (g.N.Sink.written c.conclude.new.note) input c.perform.result c.conclude.result e c.perform.ensures.runs.soon c.conclude.ensures.told)
 
 pub perform-requires-clause-schedule : goal.perform-requires-clause-schedule
 perform-requires-clause-schedule g c = λ schedule is. c.requires.schedule schedule (ap seen_words c.in-Ok.is ∙ ap Ok is)

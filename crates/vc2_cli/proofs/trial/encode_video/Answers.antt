@@ -16,7 +16,7 @@ write_video-result-requires-clause-begun c =
     let a = c.args in
     let s : Asked = shown a.settings.now in
     let made = c.new-video.ensures in
-    begins s a.part c.requires.lawful c.requires.flat c.new-video.result c.in-Ok-started.writer a.sink.now c.start-started.new.sink
+    begins s a.part c.requires.lawful c.requires.steep c.new-video.result c.in-Ok-started.writer a.sink.now c.start-started.new.sink
     (ap (λ (v : TrialVideoSeen). frame_of v.shape) made ∙ frame_is s.parts c.picture_shape-shape.result c.picture_shape-shape.ensures) (ap (λ (v : TrialVideoSeen). v.seed) made) (ap (λ (v : TrialVideoSeen). v.pictures) made)
     c.in-Ok-started.ensures.starts.0 c.requires.empty c.requires.room c.in-Ok-started.ensures.starts.2
 
@@ -26,4 +26,4 @@ want_of-requires c =
     let s : Asked = shown a.settings.now in
     let long : length (header_unit s.parts) ≡ header_length s.parts = length-header_unit s.parts in
     let none : length a.sink.now.bytes ≡ 0 = ap (λ (l : List ℕ). length l) c.requires.empty in
-    start_stop (written_under s) a.sink.now c.start-started.new.sink c.in-Err-started.stop c.requires.flat c.steady.ensures c.steady-2.ensures c.in-Err-started.ensures.starts c.in-Err-started.ensures.cause (omega (arith, long, none, c.requires.room))
+    start_stop (written_under s) a.sink.now c.start-started.new.sink c.in-Err-started.stop c.requires.steep c.steady.ensures c.steady-2.ensures c.in-Err-started.ensures.starts c.in-Err-started.ensures.cause (omega (arith, long, none, c.requires.room))

@@ -4,7 +4,7 @@ use Rattle.slice_geometry.specs.declared.Component.{Component}
 use Rattle.slice_geometry.specs.declared.Component.TheVariants.{Luma, C1, C2}
 use Rattle.lifting.specs.SampleRoom.{synthesis_of}
 use Rattle.picture_codec.specs.Pictures.{sample_of}
-use Rattle.picture_codec.specs.Samples.{AreSamples, SamplesSeen, PictureSeen, tabulated, with_shown}
+use Rattle.picture_codec.specs.Samples.{AreSamples, SamplesSeen, PictureSeen, samples_by, with_shown}
 use Rattle.picture_codec.proofs.Whole.{shown_fits}
 use Rattle.picture_codec.proofs.picture.Picture.synthesise.Goals as goal
 
@@ -48,7 +48,7 @@ returns-in-Luma-clause-samples c =
     let g = synthesis_of c.args.wavelet c.args.bands.now c.args.padded.w c.args.padded.h in
     let size : (record { w = c.self.inside.luma.w; h = c.self.inside.luma.h }) ≡ shape.luma = ap (λ (w : ℕ). record { w = w; h = c.self.inside.luma.h }) was.luma.width ∙ ap (λ (h : ℕ). record { w = shape.luma.w; h = h }) was.luma.height in
     let with_rows : SamplesSeen → PictureSeen = λ rows. record { shape = shape; samples = record { luma = rows; c1 = c.self.inside.c1; c2 = c.self.inside.c2 } } in
-    ap with_rows (c.synthesise.ensures.samples ∙ ap (λ (z : Size). tabulated z (λ y x. sample_of shape.luma_depth (g y x))) size)
+    ap with_rows (c.synthesise.ensures.samples ∙ ap (λ (z : Size). samples_by z (λ y x. sample_of shape.luma_depth (g y x))) size)
     ∙ ap (λ (p : PictureSeen). with_shown p Luma g) c.self.view_is
     ∙ ap (λ (k : Component). with_shown c.args.self.now k g) (sym c.in-Luma.is)
 
@@ -59,7 +59,7 @@ returns-in-C1-clause-samples c =
     let g = synthesis_of c.args.wavelet c.args.bands.now c.args.padded.w c.args.padded.h in
     let size : (record { w = c.self.inside.c1.w; h = c.self.inside.c1.h }) ≡ shape.colour = ap (λ (w : ℕ). record { w = w; h = c.self.inside.c1.h }) was.c1.width ∙ ap (λ (h : ℕ). record { w = shape.colour.w; h = h }) was.c1.height in
     let with_rows : SamplesSeen → PictureSeen = λ rows. record { shape = shape; samples = record { luma = c.self.inside.luma; c1 = rows; c2 = c.self.inside.c2 } } in
-    ap with_rows (c.synthesise-in-C1.ensures.samples ∙ ap (λ (z : Size). tabulated z (λ y x. sample_of shape.colour_depth (g y x))) size)
+    ap with_rows (c.synthesise-in-C1.ensures.samples ∙ ap (λ (z : Size). samples_by z (λ y x. sample_of shape.colour_depth (g y x))) size)
     ∙ ap (λ (p : PictureSeen). with_shown p C1 g) c.self.view_is
     ∙ ap (λ (k : Component). with_shown c.args.self.now k g) (sym c.in-C1.is)
 
@@ -70,6 +70,6 @@ returns-in-C2-clause-samples c =
     let g = synthesis_of c.args.wavelet c.args.bands.now c.args.padded.w c.args.padded.h in
     let size : (record { w = c.self.inside.c2.w; h = c.self.inside.c2.h }) ≡ shape.colour = ap (λ (w : ℕ). record { w = w; h = c.self.inside.c2.h }) was.c2.width ∙ ap (λ (h : ℕ). record { w = shape.colour.w; h = h }) was.c2.height in
     let with_rows : SamplesSeen → PictureSeen = λ rows. record { shape = shape; samples = record { luma = c.self.inside.luma; c1 = c.self.inside.c1; c2 = rows } } in
-    ap with_rows (c.synthesise-in-C2.ensures.samples ∙ ap (λ (z : Size). tabulated z (λ y x. sample_of shape.colour_depth (g y x))) size)
+    ap with_rows (c.synthesise-in-C2.ensures.samples ∙ ap (λ (z : Size). samples_by z (λ y x. sample_of shape.colour_depth (g y x))) size)
     ∙ ap (λ (p : PictureSeen). with_shown p C2 g) c.self.view_is
     ∙ ap (λ (k : Component). with_shown c.args.self.now k g) (sym c.in-C2.is)

@@ -3,7 +3,7 @@ use Rattle.std.proofs.Math.Nat.{mul_comm}
 use Rattle.std.proofs.lemmas.List.{with_items_is}
 use Rattle.lifting.specs.SampleRoom.{synthesis_of}
 use Rattle.picture_codec.specs.Pictures.{sample_of}
-use Rattle.picture_codec.specs.Samples.{SamplesSeen, tabulated}
+use Rattle.picture_codec.specs.Samples.{SamplesSeen, samples_by}
 use Rattle.picture_codec.proofs.Tables.{tabulated_is}
 use Rattle.picture_codec.proofs.samples.Samples.synthesise_narrow.Goals as goal
 
@@ -25,4 +25,4 @@ returns-clause-samples c =
     let with_cells : List ℕ → SamplesSeen = λ cells. record { w = c.self.inside.w; h = c.self.inside.h; cells = cells } in
     ap with_cells (with_items_is c.self.inside.cells made (count ∙ sym c.self.inside.cells.ok.0))
     ∙ tabulated_is (with_cells made) g (count ∙ c.self.invariant.0) c.synth_samples_narrow.ensures.samples
-    ∙ ap (λ (s : SamplesSeen). tabulated (record { w = s.w; h = s.h }) g) c.self.view_is
+    ∙ ap (λ (s : SamplesSeen). samples_by (record { w = s.w; h = s.h }) g) c.self.view_is

@@ -6,7 +6,7 @@ use Rattle.stream_rows.specs.Units.{Past, Picture}
 use Rattle.transform_params.specs.Views.{params_of}
 use Rattle.run_theory.specs.Begun.{Begun, Got}
 use Rattle.stream_cut.specs.Keeping.{IsCutSlice}
-use Rattle.stream_cut.specs.Skim.{skimmed}
+use Rattle.stream_cut.specs.Skim.{skim_grammar}
 use Rattle.stream_cut.specs.SkimTable.{SkimTableSeen}
 use Rattle.stream_cut.proofs.PictureTurns.{checked, opens_picture, slices_ended, slices_halted, slices_passed, offset_refused, not_kept, picture_found}
 use Rattle.stream_cut.proofs.table.SkimTable.picture.Goals as goal
@@ -88,7 +88,7 @@ returns-then-not-leads_behind-clause-unit g c = λ held0 rest0 b.
     let sliced = slices_passed o.first.parts c.args.picture rest2 some o.begun got enough in
     let unit = Picture o.first.parts c.args.picture.number (params_of c.args.picture.params) sliced.slices in
     let n = c.args.size + c.from-2.result in
-    let begun = subst (λ k. Begun skimmed z held0 rest0 rest2 k held2 (checked z c.args.picture.next unit)) (omega (arith, enough, c.from-2.ensures, c.total_bytes-total.ensures)) sliced.begun in (
+    let begun = subst (λ k. Begun skim_grammar z held0 rest0 rest2 k held2 (checked z c.args.picture.next unit)) (omega (arith, enough, c.from-2.ensures, c.total_bytes-total.ensures)) sliced.begun in (
       offset_refused c.keep.new.window.room c.args.picture.next n _ unit c.refused-then-not-leads_behind.result begun (sym c.leads_behind.ensures ∙ c.if-not-leads_behind.true)
           (omega (arith, moved.room, c.requires.place, front.room, o.inside, less, enough, c.from-2.ensures, c.total_bytes-total.ensures)) (omega (arith, place)) c.refused-then-not-leads_behind.ensures,
       record { header = header },
@@ -117,7 +117,7 @@ returns-clause-unit g c = λ held0 rest0 b.
     let unit = Picture o.first.parts c.args.picture.number (params_of c.args.picture.params) sliced.slices in
     let n = c.args.size + c.from-2.result in
     let all = take c.args.size c.args.window.now.held in
-    let both = subst (λ k. (u : Begun skimmed z held0 rest0 rest2 k held2 (checked z c.args.picture.next unit)) × (u.gone ≡ all ++ moved.gone)) (omega (arith, enough, c.from-2.ensures, c.total_bytes-total.ensures)) (sliced.begun, sliced.all ∙ ap (λ l. l ++ moved.gone) o.gone) in
+    let both = subst (λ k. (u : Begun skim_grammar z held0 rest0 rest2 k held2 (checked z c.args.picture.next unit)) × (u.gone ≡ all ++ moved.gone)) (omega (arith, enough, c.from-2.ensures, c.total_bytes-total.ensures)) (sliced.begun, sliced.all ∙ ap (λ l. l ++ moved.gone) o.gone) in
     picture_found c.args.self.now _ o.first c.args.picture n c.args.size all moved.gone sliced.slices c.keep.new.window _ _ both.0 both.1 o.some (omega (arith, length-take c.args.size c.args.window.now.held, o.inside)) o.least o.most enough (omega (arith, c.from-2.ensures, c.total_bytes-total.ensures))
     (sym c.leads_behind.ensures ∙ c.if-not-leads_behind.false) c.count-slices.ensures.allowed (ap (λ (v : SkimTableSeen). v.past) c.self.view_is ∙ front.past) header (ap (λ (v : SkimTableSeen). v.shape) c.self.view_is ∙ front.shape) (moved.all ∙ ap (λ l. l ++ moved.gone) kept)
     refl refl c.count-slices.ensures.value c.a.ensures.value c.b.ensures.value (omega (arith, moved.room, c.requires.place, front.room, o.inside, less, enough, c.from-2.ensures, c.total_bytes-total.ensures)) refl

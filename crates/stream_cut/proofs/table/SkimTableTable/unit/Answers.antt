@@ -4,7 +4,7 @@ use Rattle.std.proofs.lemmas.Result.{err_from_is_err_and}
 use Rattle.run_theory.specs.Begun.{Begun}
 use Rattle.unit_reader.specs.Stops.{StopsOver}
 use Rattle.stream_rows.specs.Units.{Past, Repeated, End}
-use Rattle.stream_cut.specs.Skim.{skimmed, skim_rows}
+use Rattle.stream_cut.specs.Skim.{skim_grammar, skim_rows}
 use Rattle.stream_cut.specs.SkimTable.{SkimTableSeen}
 use Rattle.stream_cut.specs.Opening.{Opens, OpenOver}
 use Rattle.stream_cut.specs.declared.opening.Opening.TheVariants as openings
@@ -15,8 +15,8 @@ pub returns-in_err-opening-clause-unit : goal.returns-in_err-opening-clause-unit
 returns-in_err-opening-clause-unit g c = λ held0 rest0 b.
     let p = err_from_is_err_and c.from_residual.result c.from_residual.ensures.1 in
     let same : c.self.inside.earlier ≡ c.args.self.now.past = ap (λ (v : SkimTableSeen). v.past) c.self.view_is in
-    let begins = subst (λ (x : Past). Begun skimmed x held0 rest0 (g.S.Source.rest c.args.src.now) x.place c.args.window.now.held (skim_rows x)) (sym same) b in
-    let over = subst (λ (x : Past). StopsOver skimmed x held0 rest0 (g.S.Source.rest c.open.new.src) c.open.new.window.room c.in_err-opening.field-0.0) same (c.in_err-opening.ensures.unit held0 rest0 begins) in
+    let begins = subst (λ (x : Past). Begun skim_grammar x held0 rest0 (g.S.Source.rest c.args.src.now) x.place c.args.window.now.held (skim_rows x)) (sym same) b in
+    let over = subst (λ (x : Past). StopsOver skim_grammar x held0 rest0 (g.S.Source.rest c.open.new.src) c.open.new.window.room c.in_err-opening.field-0.0) same (c.in_err-opening.ensures.unit held0 rest0 begins) in
     stopped c.args.self.now c.args.self.now held0 rest0 (g.S.Source.rest c.open.new.src) c.open.new.window c.in_err-opening.field-0.0 c.from_residual.result over refl (p.1 ∙ ap Err p.2)
 
 pub first-requires-clause-opened : goal.first-requires-clause-opened
@@ -34,7 +34,7 @@ skipped-requires-clause-opened g c = subst (λ x. Opens x c.open.new.window.held
 pub returns-in-Skipped-clause-unit : goal.returns-in-Skipped-clause-unit
 returns-in-Skipped-clause-unit g c = λ held0 rest0 b.
     let same : c.self.inside.earlier ≡ c.args.self.now.past = ap (λ (v : SkimTableSeen). v.past) c.self.view_is in
-    let begins = subst (λ (x : Past). Begun skimmed x held0 rest0 (g.S.Source.rest c.args.src.now) x.place c.args.window.now.held (skim_rows x)) (sym same) b in
+    let begins = subst (λ (x : Past). Begun skim_grammar x held0 rest0 (g.S.Source.rest c.args.src.now) x.place c.args.window.now.held (skim_rows x)) (sym same) b in
     let over = subst (λ (x : Past). OpenOver x held0 rest0 (g.S.Source.rest c.open.new.src) c.open.new.window (Ok (c.in_ok-opening.opening, c.in_ok-opening.size))) same (c.in_ok-opening.ensures.unit held0 rest0 begins) in
     c.skipped.ensures.unit held0 rest0 over.0
 
@@ -44,7 +44,7 @@ advance-requires g c = let o = c.in_ok-opening.ensures.opened in omega (arith, o
 pub returns-in-Sequence-clause-unit : goal.returns-in-Sequence-clause-unit
 returns-in-Sequence-clause-unit g c = λ held0 rest0 b.
     let same : c.self.inside.earlier ≡ c.args.self.now.past = ap (λ (v : SkimTableSeen). v.past) c.self.view_is in
-    let begins = subst (λ (x : Past). Begun skimmed x held0 rest0 (g.S.Source.rest c.args.src.now) x.place c.args.window.now.held (skim_rows x)) (sym same) b in
+    let begins = subst (λ (x : Past). Begun skim_grammar x held0 rest0 (g.S.Source.rest c.args.src.now) x.place c.args.window.now.held (skim_rows x)) (sym same) b in
     let over = subst (λ (x : Past). OpenOver x held0 rest0 (g.S.Source.rest c.open.new.src) c.open.new.window (Ok (c.in_ok-opening.opening, c.in_ok-opening.size))) same (c.in_ok-opening.ensures.unit held0 rest0 begins) in
     c.first.ensures.unit held0 rest0 (g.S.Source.rest c.open.new.src) over.0
 
@@ -52,7 +52,7 @@ pub returns-in-End-clause-unit : goal.returns-in-End-clause-unit
 returns-in-End-clause-unit g c = λ held0 rest0 b.
     let z = c.args.self.now.past in
     let same : c.self.inside.earlier ≡ z = ap (λ (v : SkimTableSeen). v.past) c.self.view_is in
-    let begins = subst (λ (x : Past). Begun skimmed x held0 rest0 (g.S.Source.rest c.args.src.now) x.place c.args.window.now.held (skim_rows x)) (sym same) b in
+    let begins = subst (λ (x : Past). Begun skim_grammar x held0 rest0 (g.S.Source.rest c.args.src.now) x.place c.args.window.now.held (skim_rows x)) (sym same) b in
     let over = subst (λ (x : Past). OpenOver x held0 rest0 (g.S.Source.rest c.open.new.src) c.open.new.window (Ok (c.in_ok-opening.opening, c.in_ok-opening.size))) same (c.in_ok-opening.ensures.unit held0 rest0 begins) in
     let o = subst (λ x. Opens z c.open.new.window.held x c.in_ok-opening.size) c.in-End.is over.1 in
     let w = opens_whole openings.End End c.in_ok-opening.size o (end_whole z o.0 o.2) c.advance.ensures.held over.0 in
@@ -76,7 +76,7 @@ pub returns-in_err-keep_front-in-Repeated-clause-unit : goal.returns-in_err-keep
 returns-in_err-keep_front-in-Repeated-clause-unit g c = λ held0 rest0 b.
     let z = c.args.self.now.past in
     let same : c.self.inside.earlier ≡ z = ap (λ (v : SkimTableSeen). v.past) c.self.view_is in
-    let begins = subst (λ (x : Past). Begun skimmed x held0 rest0 (g.S.Source.rest c.args.src.now) x.place c.args.window.now.held (skim_rows x)) (sym same) b in
+    let begins = subst (λ (x : Past). Begun skim_grammar x held0 rest0 (g.S.Source.rest c.args.src.now) x.place c.args.window.now.held (skim_rows x)) (sym same) b in
     let over = subst (λ (x : Past). OpenOver x held0 rest0 (g.S.Source.rest c.open.new.src) c.open.new.window (Ok (c.in_ok-opening.opening, c.in_ok-opening.size))) same (c.in_ok-opening.ensures.unit held0 rest0 begins) in
     let front = c.in_err-keep_front-in-Repeated.ensures in
     let p = err_from_is_err_and c.from_residual-in_err-keep_front-in-Repeated.result c.from_residual-in_err-keep_front-in-Repeated.ensures.1 in
@@ -87,7 +87,7 @@ pub returns-in_ok-keep_front-in-Repeated-clause-unit : goal.returns-in_ok-keep_f
 returns-in_ok-keep_front-in-Repeated-clause-unit g c = λ held0 rest0 b.
     let z = c.args.self.now.past in
     let same : c.self.inside.earlier ≡ z = ap (λ (v : SkimTableSeen). v.past) c.self.view_is in
-    let begins = subst (λ (x : Past). Begun skimmed x held0 rest0 (g.S.Source.rest c.args.src.now) x.place c.args.window.now.held (skim_rows x)) (sym same) b in
+    let begins = subst (λ (x : Past). Begun skim_grammar x held0 rest0 (g.S.Source.rest c.args.src.now) x.place c.args.window.now.held (skim_rows x)) (sym same) b in
     let over = subst (λ (x : Past). OpenOver x held0 rest0 (g.S.Source.rest c.open.new.src) c.open.new.window (Ok (c.in_ok-opening.opening, c.in_ok-opening.size))) same (c.in_ok-opening.ensures.unit held0 rest0 begins) in
     let o = subst (λ x. Opens z c.open.new.window.held x c.in_ok-opening.size) c.in-Repeated.is over.1 in
     let front = c.in_ok-keep_front-in-Repeated.ensures in

@@ -10,7 +10,7 @@ pub push-requires-clause-most : goal.push-requires-clause-most
 push-requires-clause-most g c =
     let none : c.self.inside.shapes.units ≡ [] = ap (λ w. w.shapes) c.self.view_is ∙ c.requires.nothing in
     let empty : c.self.inside.shapes.total ≡ 0 = c.self.invariant.total ∙ ap total_length none in
-    omega (arith, empty, c.reserve.ensures.total, c.header_len-size.ensures.most, c.from.ensures, ap (λ u. shapes.unit_length u) c.plain_shape.ensures)
+    omega (arith, empty, c.reserve.ensures.total, c.header_len-size.ensures.most, c.from.ensures, ap (λ u. shapes.shape_length u) c.plain_shape.ensures)
 
 pub step-requires : goal.step-requires
 step-requires g c =
@@ -31,7 +31,7 @@ invariant_of-self-2 g c =
     let units = c.self.inside.shapes.units in
     let none : units ≡ [] = ap (λ w. w.shapes) c.self.view_is ∙ c.requires.nothing in
     let empty : c.self.inside.shapes.total ≡ 0 = c.self.invariant.total ∙ ap total_length none in
-    let total : c.push.new.self.total ≡ c.self.inside.shapes.total + c.header_len-size.result = omega (arith, c.push.ensures.total, c.reserve.ensures.total, c.from.ensures, ap (λ u. shapes.unit_length u) c.plain_shape.ensures) in
+    let total : c.push.new.self.total ≡ c.self.inside.shapes.total + c.header_len-size.result = omega (arith, c.push.ensures.total, c.reserve.ensures.total, c.from.ensures, ap (λ u. shapes.shape_length u) c.plain_shape.ensures) in
     sound_plain c.self.inside.first c.self.inside.number c.self.inside.position c.header_len-size.result c.self.inside.chain c.step.new.self c.self.inside.shapes c.push.new.self c.self.inside.stop c.self.inside.ended c.self.inside.ended c.self.invariant
     (c.push.ensures.units ∙ ap (λ l. l ++ c.plain_shape.result ∷ []) c.reserve.ensures.units ∙ ap (λ u. units ++ u ∷ []) c.plain_shape.ensures ∙ ap (λ n. units ++ plain_shape n c.from.result ∷ []) (c.place.ensures.value ∙ c.self.invariant.place)
     ∙ ap (λ n. units ++ plain_shape c.self.inside.shapes.total n ∷ []) c.from.ensures) total c.step.ensures (λ _. omega (arith, total, empty, c.header_len-size.ensures.most))

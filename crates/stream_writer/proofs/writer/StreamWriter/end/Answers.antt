@@ -12,7 +12,7 @@ pub invariant_of-self-2 : goal.invariant_of-self-2
 invariant_of-self-2 g c =
     sound_plain c.self.inside.first c.self.inside.number c.self.inside.position 13 c.self.inside.chain c.step.new.self c.self.inside.shapes c.push.new.self c.self.inside.stop c.self.inside.ended true c.self.invariant
     (c.push.ensures.units ∙ ap (λ l. l ++ c.plain_shape.result ∷ []) c.reserve.ensures.units ∙ ap (λ u. c.self.inside.shapes.units ++ u ∷ []) c.plain_shape.ensures ∙ ap (λ n. c.self.inside.shapes.units ++ plain_shape n 13 ∷ []) (c.place.ensures.value ∙ c.self.invariant.place))
-    (omega (arith, c.push.ensures.total, c.reserve.ensures.total, ap (λ u. shapes.unit_length u) c.plain_shape.ensures))
+    (omega (arith, c.push.ensures.total, c.reserve.ensures.total, ap (λ u. shapes.shape_length u) c.plain_shape.ensures))
     c.step.ensures
     (λ e. absurd cc)
 

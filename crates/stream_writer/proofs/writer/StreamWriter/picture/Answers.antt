@@ -12,7 +12,7 @@ use Rattle.stream_writer.specs.declared.write_stop.WriteStop.{WriteStop}
 use Rattle.stream_writer.specs.declared.write_stop.WriteStop.TheVariants.{OutFault}
 use Rattle.stream_writer.specs.EncodedStream.{begins_at, units_with}
 use Rattle.stream_writer.specs.WriterInside.{DueSeen}
-use Rattle.stream_writer.specs.Writer.{StreamWriterSeen, WritesPicture, bytes_before, due_shapes, due_units, begins_next, next_place, next_previous}
+use Rattle.stream_writer.specs.Writer.{StreamWriterSeen, WritesPicture, head_bytes_before, due_shapes, due_units, begins_next, next_place, next_previous}
 use Rattle.stream_writer.proofs.WrittenShapes.{sound_picture, sound_kept}
 use Rattle.stream_writer.proofs.writer.StreamWriter.picture.Goals as goal
 
@@ -25,8 +25,8 @@ invariant_of-self-2 g c =
     let list : c.step.new.shapes.units ≡ units ++ due_shapes due.parts due.params begins place =
     c.step.ensures.units ∙ ap (λ (q : DueSeen). c.reserve.new.self.units ++ due_shapes q.parts q.params begins c.reserve.new.self.total) c.put.ensures
     ∙ ap (λ l. l ++ due_shapes due.parts due.params begins c.reserve.new.self.total) c.reserve.ensures.units ∙ ap (λ n. units ++ due_shapes due.parts due.params begins n) c.reserve.ensures.total in
-    let total : c.step.new.shapes.total ≡ place + bytes_before due.parts begins + unit_length due.params =
-    c.step.ensures.total ∙ ap (λ (q : DueSeen). c.reserve.new.self.total + bytes_before q.parts begins + unit_length q.params) c.put.ensures ∙ ap (λ n. n + bytes_before due.parts begins + unit_length due.params) c.reserve.ensures.total in
+    let total : c.step.new.shapes.total ≡ place + head_bytes_before due.parts begins + unit_length due.params =
+    c.step.ensures.total ∙ ap (λ (q : DueSeen). c.reserve.new.self.total + head_bytes_before q.parts begins + unit_length q.params) c.put.ensures ∙ ap (λ n. n + head_bytes_before due.parts begins + unit_length due.params) c.reserve.ensures.total in
     let behind : ℕ → ChainSeen = λ n. record { place = c.step.new.shapes.total; previous = n } in
     let links : c.step.new.chain ≡ behind (unit_length due.params) = c.step.ensures.chain ∙ ap (λ (q : DueSeen). behind (unit_length q.params)) c.put.ensures in
     let some : 1 ≤ slice_count due.params.slicing = subst (λ (q : DueSeen). 1 ≤ slice_count q.params.slicing) c.put.ensures c.step.ensures.some in
@@ -60,7 +60,7 @@ returns-clause-picture g c no_stop =
     let here : WritesPicture old (made c.put.new.self c.step.new.shapes.units) slices out0 out1 (Ok tt) = record {
       wrote = subst (λ l. Appends out0 out1 l) bytes c.in-Ok.ensures.ok;
       after = ap (λ (q : DueSeen). made q c.step.new.shapes.units) c.put.ensures ∙ ap (made due) list;
-      why = omega (arith, ap (bytes_before due.parts) begins_is, c.if-place-room-gt-INPUT_LIMIT.false, c.place.ensures.value, c.self.invariant.place, c.self.invariant.total, c.len_before.ensures.value, c.picture_len.ensures, c.from.ensures);
+      why = omega (arith, ap (head_bytes_before due.parts) begins_is, c.if-place-room-gt-INPUT_LIMIT.false, c.place.ensures.value, c.self.invariant.place, c.self.invariant.total, c.len_before.ensures.value, c.picture_len.ensures, c.from.ensures);
     } in
     subst (λ (w : StreamWriterSeen). WritesPicture w (made c.put.new.self c.step.new.shapes.units) (slices_of (frame_under w.settings.parts) w.settings.params c.args.picture.now.samples) out0 out1 (Ok tt)) c.self.view_is here
 
@@ -82,7 +82,7 @@ returns-in-Err-clause-picture g c no_stop =
     let here : WritesPicture old new slices out0 out1 (Err OutFault) = record {
       wrote = subst (λ l. GrewShort out0 out1 l) bytes c.in-Err.ensures.err;
       after = ap (λ (q : DueSeen). made q c.reserve.new.self.units (Some OutFault)) c.put.ensures ∙ ap (λ l. made due l (Some OutFault)) c.reserve.ensures.units;
-      why = omega (arith, ap (bytes_before due.parts) begins_is, c.if-place-room-gt-INPUT_LIMIT.false, c.place.ensures.value, c.self.invariant.place, c.self.invariant.total, c.len_before.ensures.value, c.picture_len.ensures, c.from.ensures);
+      why = omega (arith, ap (head_bytes_before due.parts) begins_is, c.if-place-room-gt-INPUT_LIMIT.false, c.place.ensures.value, c.self.invariant.place, c.self.invariant.total, c.len_before.ensures.value, c.picture_len.ensures, c.from.ensures);
     } in
     subst (λ (w : StreamWriterSeen). WritesPicture w new (slices_of (frame_under w.settings.parts) w.settings.params c.args.picture.now.samples) out0 out1 (Err OutFault)) c.self.view_is here
 

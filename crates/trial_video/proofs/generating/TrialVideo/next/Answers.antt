@@ -2,7 +2,7 @@ use Rattle.std.proofs.Common.{◌≡◌, ◌+◌, ◌*◌, sym, ap, subst, ◌�
 use Rattle.slice_geometry.specs.declared.PictureShape.{PictureShape}
 use Rattle.slice_geometry.specs.declared.Component.TheVariants.{Luma, C1, C2}
 use Rattle.slice_geometry.specs.Frames.{frame_of}
-use Rattle.picture_codec.specs.Samples.{shown}
+use Rattle.picture_codec.specs.Samples.{component_shown}
 use Rattle.raw_video.specs.RawParse.{luma_count, colour_count}
 use Rattle.trial_video.specs.Video.{TrialVideoSeen, state_at, video_rows, picture_count, video_picture}
 use Rattle.trial_video.proofs.States.{picture_steps}
@@ -37,13 +37,13 @@ returns-clause-picture c =
     let s2 = two.ensures.state ∙ ap (λ (x : PictureShape). state_at one.result (colour_count (frame_of x))) same1 in
     let s3 = three.ensures.state ∙ ap (λ (x : PictureShape). state_at two.result (colour_count (frame_of x))) same2 in
     let steps = picture_steps f v.seed v.pictures v.state one.result two.result three.result c.self.invariant.0 s1 s2 s3 in
-    let luma : shown p3 Luma ≡ (video_picture f v.seed v.pictures).luma =
+    let luma : component_shown p3 Luma ≡ (video_picture f v.seed v.pictures).luma =
     three.ensures.others Luma (λ e. cc) ∙ two.ensures.others Luma (λ e. cc) ∙ one.ensures.rows v.seed first c.self.invariant.0
     ∙ ap (λ (x : PictureShape). video_rows v.seed v.pictures first x.luma_depth x.luma) same in
-    let c1 : shown p3 C1 ≡ (video_picture f v.seed v.pictures).c1 =
+    let c1 : component_shown p3 C1 ≡ (video_picture f v.seed v.pictures).c1 =
     three.ensures.others C1 (λ e. cc) ∙ two.ensures.rows v.seed (first + luma_count f) steps.0
     ∙ ap (λ (x : PictureShape). video_rows v.seed v.pictures (first + luma_count f) x.colour_depth x.colour) same1 in
-    let c2 : shown p3 C2 ≡ (video_picture f v.seed v.pictures).c2 =
+    let c2 : component_shown p3 C2 ≡ (video_picture f v.seed v.pictures).c2 =
     three.ensures.rows v.seed (first + luma_count f + colour_count f) steps.1
     ∙ ap (λ (x : PictureShape). video_rows v.seed v.pictures (first + luma_count f + colour_count f) x.colour_depth x.colour) same2 in
     subst (λ (x : TrialVideoSeen). p3 ≡ record { shape = c.args.picture.now.shape; samples = video_picture (frame_of x.shape) x.seed x.pictures }) c.self.view_is

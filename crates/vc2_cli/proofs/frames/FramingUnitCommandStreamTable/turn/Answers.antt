@@ -7,9 +7,9 @@ use Rattle.sequence_header.specs.declared.parts.HeaderParts.{HeaderParts}
 use Rattle.stream_rows.specs.Streams.{frame_under}
 use Rattle.stream_rows.specs.Units.{DataUnit}
 use Rattle.field_weave.specs.declared.Order.{Order}
-use Rattle.field_weave.specs.Weaving.{placed}
+use Rattle.field_weave.specs.Weaving.{frame_with_field}
 use Rattle.vc2_words.proofs.Plainness.{some_same}
-use Rattle.vc2_cli.specs.Decode.{pictures_in}
+use Rattle.vc2_cli.specs.Decode.{unit_pictures}
 use Rattle.vc2_cli.specs.declared.frames.Framing.{Framing}
 use Rattle.vc2_cli.specs.Frames.{are_fields, first_in, frames_after}
 use Rattle.vc2_cli.proofs.Passing.{byte}
@@ -98,10 +98,10 @@ returns-clause-wrote g c = λ before p k.
       | then-self w ↦ ap (λ (f : Framing). f.frame) w.self-is
       | else-self w ↦ ap (λ (f : Framing). f.frame) w.self-is
     ] in
-    let put : seen'.samples ≡ placed self.order (frame_under s.parts) self.begun (picture_of (frame_under s.parts) s.params s.slices) seen.samples =
+    let put : seen'.samples ≡ frame_with_field self.order (frame_under s.parts) self.begun (picture_of (frame_under s.parts) s.params s.slices) seen.samples =
     ap (λ (q : PictureSeen). q.samples) c.in-Ok-take_field.ensures.frame
-    ∙ ap (λ (h : Frame). placed self.order h self.begun pic.samples seen.samples) s.frame
-    ∙ ap (λ (p : PictureSamples). placed self.order (frame_under s.parts) self.begun p seen.samples) s.samples in (
+    ∙ ap (λ (h : Frame). frame_with_field self.order h self.begun pic.samples seen.samples) s.frame
+    ∙ ap (λ (p : PictureSamples). frame_with_field self.order (frame_under s.parts) self.begun p seen.samples) s.samples in (
       Appends-along _ _ _ _ text c.in-Ok-take_field.ensures.ok,
       ap (λ (o : Order). left_of o new.frames (first_in o (not new.begun) new.frame header)) order
           ∙ ap (λ (n : ℕ). left_of self.order n (first_in self.order (not new.begun) new.frame header)) frames
@@ -120,7 +120,7 @@ returns-clause-keeps g c = λ before p k.
     let seen = c.in-Some-frame.frame in
     let seen' = c.take_field.new.frame in
     let s = shown_by before c.args.table.now c.args.item p c.in-Some.ensures.some.0 c.in-Some.decoder.now c.in-Some.ensures.some.1 c.picture-picture.result.now c.picture-picture.ensures.shape c.picture-picture.ensures.samples self.frames self.frame k in
-    let one : pictures_in p.unit ≡ 1 = ap (λ (u : DataUnit). pictures_in u) s.is in
+    let one : unit_pictures p.unit ≡ 1 = ap (λ (u : DataUnit). unit_pictures u) s.is in
     let frames : new.frames ≤ self.frames + 1 = elim c.if-self.branch [
       | then-self w ↦ omega (arith, ap (λ (f : Framing). f.frames) w.self-is)
       | else-self w ↦ omega (arith, ap (λ (f : Framing). f.frames) w.self-is)
