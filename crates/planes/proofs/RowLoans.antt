@@ -60,12 +60,12 @@ length-row {X} p q sound is y lt =
     ])
 
 -- a row that is lent in its place, where none is out
-pub given_in_place : {X : Type 0} (p : Inside X) (q : Raster X) → raster_of p ≡ q → (xs : List X) (y start : ℕ) → y < p.h → start ≡ y * p.w → length xs ≡ p.h * p.w → rows_of p.w p.h xs ≡ shown p.w p.h p.numbers p.lent p.spare.items
-    → (new : List X) → raster_of {X = X} (record { w = p.w; h = p.h; lent = p.h; numbers = with_part xs start p.w new; spare = p.spare }) ≡ with_row q y new
-given_in_place p q is xs y start lt at_row long same new =
+pub given_in_place : {X : Type 0} (p : Inside X) (q : Raster X) → raster_of p ≡ q → (xs : List X) (y start lent : ℕ) → y < p.h → p.h ≤ lent → start ≡ y * p.w → length xs ≡ p.h * p.w → rows_of p.w p.h xs ≡ shown p.w p.h p.numbers p.lent p.spare.items
+    → (new : List X) → raster_of {X = X} (record { w = p.w; h = p.h; lent = lent; numbers = with_part xs start p.w new; spare = p.spare }) ≡ with_row q y new
+given_in_place p q is xs y start lent lt past at_row long same new =
     ap (λ rows. record { w = p.w; rows = rows })
-    (ap (λ i. shown p.w p.h (with_part xs i p.w new) p.h p.spare.items) at_row
-    ∙ shown_past p.w p.h (with_part xs (y * p.w) p.w new) p.h p.spare.items (omega arith)
+    (ap (λ i. shown p.w p.h (with_part xs i p.w new) lent p.spare.items) at_row
+    ∙ shown_past p.w p.h (with_part xs (y * p.w) p.w new) lent p.spare.items past
     ∙ rows_of-with_part p.w p.h y xs new lt long
     ∙ ap (λ l. set l y (over (get_or l y []) new)) same)
     ∙ ap (λ r. with_row r y new) is

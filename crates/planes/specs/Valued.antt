@@ -1,4 +1,4 @@
--- Slices and planes of numbers of any width, as integers. Of 32 and 64 bits a value is its integer, and `none` is 0.
+-- Lists and planes of numbers of any width, as integers. Of 16, 32 and 64 bits a value is its integer, and `none` is 0.
 use Rattle.std.specs.Prelude.{ℕ, ◌<◌, ℤ, List, length, slice_index_or}
 use Rattle.planes.specs.Numbers.{Within}
 use Rattle.planes.specs.Raster.{Raster, Grid, row_of}

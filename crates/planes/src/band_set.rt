@@ -113,6 +113,7 @@ impl<T: Number> Bands<T> {
         requires { BandExists self.now.depth level orient }
         ensures { result.now ≡ band_of self.now level orient }
     {
+        // The rules of bands: there are as many as their depth wants.
         let _ = &self.depth;
         &self.planes[place_of(level, orient)]
     }
@@ -124,6 +125,7 @@ impl<T: Number> Bands<T> {
         ensures value { result.now ≡ band_of self.old level orient }
         ensures there { band_index level orient < length self.old.bands }
     {
+        // The rules of bands: there are as many as their depth wants.
         let _ = &self.depth;
         let place = place_of(level, orient);
         &mut self.planes[place]
@@ -135,6 +137,7 @@ impl Bands<i64> {
     pub fn within(&self, bound: i64) -> bool
         ensures { (result ≡ true) ↔ AreBandsWithin bound self.now }
     {
+        // The rules of bands: there are as many as their depth wants.
         let _ = &self.depth;
         for plane in self.planes.iter() {
             if !plane.within(bound) {

@@ -105,10 +105,10 @@ pub struct NarrowTrio {
 
 /// The memory of the subbands of the three components.
 #[derive(Drop)]
-pub struct LateTrio {
-    pub luma: LateBands,
-    pub c1: LateBands,
-    pub c2: LateBands,
+pub struct LateTrio<T = i64> {
+    pub luma: LateBands<T>,
+    pub c1: LateBands<T>,
+    pub c2: LateBands<T>,
 }
 
 /// A plane for each of the three components.
@@ -242,9 +242,9 @@ impl<T: Number> Plane<T> {
     }
 }
 
-impl Plane<i64> {
+impl<T: Number> Plane<T> {
     // Takes these numbers, row after row, in the place of none, and a spare row for its own.
-    pub(crate) fn take(&mut self, w: u32, h: u32, numbers: &mut Vec<i64>, spare: &mut Vec<i64>)
+    pub(crate) fn take(&mut self, w: u32, h: u32, numbers: &mut Vec<T>, spare: &mut Vec<T>)
         requires width { w ≤ 8208 }
         requires fits { h ≤ 8208 }
         requires count { length numbers.old.items ≡ h * w }
@@ -256,7 +256,9 @@ impl Plane<i64> {
     {
         self.rows.take(w, h, numbers, spare);
     }
+}
 
+impl Plane<i64> {
     /// Gives each place beyond the first w columns and h rows the number of the nearest place within them.
     pub fn fill_edges(&mut self, w: u32, h: u32)
         requires some_columns { 1 ≤ w }

@@ -58,6 +58,7 @@ impl Bands<i32> {
         requires { AgreeInSizes self.now wide.old }
         ensures { wide.new ≡ self.now }
     {
+        // The rules of both: they have as many planes as the same depth wants.
         let _ = (self.depth, wide.depth());
         for k in 0..self.planes.len() {
             widen_plane(&mut wide.planes[k], &self.planes[k]);
@@ -70,6 +71,7 @@ impl Bands<i32> {
         requires small { AreBandsWithin (pos (2 ^ 18)) wide.now }
         ensures { self.new ≡ wide.now }
     {
+        // The rules of both: they have as many planes as the same depth wants.
         let _ = (self.depth, wide.depth());
         for k in 0..wide.planes.len() {
             narrow_plane(&mut self.planes[k], &wide.planes[k]);

@@ -60,6 +60,7 @@ fn run_mut<T>(numbers: &mut NumberList<T>, start: usize, count: usize) -> &mut [
     ensures* writes_back { sem 𝓛 (LendsRun T.row numbers.entry start result) }
     ensures value { result.now ≡ slice_range numbers.old start (start + count) }
 {
+    // The numbers of the list are these items.
     let _ = &numbers.items;
     let end = start + count;
     numbers.items.slice_mut(start..end)

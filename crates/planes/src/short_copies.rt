@@ -38,6 +38,7 @@ impl Bands<i16> {
         ensures value { wide.new ≡ self.now }
         ensures within { AreBandsWithin (pos (2 ^ 18)) wide.new }
     {
+        // The rules of both: they have as many planes as the same depth wants.
         let _ = (self.depth, wide.depth());
         for k in 0..self.planes.len() {
             widen_plane(&mut wide.planes[k], &self.planes[k]);

@@ -1,13 +1,7 @@
 -- Every so many numbers of a list.
-use Rattle.std.proofs.Common.{◌≡◌, ◌∙◌, ap, ℕ, ◌+◌, ◌*◌, ◌<◌, ◌≤◌, List, ℤ, pos, length, get_or, arith}
-use Rattle.std.proofs.lemmas.Nat.{mul-le}
+use Rattle.std.proofs.Common.{◌≡◌, ◌∙◌, ap, ℕ, ◌+◌, ◌*◌, ◌<◌, List, ℤ, pos, length, get_or, arith}
 use Rattle.slice_bands.specs.Short.{every}
 use Rattle.slice_bands.proofs.Stacked.{get_or-counted, length-counted}
-
-pub every_inside : (each from k n : ℕ) → from < each → k < n → each * k + from < each * n
-every_inside each from k n few lt =
-    let le : each * (k + 1) ≤ each * n = mul-le each (k + 1) each n (omega arith) (omega arith) in
-    omega (arith, le, few)
 
 pub length-every : (each from n : ℕ) (values : List ℤ) → length (every each from n values) ≡ n
 length-every each from n values = length-counted _ 0 n

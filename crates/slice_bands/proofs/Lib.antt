@@ -1,8 +1,6 @@
-pub mod Counts
 pub mod Parts
 pub mod Stacked
 pub mod Dealt
-pub mod Apart
 pub mod Every
 pub mod Past
 pub mod Widened

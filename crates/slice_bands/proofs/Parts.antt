@@ -1,6 +1,6 @@
 -- A slice's parts of the bands lie in the slice, and its rows in them.
 use Rattle.std.proofs.Common.{◌≡◌, ap, sym, subst, ◌∙◌, ℕ, zero, suc, Bool, false, ◌+◌, ◌-◌, ◌*◌, ◌/◌, ◌%◌, ◌^◌, ◌<◌, ◌≤◌, arith, inl, inr, mod-lt}
-use Rattle.std.proofs.lemmas.Nat.{mul-le, mul-add-lt, div-mul-add, mod-mul-add, div-add-mod', pow_pos}
+use Rattle.std.proofs.lemmas.Nat.{mul-le, div-mul-add, mod-mul-add, div-add-mod', pow_pos}
 use Rattle.std.specs.Prelude.{◌==◌, if◌then◌else◌}
 use Rattle.std.proofs.lemmas.Grind.{pow_more}
 use Rattle.std.proofs.lemmas.Bool.{cases_lt}
@@ -76,30 +76,12 @@ strip_inside y down h lt = elim (cases_lt (y / h) down) [
       absurd (omega (arith, m, e, lt))
 ]
 
-pub slice_there : (y down h across sx : ℕ) → y < down * h → sx < across → y / h * across + sx < across * down
-slice_there y down h across sx lt inside = mul-add-lt (y / h) across sx down (strip_inside y down h lt) inside
-
 -- ---- a row, piece by piece
 
 module _ (across size orient pw ph y sx : ℕ) where
   pub place_is : (i : ℕ) → i < pw
       → slice_at across pw ph y (sx * pw + i) * size + place_in orient pw ph (y % ph) ((sx * pw + i) % pw) ≡ (y / ph * across + sx) * size + place_in orient pw ph (y % ph) 0 + i
   place_is i lt = rw (div-mul-add sx pw i lt, mod-mul-add sx pw i lt) (omega arith)
-
--- what holds of the pieces so far, and of one more
-pub one_more_piece : {Y : Type 0} (sx pw : ℕ) (old new want : ℕ → Y) → ((x : ℕ) → x < sx * pw → old x ≡ want x) → ((x : ℕ) → x < sx * pw → new x ≡ old x)
-    → ((i : ℕ) → i < pw → new (sx * pw + i) ≡ want (sx * pw + i)) → (x : ℕ) → x < (sx + 1) * pw → new x ≡ want x
-one_more_piece sx pw old new want done before piece x lt = elim (cases_lt x (sx * pw)) [
-  | inl early ↦ before x early ∙ done x early
-  | inr late ↦ let e : sx * pw + (x - sx * pw) ≡ x = omega (arith, late) in
-      let short : x - sx * pw < pw = omega (arith, late, lt) in
-      rw (← e) (piece (x - sx * pw) short)
-]
-
-pub piece_room : (sx across pw len : ℕ) → sx < across → len ≡ across * pw → sx * pw + pw ≤ len
-piece_room sx across pw len lt e =
-    let whole : (sx + 1) * pw ≤ across * pw = mul-le (sx + 1) pw across pw (omega arith) (omega arith) in
-    omega (arith, whole, e)
 
 pub strip_fits : (y h a : ℕ) → y < 2 ^ 32 → 0 < h → a < 2 ^ 32 → y / h * a + a < 2 ^ 64
 strip_fits y h a ly lh la =

@@ -1,14 +1,14 @@
 //! Coefficients slice by slice: the numbers of a slice stand together, its bands in the order of their places.
 #![tactic(auto)]
 
-ghost use Rattle.std.specs.Prelude.{◌≡◌, ◌≢◌, ℕ, ◌+◌, ◌*◌, ◌/◌, ◌%◌, ◌^◌, ◌<◌, ◌≤◌, length, replicate, slice_index_or, IfOk};
+ghost use Rattle.std.specs.Prelude.{◌≡◌, ℕ, ◌+◌, ◌*◌, ◌/◌, ◌%◌, ◌^◌, ◌<◌, ◌≤◌, length, replicate, slice_index_or, IfOk, ◌↔◌, true};
 ghost use Rattle.std.specs.Borrow.{sem};
-ghost use Rattle.slice_bands.specs.Slices.{slice_size, run_of};
+ghost use Rattle.slice_bands.specs.Slices.{slice_size};
 ghost use Rattle.planes.specs.Subbands.{subband_length, BandExists, band_of, HaveSizes, AreZeroBands};
 ghost use Rattle.planes.specs.Raster.{at};
-ghost use Rattle.slice_bands.specs.Places.{place_in, slice_at, part_w, part_h};
+ghost use Rattle.slice_bands.specs.Places.{place_in, part_w, part_h};
 ghost use Rattle.slice_bands.specs.Stack.{number_at, stack_of, AreSlicesSound};
-ghost use Rattle.slice_bands.specs.Lending.{LendsNumbers, with_run};
+ghost use Rattle.slice_bands.specs.Lending.{LendsNumbers};
 
 mod gathered;
 mod short;
@@ -127,7 +127,19 @@ impl<T: Number> SliceBands<T> {
             → at (band_of (stack_of T.value T.none self.now) level orient) y x
             ≡ number_at T.value T.none self.now level orient y x }
     {
+        // The rules of the slices.
         let _ = self.numbers();
+    }
+
+    /// Whether so many slices stand across and down, and they cover w by h numbers.
+    pub fn covers(&self, across: u32, down: u32, w: u32, h: u32) -> bool
+        ensures { (result ≡ true) ↔ ((self.now.across ≡ across) × (self.now.down ≡ down)
+            × (self.now.across * self.now.sw ≡ w) × (self.now.down * self.now.sh ≡ h)) }
+    {
+        self.across == across
+            && self.down == down
+            && self.across * self.sw == w
+            && self.down * self.sh == h
     }
 
     /// How many numbers a slice has.
@@ -171,16 +183,6 @@ impl<T: Number> SliceBands<T> {
         n * (self.sw as usize * self.sh as usize)
     }
 
-    /// The numbers of slice n.
-    pub fn run(&self, n: usize) -> &[T]
-        requires { n < self.now.across * self.now.down }
-        ensures value { result.now ≡ run_of self.now n }
-        ensures len { length result.now ≡ slice_size self.now }
-    {
-        let start = self.start_of(n);
-        &self.numbers()[start..start + self.size()]
-    }
-
     /// All numbers, slice behind slice, to write. After the loan they are what their holder left.
     pub fn numbers_mut(&mut self) -> &mut [T]
         ensures* writes_back { sem 𝓛 (LendsNumbers T.row self.entry result) }
@@ -188,40 +190,6 @@ impl<T: Number> SliceBands<T> {
         ensures len { length result.now ≡ self.old.across * self.old.down * slice_size self.old }
     {
         self.numbers.as_mut_slice()
-    }
-
-    /// Puts the numbers of slice n.
-    pub fn put_run(&mut self, n: usize, values: &[T])
-        requires inside { n < self.old.across * self.old.down }
-        requires whole { length values.now ≡ slice_size self.old }
-        ensures value { self.new ≡ with_run self.old n values.now }
-        ensures here { (level orient y x : ℕ) → BandExists self.old.depth level orient
-            → y < self.old.down * part_h self.old level
-            → x < self.old.across * part_w self.old level
-            → slice_at self.old.across (part_w self.old level) (part_h self.old level) y x ≡ n
-            → at (band_of (stack_of T.value T.none self.new) level orient) y x
-            ≡ T.value (slice_index_or values.now
-            (place_in orient (part_w self.old level) (part_h self.old level)
-            (y % part_h self.old level) (x % part_w self.old level)) T.none) }
-        ensures elsewhere { (level orient y x : ℕ) → BandExists self.old.depth level orient
-            → y < self.old.down * part_h self.old level
-            → x < self.old.across * part_w self.old level
-            → slice_at self.old.across (part_w self.old level) (part_h self.old level) y x ≢ n
-            → at (band_of (stack_of T.value T.none self.new) level orient) y x
-            ≡ at (band_of (stack_of T.value T.none self.old) level orient) y x }
-    {
-        self.write_run(n, values);
-    }
-
-    fn write_run(&mut self, n: usize, values: &[T])
-        requires inside { n < self.old.across * self.old.down }
-        requires whole { length values.now ≡ slice_size self.old }
-        ensures value { self.new ≡ with_run self.old n values.now }
-        ensures there { n * slice_size self.old + slice_size self.old ≤ length self.old.numbers }
-    {
-        let start = self.start_of(n);
-        let end = start + self.size();
-        self.numbers_mut()[start..end].copy_from_slice(values);
     }
 }
 
@@ -404,74 +372,4 @@ fn strip_start(strip: usize, across: usize, size: usize, count: usize) -> usize
     ensures end { result + across * size ≤ count }
 {
     strip * size
-}
-
-// Puts a row of a band into its slices.
-fn deal_row<T: Number>(
-    numbers: &mut [T],
-    across: usize,
-    size: usize,
-    strip: usize,
-    first: usize,
-    pw: usize,
-    row: &[T],
-)
-    requires whole { length row.now ≡ across * pw }
-    requires inside { first + pw ≤ size }
-    requires there { (strip + across) * size ≤ length numbers.old }
-    requires short { strip + across < 2 ^ 64 }
-    ensures put { (sx i : ℕ) → sx < across → i < pw
-        → slice_index_or numbers.new ((strip + sx) * size + first + i) T.none
-        ≡ slice_index_or row.now (sx * pw + i) T.none }
-    ensures others { (p : ℕ) → ((sx i : ℕ) → sx < across → i < pw
-        → (strip + sx) * size + first + i ≢ p)
-        → slice_index_or numbers.new p T.none ≡ slice_index_or numbers.old p T.none }
-{
-    for sx in 0..across {
-        let start = start_in(strip + sx, size, first, pw, numbers.len());
-        copy_part(numbers, start, row, sx * pw, pw);
-    }
-}
-
-// Where a part's row begins in the slice of this number.
-fn start_in(n: usize, size: usize, first: usize, pw: usize, count: usize) -> usize
-    requires inside { first + pw ≤ size }
-    requires there { n * size + size ≤ count }
-    ensures value { result ≡ n * size + first }
-    ensures end { result + pw ≤ count }
-{
-    n * size + first
-}
-
-/// Parts of different bands of a slice lie apart.
-pub fn parts_apart()
-    ensures { (depth l m o q sw sh : ℕ) → BandExists depth l o → BandExists depth m q → l < m
-        → place_in o (subband_length depth l sw) (subband_length depth l sh)
-        (subband_length depth l sh) 0
-        ≤ place_in q (subband_length depth m sw) (subband_length depth m sh) 0 0 }
-{}
-
-impl<T: Number> SliceBands<T> {
-    /// Puts a row of a band into its slices.
-    pub fn put_row(&mut self, level: u32, orient: u32, y: u32, row: &[T])
-        requires exists { BandExists self.old.depth level orient }
-        requires inside { y < self.old.down * part_h self.old level }
-        requires whole { length row.now ≡ self.old.across * part_w self.old level }
-        ensures same { self.new ≡ record self.old { numbers = self.new.numbers } }
-        ensures put { (sx i : ℕ) → sx < self.old.across → i < part_w self.old level
-            → slice_index_or self.new.numbers
-            ((y / part_h self.old level * self.old.across + sx) * slice_size self.old
-            + place_in orient (part_w self.old level) (part_h self.old level)
-            (y % part_h self.old level) 0 + i) T.none
-            ≡ slice_index_or row.now (sx * part_w self.old level + i) T.none }
-    {
-        self.shows();
-        let pw = self.part_w(level);
-        let ph = self.part_h(level);
-        let across = self.across();
-        let size = self.size();
-        let first = row_start(orient as usize, pw, ph, y as usize % ph, size);
-        let strip = y as usize / ph * across;
-        deal_row(self.numbers_mut(), across, size, strip, first, pw, row);
-    }
 }

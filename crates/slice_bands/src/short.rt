@@ -1,8 +1,8 @@
 //! Slices of 16 bits: numbers come to them from lists, and go from them into bands of 32 bits.
 
 ghost use Rattle.std.specs.Prelude.{◌≡◌, ℕ, ◌+◌, ◌*◌, ◌^◌, ◌<◌, ◌≤◌, length, slice_index_or, pos};
-ghost use Rattle.planes.specs.Bounded.{IsWithin, IsPlaneWithin, AreBandsWithin};
-ghost use Rattle.planes.specs.Raster.{at, height};
+ghost use Rattle.planes.specs.Bounded.{IsWithin, AreBandsWithin};
+ghost use Rattle.planes.specs.Raster.{at};
 ghost use Rattle.planes.specs.Subbands.{BandExists, band_of, AgreeInSizes};
 ghost use Rattle.slice_bands.specs.Slices.{slice_size};
 ghost use Rattle.slice_bands.specs.Places.{part_w, part_h};
@@ -13,7 +13,7 @@ ghost use Rattle.slice_bands.specs.Short.{every, shorts_of, ShowTheSame, HaveRow
 use crate::SliceBands;
 use planes::{NarrowBands, NarrowPlane};
 
-/// The greatest magnitude that slices of 16 bits take: the sum of two such numbers fits in 16 bits.
+/// The greatest magnitude for which bands of 16 bits serve: the sum of two such numbers fits in 16 bits.
 pub const MAX_SHORT: i32 = 16383;
 
 // Gives a run those numbers of a list that are counted by `from`, where the list has EACH numbers a place.
@@ -63,6 +63,7 @@ impl SliceBands<i16> {
         ensures there { n * slice_size self.old + slice_size self.old ≤ length self.old.numbers }
         ensures sound { AreSlicesSound self.old }
     {
+        // The rules of the slices.
         let _ = self.numbers();
         let start = self.start_of(n);
         let end = start + self.size();

@@ -1,6 +1,6 @@
 //! The bands of a component in 16 bits: slice by slice, but for the lowest one.
 
-ghost use Rattle.std.specs.Prelude.{◌≡◌, ℕ, ◌+◌, ◌*◌, ◌%◌, ◌^◌, ◌<◌, ◌≤◌, length, replicate, pos, IfOk};
+ghost use Rattle.std.specs.Prelude.{◌≡◌, ◌*◌, ◌%◌, ◌^◌, ◌<◌, ◌≤◌, length, replicate, pos, IfOk};
 ghost use Rattle.planes.specs.Bounded.{AreBandsWithin};
 ghost use Rattle.planes.specs.Raster.{height};
 ghost use Rattle.planes.specs.Subbands.{AgreeInSizes, AreZeroBands};

@@ -1,32 +1,31 @@
 use Rattle.std.proofs.Common.{◌≡◌, ◌∙◌, ap, length, get_or, ℕ, ◌<◌, arith}
 use Rattle.std.proofs.lemmas.List.{get_or_default}
 use Rattle.planes.specs.Raster.{height}
-use Rattle.planes.specs.Subbands.{BandStack, no_band}
-use Rattle.std.specs.Borrow.{i64}
+use Rattle.planes.specs.Subbands.{BandsOf, no_band}
 use Rattle.planes.specs.contracts.band_set.Bands as made
 use Rattle.planes.proofs.BandLemmas.{same_stack, no_rows}
 use Rattle.planes.proofs.late.LateBands.make.Goals as goal
 
 pub make-requires : goal.make-requires
-make-requires c =
+make-requires g c =
     let k : ℕ = c.loop-k.k in
-    let late_count = ap (λ (b : BandStack). length b.bands) c.self.view_is in
-    let late_depth = ap (λ (b : BandStack). b.depth) c.self.view_is in
-    let count = ap (λ (b : BandStack). length b.bands) c.bands.view_is in
-    let depth = ap (λ (b : BandStack). b.depth) c.bands.view_is in
+    let late_count = ap (λ (b : BandsOf g.row.T.Denot). length b.bands) c.self.view_is in
+    let late_depth = ap (λ (b : BandsOf g.row.T.Denot). b.depth) c.self.view_is in
+    let count = ap (λ (b : BandsOf g.row.T.Denot). length b.bands) c.bands.view_is in
+    let depth = ap (λ (b : BandsOf g.row.T.Denot). b.depth) c.bands.view_is in
     let inside : k < length c.loop-k.bands-inside.planes.items = omega (arith, c.loop-k-test.true, c.loop-k.auto.k-end, c.len-k-end.ensures, c.loop-k.invariant.count, count, late_count, c.bands.invariant.0, c.self.invariant.0, c.requires.same_depth, depth, late_depth) in
     let here : c.index_mut-in-loop-k.result.now ≡ get_or c.args.bands.now.bands k no_band =
     c.index_mut-in-loop-k.ensures.value ∙ get_or_default c.loop-k.bands-inside.planes.items k c.index_mut-in-loop-k.result.now no_band inside ∙ c.loop-k.invariant.rest k (omega arith) in
-    ap height here ∙ no_rows c.args.bands.now c.args.self.now.depth c.requires (omega (arith, count, c.bands.invariant.0, depth)) k (omega (arith, inside, c.loop-k.invariant.count))
+    ap height here ∙ no_rows g.T.Number.none c.args.bands.now c.args.self.now.depth c.requires (omega (arith, count, c.bands.invariant.0, depth)) k (omega (arith, inside, c.loop-k.invariant.count))
 
 pub returns-clause-made : goal.returns-clause-made
-returns-clause-made c =
+returns-clause-made g c =
     let l = c.loop-k in
-    let late_count = ap (λ (b : BandStack). length b.bands) c.self.view_is in
-    let late_depth = ap (λ (b : BandStack). b.depth) c.self.view_is in
-    let count = ap (λ (b : BandStack). length b.bands) c.bands.view_is in
-    let depth = ap (λ (b : BandStack). b.depth) c.bands.view_is in
+    let late_count = ap (λ (b : BandsOf g.row.T.Denot). length b.bands) c.self.view_is in
+    let late_depth = ap (λ (b : BandsOf g.row.T.Denot). b.depth) c.self.view_is in
+    let count = ap (λ (b : BandsOf g.row.T.Denot). length b.bands) c.bands.view_is in
+    let depth = ap (λ (b : BandsOf g.row.T.Denot). b.depth) c.bands.view_is in
     let same_count : length l.bands-inside.planes.items ≡ length c.args.self.now.bands =
     omega (arith, l.invariant.count, late_count, count, c.bands.invariant.0, c.self.invariant.0, c.requires.same_depth, depth, late_depth) in
-    same_stack (made.the_view i64 l.bands-inside) c.args.self.now (l.invariant.depth ∙ c.requires.same_depth) same_count
+    same_stack (made.the_view g.row.T l.bands-inside) c.args.self.now (l.invariant.depth ∙ c.requires.same_depth) same_count
     (λ k lt. l.invariant.done k (omega (arith, lt, same_count, late_count, c.loop-k-test.false, l.auto.k-end, c.len-k-end.ensures)))

@@ -4,7 +4,7 @@ use Rattle.planes.specs.Subbands.{no_band}
 use Rattle.planes.proofs.late.LateBands.make.Given as goal
 
 abbrev pub invariant-loop-k : goal.invariant-loop-k
-invariant-loop-k l = record {
+invariant-loop-k g l = record {
   depth : l.bands-inside.depth ≡ l.fn.bands.depth;
   count : length l.bands-inside.planes.items ≡ length l.fn.bands.bands;
   late_depth : l.self-inside.depth ≡ l.fn.self.depth;
