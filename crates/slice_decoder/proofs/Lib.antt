@@ -16,3 +16,4 @@ pub mod Placed
 pub mod PairLanes
 pub mod ShortPlaces
 pub mod ShortTakes
+pub mod SliceSteps

@@ -9,14 +9,14 @@ use Rattle.slice_decoder.specs.Dealing.{StaysBeside}
 use Rattle.slice_decoder.specs.Components.{Part, rect_of, index_of}
 use Rattle.slice_decoder.specs.Levels.{AreRects, no_rect, places_in}
 use Rattle.slice_decoder.specs.Restored.{restored_at, StayWithin}
-use Rattle.slice_decoder.specs.RestoredBands.{quantisers, IsBand, AreBands, IsRestoredTo, OnePasses}
+use Rattle.slice_decoder.specs.RestoredBands.{all_quantisers, IsBand, AreBands, IsRestoredTo, OnePasses}
 use Rattle.slice_decoder.proofs.LevelLemmas.{next_from, rect_of_level, room_here}
 use Rattle.slice_decoder.proofs.Restores.{restored_here, part-not, part-more}
 
 -- what a value of band k is restored to
 same_here : (most : ℕ) (matrix : Weights) (qindex each : ℕ) (p : Part) (k from count index : ℕ) (old now : List ℤ) → IsBand matrix qindex each p k count → k < 3 * matrix.depth + 1
     → index ≡ band_quantiser matrix qindex (level_of k) (orient_of k) → IsRestoredTo most each p k from old now
-    → (j : ℕ) → from ≤ j → j < from + count → inverse_of (get_or now j (pos 0)) index ≡ restored_at old (quantisers each p) j
+    → (j : ℕ) → from ≤ j → j < from + count → inverse_of (get_or now j (pos 0)) index ≡ restored_at old (all_quantisers each p) j
 same_here most matrix qindex each p k from count index old now is lt index_is held j low below =
     let its : index ≡ index_of p k =
     index_is ∙ ap (λ (m : Weights). band_quantiser m qindex (level_of k) (orient_of k)) (sym is.matrix_is)
@@ -35,7 +35,7 @@ restored-more most matrix qindex each p k from count index old now new answer is
     record {
       from_is = ap (λ (n : ℕ). from + n) is.count_is ∙ next_from each p.slicing p.size p.sx p.sy k from (area (rect_of p k)) held.from_is refl;
       same_length = long ∙ held.same_length;
-      within = part-more most (restored_at old (quantisers each p)) (λ j. inverse_of (get_or now j (pos 0)) index) from (from + count) answer good same held.within stay;
+      within = part-more most (restored_at old (all_quantisers each p)) (λ j. inverse_of (get_or now j (pos 0)) index) from (from + count) answer good same held.within stay;
       done = λ j below. elim (cases_lt j from) [
         | inl before ↦ outside j (inl before) ∙ held.done j before
         | inr here ↦ inside j here below ∙ same j here below
@@ -48,7 +48,7 @@ pub restored-not : (most : ℕ) (matrix : Weights) (qindex each : ℕ) (p : Part
     → StayWithin most answer (λ j. inverse_of (get_or now j (pos 0)) index) from (from + count)
     → IsRestoredTo most each p k from old now → OnePasses most each p old
 restored-not most matrix qindex each p k from count index old now answer is lt index_is bad room stay held =
-    part-not most (restored_at old (quantisers each p)) (λ j. inverse_of (get_or now j (pos 0)) index) from (from + count) (length old) answer bad
+    part-not most (restored_at old (all_quantisers each p)) (λ j. inverse_of (get_or now j (pos 0)) index) from (from + count) (length old) answer bad
     (omega (arith, room, held.same_length)) (same_here most matrix qindex each p k from count index old now is lt index_is held) stay
 
 pub restored-at : (most each : ℕ) (p : Part) (k k' from from' : ℕ) (old new : List ℤ) → k ≡ k' → from ≡ from' → IsRestoredTo most each p k from old new → IsRestoredTo most each p k' from' old new

@@ -177,12 +177,15 @@ pub lowest-room : (each : ℕ) (s : Slicing) (size : Size) (sx sy n : ℕ) (rect
 lowest-room each s size sx sy n rect is count =
     omega (arith, places_inside each s size sx sy 0 (omega arith), count, ap (λ (r : Rect). each * area r) is)
 
+-- slices that lie so have bands of the component's sizes
+pub cut_sizes : (s : Slicing) (size : Size) (b : ShortBands) → IsCut s size b → HaveSizes (short_stack b) (padded_length s.depth size.w) (padded_length s.depth size.h)
+cut_sizes s size b cut =
+    subst (λ (w : ℕ). HaveSizes (short_stack b) w (padded_length s.depth size.h)) cut.width (subst (λ (h : ℕ). HaveSizes (short_stack b) (b.slices.across * b.slices.sw) h) cut.height cut.sound.sizes)
+
 -- the rectangle lies in the lowest band
 pub lowest-fits : (s : Slicing) (size : Size) (b : ShortBands) (sx sy : ℕ) (rect : Rect) → IsCut s size b → rect ≡ level_rect s size sx sy 0 → sx < s.slices_x → sy < s.slices_y → FitsIn rect b.lowest
 lowest-fits s size b sx sy rect cut is across down =
-    let sizes : HaveSizes (short_stack b) (padded_length s.depth size.w) (padded_length s.depth size.h) =
-    subst (λ (w : ℕ). HaveSizes (short_stack b) w (padded_length s.depth size.h)) cut.width (subst (λ (h : ℕ). HaveSizes (short_stack b) (b.slices.across * b.slices.sw) h) cut.height cut.sound.sizes) in
-    fits s size sx sy 0 rect (short_stack b) b.lowest is (sym (short_lowest b)) (omega arith) cut.depth across down sizes
+    fits s size sx sy 0 rect (short_stack b) b.lowest is (sym (short_lowest b)) (omega arith) cut.depth across down (cut_sizes s size b cut)
 
 pub lowest-low : (s : Slicing) (size : Size) (sx sy : ℕ) (rects : List Rect) (rect : Rect) → AreRects s size sx sy rects → rect ≡ level_rect s size sx sy 0 → IsLowRect rect
 lowest-low s size sx sy rects rect are is =

@@ -1,8 +1,9 @@
--- The part of a slice that belongs to a component, as it is handed on.
+-- A slice and the part of it that belongs to a component, as they are handed on.
 use Rattle.std.specs.Prelude.{◌≡◌, ℕ, ◌+◌, ◌*◌, ◌<◌, ◌≤◌, Bool, List, ℤ}
 use Rattle.planes.specs.Subbands.{BandStack, HaveSizes}
 use Rattle.slice_geometry.specs.Geometry.{padded_length}
 use Rattle.slice_decoder.specs.declared.jobs.PartJob.{PartJob}
+use Rattle.slice_decoder.specs.declared.jobs.SliceJob.{SliceJob}
 use Rattle.slice_geometry.specs.SliceOrder.{place_count, numbered}
 use Rattle.slice_decoder.specs.Components.{Part, part_of, BandsHold}
 use Rattle.slice_decoder.specs.Levels.{AreRects, BandsTake}
@@ -14,6 +15,23 @@ part_in job = part_of job.layout.now job.size job.place.sx job.place.sy job.matr
 -- what is asked of it
 pub record IsPartJob (job : PartJob) : Type 0 where
   pub rects : AreRects job.layout.now job.size job.place.sx job.place.sy job.rects.now
+  pub across : job.place.sx < job.layout.now.slices_x
+  pub down : job.place.sy < job.layout.now.slices_y
+  pub qindex : job.place.qindex ≤ 127
+  pub entries : job.matrix.now.depth ≡ job.layout.now.depth
+
+-- the part of a slice that belongs to luma
+abbrev pub luma_part : SliceJob → Part
+luma_part job = part_of job.layout.now job.shape.now.luma job.place.sx job.place.sy job.matrix.now job.place.qindex
+
+-- and the part that belongs to either colour component
+abbrev pub colour_part : SliceJob → Part
+colour_part job = part_of job.layout.now job.shape.now.colour job.place.sx job.place.sy job.matrix.now job.place.qindex
+
+-- what is asked of a slice
+pub record IsSliceJob (job : SliceJob) : Type 0 where
+  pub luma_rects : AreRects job.layout.now job.shape.now.luma job.place.sx job.place.sy job.luma_rects.now
+  pub colour_rects : AreRects job.layout.now job.shape.now.colour job.place.sx job.place.sy job.colour_rects.now
   pub across : job.place.sx < job.layout.now.slices_x
   pub down : job.place.sy < job.layout.now.slices_y
   pub qindex : job.place.qindex ≤ 127

@@ -1,6 +1,6 @@
 -- A slice in bands of 32 bits, whose magnitudes are at most 2 ^ 18.
 use Rattle.std.specs.Prelude.{◌≡◌, ℕ, ◌+◌, ◌*◌, ◌^◌, ◌<◌, ◌≤◌, ◌⊎◌, Bool, true, false, List, length, slice_index_or, ℤ, pos, ◌+ℤ◌}
-use Rattle.planes.specs.Raster.{at}
+use Rattle.planes.specs.Raster.{at, height}
 use Rattle.planes.specs.declared.Rect.{Rect}
 use Rattle.planes.specs.Rect.{IsInRect}
 use Rattle.planes.specs.Bounded.{IsWithin, AreBandsWithin}
@@ -89,7 +89,16 @@ pub record LowestKeeps (rect : Rect) (old new : BandStack) : Type 0 where
   pub keeps : KeepsOutside rect (numbered old 0) (numbered new 0)
   pub others : (k : ℕ) → 1 ≤ k → numbered new k ≡ numbered old k
 
--- restoring the rectangles of all three components, or where it stops
+-- the rectangles lie in the lowest subbands of the three components
+pub record LieInLowest (luma_rect colour_rect : Rect) (b : Trio) : Type 0 where
+  pub luma_x : luma_rect.x1 ≤ (numbered b.luma 0).w
+  pub luma_y : luma_rect.y1 ≤ height (numbered b.luma 0)
+  pub c1_x : colour_rect.x1 ≤ (numbered b.c1 0).w
+  pub c1_y : colour_rect.y1 ≤ height (numbered b.c1 0)
+  pub c2_x : colour_rect.x1 ≤ (numbered b.c2 0).w
+  pub c2_y : colour_rect.y1 ≤ height (numbered b.c2 0)
+
+-- the rectangles of all three components are restored
 pub record AreRestored (luma_rect colour_rect : Rect) (old new : Trio) : Type 0 where
   pub luma : RestoresRect luma_rect (numbered old.luma 0) (numbered new.luma 0)
   pub c1 : RestoresRect colour_rect (numbered old.c1 0) (numbered new.c1 0)

@@ -7,8 +7,8 @@ use Rattle.slice_decoder.specs.Levels.{places_in}
 use Rattle.slice_decoder.specs.Restored.{restored_at, AllWithin, StayWithin}
 
 -- the quantisers of all values of a slice
-abbrev pub quantisers : ℕ → Part → List ℕ
-quantisers each p = quantisers_before each p (3 * p.slicing.depth + 1)
+abbrev pub all_quantisers : ℕ → Part → List ℕ
+all_quantisers each p = quantisers_before each p (3 * p.slicing.depth + 1)
 
 -- band k of a slice with this matrix and index has so many values
 pub record IsBand (matrix : Weights) (qindex each : ℕ) (p : Part) (k count : ℕ) : Type 0 where
@@ -27,11 +27,11 @@ pub record AreBands (matrix : Weights) (qindex each : ℕ) (p : Part) (k count :
 pub record IsRestoredTo (most each : ℕ) (p : Part) (k from : ℕ) (old new : List ℤ) : Type 0 where
   pub from_is : from ≡ each * places_in p.slicing p.size p.sx p.sy k
   pub same_length : length new ≡ length old
-  pub within : AllWithin most (restored_at old (quantisers each p)) 0 from
-  pub done : (j : ℕ) → j < from → slice_index_or new j (pos 0) ≡ restored_at old (quantisers each p) j
+  pub within : AllWithin most (restored_at old (all_quantisers each p)) 0 from
+  pub done : (j : ℕ) → j < from → slice_index_or new j (pos 0) ≡ restored_at old (all_quantisers each p) j
   pub rest : (j : ℕ) → from ≤ j → slice_index_or new j (pos 0) ≡ slice_index_or old j (pos 0)
 
 -- one of them all is restored to a greater magnitude
 abbrev pub OnePasses : ℕ → ℕ → Part → List ℤ → Type 0
 OnePasses most each p values =
-    StayWithin most false (restored_at values (quantisers each p)) 0 (length values)
+    StayWithin most false (restored_at values (all_quantisers each p)) 0 (length values)

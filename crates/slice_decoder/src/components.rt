@@ -7,7 +7,7 @@ ghost use Rattle.slice_decoder.specs.Slice.{are_small};
 ghost use Rattle.slice_decoder.specs.Dealing.{dealt};
 ghost use Rattle.slice_decoder.specs.Components.{BandsKeep};
 ghost use Rattle.slice_decoder.specs.Jobs.{part_in, IsPartJob, AreSizedBands, AllHold};
-ghost use Rattle.slice_decoder.specs.RestoredBands.{quantisers};
+ghost use Rattle.slice_decoder.specs.RestoredBands.{all_quantisers};
 ghost use Rattle.slice_geometry.specs.SliceOrder.{level_of, orient_of};
 
 use crate::bands::{fill_rect, fill_rects};
@@ -46,7 +46,7 @@ fn luma_by_rows(block: &mut Block<'_>, bands: &mut Bands, job: PartJob<'_>) -> b
     requires size { IsSize job.size.w job.size.h }
     requires job { IsPartJob job }
     requires sizes { AreSizedBands (part_in job) bands.old }
-    ensures small { result ≡ are_small (dealt block.old (quantisers 1 (part_in job.entry))) }
+    ensures small { result ≡ are_small (dealt block.old (all_quantisers 1 (part_in job.entry))) }
     ensures holds { result ≡ true → AllHold 1 0 (part_in job.entry) block.old bands.old bands.new }
     ensures keeps { BandsKeep (part_in job.entry) bands.old bands.new }
 {
@@ -77,7 +77,7 @@ fn colour_by_rows(
     requires job { IsPartJob job }
     requires first_sizes { AreSizedBands (part_in job) first.old }
     requires second_sizes { AreSizedBands (part_in job) second.old }
-    ensures small { result ≡ are_small (dealt block.old (quantisers 2 (part_in job.entry))) }
+    ensures small { result ≡ are_small (dealt block.old (all_quantisers 2 (part_in job.entry))) }
     ensures first { result ≡ true → AllHold 2 0 (part_in job.entry) block.old first.old first.new }
     ensures second { result ≡ true
         → AllHold 2 1 (part_in job.entry) block.old second.old second.new }
@@ -113,7 +113,7 @@ pub fn read_luma(
     requires size { IsSize job.size.w job.size.h }
     requires job { IsPartJob job }
     requires sizes { AreSizedBands (part_in job) bands.old }
-    ensures small { result ≡ are_small (dealt block.old (quantisers 1 (part_in job.entry))) }
+    ensures small { result ≡ are_small (dealt block.old (all_quantisers 1 (part_in job.entry))) }
     ensures holds { result ≡ true → AllHold 1 0 (part_in job.entry) block.old bands.old bands.new }
     ensures keeps { BandsKeep (part_in job.entry) bands.old bands.new }
 {
@@ -142,7 +142,7 @@ pub fn read_colour(
     requires job { IsPartJob job }
     requires first_sizes { AreSizedBands (part_in job) first.old }
     requires second_sizes { AreSizedBands (part_in job) second.old }
-    ensures small { result ≡ are_small (dealt block.old (quantisers 2 (part_in job.entry))) }
+    ensures small { result ≡ are_small (dealt block.old (all_quantisers 2 (part_in job.entry))) }
     ensures first { result ≡ true → AllHold 2 0 (part_in job.entry) block.old first.old first.new }
     ensures second { result ≡ true
         → AllHold 2 1 (part_in job.entry) block.old second.old second.new }

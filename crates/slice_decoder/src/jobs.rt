@@ -1,8 +1,11 @@
-// The part of a slice that belongs to a component.
+// A slice that is decoded, and the part of it that belongs to a component.
+
+ghost use Rattle.std.specs.Prelude.{◌≡◌};
+ghost use Rattle.slice_decoder.specs.Jobs.{part_in, luma_part, colour_part, IsPartJob, IsSliceJob};
 
 use planes::Rect;
 use quant_factors::Matrix;
-use slice_geometry::{Layout, Size};
+use slice_geometry::{Layout, PictureShape, Size};
 
 /// Which slice is read: its column and row, and its quantisation index.
 #[derive(Clone, Copy)]
@@ -20,4 +23,47 @@ pub struct PartJob<'a> {
     pub matrix: &'a Matrix,
     pub place: Place,
     pub rects: &'a [Rect; 5],
+}
+
+/// A slice of a picture, with its rectangle in the bands of each level, of luma and of the colour components.
+#[derive(Clone, Copy)]
+pub struct SliceJob<'a> {
+    pub layout: &'a Layout,
+    pub shape: &'a PictureShape,
+    pub matrix: &'a Matrix,
+    pub place: Place,
+    pub luma_rects: &'a [Rect; 5],
+    pub colour_rects: &'a [Rect; 5],
+}
+
+impl<'a> SliceJob<'a> {
+    // The slice's part of luma.
+    pub fn luma(self) -> PartJob<'a>
+        requires { IsSliceJob self }
+        ensures job { IsPartJob result }
+        ensures part { part_in result ≡ luma_part self.entry }
+    {
+        PartJob {
+            layout: self.layout,
+            size: self.shape.luma,
+            matrix: self.matrix,
+            place: self.place,
+            rects: self.luma_rects,
+        }
+    }
+
+    // And that of either colour component.
+    pub fn colour(self) -> PartJob<'a>
+        requires { IsSliceJob self }
+        ensures job { IsPartJob result }
+        ensures part { part_in result ≡ colour_part self.entry }
+    {
+        PartJob {
+            layout: self.layout,
+            size: self.shape.colour,
+            matrix: self.matrix,
+            place: self.place,
+            rects: self.colour_rects,
+        }
+    }
 }

@@ -8,8 +8,7 @@ ghost use Rattle.bounded_blocks.specs.Parts.{block_of};
 ghost use Rattle.dc_prediction.specs.Restoring.{CanRestore, RestoresRect};
 ghost use Rattle.slice_geometry.specs.Slicing as slicing;
 ghost use Rattle.slice_decoder.specs.Slice.{slice_at};
-ghost use Rattle.slice_decoder.specs.Jobs.{part_in, IsPartJob, AreSizedBands};
-ghost use Rattle.slice_geometry.specs.Shape.{IsSize};
+ghost use Rattle.slice_decoder.specs.Jobs.{luma_part, colour_part, IsSliceJob, AreSizedBands};
 ghost use Rattle.slice_geometry.specs.SliceOrder.{numbered};
 ghost use Rattle.slice_decoder.specs.Read.{IsRead};
 ghost use Rattle.slice_decoder.specs.Decoded.{AreReady, AllKeepOthers, IsDecoded, IsRefused};
@@ -35,7 +34,7 @@ use bit_codes::BitReader;
 use bounded_blocks::Block;
 use components::{read_colour, read_luma};
 use dc_prediction::restore_rect;
-use jobs::{PartJob, Place};
+use jobs::{Place, SliceJob};
 use levels::{level_rects, lowest_of};
 pub use narrow_slice::decode_narrow;
 use planes::{Bands, Rect, Trio};
@@ -96,25 +95,16 @@ fn restore(bands: &mut Bands, rect: Rect)
 const ROOM: usize = 256;
 
 // Reads the values of both blocks into the subbands. It answers false where a magnitude passes 2^36.
-fn read_blocks(
-    luma_job: PartJob<'_>,
-    colour_job: PartJob<'_>,
-    bytes: &[u8],
-    luma_bits: u32,
-    bands: &mut Trio,
-) -> bool
+fn read_blocks(job: SliceJob<'_>, bytes: &[u8], luma_bits: u32, bands: &mut Trio) -> bool
     requires some { 1 ≤ length bytes.now }
     requires most { length bytes.now ≤ 2 ^ 28 }
     requires fits { luma_bits + 7 + slicing.length_bits (length bytes.now) ≤ 8 * length bytes.now }
-    requires luma_job { IsPartJob luma_job }
-    requires colour_job { IsPartJob colour_job }
-    requires luma_size { IsSize luma_job.size.w luma_job.size.h }
-    requires colour_size { IsSize colour_job.size.w colour_job.size.h }
-    requires luma_sizes { AreSizedBands (part_in luma_job) bands.old.luma }
-    requires c1_sizes { AreSizedBands (part_in colour_job) bands.old.c1 }
-    requires c2_sizes { AreSizedBands (part_in colour_job) bands.old.c2 }
+    requires job { IsSliceJob job }
+    requires luma_sizes { AreSizedBands (luma_part job) bands.old.luma }
+    requires c1_sizes { AreSizedBands (colour_part job) bands.old.c1 }
+    requires c2_sizes { AreSizedBands (colour_part job) bands.old.c2 }
     ensures { let start = 7 + slicing.length_bits (length bytes.now) in
-        IsRead (part_in luma_job.entry) (part_in colour_job.entry)
+        IsRead (luma_part job.entry) (colour_part job.entry)
         (block_of bytes.now start (start + luma_bits))
         (block_of bytes.now (start + luma_bits) (8 * length bytes.now))
         bands.old bands.new result }
@@ -125,6 +115,8 @@ fn read_blocks(
     let mut colour = Block::new(bytes, middle, 8 * bytes.len() as u64 - middle);
     let mut buffer = [0; ROOM];
     let (c1, c2) = (&mut bands.c1, &mut bands.c2);
+    let luma_job = job.luma();
+    let colour_job = job.colour();
     read_luma(&mut luma, &mut bands.luma, luma_job, &mut buffer)
         && read_colour(&mut colour, c1, c2, colour_job, &mut buffer)
 }
@@ -171,21 +163,15 @@ pub fn decode_slice(
     };
     let luma_rects = level_rects(layout, shape.luma, place);
     let colour_rects = level_rects(layout, shape.colour, place);
-    let luma_job = PartJob {
+    let job = SliceJob {
         layout,
-        size: shape.luma,
+        shape,
         matrix,
         place,
-        rects: &luma_rects,
+        luma_rects: &luma_rects,
+        colour_rects: &colour_rects,
     };
-    let colour_job = PartJob {
-        layout,
-        size: shape.colour,
-        matrix,
-        place,
-        rects: &colour_rects,
-    };
-    if !read_blocks(luma_job, colour_job, bytes, head.luma_bits, bands) {
+    if !read_blocks(job, bytes, head.luma_bits, bands) {
         return Err(SliceFault::CoefficientTooLarge);
     }
     let luma = lowest_of(&luma_rects);

@@ -9,7 +9,7 @@ ghost use Rattle.slice_decoder.specs.Components.{Part};
 ghost use Rattle.slice_decoder.specs.Dealing.{dealt, StaysBeside};
 ghost use Rattle.slice_decoder.specs.Jobs.{part_in, IsPartJob, places_of};
 ghost use Rattle.slice_decoder.specs.Restored.{restored_at, StayWithin, AreLow};
-ghost use Rattle.slice_decoder.specs.RestoredBands.{quantisers, IsBand, AreBands, IsRestoredTo, OnePasses};
+ghost use Rattle.slice_decoder.specs.RestoredBands.{all_quantisers, IsBand, AreBands, IsRestoredTo, OnePasses};
 
 use crate::jobs::PartJob;
 use crate::levels::area_of;
@@ -252,10 +252,10 @@ fn restore_block(values: &mut [i32], each: usize, job: PartJob<'_>) -> bool
     requires count { length values.old ≡ each * places_of (part_in job) }
     requires narrow { (k : ℕ) → unsigned_abs (slice_index_or values.old k (pos 0)) ≤ MAX_NARROW }
     ensures within { StayWithin MAX_NARROW result (restored_at values.old
-        (quantisers each (part_in job.entry))) 0 (length values.old) }
+        (all_quantisers each (part_in job.entry))) 0 (length values.old) }
     ensures values { result ≡ true → (k : ℕ)
         → k < length values.old → slice_index_or values.new k (pos 0)
-        ≡ restored_at values.old (quantisers each (part_in job.entry)) k }
+        ≡ restored_at values.old (all_quantisers each (part_in job.entry)) k }
 {
     let is_low = are_low(values, job.place.qindex);
     let mut from = each * area_of(job.rects[0]);
@@ -288,9 +288,9 @@ pub fn read_values(
     requires count { count ≡ each * places_of (part_in job) }
     requires room { count + SPARE ≤ length buffer.old }
     ensures within { StayWithin MAX_NARROW result (λ k. slice_index_or
-        (dealt block.now (quantisers each (part_in job.entry))) k (pos 0)) 0 count }
+        (dealt block.now (all_quantisers each (part_in job.entry))) k (pos 0)) 0 count }
     ensures values { result ≡ true → (k : ℕ) → k < count → slice_index_or buffer.new k (pos 0)
-        ≡ slice_index_or (dealt block.now (quantisers each (part_in job.entry))) k (pos 0) }
+        ≡ slice_index_or (dealt block.now (all_quantisers each (part_in job.entry))) k (pos 0) }
 {
     if !block.narrow_values(codes, count, buffer) {
         return false;

@@ -8,12 +8,12 @@ ghost use Rattle.dc_prediction.specs.Restoring.{RestoresRect, IsStopped};
 ghost use Rattle.slice_geometry.specs.Slicing as slicing;
 ghost use Rattle.slice_geometry.specs.SliceOrder.{numbered};
 ghost use Rattle.slice_decoder.specs.Slice.{slice_at};
-ghost use Rattle.slice_decoder.specs.Jobs.{part_in, IsPartJob, AreSizedBands};
+ghost use Rattle.slice_decoder.specs.Jobs.{luma_part, colour_part, IsSliceJob, AreSizedBands};
 ghost use Rattle.slice_decoder.specs.Decoded.{AreReady, AllKeepOthers, IsDecoded, IsRefused};
-ghost use Rattle.slice_decoder.specs.Narrow.{trio_of, AreNarrowBands, NeedsWide, AreRead, LowestKeeps, AreRestored, OneStops, AllKeepLowest};
+ghost use Rattle.slice_decoder.specs.Narrow.{trio_of, AreNarrowBands, NeedsWide, AreRead, LowestKeeps, AreRestored, OneStops, AllKeepLowest, LieInLowest};
 
 use crate::ahead::read_ahead;
-use crate::jobs::{PartJob, Place};
+use crate::jobs::{Place, SliceJob};
 use crate::levels::{level_rects, lowest_of};
 use crate::narrow::{read_colour, read_luma};
 use crate::{SliceFault, head_of};
@@ -25,8 +25,7 @@ use slice_geometry::{Layout, PictureShape, SliceHead, length_bits};
 
 // Reads the values of both blocks into the subbands. It answers false where these don't serve.
 fn read_blocks(
-    luma_job: PartJob<'_>,
-    colour_job: PartJob<'_>,
+    job: SliceJob<'_>,
     bytes: &[u8],
     codes: &CodeTable,
     luma_bits: u32,
@@ -36,15 +35,14 @@ fn read_blocks(
     requires some { 1 ≤ length bytes.now }
     requires most { length bytes.now ≤ 2 ^ 28 }
     requires fits { luma_bits + 7 + slicing.length_bits (length bytes.now) ≤ 8 * length bytes.now }
-    requires luma_job { IsPartJob luma_job }
-    requires colour_job { IsPartJob colour_job }
-    requires luma_sizes { AreSizedBands (part_in luma_job) bands.old.luma }
-    requires c1_sizes { AreSizedBands (part_in colour_job) bands.old.c1 }
-    requires c2_sizes { AreSizedBands (part_in colour_job) bands.old.c2 }
+    requires job { IsSliceJob job }
+    requires luma_sizes { AreSizedBands (luma_part job) bands.old.luma }
+    requires c1_sizes { AreSizedBands (colour_part job) bands.old.c1 }
+    requires c2_sizes { AreSizedBands (colour_part job) bands.old.c2 }
     requires narrow { AreNarrowBands bands.old }
     ensures read { let start = 7 + slicing.length_bits (length bytes.now) in
-        AreRead (pos (2 ^ 18)) (length buffer.old) (part_in luma_job.entry)
-        (part_in colour_job.entry)
+        AreRead (pos (2 ^ 18)) (length buffer.old) (luma_part job.entry)
+        (colour_part job.entry)
         (block_of bytes.now start (start + luma_bits))
         (block_of bytes.now (start + luma_bits) (8 * length bytes.now))
         (trio_of bands.old) (trio_of bands.new) result }
@@ -54,10 +52,12 @@ fn read_blocks(
     let middle = start + u64::from(luma_bits);
     let luma = Block::new(bytes, start, u64::from(luma_bits));
     let colour = Block::new(bytes, middle, 8 * bytes.len() as u64 - middle);
+    let luma_job = job.luma();
     if !read_luma(&luma, codes, &mut bands.luma, luma_job, buffer) {
         return false;
     }
     let (c1, c2) = (&mut bands.c1, &mut bands.c2);
+    let colour_job = job.colour();
     read_colour(&colour, codes, c1, c2, colour_job, buffer)
 }
 
@@ -78,12 +78,7 @@ fn restore(bands: &mut NarrowBands, rect: Rect) -> bool
 
 // The same of all three components.
 fn restore_all(bands: &mut NarrowTrio, luma: Rect, colour: Rect) -> bool
-    requires luma_x { luma.x1 ≤ (numbered bands.old.luma 0).w }
-    requires luma_y { luma.y1 ≤ height (numbered bands.old.luma 0) }
-    requires c1_x { colour.x1 ≤ (numbered bands.old.c1 0).w }
-    requires c1_y { colour.y1 ≤ height (numbered bands.old.c1 0) }
-    requires c2_x { colour.x1 ≤ (numbered bands.old.c2 0).w }
-    requires c2_y { colour.y1 ≤ height (numbered bands.old.c2 0) }
+    requires inside { LieInLowest luma colour (trio_of bands.old) }
     requires narrow { AreNarrowBands bands.old }
     ensures restored { result ≡ true → AreRestored luma colour (trio_of bands.old)
         (trio_of bands.new) }
@@ -151,29 +146,15 @@ pub fn decode_narrow(
     read_ahead(bands, layout, shape, sx, sy, buffer);
     let luma_rects = level_rects(layout, shape.luma, place);
     let colour_rects = level_rects(layout, shape.colour, place);
-    let luma_job = PartJob {
+    let job = SliceJob {
         layout,
-        size: shape.luma,
+        shape,
         matrix,
         place,
-        rects: &luma_rects,
+        luma_rects: &luma_rects,
+        colour_rects: &colour_rects,
     };
-    let colour_job = PartJob {
-        layout,
-        size: shape.colour,
-        matrix,
-        place,
-        rects: &colour_rects,
-    };
-    if !read_blocks(
-        luma_job,
-        colour_job,
-        bytes,
-        codes,
-        head.luma_bits,
-        bands,
-        buffer,
-    ) {
+    if !read_blocks(job, bytes, codes, head.luma_bits, bands, buffer) {
         return Ok(None);
     }
     let luma = lowest_of(&luma_rects);

@@ -6,7 +6,7 @@ ghost use Rattle.quant_factors.specs.Factors.{inverse_of};
 ghost use Rattle.slice_decoder.specs.Jobs.{part_in, IsPartJob, places_of};
 ghost use Rattle.slice_decoder.specs.Dealing.{dealt, StaysBeside};
 ghost use Rattle.slice_decoder.specs.Slice.{are_small};
-ghost use Rattle.slice_decoder.specs.RestoredBands.{quantisers};
+ghost use Rattle.slice_decoder.specs.RestoredBands.{all_quantisers};
 ghost use Rattle.slice_decoder.specs.Restored.{restored_at, StayWithin};
 
 use crate::components::{band_numbered, orient_numbered};
@@ -40,10 +40,10 @@ pub fn restore_block(values: &mut [i64], each: usize, job: PartJob<'_>) -> bool
     requires count { length values.old ≡ each * places_of (part_in job) }
     requires small { (k : ℕ) → unsigned_abs (slice_index_or values.old k (pos 0)) ≤ MAX_MAGNITUDE }
     ensures small { StayWithin MAX_MAGNITUDE result
-        (restored_at values.old (quantisers each (part_in job.entry))) 0 (length values.old) }
+        (restored_at values.old (all_quantisers each (part_in job.entry))) 0 (length values.old) }
     ensures values { result ≡ true → (k : ℕ)
         → k < length values.old → slice_index_or values.new k (pos 0)
-        ≡ restored_at values.old (quantisers each (part_in job.entry)) k }
+        ≡ restored_at values.old (all_quantisers each (part_in job.entry)) k }
 {
     let mut from = 0;
     for k in 0..3 * job.layout.depth() + 1 {
@@ -66,10 +66,10 @@ pub fn read_values(block: &mut Block<'_>, values: &mut [i64], each: usize, job: 
     requires few { each ≤ 2 }
     requires job { IsPartJob job }
     requires count { length values.old ≡ each * places_of (part_in job) }
-    ensures small { result ≡ are_small (dealt block.old (quantisers each (part_in job.entry))) }
+    ensures small { result ≡ are_small (dealt block.old (all_quantisers each (part_in job.entry))) }
     ensures values { result ≡ true → (k : ℕ)
         → k < length values.old → slice_index_or values.new k (pos 0)
-        ≡ slice_index_or (dealt block.old (quantisers each (part_in job.entry))) k (pos 0) }
+        ≡ slice_index_or (dealt block.old (all_quantisers each (part_in job.entry))) k (pos 0) }
 {
     if !block.fill(values) {
         return false;

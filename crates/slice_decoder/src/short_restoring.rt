@@ -7,7 +7,7 @@ ghost use Rattle.slice_decoder.specs.Components.{Part};
 ghost use Rattle.slice_decoder.specs.Dealing.{dealt, StaysBeside};
 ghost use Rattle.slice_decoder.specs.Jobs.{part_in, IsPartJob, places_of};
 ghost use Rattle.slice_decoder.specs.Restored.{restored_at, StayWithin};
-ghost use Rattle.slice_decoder.specs.RestoredBands.{quantisers, IsBand, IsRestoredTo, OnePasses};
+ghost use Rattle.slice_decoder.specs.RestoredBands.{all_quantisers, IsBand, IsRestoredTo, OnePasses};
 ghost use Rattle.slice_decoder.specs.Steps.{IsStep, restored_by};
 
 use crate::components::band_numbered;
@@ -177,10 +177,10 @@ fn restore_block(values: &mut [i16], each: usize, job: PartJob<'_>) -> bool
     requires job { IsPartJob job }
     requires count { length values.old ≡ each * places_of (part_in job) }
     ensures within { StayWithin MAX_SHORT result (restored_at values.old
-        (quantisers each (part_in job.entry))) 0 (length values.old) }
+        (all_quantisers each (part_in job.entry))) 0 (length values.old) }
     ensures values { result ≡ true → (k : ℕ)
         → k < length values.old → slice_index_or values.new k (pos 0)
-        ≡ restored_at values.old (quantisers each (part_in job.entry)) k }
+        ≡ restored_at values.old (all_quantisers each (part_in job.entry)) k }
 {
     let mut from = 0;
     for k in 0..3 * job.layout.depth() + 1 {
@@ -209,9 +209,9 @@ pub fn read_values(
     requires count { count ≡ each * places_of (part_in job) }
     requires room { count + SPARE ≤ length buffer.old }
     ensures within { StayWithin MAX_SHORT result (λ k. slice_index_or
-        (dealt block.now (quantisers each (part_in job.entry))) k (pos 0)) 0 count }
+        (dealt block.now (all_quantisers each (part_in job.entry))) k (pos 0)) 0 count }
     ensures values { result ≡ true → (k : ℕ) → k < count → slice_index_or buffer.new k (pos 0)
-        ≡ slice_index_or (dealt block.now (quantisers each (part_in job.entry))) k (pos 0) }
+        ≡ slice_index_or (dealt block.now (all_quantisers each (part_in job.entry))) k (pos 0) }
 {
     if !block.short_values(codes, count, buffer) {
         return false;

@@ -12,12 +12,12 @@ ghost use Rattle.slice_geometry.specs.Slicing as slicing;
 ghost use Rattle.slice_geometry.specs.Slicing.{Slicing};
 ghost use Rattle.slice_geometry.specs.SliceOrder.{numbered};
 ghost use Rattle.slice_decoder.specs.Slice.{slice_at};
-ghost use Rattle.slice_decoder.specs.Jobs.{part_in, IsPartJob};
-ghost use Rattle.slice_decoder.specs.Decoded.{AreReady, AllKeepOthers, IsDecoded, IsRefused};
-ghost use Rattle.slice_decoder.specs.Narrow.{NeedsWide, AreRead, LowestKeeps, AreRestored, OneStops, AllKeepLowest};
+ghost use Rattle.slice_decoder.specs.Jobs.{luma_part, colour_part, IsSliceJob};
+ghost use Rattle.slice_decoder.specs.Decoded.{AllKeepOthers, IsDecoded, IsRefused};
+ghost use Rattle.slice_decoder.specs.Narrow.{NeedsWide, AreRead, LowestKeeps, AreRestored, OneStops, AllKeepLowest, LieInLowest};
 ghost use Rattle.slice_decoder.specs.Short.{shown_trio, IsCut, AreCut};
 
-use crate::jobs::{PartJob, Place};
+use crate::jobs::{Place, SliceJob};
 use crate::levels::{level_rects, lowest_of};
 use crate::short::{read_colour, read_luma};
 use crate::{SliceFault, head_of};
@@ -30,8 +30,7 @@ use slice_geometry::{Layout, PictureShape, SliceHead, length_bits};
 
 // Reads the values of both blocks into the subbands. It answers false where these don't serve.
 fn read_blocks(
-    luma_job: PartJob<'_>,
-    colour_job: PartJob<'_>,
+    job: SliceJob<'_>,
     bytes: &[u8],
     codes: &CodeTable,
     luma_bits: u32,
@@ -41,28 +40,25 @@ fn read_blocks(
     requires some { 1 ≤ length bytes.now }
     requires most { length bytes.now ≤ 2 ^ 28 }
     requires fits { luma_bits + 7 + slicing.length_bits (length bytes.now) ≤ 8 * length bytes.now }
-    requires luma_job { IsPartJob luma_job }
-    requires colour_job { IsPartJob colour_job }
-    requires luma_cut { IsCut luma_job.layout.now luma_job.size bands.old.luma }
-    requires c1_cut { IsCut colour_job.layout.now colour_job.size bands.old.c1 }
-    requires c2_cut { IsCut colour_job.layout.now colour_job.size bands.old.c2 }
+    requires job { IsSliceJob job }
+    requires cut { AreCut job.layout.now job.shape.now bands.old }
     ensures read { let start = 7 + slicing.length_bits (length bytes.now) in
-        AreRead MAX_SHORT (length buffer.old) (part_in luma_job.entry) (part_in colour_job.entry)
+        AreRead MAX_SHORT (length buffer.old) (luma_part job.entry) (colour_part job.entry)
         (block_of bytes.now start (start + luma_bits))
         (block_of bytes.now (start + luma_bits) (8 * length bytes.now))
         (shown_trio bands.old) (shown_trio bands.new) result }
-    ensures luma_cut { IsCut luma_job.entry.layout.now luma_job.entry.size bands.new.luma }
-    ensures c1_cut { IsCut colour_job.entry.layout.now colour_job.entry.size bands.new.c1 }
-    ensures c2_cut { IsCut colour_job.entry.layout.now colour_job.entry.size bands.new.c2 }
+    ensures cut { AreCut job.entry.layout.now job.entry.shape.now bands.new }
 {
     let start = 7 + u64::from(length_bits(bytes.len() as u32));
     let middle = start + u64::from(luma_bits);
     let luma = Block::new(bytes, start, u64::from(luma_bits));
     let colour = Block::new(bytes, middle, 8 * bytes.len() as u64 - middle);
+    let luma_job = job.luma();
     if !read_luma(&luma, codes, &mut bands.luma, luma_job, buffer) {
         return false;
     }
     let (c1, c2) = (&mut bands.c1, &mut bands.c2);
+    let colour_job = job.colour();
     read_colour(&colour, codes, c1, c2, colour_job, buffer)
 }
 
@@ -84,23 +80,15 @@ fn restore(bands: &mut ShortBands, rect: Rect) -> bool
 
 // The same of all three components.
 fn restore_all(bands: &mut ShortTrio, luma: Rect, colour: Rect) -> bool
-    requires luma_x { luma.x1 ≤ (numbered (short_stack bands.old.luma) 0).w }
-    requires luma_y { luma.y1 ≤ height (numbered (short_stack bands.old.luma) 0) }
-    requires c1_x { colour.x1 ≤ (numbered (short_stack bands.old.c1) 0).w }
-    requires c1_y { colour.y1 ≤ height (numbered (short_stack bands.old.c1) 0) }
-    requires c2_x { colour.x1 ≤ (numbered (short_stack bands.old.c2) 0).w }
-    requires c2_y { colour.y1 ≤ height (numbered (short_stack bands.old.c2) 0) }
+    requires inside { LieInLowest luma colour (shown_trio bands.old) }
     requires luma_sound { IsShortSound bands.old.luma }
     requires c1_sound { IsShortSound bands.old.c1 }
     requires c2_sound { IsShortSound bands.old.c2 }
     ensures restored { result ≡ true
-        → AreRestored luma colour (shown_trio bands.old)
-        (shown_trio bands.new) }
+        → AreRestored luma colour (shown_trio bands.old) (shown_trio bands.new) }
     ensures stopped { result ≡ false
-        → OneStops luma colour (shown_trio bands.old)
-        (shown_trio bands.new) }
-    ensures keeps { AllKeepLowest luma colour (shown_trio bands.old)
-        (shown_trio bands.new) }
+        → OneStops luma colour (shown_trio bands.old) (shown_trio bands.new) }
+    ensures keeps { AllKeepLowest luma colour (shown_trio bands.old) (shown_trio bands.new) }
     ensures cut { (s : Slicing) (shape : PictureShape) → AreCut s shape bands.old
         → AreCut s shape bands.new }
 {
@@ -134,7 +122,6 @@ pub fn decode_short(
     requires some { 1 ≤ length bytes.now }
     requires most { length bytes.now ≤ 2 ^ 28 }
     requires entries { matrix.now.depth ≡ layout.now.depth }
-    requires ready { AreReady layout.now shape.now sx sy (shown_trio bands.old) }
     requires cut { AreCut layout.now shape.now bands.old }
     ensures decoded { let slice = slice_at layout.now shape.now.luma shape.now.colour sx sy
         bytes.now in
@@ -162,29 +149,15 @@ pub fn decode_short(
     };
     let luma_rects = level_rects(layout, shape.luma, place);
     let colour_rects = level_rects(layout, shape.colour, place);
-    let luma_job = PartJob {
+    let job = SliceJob {
         layout,
-        size: shape.luma,
+        shape,
         matrix,
         place,
-        rects: &luma_rects,
+        luma_rects: &luma_rects,
+        colour_rects: &colour_rects,
     };
-    let colour_job = PartJob {
-        layout,
-        size: shape.colour,
-        matrix,
-        place,
-        rects: &colour_rects,
-    };
-    if !read_blocks(
-        luma_job,
-        colour_job,
-        bytes,
-        codes,
-        head.luma_bits,
-        bands,
-        buffer,
-    ) {
+    if !read_blocks(job, bytes, codes, head.luma_bits, bands, buffer) {
         return Ok(None);
     }
     let luma = lowest_of(&luma_rects);

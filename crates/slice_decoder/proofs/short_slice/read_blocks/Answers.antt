@@ -1,57 +1,61 @@
-use Rattle.std.proofs.Common.{◌≡◌, ℕ, ◌+◌, ◌*◌, List, Bool, true, length, ap, subst, ◌∙◌, inl, arith}
+use Rattle.std.proofs.Common.{◌≡◌, ℕ, ◌+◌, ◌*◌, List, Bool, length, refl, sym, subst, arith}
 use Rattle.planes.specs.declared.Trio.{Trio}
 use Rattle.bounded_blocks.specs.Parts.{block_of}
-use Rattle.slice_geometry.specs.Slicing.{length_bits}
-use Rattle.slice_decoder.specs.Slice.{are_small}
-use Rattle.slice_decoder.specs.Jobs.{part_in}
-use Rattle.slice_decoder.specs.Components.{Part, BandsHold}
 use Rattle.slice_bands.specs.declared.short.TheConstants.{MAX_SHORT}
 use Rattle.slice_bands.specs.ShortBands.{short_stack}
-use Rattle.slice_decoder.specs.Short.{shown_trio}
-use Rattle.slice_decoder.specs.Narrow.{Answers, NeedMore, block_values}
-use Rattle.slice_decoder.proofs.NarrowBands.{both-answer, nothing-read}
+use Rattle.slice_geometry.specs.Slicing.{length_bits}
+use Rattle.slice_decoder.specs.Components.{Part}
+use Rattle.slice_decoder.specs.Jobs.{part_in, luma_part, colour_part}
+use Rattle.slice_decoder.specs.Short.{shown_trio, IsCut}
+use Rattle.slice_decoder.proofs.NarrowBands.{nothing-read}
+use Rattle.slice_decoder.proofs.SliceSteps.{same_block, both-read, luma-not-read}
 use Rattle.slice_decoder.proofs.short_slice.read_blocks.Goals as goal
-
-same_block : (bytes : List ℕ) (block : List Bool) (from to start end : ℕ) → block ≡ block_of bytes from to → from ≡ start → to ≡ end → block ≡ block_of bytes start end
-same_block bytes block from to start end is one two = is ∙ ap (λ b. block_of bytes b to) one ∙ ap (block_of bytes start) two
 
 pub returns-clause-read : goal.returns-clause-read
 returns-clause-read c =
-    let luma : Part = part_in c.args.luma_job in
-    let colour : Part = part_in c.args.colour_job in
     let start : ℕ = 7 + length_bits (length c.args.bytes.now) in
     let middle : ℕ = start + c.args.luma_bits in
     let luma_block : List Bool = block_of c.args.bytes.now start middle in
     let colour_block : List Bool = block_of c.args.bytes.now middle (8 * length c.args.bytes.now) in
     let luma_is : c.new-luma.result ≡ luma_block = same_block c.args.bytes.now c.new-luma.result _ _ start middle c.new-luma.ensures (omega (arith, c.length_bits.ensures, c.from-start.ensures)) (omega (arith, c.length_bits.ensures, c.from-start.ensures, c.from.ensures, c.from-2.ensures)) in
     let colour_is : c.new-colour.result ≡ colour_block = same_block c.args.bytes.now c.new-colour.result _ _ middle (8 * length c.args.bytes.now) c.new-colour.ensures (omega (arith, c.length_bits.ensures, c.from-start.ensures, c.from.ensures, c.from-2.ensures)) (omega (arith, c.length_bits.ensures, c.from-start.ensures, c.from.ensures, c.from-2.ensures, c.requires.fits)) in
-    let old : Trio = shown_trio c.args.bands.now in
-    let total : ℕ = 3 * luma.slicing.depth + 1 in
-    let total_colour : ℕ = 3 * colour.slicing.depth + 1 in
     let new : Trio = record { luma = short_stack c.read_luma.new.bands; c1 = short_stack c.read_colour.new.first; c2 = short_stack c.read_colour.new.second } in
-    let first = c.if-not-read_luma.ensures.answer in
-    let second : ℕ → List Bool → Type 0 = λ room b. Answers MAX_SHORT room (block_values 2 colour b) (BandsHold 2 0 colour total_colour b old.c1 new.c1 × BandsHold 2 1 colour total_colour b old.c2 new.c2) c.read_colour.result in
-    record {
-      answer =
-          both-answer MAX_SHORT (length c.args.buffer.now) luma colour luma_block colour_block old new c.read_colour.result
-          (subst (λ (b : List Bool). are_small (block_values 1 luma b) ≡ true) luma_is first.0)
-          (subst (λ (b : List Bool). BandsHold 1 0 luma total b old.luma new.luma) luma_is first.1)
-          (subst (λ (room : ℕ). second room colour_block) c.read_luma.auto.buffer (subst (second (length c.read_luma.new.buffer)) colour_is c.read_colour.ensures.answer));
-      luma_keeps = c.if-not-read_luma.ensures.keeps;
-      c1_keeps = c.read_colour.ensures.first_keeps;
-      c2_keeps = c.read_colour.ensures.second_keeps;
-    }
+    both-read MAX_SHORT (length c.args.buffer.now) (part_in c.luma-luma_job.result) (luma_part c.args.job) (part_in c.colour-colour_job.result) (colour_part c.args.job) c.new-luma.result luma_block c.new-colour.result colour_block
+    c.luma-luma_job.ensures.part c.colour-colour_job.ensures.part luma_is colour_is (shown_trio c.args.bands.now) new
+    (length c.read_luma.new.buffer) c.read_colour.result c.read_luma.auto.buffer c.if-not-read_luma.ensures.answer c.if-not-read_luma.ensures.keeps c.read_colour.ensures.answer c.read_colour.ensures.first_keeps c.read_colour.ensures.second_keeps
 
 pub returns-then-not-read_luma-clause-read : goal.returns-then-not-read_luma-clause-read
 returns-then-not-read_luma-clause-read c =
-    let luma : Part = part_in c.args.luma_job in
-    let colour : Part = part_in c.args.colour_job in
     let start : ℕ = 7 + length_bits (length c.args.bytes.now) in
     let middle : ℕ = start + c.args.luma_bits in
-    let luma_is : c.new-luma.result ≡ block_of c.args.bytes.now start middle = same_block c.args.bytes.now c.new-luma.result _ _ start middle c.new-luma.ensures (omega (arith, c.length_bits.ensures, c.from-start.ensures)) (omega (arith, c.length_bits.ensures, c.from-start.ensures, c.from.ensures, c.from-2.ensures)) in
-    record {
-      answer = inl (subst (λ (b : List Bool). NeedMore MAX_SHORT (length c.args.buffer.now) (block_values 1 luma b)) luma_is c.if-not-read_luma.ensures.answer);
-      luma_keeps = c.if-not-read_luma.ensures.keeps;
-      c1_keeps = nothing-read colour (short_stack c.args.bands.now.c1);
-      c2_keeps = nothing-read colour (short_stack c.args.bands.now.c2);
-    }
+    let luma_block : List Bool = block_of c.args.bytes.now start middle in
+    let colour_block : List Bool = block_of c.args.bytes.now middle (8 * length c.args.bytes.now) in
+    let luma_is : c.new-luma.result ≡ luma_block = same_block c.args.bytes.now c.new-luma.result _ _ start middle c.new-luma.ensures (omega (arith, c.length_bits.ensures, c.from-start.ensures)) (omega (arith, c.length_bits.ensures, c.from-start.ensures, c.from.ensures, c.from-2.ensures)) in
+    let new : Trio = record { luma = short_stack c.read_luma.new.bands; c1 = short_stack c.args.bands.now.c1; c2 = short_stack c.args.bands.now.c2 } in
+    let colour : Part = colour_part c.args.job in
+    luma-not-read MAX_SHORT (length c.args.buffer.now) (part_in c.luma-luma_job.result) (luma_part c.args.job) colour colour c.new-luma.result luma_block colour_block colour_block
+    c.luma-luma_job.ensures.part refl luma_is refl (shown_trio c.args.bands.now) new
+    c.if-not-read_luma.ensures.answer c.if-not-read_luma.ensures.keeps (nothing-read colour (short_stack c.args.bands.now.c1)) (nothing-read colour (short_stack c.args.bands.now.c2))
+
+pub read_luma-requires-clause-cut : goal.read_luma-requires-clause-cut
+read_luma-requires-clause-cut c = subst (λ (p : Part). IsCut p.slicing p.size c.args.bands.now.luma) (sym c.luma-luma_job.ensures.part) c.requires.cut.luma
+
+pub read_colour-requires-clause-first_cut : goal.read_colour-requires-clause-first_cut
+read_colour-requires-clause-first_cut c = subst (λ (p : Part). IsCut p.slicing p.size c.args.bands.now.c1) (sym c.colour-colour_job.ensures.part) c.requires.cut.c1
+
+pub read_colour-requires-clause-second_cut : goal.read_colour-requires-clause-second_cut
+read_colour-requires-clause-second_cut c = subst (λ (p : Part). IsCut p.slicing p.size c.args.bands.now.c2) (sym c.colour-colour_job.ensures.part) c.requires.cut.c2
+
+pub returns-clause-cut : goal.returns-clause-cut
+returns-clause-cut c = record {
+  luma = subst (λ (p : Part). IsCut p.slicing p.size c.read_luma.new.bands) c.luma-luma_job.ensures.part c.if-not-read_luma.ensures.cut;
+  c1 = subst (λ (p : Part). IsCut p.slicing p.size c.read_colour.new.first) c.colour-colour_job.ensures.part c.read_colour.ensures.first_cut;
+  c2 = subst (λ (p : Part). IsCut p.slicing p.size c.read_colour.new.second) c.colour-colour_job.ensures.part c.read_colour.ensures.second_cut;
+}
+
+pub returns-then-not-read_luma-clause-cut : goal.returns-then-not-read_luma-clause-cut
+returns-then-not-read_luma-clause-cut c = record {
+  luma = subst (λ (p : Part). IsCut p.slicing p.size c.read_luma.new.bands) c.luma-luma_job.ensures.part c.if-not-read_luma.ensures.cut;
+  c1 = c.requires.cut.c1;
+  c2 = c.requires.cut.c2;
+}
