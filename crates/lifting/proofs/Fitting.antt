@@ -1,5 +1,5 @@
 -- Each number that enters a step of synthesis, from bounds of the bands.
-use Rattle.std.proofs.Common.{◌≡◌, ℕ, zero, suc, ◌+◌, ◌-◌, ◌*◌, ◌/◌, ◌%◌, ◌^◌, ◌<◌, ◌≤◌, lit≤, arith, inl, inr, length, subst}
+use Rattle.std.proofs.Common.{◌≡◌, ℕ, zero, suc, ◌-◌, ◌*◌, ◌/◌, ◌%◌, ◌^◌, ◌<◌, ◌≤◌, lit≤, arith, inl, inr, pos}
 use Rattle.std.proofs.lemmas.Bool.{cases_eq}
 use Rattle.planes.specs.Numbers.{Within}
 use Rattle.planes.specs.declared.TheConstants.{MAX_MAGNITUDE}
@@ -11,10 +11,10 @@ use Rattle.lifting.specs.Steps.{step}
 use Rattle.lifting.specs.Lines.{Line, before, after, lift, synthesis_line}
 use Rattle.lifting.specs.Transform.{Grid, on_columns, Coefficients, interleaved, synthesis_level, synthesis}
 use Rattle.lifting.specs.Ranges.{LineWithin, GridWithin, BandsWithin, level_reach, reach, SynthesisStays}
-use Rattle.lifting.specs.Fits.{LineFits, LevelFits, SynthesisFits}
+use Rattle.lifting.specs.Fits.{LineFits, LevelFits, SynthesisFits, LevelFitsIn}
 use Rattle.planes.specs.Subbands.{BandStack}
 use Rattle.lifting.specs.Bands.{lowest, coefficients_of}
-use Rattle.lifting.specs.Carried.{even_carried, line_carried, level_entered, level_carried, greatest_at, carried, AreShortIn}
+use Rattle.lifting.specs.Carried.{even_carried, line_carried, level_entered, level_carried, IsShortAt}
 use Rattle.lifting.proofs.Undone.{before_parity, after_parity, lift_at, lift_other}
 use Rattle.lifting.proofs.Inside.{before_inside, after_inside, twice_size}
 use Rattle.lifting.proofs.Growth.{even_carries, odd_grows, halved_within, reach_least}
@@ -142,14 +142,13 @@ module _ (k : Wavelet) (h w depth : ℕ) (c : Coefficients) (low high : ℕ → 
 
 -- ---- 16 bits
 
-pub short_fits : (k : Wavelet) (b : BandStack) (w h : ℕ) → AreShortIn k b w h → SynthesisFits k (lowest b.depth h) (lowest b.depth w) b.depth (2 ^ 14 - 2) (coefficients_of b)
-short_fits k b w h (greatest, are, short) =
-    synthesis_fits k (lowest b.depth h) (lowest b.depth w) b.depth (coefficients_of b) (carried k greatest) (λ n. greatest_at greatest (suc n)) are.ll are.hl are.lh are.hh
-    (λ n lt. omega arith) (2 ^ 14 - 2) short.lowest
-    (λ n lt.
-    let next : n + 1 ≡ suc n = omega arith in
-    let inside : n + 1 < length greatest = omega (arith, are.count, lt) in
-    subst (λ (j : ℕ). level_entered (carried k greatest n) (greatest_at greatest j) ≤ 2 ^ 14 - 2) next (short.levels n inside))
+pub short_fits : (k : Wavelet) (b : BandStack) (w h n : ℕ) → IsShortAt k b w h n → LevelFitsIn (λ v. v) (pos 0) k (2 ^ 14 - 2) b w h n
+short_fits k b w h n s =
+    let c = coefficients_of b in
+    let y = lowest b.depth h in
+    let x = lowest b.depth w in
+    level_fits k (y * 2 ^ n) (x * 2 ^ n) (y * 2 ^ suc n) (x * 2 ^ suc n) (twice_size y n) (twice_size x n) s.low s.high (synthesis k y x c n) (c.hl (suc n)) (c.lh (suc n)) (c.hh (suc n))
+    s.within_ll s.within_hl s.within_lh s.within_hh (2 ^ 14 - 2) s.few
 
 -- ---- 32 and 64 bits have room for four levels
 

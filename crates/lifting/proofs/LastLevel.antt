@@ -8,7 +8,7 @@ use Rattle.lifting.specs.declared.roll.Level.{Level}
 use Rattle.lifting.specs.Bands.{coefficients_in, lowest}
 use Rattle.lifting.specs.Transform.{Grid, synthesis, synthesis_level}
 use Rattle.lifting.specs.Ranges.{SameInside}
-use Rattle.lifting.specs.Fits.{SynthesisFits}
+use Rattle.lifting.specs.Fits.{LevelFitsIn}
 use Rattle.lifting.specs.Turns.{HasBands, IsLevel, IsLevelOf, level_grid}
 use Rattle.lifting.proofs.Levels.{half_size, twice_half, whole_size, level_columns, level_rows, level_bands, level_up, next_fits}
 
@@ -48,5 +48,5 @@ module _ {X : Type 0} (value : X → ℤ) (none : X) (k : Wavelet) (w h : ℕ) (
       (level_up value none k (lowest b.depth h) (lowest b.depth w) b n p l of rows columns below level (λ j i lj li. refl))
       y x (omega (arith, ly, whole_size h b.depth whole_rows)) (omega (arith, lx, whole_size w b.depth whole_columns))
 
-  pub last_fits : (m : ℕ) → SynthesisFits k (lowest b.depth h) (lowest b.depth w) b.depth m (coefficients_in value none b) → IsLevel value none m (level_grid value none p l) l
-  last_fits m fits = next_fits value none k (lowest b.depth h) (lowest b.depth w) b n p l of rows columns below m b.depth fits lt
+  pub last_fits : (m : ℕ) → LevelFitsIn value none k m b w h n → IsLevel value none m (level_grid value none p l) l
+  last_fits m fits = next_fits value none k (lowest b.depth h) (lowest b.depth w) b n p l of rows columns below m fits

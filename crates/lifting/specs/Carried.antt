@@ -1,8 +1,9 @@
--- How far synthesis carries the magnitudes of the bands, level by level, and where 16 bits have room for it.
-use Rattle.std.specs.Prelude.{◌≡◌, ℕ, zero, suc, ◌+◌, ◌-◌, ◌*◌, ◌/◌, ◌^◌, ◌<◌, ◌≤◌, List, length, slice_index_or}
+-- How far a level of synthesis carries the magnitudes of its bands, and where 16 bits have room for it.
+use Rattle.std.specs.Prelude.{ℕ, suc, ◌+◌, ◌-◌, ◌*◌, ◌/◌, ◌^◌, ◌<◌, ◌≤◌}
 use Rattle.lifting.specs.declared.Wavelet.{Wavelet}
 use Rattle.lifting.specs.declared.Wavelet.TheVariants.{LeGall, HaarFlat, HaarShift}
 use Rattle.planes.specs.Subbands.{BandStack}
+use Rattle.lifting.specs.Transform.{Grid, synthesis}
 use Rattle.lifting.specs.Ranges.{GridWithin}
 use Rattle.lifting.specs.Bands.{lowest, coefficients_of}
 
@@ -29,31 +30,28 @@ level_entered low high = even_carried (line_carried low high) (line_carried high
 abbrev pub level_carried : Wavelet → ℕ → ℕ → ℕ
 level_carried k low high = halved_carried k (line_carried (line_carried low high) (line_carried high high))
 
--- The greatest magnitudes of a component's bands: of LL, and then level by level of the other three.
-abbrev pub greatest_at : List ℕ → ℕ → ℕ
-greatest_at greatest n = slice_index_or greatest n 0
+-- There are bounds of LL and of the other bands of a level, each of h rows and w columns, from which each number that enters
+-- a step is within 2 ^ 14 - 2, so that sums of two, and 2 more, have 16 bits. This suffices; steps may fit without it.
+pub record IsShortLevel (h w : ℕ) (ll hl lh hh : Grid) : Type 0 where
+  pub low : ℕ
+  pub high : ℕ
+  pub within_ll : GridWithin h w low ll
+  pub within_hl : GridWithin h w high hl
+  pub within_lh : GridWithin h w high lh
+  pub within_hh : GridWithin h w high hh
+  pub few : level_entered low high ≤ 2 ^ 14 - 2
 
--- LL of level n, as the levels below make it
-abbrev pub carried : Wavelet → List ℕ → ℕ → ℕ
-carried k greatest zero = greatest_at greatest 0
-carried k greatest (suc n) = level_carried k (carried k greatest n) (greatest_at greatest (suc n))
+-- of a component of w by h, where LL is what n levels make, and the bands are those of the level above these
+abbrev pub IsShortAt : Wavelet → BandStack → ℕ → ℕ → ℕ → Type 0
+IsShortAt k b w h n =
+    IsShortLevel (lowest b.depth h * 2 ^ n) (lowest b.depth w * 2 ^ n)
+    (synthesis k (lowest b.depth h) (lowest b.depth w) (coefficients_of b) n)
+    ((coefficients_of b).hl (suc n)) ((coefficients_of b).lh (suc n)) ((coefficients_of b).hh (suc n))
 
--- Each number that enters a step at any level is within 2 ^ 14 - 2, so that sums of two, and 2 more, have 16 bits.
-pub record AreShort (k : Wavelet) (greatest : List ℕ) : Type 0 where
-  pub lowest : greatest_at greatest 0 ≤ 2 ^ 14 - 2
-  pub levels : (n : ℕ) → n + 1 < length greatest → level_entered (carried k greatest n) (greatest_at greatest (n + 1)) ≤ 2 ^ 14 - 2
+-- the first levels are so
+abbrev pub AreShortTo : Wavelet → BandStack → ℕ → ℕ → ℕ → Type 0
+AreShortTo k b w h levels = (n : ℕ) → n < levels → IsShortAt k b w h n
 
--- the magnitudes in the bands of a component of w by h are at most these
-pub record AreGreatest (greatest : List ℕ) (b : BandStack) (w h : ℕ) : Type 0 where
-  pub count : length greatest ≡ b.depth + 1
-  pub ll : GridWithin (lowest b.depth h) (lowest b.depth w) (greatest_at greatest 0) (coefficients_of b).ll
-  pub hl : (n : ℕ) → n < b.depth
-      → GridWithin (lowest b.depth h * 2 ^ n) (lowest b.depth w * 2 ^ n) (greatest_at greatest (suc n)) ((coefficients_of b).hl (suc n))
-  pub lh : (n : ℕ) → n < b.depth
-      → GridWithin (lowest b.depth h * 2 ^ n) (lowest b.depth w * 2 ^ n) (greatest_at greatest (suc n)) ((coefficients_of b).lh (suc n))
-  pub hh : (n : ℕ) → n < b.depth
-      → GridWithin (lowest b.depth h * 2 ^ n) (lowest b.depth w * 2 ^ n) (greatest_at greatest (suc n)) ((coefficients_of b).hh (suc n))
-
--- 16 bits have room for the synthesis of these bands.
+-- 16 bits have room for the synthesis of these bands: all levels are so.
 abbrev pub AreShortIn : Wavelet → BandStack → ℕ → ℕ → Type 0
-AreShortIn k b w h = (greatest : List ℕ) × AreGreatest greatest b w h × AreShort k greatest
+AreShortIn k b w h = AreShortTo k b w h b.depth

@@ -28,3 +28,10 @@ pub record SynthesisFits (k : Wavelet) (h w depth m : ℕ) (c : Coefficients) : 
 -- of the bands of a component of w by h
 abbrev pub FitIn : {X : Type 0} → (X → ℤ) → X → Wavelet → ℕ → BandsOf X → ℕ → ℕ → Type 0
 FitIn value none k m b w h = SynthesisFits k (lowest b.depth h) (lowest b.depth w) b.depth m (coefficients_in value none b)
+
+-- and of one of their levels, which is made of what n levels make
+abbrev pub LevelFitsIn : {X : Type 0} → (X → ℤ) → X → Wavelet → ℕ → BandsOf X → ℕ → ℕ → ℕ → Type 0
+LevelFitsIn value none k m b w h n =
+    let c = coefficients_in value none b in
+    LevelFits k (lowest b.depth h * 2 ^ suc n) (lowest b.depth w * 2 ^ suc n) m
+    (interleaved (synthesis k (lowest b.depth h) (lowest b.depth w) c n) (c.hl (suc n)) (c.lh (suc n)) (c.hh (suc n)))

@@ -1,8 +1,12 @@
--- What the first levels of synthesis ask of their rooms.
-use Rattle.std.specs.Prelude.{◌≡◌, ℕ, ◌*◌, ◌%◌, ◌^◌, ◌≤◌}
-use Rattle.lifting.specs.Bands.{lowest}
+-- What the first levels of synthesis ask of their rooms, and leave there.
+use Rattle.std.specs.Prelude.{◌≡◌, ℕ, ℤ, ◌*◌, ◌%◌, ◌^◌, ◌≤◌}
+use Rattle.lifting.specs.declared.Wavelet.{Wavelet}
+use Rattle.lifting.specs.Bands.{lowest, coefficients_in}
+use Rattle.lifting.specs.Transform.{synthesis}
+use Rattle.lifting.specs.Ranges.{SameInside}
 use Rattle.planes.specs.Raster.{Raster, height}
 use Rattle.planes.specs.Subbands.{BandsOf, HaveSizes}
+use Rattle.planes.specs.Valued.{grid_of}
 
 -- The bands are those of a component of w by h, multiples of 2 ^ depth. The plane and the scratch have room for so many levels.
 pub record HaveLevelRoom {X : Type 0} (b : BandsOf X) (levels w h : ℕ) (plane scratch : Raster X) : Type 0 where
@@ -13,3 +17,9 @@ pub record HaveLevelRoom {X : Type 0} (b : BandsOf X) (levels w h : ℕ) (plane 
   pub rows : lowest b.depth h * 2 ^ levels ≤ height plane
   pub scratch_columns : lowest b.depth w * 2 ^ levels ≤ scratch.w
   pub scratch_rows : lowest b.depth h * 2 ^ levels ≤ height scratch
+
+-- The plane's first columns and rows hold what so many levels make of the bands of a component of w by h.
+abbrev pub HoldsLevels : {X : Type 0} → (X → ℤ) → X → Wavelet → BandsOf X → ℕ → ℕ → ℕ → Raster X → Type 0
+HoldsLevels value none k b w h levels plane =
+    SameInside (lowest b.depth h * 2 ^ levels) (lowest b.depth w * 2 ^ levels) (grid_of value none plane)
+    (synthesis k (lowest b.depth h) (lowest b.depth w) (coefficients_in value none b) levels)

@@ -1,5 +1,5 @@
 -- A level of synthesis row by row. In a row the even places come first, and the odd ones behind them.
-use Rattle.std.specs.Prelude.{◌≡◌, ℕ, ℤ, ◌*◌, ◌<◌, ◌≤◌, length}
+use Rattle.std.specs.Prelude.{◌≡◌, ◌≢◌, ℕ, ℤ, ◌*◌, ◌<◌, ◌≤◌, length}
 use Rattle.planes.specs.Raster.{Raster, height}
 use Rattle.planes.specs.Subbands.{BandsOf, band_of}
 use Rattle.planes.specs.Valued.{valued, grid_of}
@@ -68,3 +68,8 @@ HasPlaces value none m w row =
 abbrev pub IsLevelOf : {X : Type 0} → Wavelet → BandsOf X → ℕ → Level X → Type 0
 IsLevelOf k b n l =
     (l.hl.now ≡ band_of b n 1) × (l.lh.now ≡ band_of b n 2) × (l.hh.now ≡ band_of b n 3) × (l.w ≡ l.hl.now.w) × (l.h ≡ height l.hl.now) × (l.wavelet ≡ k)
+
+-- Row y of a plane has become a row's first w places, and its other rows have stayed.
+pub record IsRowPut {X : Type 0} (value : X → ℤ) (none : X) (w y : ℕ) (row : Line) (old new : Raster X) : Type 0 where
+  pub here : (x : ℕ) → x < w → grid_of value none new y x ≡ row x
+  pub others : (j x : ℕ) → j ≢ y → grid_of value none new j x ≡ grid_of value none old j x

@@ -1,74 +1,107 @@
-//! How far synthesis carries the magnitudes of the bands, and whether 16 bits have room for it.
+//! Whether 16 bits have room for a level of synthesis, by the greatest magnitudes of LL and of its other bands. The bound
+//! suffices: where it holds, no step leaves 16 bits. It supposes that the greatest numbers meet, so where it does not hold the
+//! steps may fit all the same.
 
-ghost use Rattle.std.specs.Prelude.{◌≡◌, ◌↔◌, ◌+◌, ◌^◌, ◌≤◌, ◌<◌, length, true};
-ghost use Rattle.lifting.specs.Carried.{even_carried, line_carried, halved_carried, level_entered, level_carried, carried, AreShort};
+ghost use Rattle.std.specs.Prelude.{◌≡◌, ◌↔◌, ℕ, ◌+◌, ◌*◌, ◌^◌, ◌≤◌, ◌<◌, length, true, pos};
+ghost use Rattle.planes.specs.Raster.{height, at};
+ghost use Rattle.lifting.specs.Places.{place};
+ghost use Rattle.lifting.specs.Ranges.{LineWithin, GridWithin};
+ghost use Rattle.lifting.specs.Turns.{HasBands};
+ghost use Rattle.lifting.specs.Carried.{even_carried, line_carried, level_entered, IsShortLevel, IsShortAt};
+ghost use Rattle.lifting.specs.LevelRoom.{HaveLevelRoom, HoldsLevels};
 
 use crate::Wavelet;
+use crate::roll::Level;
+use crate::synthesis::{Size, level_of};
+use planes::{Bands, Plane};
 
 // The greatest magnitude that a step takes in 16 bits.
-const MOST: u64 = (1 << 14) - 2;
+const MOST: u32 = (1 << 14) - 2;
 
-fn even_of(even: u64, odd: u64) -> u64
-    requires even { even < 2 ^ 40 }
-    requires odd { odd < 2 ^ 40 }
+fn even_of(even: u32, odd: u32) -> u32
+    requires even { even < 2 ^ 20 }
+    requires odd { odd < 2 ^ 20 }
     ensures { result ≡ even_carried even odd }
 {
     even + (odd + 1) / 2
 }
 
-fn line_of(even: u64, odd: u64) -> u64
-    requires even { even < 2 ^ 38 }
-    requires odd { odd < 2 ^ 38 }
+fn line_of(even: u32, odd: u32) -> u32
+    requires even { even < 2 ^ 18 }
+    requires odd { odd < 2 ^ 18 }
     ensures { result ≡ line_carried even odd }
 {
     odd + even_of(even, odd)
 }
 
-fn halved_of(wavelet: Wavelet, most: u64) -> u64
-    requires { most < 2 ^ 40 }
-    ensures { result ≡ halved_carried wavelet most }
-{
-    match wavelet {
-        Wavelet::LeGall => (most + 1) / 2,
-        Wavelet::HaarFlat => most,
-        Wavelet::HaarShift => (most + 1) / 2,
-    }
-}
-
 // The greatest number that enters a step of a level.
-fn entered_of(low: u64, high: u64) -> u64
-    requires low { low < 2 ^ 34 }
-    requires high { high < 2 ^ 34 }
+fn entered_of(low: u32, high: u32) -> u32
+    requires low { low < 2 ^ 16 }
+    requires high { high < 2 ^ 16 }
     ensures { result ≡ level_entered low high }
 {
     even_of(line_of(low, high), line_of(high, high))
 }
 
-// What a level makes.
-fn level_of(wavelet: Wavelet, low: u64, high: u64) -> u64
-    requires low { low < 2 ^ 34 }
-    requires high { high < 2 ^ 34 }
-    ensures { result ≡ level_carried wavelet low high }
+// The greatest magnitude of the first w places of a row. Of -32768 it is 32768.
+fn front_greatest(row: &[i16], w: usize) -> u16
+    requires { w ≤ length row.now }
+    ensures { (m : ℕ) → (result ≤ m) ↔ LineWithin w m (place row.now) }
 {
-    halved_of(wavelet, line_of(line_of(low, high), line_of(high, high)))
+    let mut most = 0u16;
+    for i in 0..w {
+        most = most.max(row[i].unsigned_abs());
+    }
+    most
 }
 
-/// Whether 16 bits have room for the synthesis of a component whose bands have these greatest magnitudes: the first is that of
-/// LL, and the others are level by level those of the three other bands.
-pub fn fits_short(wavelet: Wavelet, greatest: &[u32]) -> bool
-    requires { 1 ≤ length greatest.now }
-    ensures { (result ≡ true) ↔ AreShort wavelet greatest.now }
+// The greatest magnitude in the first w columns and h rows of a plane.
+fn greatest_of(plane: &Plane<i16>, w: u32, h: u32) -> u16
+    requires columns { w ≤ plane.now.w }
+    requires rows { h ≤ height plane.now }
+    ensures { (m : ℕ) → (result ≤ m) ↔ GridWithin h w m (at plane.now) }
 {
-    let mut low = u64::from(greatest[0]);
-    if low > MOST {
-        return false;
+    let mut most = 0u16;
+    for y in 0..h {
+        most = most.max(front_greatest(plane.row(y), w as usize));
     }
-    for n in 0..greatest.len() - 1 {
-        let high = u64::from(greatest[n + 1]);
-        if entered_of(low, high) > MOST {
-            return false;
-        }
-        low = level_of(wavelet, low, high);
-    }
-    true
+    most
+}
+
+// Whether 16 bits have room for a level, of which LL stands in the plane.
+fn has_room(plane: &Plane<i16>, level: &Level<i16>) -> bool
+    requires columns { level.now.w ≤ plane.now.w }
+    requires rows { level.now.h ≤ height plane.now }
+    requires bands { HasBands level.now }
+    ensures { let l = level.now in
+        (result ≡ true)
+        ↔ IsShortLevel l.h l.w (at plane.now) (at l.hl.now) (at l.lh.now) (at l.hh.now) }
+{
+    let (w, h) = (level.w, level.h);
+    let low = greatest_of(plane, w, h);
+    let (hl, lh, hh) = (
+        greatest_of(level.hl, w, h),
+        greatest_of(level.lh, w, h),
+        greatest_of(level.hh, w, h),
+    );
+    let high = hl.max(lh).max(hh);
+    entered_of(u32::from(low), u32::from(high)) <= MOST
+}
+
+/// Whether 16 bits have room for level n + 1, from what n levels made in the plane.
+pub(crate) fn is_short(
+    wavelet: Wavelet,
+    bands: &Bands<i16>,
+    n: u32,
+    size: Size,
+    plane: &Plane<i16>,
+) -> bool
+    requires some { n < bands.now.depth }
+    requires room { HaveLevelRoom bands.now n size.w size.h plane.now plane.now }
+    requires below { HoldsLevels (λ v. v) (pos 0) wavelet bands.now size.w size.h n plane.now }
+    ensures { (result ≡ true) ↔ IsShortAt wavelet bands.now size.w size.h n }
+{
+    // A depth is at most 4.
+    let _ = bands.depth();
+    has_room(plane, &level_of(wavelet, bands, n + 1))
 }

@@ -6,6 +6,7 @@ ghost use Rattle.planes.specs.Raster.{height};
 ghost use Rattle.planes.specs.Valued.{valued, EachValued, grid_of};
 ghost use Rattle.lifting.specs.Ranges.{SameInside};
 ghost use Rattle.lifting.specs.Steps.{step};
+ghost use Rattle.lifting.specs.Turns.{SameSize};
 
 use crate::kernels::{lift_between, stepped};
 use crate::{PairStep, Wavelet};
@@ -108,8 +109,7 @@ fn copy_front<T: Number>(dst: &mut [T], row: &[T], n: usize)
 pub(crate) fn copy_corner<T: Number>(dst: &mut Plane<T>, src: &Plane<T>, w: u32, h: u32)
     requires fits { (w ≤ dst.old.w) × (w ≤ src.now.w) }
     requires high { (h ≤ height dst.old) × (h ≤ height src.now) }
-    ensures same_width { dst.new.w ≡ dst.old.w }
-    ensures same_height { height dst.new ≡ height dst.old }
+    ensures same_size { SameSize dst.old dst.new }
     ensures copied { SameInside h w (grid_of T.value T.none dst.new)
         (grid_of T.value T.none src.now) }
 {

@@ -12,6 +12,7 @@ ghost use Rattle.lifting.specs.Lines.{before, after, analysis_line};
 ghost use Rattle.lifting.specs.Transform.{analysis_level, every_other};
 ghost use Rattle.lifting.specs.Ranges.{LineWithin, GridWithin, SameInside};
 ghost use Rattle.lifting.specs.Bands.{SameSizes, HoldLevel, OtherLevelsStay};
+ghost use Rattle.lifting.specs.Turns.{SameSize, IsRowPut};
 
 use crate::columns::{lift_row_between, row_after, row_before};
 use crate::halves_back::analyse_sides;
@@ -35,8 +36,7 @@ fn put_sides<T: Analysed>(
     requires fits { 2 * w ≤ plane.now.w }
     requires fits_scratch { 2 * w ≤ scratch.old.w }
     requires small { LineWithin (2 * w) (2 ^ 25) (grid_of T.value T.none plane.now j) }
-    ensures same_width { scratch.new.w ≡ scratch.old.w }
-    ensures same_height { height scratch.new ≡ height scratch.old }
+    ensures same_size { SameSize scratch.old scratch.new }
     ensures row { let grid = grid_of T.value T.none in
         (x : ℕ) → x < 2 * w → grid scratch.new r x
         ≡ analysis_line wavelet (2 * w) (λ i. doubled wavelet (grid plane.now j i))
@@ -66,8 +66,7 @@ fn put_two<T: Analysed>(
     requires high_scratch { 2 * h ≤ height scratch.old }
     requires small { (j : ℕ) → 2 * y + 1 ≤ j → j < 2 * h
         → LineWithin (2 * w) (2 ^ 25) (grid_of T.value T.none plane.now j) }
-    ensures same_width { scratch.new.w ≡ scratch.old.w }
-    ensures same_height { height scratch.new ≡ height scratch.old }
+    ensures same_size { SameSize scratch.old scratch.new }
     ensures odd { let grid = grid_of T.value T.none in
         (x : ℕ) → x < 2 * w → grid scratch.new ((2 * y + 1) % 4) x
         ≡ analysis_line wavelet (2 * w) (λ i. doubled wavelet (grid plane.now (2 * y + 1) i))
@@ -95,8 +94,7 @@ fn finish_two<T: Analysed>(scratch: &mut Plane<T>, y: u32, w: u32, h: u32, wavel
     requires high { 2 * h ≤ height scratch.old }
     requires small { (j : ℕ) → 2 * y - 1 ≤ j → j ≤ 2 * y + 2 → j < 2 * h
         → LineWithin (2 * w) (2 ^ 28) (grid_of T.value T.none scratch.old (j % 4)) }
-    ensures same_width { scratch.new.w ≡ scratch.old.w }
-    ensures same_height { height scratch.new ≡ height scratch.old }
+    ensures same_size { SameSize scratch.old scratch.new }
     ensures odd { let grid = grid_of T.value T.none in
         (x : ℕ) → x < 2 * w → grid scratch.new ((2 * y + 1) % 4) x
         ≡ step wavelet OddDown (grid scratch.old ((2 * y + 1) % 4) x)
@@ -146,12 +144,9 @@ fn put_row<T: Analysed>(band: &mut Plane<T>, y: u32, scratch: &Plane<T>, part: P
     requires r_inside { part.r < height scratch.now }
     requires fits { part.w ≤ band.old.w }
     requires fits_scratch { 2 * part.w ≤ scratch.now.w }
-    ensures same_width { band.new.w ≡ band.old.w }
-    ensures same_height { height band.new ≡ height band.old }
-    ensures row { let grid = grid_of T.value T.none in
-        (x : ℕ) → x < part.w → grid band.new y x ≡ grid scratch.now part.r (part.x0 + x) }
-    ensures others { (j x : ℕ) → j ≢ y
-        → grid_of T.value T.none band.new j x ≡ grid_of T.value T.none band.old j x }
+    ensures same_size { SameSize band.old band.new }
+    ensures put { let row = λ (x : ℕ). grid_of T.value T.none scratch.now part.r (part.x0 + x) in
+        IsRowPut T.value T.none part.w y row band.old band.new }
 {
     copy_from(
         band.row_mut(y),
@@ -177,12 +172,9 @@ fn deal_row<T: Analysed>(
     requires fits { part.w ≤ (band_of bands.old level orient).w }
     requires fits_scratch { 2 * part.w ≤ scratch.now.w }
     ensures same_sizes { SameSizes bands.old bands.new }
-    ensures row { let grid = grid_of T.value T.none in
-        (x : ℕ) → x < part.w → grid (band_of bands.new level orient) y x
-        ≡ grid scratch.now part.r (part.x0 + x) }
-    ensures rows { let grid = grid_of T.value T.none in
-        (j x : ℕ) → j ≢ y
-        → grid (band_of bands.new level orient) j x ≡ grid (band_of bands.old level orient) j x }
+    ensures put { let row = λ (x : ℕ). grid_of T.value T.none scratch.now part.r (part.x0 + x) in
+        IsRowPut T.value T.none part.w y row (band_of bands.old level orient)
+        (band_of bands.new level orient) }
     ensures others { (l o : ℕ) → band_index l o ≢ band_index level orient
         → band_of bands.new l o ≡ band_of bands.old l o }
 {
@@ -208,31 +200,18 @@ fn deal_two<T: Analysed>(
     requires fits { w ≤ plane.old.w }
     requires fits_bands { (o : ℕ) → 1 ≤ o → o ≤ 3 → w ≤ (band_of bands.old level o).w }
     requires fits_scratch { 2 * w ≤ scratch.now.w }
-    ensures same_width { plane.new.w ≡ plane.old.w }
-    ensures same_height { height plane.new ≡ height plane.old }
+    ensures same_size { SameSize plane.old plane.new }
     ensures same_sizes { SameSizes bands.old bands.new }
-    ensures left { let grid = grid_of T.value T.none in
-        (x : ℕ) → x < w → grid plane.new y x ≡ grid scratch.now (2 * y % 4) (0 + x) }
-    ensures hl { let grid = grid_of T.value T.none in
-        (x : ℕ) → x < w
-        → grid (band_of bands.new level 1) y x ≡ grid scratch.now (2 * y % 4) (w + x) }
-    ensures lh { let grid = grid_of T.value T.none in
-        (x : ℕ) → x < w
-        → grid (band_of bands.new level 2) y x ≡ grid scratch.now ((2 * y + 1) % 4) (0 + x) }
-    ensures hh { let grid = grid_of T.value T.none in
-        (x : ℕ) → x < w
-        → grid (band_of bands.new level 3) y x ≡ grid scratch.now ((2 * y + 1) % 4) (w + x) }
-    ensures rows { (j x : ℕ) → j ≢ y
-        → grid_of T.value T.none plane.new j x ≡ grid_of T.value T.none plane.old j x }
-    ensures hl_rows { let grid = grid_of T.value T.none in
-        (j x : ℕ) → j ≢ y
-        → grid (band_of bands.new level 1) j x ≡ grid (band_of bands.old level 1) j x }
-    ensures lh_rows { let grid = grid_of T.value T.none in
-        (j x : ℕ) → j ≢ y
-        → grid (band_of bands.new level 2) j x ≡ grid (band_of bands.old level 2) j x }
-    ensures hh_rows { let grid = grid_of T.value T.none in
-        (j x : ℕ) → j ≢ y
-        → grid (band_of bands.new level 3) j x ≡ grid (band_of bands.old level 3) j x }
+    ensures left { let row = λ (x : ℕ). grid_of T.value T.none scratch.now (2 * y % 4) (0 + x) in
+        IsRowPut T.value T.none w y row plane.old plane.new }
+    ensures hl { let row = λ (x : ℕ). grid_of T.value T.none scratch.now (2 * y % 4) (w + x) in
+        IsRowPut T.value T.none w y row (band_of bands.old level 1) (band_of bands.new level 1) }
+    ensures lh { let row = λ (x : ℕ).
+        grid_of T.value T.none scratch.now ((2 * y + 1) % 4) (0 + x) in
+        IsRowPut T.value T.none w y row (band_of bands.old level 2) (band_of bands.new level 2) }
+    ensures hh { let row = λ (x : ℕ).
+        grid_of T.value T.none scratch.now ((2 * y + 1) % 4) (w + x) in
+        IsRowPut T.value T.none w y row (band_of bands.old level 3) (band_of bands.new level 3) }
     ensures others { OtherLevelsStay level bands.old bands.new }
 {
     let (even, odd) = (2 * y % 4, (2 * y + 1) % 4);
@@ -261,10 +240,8 @@ pub(crate) fn roll_back<T: Analysed>(
     requires fits_bands { (o : ℕ) → 1 ≤ o → o ≤ 3 → w ≤ (band_of bands.old level o).w }
     requires high_bands { (o : ℕ) → 1 ≤ o → o ≤ 3 → h ≤ height (band_of bands.old level o) }
     requires small { GridWithin (2 * h) (2 * w) (2 ^ 25) (grid_of T.value T.none plane.old) }
-    ensures same_width { plane.new.w ≡ plane.old.w }
-    ensures same_height { height plane.new ≡ height plane.old }
-    ensures same_width_scratch { scratch.new.w ≡ scratch.old.w }
-    ensures same_height_scratch { height scratch.new ≡ height scratch.old }
+    ensures same_size { SameSize plane.old plane.new }
+    ensures same_size_scratch { SameSize scratch.old scratch.new }
     ensures same_sizes { SameSizes bands.old bands.new }
     ensures left { let grid = grid_of T.value T.none in
         SameInside h w (grid plane.new) (every_other 0 0

@@ -7,26 +7,21 @@ ghost use Rattle.planes.specs.Subbands.{HaveSizes};
 ghost use Rattle.lifting.specs.Transform.{synthesis};
 ghost use Rattle.lifting.specs.Ranges.{GridWithin, SameInside};
 ghost use Rattle.lifting.specs.Bands.{coefficients_in, lowest};
-ghost use Rattle.lifting.specs.Fits.{FitIn};
-ghost use Rattle.lifting.specs.Carried.{AreShortIn};
+ghost use Rattle.lifting.specs.declared.Wavelet.{Wavelet};
+ghost use Rattle.lifting.specs.Fits.{FitIn, LevelFitsIn};
+ghost use Rattle.lifting.specs.LevelRoom.{HoldsLevels};
 ghost use Rattle.lifting.specs.Clipping.{sample_of, AreSamplesOf};
 ghost use Rattle.lifting.specs.SampleRoom.{HoldsArea, HaveRoom, IsShownArea, AreNarrowIn, AreSmallIn, synthesis_of, synthesis_in};
+ghost use Rattle.lifting.specs.Turns.{SameSize};
 
 use crate::roll_samples::roll_samples;
 use crate::samples::{Sampled, sample_band};
-use crate::synthesis::{level_of, synth_levels_of};
+use crate::synthesis::{Size, level_of, synth_levels_of};
 use crate::{SampleArea, Wavelet};
 use planes::{Bands, NarrowBands, NarrowPlane, Plane};
 
-/// The padded size of a component.
-#[derive(Clone, Copy)]
-pub(crate) struct Size {
-    pub w: u32,
-    pub h: u32,
-}
-
-// The samples of the last level, from the levels below it in the plane.
-fn synth_last<T: Sampled>(
+/// The samples of the last level, from the levels below it in the plane.
+pub(crate) fn synth_last<T: Sampled>(
     wavelet: Wavelet,
     bands: &Bands<T>,
     size: Size,
@@ -37,16 +32,14 @@ fn synth_last<T: Sampled>(
 )
     requires some { 1 ≤ bands.now.depth }
     requires room { HaveRoom bands.now size.w size.h plane.now scratch.old }
-    requires has_room { FitIn T.value T.none wavelet T.reach bands.now size.w size.h }
-    requires below { let n = bands.now.depth - 1 in
-        SameInside (lowest bands.now.depth size.h * 2 ^ n) (lowest bands.now.depth size.w * 2 ^ n)
-        (grid_of T.value T.none plane.now)
-        (synthesis wavelet (lowest bands.now.depth size.h) (lowest bands.now.depth size.w)
-        (coefficients_in T.value T.none bands.now) n) }
+    requires has_room { LevelFitsIn T.value T.none wavelet T.reach bands.now size.w size.h
+        (bands.now.depth - 1) }
+    requires below { HoldsLevels T.value T.none wavelet bands.now size.w size.h
+        (bands.now.depth - 1)
+        plane.now }
     requires bits { area.depth ≤ T.depths }
     requires shown { IsShownArea area size.w size.h samples.old }
-    ensures same_width_scratch { scratch.new.w ≡ scratch.old.w }
-    ensures same_height_scratch { height scratch.new ≡ height scratch.old }
+    ensures same_size_scratch { SameSize scratch.old scratch.new }
     ensures count { length samples.new ≡ length samples.old }
     ensures samples { AreSamplesOf area.w area.h area.depth samples.new
         (synthesis_in T.value T.none wavelet bands.now size.w size.h) }
@@ -86,6 +79,24 @@ pub(crate) fn sample_lowest<T: Sampled>(samples: &mut [u16], area: SampleArea, b
     for y in 0..area.h {
         sample_row_of(samples, area, y, band);
     }
+}
+
+/// The samples of a component whose bands have no level.
+pub(crate) fn sample_only<T: Sampled>(
+    bands: &Bands<T>,
+    size: Size,
+    samples: &mut [u16],
+    area: SampleArea,
+)
+    requires none { bands.now.depth ≡ 0 }
+    requires sizes { HaveSizes bands.now size.w size.h }
+    requires bits { area.depth ≤ T.depths }
+    requires shown { IsShownArea area size.w size.h samples.old }
+    ensures count { length samples.new ≡ length samples.old }
+    ensures samples { (k : Wavelet) → AreSamplesOf area.w area.h area.depth samples.new
+        (synthesis_in T.value T.none k bands.now size.w size.h) }
+{
+    sample_lowest(samples, area, bands.band(0, 0));
 }
 
 /// The samples of a component, from its bands: synthesis of all levels as `synth` has it, and of the first columns and rows
@@ -150,35 +161,6 @@ pub fn synth_samples_narrow(
     synth_samples_of(wavelet, bands, Size { w, h }, plane, scratch, samples, area);
 }
 
-/// The samples of a component as `synth_samples` has them, in 16 bits, from bands whose greatest magnitudes serve `fits_short`.
-///
-/// The sizes and the rooms are as `synth_samples` asks them. The samples have at most 15 bits. Both rooms hold any values
-/// afterwards.
-pub fn synth_samples_short(
-    wavelet: Wavelet,
-    bands: &Bands<i16>,
-    w: u32,
-    h: u32,
-    plane: &mut Plane<i16>,
-    scratch: &mut Plane<i16>,
-    samples: &mut [u16],
-    area: SampleArea,
-)
-    requires room { HaveRoom bands.now w h plane.old scratch.old }
-    requires short { AreShortIn wavelet bands.now w h }
-    requires few_bits { area.depth ≤ 15 }
-    requires shown { IsShownArea area w h samples.old }
-    ensures same_width { plane.new.w ≡ plane.old.w }
-    ensures same_height { height plane.new ≡ height plane.old }
-    ensures same_width_scratch { scratch.new.w ≡ scratch.old.w }
-    ensures same_height_scratch { height scratch.new ≡ height scratch.old }
-    ensures count { length samples.new ≡ length samples.old }
-    ensures samples { AreSamplesOf area.w area.h area.depth samples.new
-        (synthesis_of wavelet bands.now w h) }
-{
-    synth_samples_of(wavelet, bands, Size { w, h }, plane, scratch, samples, area);
-}
-
 /// The same at any width.
 pub(crate) fn synth_samples_of<T: Sampled>(
     wavelet: Wavelet,
@@ -193,26 +175,16 @@ pub(crate) fn synth_samples_of<T: Sampled>(
     requires has_room { FitIn T.value T.none wavelet T.reach bands.now size.w size.h }
     requires bits { area.depth ≤ T.depths }
     requires shown { IsShownArea area size.w size.h samples.old }
-    ensures same_width { plane.new.w ≡ plane.old.w }
-    ensures same_height { height plane.new ≡ height plane.old }
-    ensures same_width_scratch { scratch.new.w ≡ scratch.old.w }
-    ensures same_height_scratch { height scratch.new ≡ height scratch.old }
+    ensures same_size { SameSize plane.old plane.new }
+    ensures same_size_scratch { SameSize scratch.old scratch.new }
     ensures count { length samples.new ≡ length samples.old }
     ensures samples { AreSamplesOf area.w area.h area.depth samples.new
         (synthesis_in T.value T.none wavelet bands.now size.w size.h) }
 {
     if bands.depth() == 0 {
-        sample_lowest(samples, area, bands.band(0, 0));
+        sample_only(bands, size, samples, area);
     } else {
-        synth_levels_of(
-            wavelet,
-            bands,
-            bands.depth() - 1,
-            size.w,
-            size.h,
-            plane,
-            scratch,
-        );
+        synth_levels_of(wavelet, bands, bands.depth() - 1, size, plane, scratch);
         synth_last(wavelet, bands, size, plane, scratch, samples, area);
     }
 }

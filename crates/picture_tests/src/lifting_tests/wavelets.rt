@@ -60,7 +60,7 @@ fn are_bands(bands: &Bands, level: u32, w: u32, h: u32) -> bool
 }
 
 // Whether `synth` may be called.
-fn can_synth(bands: &Bands, plane: &Plane, scratch: &Plane) -> bool
+pub(super) fn can_synth(bands: &Bands, plane: &Plane, scratch: &Plane) -> bool
     ensures sizes { result ≡ true → AgreeInSize bands.now plane.now scratch.now }
     ensures small { result ≡ true → AreSmall bands.now plane.now }
 {
@@ -173,7 +173,7 @@ type Values = [i64; 32];
 const BANDS: [(u32, u32); 7] = [(0, 0), (1, 1), (1, 2), (1, 3), (2, 1), (2, 2), (2, 3)];
 
 // Whether a band is there.
-fn exists(depth: u32, level: u32, orient: u32) -> bool
+pub(super) fn exists(depth: u32, level: u32, orient: u32) -> bool
     ensures { result ≡ true → BandExists depth level orient }
 {
     if level == 0 {

@@ -5,7 +5,7 @@ use Rattle.planes.specs.Subbands.{with_band}
 use Rattle.lifting.specs.Bands.{lowest, coefficients_in}
 use Rattle.lifting.specs.Transform.{Grid, remaining, analysis}
 use Rattle.lifting.specs.Ranges.{GridWithin, SameBands}
-use Rattle.lifting.proofs.Levels.{whole_size, lowest_fits}
+use Rattle.lifting.proofs.Levels.{whole_size, lowest_fits, sizes_after}
 use Rattle.lifting.proofs.LevelsDown.{lowest_width, lowest_height, width_is, height_is, same_sizes_after, left_small, left_next, dealt_next, all_dealt}
 use Rattle.lifting.proofs.analysis.analyse_of.Goals as goal
 
@@ -16,10 +16,8 @@ whole_small h w depth rows columns m g eh ew small y x ly lx = small y x (omega 
 pub loop-j-init : goal.loop-j-init
 unfolding remaining
 loop-j-init G c = record {
-  same_width = refl;
-  same_height = refl;
-  same_width_scratch = refl;
-  same_height_scratch = refl;
+  same_size = (refl, refl);
+  same_size_scratch = (refl, refl);
   same_sizes = record { depth = refl; widths = λ l o. refl; heights = λ l o. refl };
   left = λ y x ly lx. refl;
   dealt = λ n lt le. absurd (omega arith);
@@ -60,10 +58,8 @@ loop-j-preserved G c =
     let eh : c.h-h.result ≡ h * 2 ^ n = c.h-h.ensures.value ∙ ap (λ (r : Raster G.row.T.Denot). height r) c.band-band.ensures ∙ height_is b c.loop-j.bands p s q i.same_sizes _ n 1 level (omega arith) (omega arith) (omega arith) in
     let ew : c.w-w.result ≡ w * 2 ^ n = c.w-w.ensures.value ∙ ap (λ (r : Raster G.row.T.Denot). r.w) c.band-band.ensures ∙ width_is b c.loop-j.bands p s q i.same_sizes _ n 1 level (omega arith) (omega arith) (omega arith) in
     record {
-      same_width = done.same_width ∙ i.same_width;
-      same_height = done.same_height ∙ i.same_height;
-      same_width_scratch = done.same_width_scratch ∙ i.same_width_scratch;
-      same_height_scratch = done.same_height_scratch ∙ i.same_height_scratch;
+      same_size = sizes_after p c.loop-j.plane c.roll_back.new.plane i.same_size done.same_size;
+      same_size_scratch = sizes_after s c.loop-j.scratch c.roll_back.new.scratch i.same_size_scratch done.same_size_scratch;
       same_sizes = same_sizes_after b c.loop-j.bands c.roll_back.new.bands i.same_sizes done.same_sizes;
       left = left_next c.args.wavelet h w b.depth (grid_of G.T.Number.value G.T.Number.none p) j n c.h-h.result c.w-w.result (grid_of G.T.Number.value G.T.Number.none c.loop-j.plane) (omega arith) inside eh ew i.left (grid_of G.T.Number.value G.T.Number.none c.roll_back.new.plane) done.left;
       dealt =
@@ -77,7 +73,7 @@ copy_corner-requires-clause-fits G c =
     let b = c.args.bands.now in
     let p = c.args.plane.now in
     let is = lowest_width b c.loop-j.bands p c.args.scratch.now q c.loop-j.invariant.same_sizes c.band_mut-lowest.result.now c.band_mut-lowest.ensures.value in
-    (omega (arith, c.w-across.ensures), omega (arith, c.w-across.ensures, is, lowest_fits p.w b.depth q.whole_columns, c.loop-j.invariant.same_width))
+    (omega (arith, c.w-across.ensures), omega (arith, c.w-across.ensures, is, lowest_fits p.w b.depth q.whole_columns, c.loop-j.invariant.same_size.0))
 
 pub copy_corner-requires-clause-high : goal.copy_corner-requires-clause-high
 copy_corner-requires-clause-high G c =
@@ -85,7 +81,7 @@ copy_corner-requires-clause-high G c =
     let b = c.args.bands.now in
     let p = c.args.plane.now in
     let is = lowest_height b c.loop-j.bands p c.args.scratch.now q c.loop-j.invariant.same_sizes c.band_mut-lowest.result.now c.band_mut-lowest.ensures.value in
-    (omega (arith, c.h-down.ensures), omega (arith, c.h-down.ensures, is, lowest_fits (height p) b.depth q.whole_rows, c.loop-j.invariant.same_height))
+    (omega (arith, c.h-down.ensures), omega (arith, c.h-down.ensures, is, lowest_fits (height p) b.depth q.whole_rows, c.loop-j.invariant.same_size.1))
 
 pub returns-clause-coefficients : goal.returns-clause-coefficients
 returns-clause-coefficients G c =

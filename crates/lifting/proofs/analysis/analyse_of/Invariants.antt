@@ -1,9 +1,10 @@
-use Rattle.std.proofs.Common.{◌≡◌, ℕ, suc, ◌<◌, ◌≤◌, ◌-◌, ◌*◌, ◌^◌}
+use Rattle.std.proofs.Common.{ℕ, suc, ◌<◌, ◌≤◌, ◌-◌, ◌*◌, ◌^◌}
 use Rattle.planes.specs.Valued.{grid_of}
 use Rattle.planes.specs.Raster.{height}
 use Rattle.lifting.specs.Bands.{lowest, SameSizes, HoldLevel}
 use Rattle.lifting.specs.Ranges.{SameInside}
 use Rattle.lifting.specs.Transform.{remaining, analysed}
+use Rattle.lifting.specs.Turns.{SameSize}
 use Rattle.lifting.proofs.analysis.analyse_of.Given as goal
 
 abbrev pub invariant-loop-j : goal.invariant-loop-j
@@ -12,10 +13,8 @@ invariant-loop-j G l =
     let h = lowest depth (height l.fn.plane) in
     let w = lowest depth l.fn.plane.w in
     record {
-      same_width : l.plane.w ≡ l.fn.plane.w;
-      same_height : height l.plane ≡ height l.fn.plane;
-      same_width_scratch : l.scratch.w ≡ l.fn.scratch.w;
-      same_height_scratch : height l.scratch ≡ height l.fn.scratch;
+      same_size : SameSize l.fn.plane l.plane;
+      same_size_scratch : SameSize l.fn.scratch l.scratch;
       same_sizes : SameSizes l.fn.bands l.bands;
       left : SameInside (h * 2 ^ (depth - l.j)) (w * 2 ^ (depth - l.j)) (grid_of G.T.Number.value G.T.Number.none l.plane) (remaining l.wavelet h w depth (grid_of G.T.Number.value G.T.Number.none l.fn.plane) l.j);
       dealt : (n : ℕ) → n < depth → depth - l.j ≤ n → HoldLevel G.T.Number.value G.T.Number.none (h * 2 ^ n) (w * 2 ^ n) (analysed l.wavelet h w depth (grid_of G.T.Number.value G.T.Number.none l.fn.plane) (suc n)) (suc n) l.bands;

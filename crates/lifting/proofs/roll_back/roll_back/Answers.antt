@@ -53,23 +53,21 @@ loop-y-preserved G c =
     let last_odd : 2 * y + 1 ≡ before (2 * (y + 1)) = before_next y in
     let whole : 2 * y ≡ 2 * y + 0 = omega arith in
     record {
-      same_width = dealt.same_width ∙ i.same_width;
-      same_height = dealt.same_height ∙ i.same_height;
-      same_width_scratch = done.same_width ∙ put.same_width ∙ i.same_width_scratch;
-      same_height_scratch = done.same_height ∙ put.same_height ∙ i.same_height_scratch;
+      same_size = (dealt.same_size.0 ∙ i.same_size.0, dealt.same_size.1 ∙ i.same_size.1);
+      same_size_scratch = (done.same_size.0 ∙ put.same_size.0 ∙ i.same_size_scratch.0, done.same_size.1 ∙ put.same_size.1 ∙ i.same_size_scratch.1);
       same_sizes = same_sizes_after _ _ _ i.same_sizes dealt.same_sizes;
-      rest = λ j x le. dealt.rows j x (omega arith) ∙ i.rest j x (omega arith);
+      rest = λ j x le. dealt.left.others j x (omega arith) ∙ i.rest j x (omega arith);
       even = λ more x lx. rw two_more (done.others ((2 * y + 2) % 4) x (omega arith) (omega arith) ∙ next more x lx);
       above = λ some x lx. subst (λ (m : ℕ). t (m % 4) x ≡ level m (side_place w x)) last_odd (odd_is x lx);
-      left = rows_more y w p (grid_of G.T.Number.value G.T.Number.none c.deal_two.new.plane) (every_other 0 0 level) i.left dealt.rows
-          (dealt_left k h w g (2 * y) y (t (2 * y % 4)) (grid_of G.T.Number.value G.T.Number.none c.deal_two.new.plane y) even_is dealt.left 0 whole);
+      left = rows_more y w p (grid_of G.T.Number.value G.T.Number.none c.deal_two.new.plane) (every_other 0 0 level) i.left dealt.left.others
+          (dealt_left k h w g (2 * y) y (t (2 * y % 4)) (grid_of G.T.Number.value G.T.Number.none c.deal_two.new.plane y) even_is dealt.left.here 0 whole);
       dealt = record {
-        hl = rows_more y w (grid_of G.T.Number.value G.T.Number.none (band_of c.loop-y.bands c.args.level 1)) (grid_of G.T.Number.value G.T.Number.none (band_of c.deal_two.new.bands c.args.level 1)) (every_other 0 1 level) i.dealt.hl dealt.hl_rows
-            (dealt_right k h w g (2 * y) y (t (2 * y % 4)) (grid_of G.T.Number.value G.T.Number.none (band_of c.deal_two.new.bands c.args.level 1) y) even_is dealt.hl 0 whole);
-        lh = rows_more y w (grid_of G.T.Number.value G.T.Number.none (band_of c.loop-y.bands c.args.level 2)) (grid_of G.T.Number.value G.T.Number.none (band_of c.deal_two.new.bands c.args.level 2)) (every_other 1 0 level) i.dealt.lh dealt.lh_rows
-            (dealt_left k h w g (2 * y + 1) y (t ((2 * y + 1) % 4)) (grid_of G.T.Number.value G.T.Number.none (band_of c.deal_two.new.bands c.args.level 2) y) odd_is dealt.lh 1 refl);
-        hh = rows_more y w (grid_of G.T.Number.value G.T.Number.none (band_of c.loop-y.bands c.args.level 3)) (grid_of G.T.Number.value G.T.Number.none (band_of c.deal_two.new.bands c.args.level 3)) (every_other 1 1 level) i.dealt.hh dealt.hh_rows
-            (dealt_right k h w g (2 * y + 1) y (t ((2 * y + 1) % 4)) (grid_of G.T.Number.value G.T.Number.none (band_of c.deal_two.new.bands c.args.level 3) y) odd_is dealt.hh 1 refl);
+        hl = rows_more y w (grid_of G.T.Number.value G.T.Number.none (band_of c.loop-y.bands c.args.level 1)) (grid_of G.T.Number.value G.T.Number.none (band_of c.deal_two.new.bands c.args.level 1)) (every_other 0 1 level) i.dealt.hl dealt.hl.others
+            (dealt_right k h w g (2 * y) y (t (2 * y % 4)) (grid_of G.T.Number.value G.T.Number.none (band_of c.deal_two.new.bands c.args.level 1) y) even_is dealt.hl.here 0 whole);
+        lh = rows_more y w (grid_of G.T.Number.value G.T.Number.none (band_of c.loop-y.bands c.args.level 2)) (grid_of G.T.Number.value G.T.Number.none (band_of c.deal_two.new.bands c.args.level 2)) (every_other 1 0 level) i.dealt.lh dealt.lh.others
+            (dealt_left k h w g (2 * y + 1) y (t ((2 * y + 1) % 4)) (grid_of G.T.Number.value G.T.Number.none (band_of c.deal_two.new.bands c.args.level 2) y) odd_is dealt.lh.here 1 refl);
+        hh = rows_more y w (grid_of G.T.Number.value G.T.Number.none (band_of c.loop-y.bands c.args.level 3)) (grid_of G.T.Number.value G.T.Number.none (band_of c.deal_two.new.bands c.args.level 3)) (every_other 1 1 level) i.dealt.hh dealt.hh.others
+            (dealt_right k h w g (2 * y + 1) y (t ((2 * y + 1) % 4)) (grid_of G.T.Number.value G.T.Number.none (band_of c.deal_two.new.bands c.args.level 3) y) odd_is dealt.hh.here 1 refl);
       };
       others = other_levels_after c.args.level c.args.bands.now c.loop-y.bands c.deal_two.new.bands i.same_sizes i.others dealt.others;
     }

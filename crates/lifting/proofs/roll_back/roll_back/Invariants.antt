@@ -1,20 +1,18 @@
 use Rattle.std.proofs.Common.{◌≡◌, ℕ, ◌*◌, ◌%◌, ◌<◌, ◌≤◌}
 use Rattle.planes.specs.Valued.{grid_of}
-use Rattle.planes.specs.Raster.{height}
 use Rattle.lifting.specs.Lines.{before}
 use Rattle.lifting.specs.Places.{side_place}
 use Rattle.lifting.specs.Transform.{analysis_level, every_other}
 use Rattle.lifting.specs.Ranges.{SameInside}
 use Rattle.lifting.specs.Bands.{SameSizes, HoldLevel, OtherLevelsStay}
+use Rattle.lifting.specs.Turns.{SameSize}
 use Rattle.lifting.proofs.RollingBack.{row_of_level}
 use Rattle.lifting.proofs.roll_back.roll_back.Given as goal
 
 abbrev pub invariant-loop-y : goal.invariant-loop-y
 invariant-loop-y G l = record {
-  same_width : l.plane.w ≡ l.fn.plane.w;
-  same_height : height l.plane ≡ height l.fn.plane;
-  same_width_scratch : l.scratch.w ≡ l.fn.scratch.w;
-  same_height_scratch : height l.scratch ≡ height l.fn.scratch;
+  same_size : SameSize l.fn.plane l.plane;
+  same_size_scratch : SameSize l.fn.scratch l.scratch;
   same_sizes : SameSizes l.fn.bands l.bands;
   rest : (j x : ℕ) → l.y ≤ j → grid_of G.T.Number.value G.T.Number.none l.plane j x ≡ grid_of G.T.Number.value G.T.Number.none l.fn.plane j x;
   even : l.y < l.h → (x : ℕ) → x < 2 * l.w → grid_of G.T.Number.value G.T.Number.none l.scratch (2 * l.y % 4) x ≡ row_of_level l.wavelet l.w (grid_of G.T.Number.value G.T.Number.none l.fn.plane) (2 * l.y) (side_place l.w x);
