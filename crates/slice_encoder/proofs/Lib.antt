@@ -15,7 +15,6 @@ pub mod Onward
 pub mod PlaceByPlace
 pub mod Listed
 pub mod Gathers
-pub mod Sizes
 pub mod SliceBits
 pub mod Filled
 pub mod Again
@@ -38,6 +37,7 @@ pub mod RestoredNeeds
 pub mod LastReaches
 pub mod GatheredLists
 pub mod CodeSizes
+pub mod KeySums
 pub mod WorkedLowNeeds
 pub mod Counting
 pub mod FirstCandidates

@@ -45,7 +45,7 @@ module _ (q : ℕ) (vs ws : List ℤ) (same : length ws ≡ length vs) where
     front_same : length (quantised q (take n vs)) ≡ length (quantised q (take n ws))
     front_same = omega (arith, same, lt, length_quantised q (take n vs), length_quantised q (take n ws), length-take n vs, length-take n ws)
 
-    turn_more : in_turn (quantised q (take (n + 1) vs)) (quantised q (take (n + 1) ws)) ≡ front ++ v ∷ w ∷ []
+    pub turn_more : in_turn (quantised q (take (n + 1) vs)) (quantised q (take (n + 1) ws)) ≡ front ++ v ∷ w ∷ []
     turn_more =
         ap (λ (t : List ℤ). in_turn t (quantised q (take (n + 1) ws))) (quantised_more q vs n (pos 0) lt)
         ∙ ap (in_turn (quantised q (take n vs) ++ v ∷ [])) (quantised_more q ws n (pos 0) (omega (arith, lt, same)))

@@ -36,7 +36,7 @@ use Rattle.slice_encoder.proofs.Gathers.{reach_append, turn_append}
 
 -- ---- one value
 
-code_some : (v : ℤ) → 1 ≤ length (signed_code_of v)
+pub code_some : (v : ℤ) → 1 ≤ length (signed_code_of v)
 unfolding code_of
 code_some (pos zero) = omega (arith, length-interleaved (digits_before 64 1 []))
 code_some (pos (suc n)) = omega (arith, length-interleaved (digits_before 64 (suc n + 1) []), length-append (interleaved (digits_before 64 (suc n + 1) [])) (false ∷ []))

@@ -1,5 +1,5 @@
 -- How many bits the codes of coefficients take, quantised at each index.
-use Rattle.std.specs.Prelude.{◌≡◌, ℕ, ◌<◌, List, [], length, ℤ, pos, slice_index_or}
+use Rattle.std.specs.Prelude.{◌≡◌, ℕ, ◌+◌, ◌-◌, ◌/◌, ◌%◌, ◌<◌, ◌≤◌, List, length, ℤ, pos, slice_index_or}
 use Rattle.bit_codes.specs.Codes.{signed_code_of}
 use Rattle.quant_factors.specs.Factors.{forward_of}
 
@@ -11,8 +11,13 @@ code_length index v = length (signed_code_of (forward_of v index))
 abbrev pub IsRow : ℕ → List ℕ → Type 0
 IsRow index row = (magnitude : ℕ) → magnitude < length row → slice_index_or row magnitude 0 ≡ code_length index (pos magnitude)
 
--- The whole table is so: 128 rows of 512 entries.
-pub record AreLengthRows (rows : List (List ℕ)) : Type 0 where
-  pub count : length rows ≡ 128
-  pub by_index : (index : ℕ) → index < 128 → IsRow index (slice_index_or rows index [])
-  pub entries : (index : ℕ) → index < 128 → length (slice_index_or rows index []) ≡ 512
+-- How many bits the code of a key's coefficient takes at an index of the slice: a key is the magnitude, and 512 times what the
+-- entry of its band lacks to 127.
+abbrev pub key_length : ℕ → ℕ → ℕ
+key_length index key = code_length (key / 512 + index - 127) (pos (key % 512))
+
+-- The whole table is so: 255 rows of 512 entries, and the row of index 0 is number 127.
+pub record AreLengths (entries : List ℕ) : Type 0 where
+  pub count : length entries ≡ 130560
+  pub each : (place : ℕ) → place < 130560 → slice_index_or entries place 0 ≡ code_length (place / 512 - 127) (pos (place % 512))
+  pub few : (place : ℕ) → place < 130560 → slice_index_or entries place 0 ≤ 74

@@ -1,5 +1,5 @@
 -- The coefficients of a slice in all three components, gathered.
-use Rattle.std.specs.Prelude.{ℕ, ◌-◌, ◌*◌, ◌<◌, ◌≤◌, length, slice_index}
+use Rattle.std.specs.Prelude.{◌≡◌, ℕ, ◌-◌, ◌*◌, ◌^◌, ◌<◌, ◌≤◌, true, length, slice_index}
 use Rattle.quant_factors.specs.Weights.{Weights}
 use Rattle.slice_geometry.specs.declared.PictureShape.{PictureShape}
 use Rattle.slice_geometry.specs.Slicing.{Slicing}
@@ -8,13 +8,20 @@ use Rattle.slice_encoder.specs.declared.bounding.Lower.{Lower}
 use Rattle.slice_encoder.specs.declared.gathered.GatheredSlice.{GatheredSlice}
 use Rattle.slice_encoder.specs.declared.gathered.Reaches.{Reaches}
 use Rattle.slice_encoder.specs.Trials.{CodedPicture}
-use Rattle.slice_encoder.specs.Gathering.{AreGathered, gathered_reach, gathered_pairs_reach, behind_lowest}
+use Rattle.slice_encoder.specs.Keys.{AreKeys}
+use Rattle.slice_encoder.specs.Gathering.{AreGathered, gathered_values, gathered_pairs, gathered_reach, gathered_pairs_reach, behind_lowest}
+
+-- Where the slice's keys are known they are those of its values under this matrix.
+pub record HasKeys (g : GatheredSlice) (matrix : Weights) : Type 0 where
+  pub luma : g.luma_keys.known ≡ true → AreKeys g.luma_keys.list (2 ^ 31) (gathered_values g.luma matrix)
+  pub colour : g.colour_keys.known ≡ true → AreKeys g.colour_keys.list (2 ^ 32) (gathered_pairs g.c1 g.c2 matrix)
 
 -- Each component's coefficients of slice (sx, sy) are gathered.
 pub record AreAllGathered (j : CodedPicture) (sx sy : ℕ) (g : GatheredSlice) : Type 0 where
   pub luma : AreGathered j.slicing j.frame.luma j.coefficients.luma sx sy g.luma
   pub c1 : AreGathered j.slicing j.frame.colour j.coefficients.c1 sx sy g.c1
   pub c2 : AreGathered j.slicing j.frame.colour j.coefficients.c2 sx sy g.c2
+  pub keys : HasKeys g j.matrix
 
 -- how far the codes of its values reach outside the lowest subbands
 abbrev pub gathered_reaches : GatheredSlice → Weights → ℕ → Reaches

@@ -1,5 +1,5 @@
 -- A slice's coefficients, gathered band by band in the order of its values, and how far the codes of values reach.
-use Rattle.std.specs.Prelude.{◌≡◌, ℕ, ◌+◌, ◌-◌, ◌*◌, ◌^◌, ◌<◌, ◌≤◌, ◌==◌, List, [], ◌∷◌, length, take, drop, map, slice_index, slice_index_or, if◌then◌else◌, unsigned_abs, Bool, true, ℤ, pos}
+use Rattle.std.specs.Prelude.{◌≡◌, ℕ, ◌+◌, ◌-◌, ◌*◌, ◌^◌, ◌<◌, ◌≤◌, ◌==◌, List, [], ◌∷◌, length, take, drop, map, slice_index, if◌then◌else◌, unsigned_abs, ℤ}
 use Rattle.std.specs.List.{All, flat_map, range_with_len}
 use Rattle.planes.specs.Numbers.{Within}
 use Rattle.planes.specs.Raster.{Raster, height, at}
@@ -43,22 +43,6 @@ pub record IsGatheredSound (g : GatheredSeen) : Type 0 where
   pub inside : (k : ℕ) → k ≤ 3 * g.depth → slice_index g.ends k ≤ length g.values
   pub small : All (Within (2 ^ 27)) g.values
   pub few : length g.values ≤ 2 ^ 31
-
--- These are the magnitudes of coefficients, and each of them is small.
-pub record AreSizes (sizes : List ℕ) (vs : List ℤ) : Type 0 where
-  pub same_length : length sizes ≡ length vs
-  pub magnitudes : (p : ℕ) → p < length vs → slice_index_or sizes p 0 ≡ unsigned_abs (slice_index_or vs p (pos 0))
-  pub few : (p : ℕ) → p < length vs → slice_index_or sizes p 0 < 512
-
--- those in the places from one to before another
-pub record AreSizesIn (from to : ℕ) (sizes : List ℕ) (vs : List ℤ) : Type 0 where
-  pub magnitudes : (p : ℕ) → from ≤ p → p < to → slice_index_or sizes p 0 ≡ unsigned_abs (slice_index_or vs p (pos 0))
-  pub few : (p : ℕ) → from ≤ p → p < to → slice_index_or sizes p 0 < 512
-
--- and those outside the lowest subband, where they are said to be small
-pub record IsMeasured (g : GatheredSeen) (short : Bool) (sizes : List ℕ) : Type 0 where
-  pub same_length : length sizes ≡ length g.values
-  pub small : short ≡ true → AreSizesIn (slice_index g.ends 0) (slice_index g.ends (3 * g.depth)) sizes g.values
 
 -- It holds the slice's coefficients in these bands.
 pub record AreGathered (s : Slicing) (size : Size) (bands : BandStack) (sx sy : ℕ) (g : GatheredSeen) : Type 0 where
@@ -107,17 +91,25 @@ abbrev pub reach : List ℤ → ℕ → ℕ
 reach [] behind = behind
 reach (v ∷ vs) behind = with_code v (reach vs behind)
 
--- how far the codes of the values outside the lowest subband reach at an index
+-- the values outside the lowest subband
+abbrev pub gathered_values : GatheredSeen → Weights → ℕ → List ℤ
+gathered_values g matrix index = flat_map (quantised_piece g matrix index) (range_with_len 1 (3 * g.depth))
+
+-- how far their codes reach at an index
 abbrev pub gathered_reach : GatheredSeen → Weights → ℕ → ℕ
-gathered_reach g matrix index = reach (flat_map (quantised_piece g matrix index) (range_with_len 1 (3 * g.depth))) 0
+gathered_reach g matrix index = reach (gathered_values g matrix index) 0
 
 -- and those of two components in turn
 abbrev pub quantised_pair : GatheredSeen → GatheredSeen → Weights → ℕ → ℕ → List ℤ
 quantised_pair g h matrix index k = in_turn (quantised_piece g matrix index k) (quantised_piece h matrix index k)
 
--- how far the codes of two components in turn reach, but for the lowest subbands
+-- the values of two components in turn, but for the lowest subbands
+abbrev pub gathered_pairs : GatheredSeen → GatheredSeen → Weights → ℕ → List ℤ
+gathered_pairs g h matrix index = flat_map (quantised_pair g h matrix index) (range_with_len 1 (3 * g.depth))
+
+-- how far their codes reach
 abbrev pub gathered_pairs_reach : GatheredSeen → GatheredSeen → Weights → ℕ → ℕ
-gathered_pairs_reach g h matrix index = reach (flat_map (quantised_pair g h matrix index) (range_with_len 1 (3 * g.depth))) 0
+gathered_pairs_reach g h matrix index = reach (gathered_pairs g h matrix index) 0
 
 -- of the slice's values outside the lowest subband
 abbrev pub high_part : CodedComponent → ℕ → ℕ → ℕ → ℕ → List ℤ

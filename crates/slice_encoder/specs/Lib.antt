@@ -10,6 +10,7 @@ pub mod TrialLaws
 pub mod LowNeeds
 pub mod Counted
 pub mod CodeLengths
+pub mod Keys
 pub mod Gathering
 pub mod GatheredSlices
 pub mod Ready

@@ -3,7 +3,7 @@
 ghost use Rattle.std.specs.Prelude.{◌≡◌, ℕ, ◌+◌, ◌*◌, ◌^◌, ◌<◌, ◌≤◌, max, true, slice_index};
 ghost use Rattle.slice_encoder.specs.TrialLaws.{IsSteepOk};
 ghost use Rattle.slice_encoder.specs.LowNeeds.{lower_of, may_fit, IsFirstCandidate};
-ghost use Rattle.slice_encoder.specs.GatheredSlices.{gathered_reaches, gathered_low};
+ghost use Rattle.slice_encoder.specs.GatheredSlices.{HasKeys, gathered_reaches, gathered_low};
 ghost use Rattle.slice_encoder.specs.Ready.{coded_picture, AreGiven};
 
 use crate::bounding::lower_at;
@@ -103,6 +103,7 @@ pub fn find_first(gathered: &GatheredSlice, matrix: &Matrix, bytes: u32, near: u
     requires c2 { matrix.now.depth ≡ gathered.now.c2.depth }
     requires ends { (k : ℕ) → k ≤ 3 * gathered.now.c1.depth
         → slice_index gathered.now.c2.ends k ≡ slice_index gathered.now.c1.ends k }
+    requires keys { HasKeys gathered.now matrix.now }
     requires last { may_fit bytes (gathered_low gathered.now matrix.now 127) ≡ true }
     ensures first { IsFirstCandidate bytes (gathered_low gathered.now matrix.now) result.index }
     ensures reaches { result.reaches ≡ gathered_reaches gathered.now matrix.now result.index }

@@ -1,6 +1,6 @@
 // The coefficients of a slice in one component, gathered once for all the indices that are tried.
 
-ghost use Rattle.std.specs.Prelude.{◌≡◌, ℕ, ◌+◌, ◌-◌, ◌*◌, ◌^◌, ◌<◌, ◌≤◌, ◌++◌, length, take, slice_index, IfOk, IfSome, pos, unsigned_abs};
+ghost use Rattle.std.specs.Prelude.{◌≡◌, ℕ, ◌+◌, ◌-◌, ◌*◌, ◌^◌, ◌<◌, ◌≤◌, ◌++◌, length, take, slice_index, IfOk, pos, unsigned_abs, true};
 ghost use Rattle.std.specs.List.{All, flat_map, range_with_len};
 ghost use Rattle.planes.specs.Numbers.{Within};
 ghost use Rattle.quant_factors.specs.Factors.{forward_of, signed};
@@ -8,8 +8,9 @@ ghost use Rattle.planes.specs.Raster.{at};
 ghost use Rattle.slice_geometry.specs.Shape.{IsSize};
 ghost use Rattle.slice_geometry.specs.SliceOrder.{level_rect, level_of, area, place_count};
 ghost use Rattle.slice_encoder.specs.Listing.{rect_values};
-ghost use Rattle.slice_encoder.specs.Gathering.{raw_before, piece_of, quantised, quantised_piece, in_turn, CanGather, CanGatherAll, AreGathered, AreSizes, gathered_reach, gathered_pairs_reach, behind_lowest};
-ghost use Rattle.slice_encoder.specs.GatheredSlices.{AreAllGathered, gathered_reaches, low_by, CanHoldAll};
+ghost use Rattle.slice_encoder.specs.Gathering.{raw_before, piece_of, quantised, quantised_piece, in_turn, CanGather, CanGatherAll, AreGathered, gathered_values, gathered_pairs, gathered_reach, gathered_pairs_reach, behind_lowest};
+ghost use Rattle.slice_encoder.specs.GatheredSlices.{AreAllGathered, HasKeys, gathered_reaches, low_by, CanHoldAll};
+ghost use Rattle.slice_encoder.specs.Keys.{AreKeys};
 ghost use Rattle.slice_encoder.specs.Jobs.{picture_of};
 ghost use Rattle.slice_encoder.specs.Ready.{AreGiven};
 ghost use Rattle.slice_encoder.specs.Sources.{band_seen, stack_seen};
@@ -17,11 +18,11 @@ ghost use Rattle.slice_encoder.specs.Sources.{band_seen, stack_seen};
 use crate::bounding::Lower;
 use crate::code_lengths::CodeLengths;
 use crate::jobs::SliceJob;
-use crate::measuring::measure_places;
+use crate::keys::{ENTRIES, Keyed, Keys, put_band_at, put_bands_at};
 use crate::reaching::{reach_over, reach_over_pairs};
 use crate::room::most_places;
 use crate::sources::{BandSource, StackSource};
-use crate::trying::{band_numbered, quantiser_at};
+use crate::trying::{band_numbered, entry_of, quantiser_at};
 use planes::{NarrowPlane, NoMemory, Plane, Rect};
 use quant_factors::{Matrix, forward};
 use slice_geometry::{Layout, PictureShape, Size};
@@ -35,22 +36,16 @@ pub struct Gathered {
     depth: u32,
     ends: [usize; 13],
     values: Vec<i64>,
-    // The magnitudes of the slice's values outside the lowest subband, where all of these are small.
-    sizes: Vec<u16>,
-    short: bool,
-    // How many slices are still passed over, after one whose magnitudes aren't small.
-    rest: u32,
 }
 
 impl Model for Gathered {
-    ghost use Rattle.slice_encoder.specs.Gathering.{GatheredSeen, IsGatheredSound, IsMeasured};
+    ghost use Rattle.slice_encoder.specs.Gathering.{GatheredSeen, IsGatheredSound};
 
     ghost Value = { GatheredSeen };
 
     ghost view = { λ g. record { depth = g.depth; ends = g.ends; values = g.values.items } };
 
-    ghost invariant = { λ g. IsGatheredSound (record { depth = g.depth; ends = g.ends; values = g.values.items })
-        × IsMeasured (record { depth = g.depth; ends = g.ends; values = g.values.items }) g.short g.sizes.items };
+    ghost invariant = { λ g. IsGatheredSound (record { depth = g.depth; ends = g.ends; values = g.values.items }) };
 }
 
 /// The coefficients of a slice in all three components.
@@ -59,6 +54,10 @@ pub struct GatheredSlice {
     pub luma: Gathered,
     pub c1: Gathered,
     pub c2: Gathered,
+    /// The keys of its luma values.
+    pub luma_keys: Keys,
+    /// Those of its colour values, of both components in turn.
+    pub colour_keys: Keys,
     /// How long the codes of its values are.
     pub lengths: CodeLengths,
 }
@@ -279,14 +278,10 @@ impl Gathered {
     {
         let places = most_places(layout, size);
         let values = Vec::from_elem(alloc, 0i64, places)?;
-        let sizes = Vec::from_elem(alloc, 0u16, places)?;
         Ok(Gathered {
             depth: 0,
             ends: [0; 13],
             values,
-            sizes,
-            short: false,
-            rest: 0,
         })
     }
 
@@ -300,23 +295,8 @@ impl Gathered {
         ensures room { length self.new.values ≡ length self.old.values }
         ensures gathered { AreGathered layout.now size (stack_seen bands.entry) sx sy self.new }
     {
-        self.short = false;
         self.ends = gather_bands(layout, size, sx, sy, bands, &mut self.values);
         self.depth = layout.depth();
-    }
-
-    /// Takes the magnitudes of its values: small ones are then looked at in less time.
-    pub fn measure(&mut self)
-        ensures { self.new ≡ self.old }
-    {
-        if self.rest > 0 {
-            self.rest -= 1;
-            return;
-        }
-        let from = self.ends[0];
-        let to = self.ends[3 * self.depth as usize];
-        self.short = measure_places(&self.values, from, to, &mut self.sizes);
-        self.rest = if self.short { 0 } else { 3 };
     }
 
     /// How many values the lowest subband has.
@@ -344,20 +324,62 @@ impl Gathered {
         &self.values[self.ends[k - 1]..self.ends[k]]
     }
 
-    // The magnitudes in band number k, where those of the slice are small.
-    #[inline(always)]
-    fn sizes(&self, k: u32) -> Option<&[u16]>
-        requires some { 1 ≤ k }
-        requires most { k ≤ 3 * self.now.depth }
-        ensures { IfSome result (λ s. AreSizes s.now (piece_of self.now k)) }
+    /// Puts the keys of its values outside the lowest subband, where there is room.
+    pub fn put_keys(&self, matrix: &Matrix, out: &mut [u16]) -> Keyed
+        requires entries { matrix.now.depth ≡ self.now.depth }
+        ensures inside { result.count ≤ length out.old }
+        ensures keys { result.small ≡ true → AreKeys (take result.count out.new) (2 ^ 31)
+            (gathered_values self.now matrix.now) }
     {
-        let _ = &self.depth;
-        let _ = &self.values;
-        let k = k as usize;
-        if self.short {
-            Some(&self.sizes[self.ends[k - 1]..self.ends[k]])
-        } else {
-            None
+        if out.len() < self.values.len() {
+            return Keyed {
+                count: 0,
+                small: false,
+            };
+        }
+        let mut count = 0;
+        let mut top = 0;
+        for k in 1..3 * self.depth + 1 {
+            let band = self.band(k);
+            let most = put_band_at(band, entry_of(matrix, k), out, count);
+            top = most.max(top);
+            count += band.len();
+        }
+        Keyed {
+            count,
+            small: top < ENTRIES,
+        }
+    }
+
+    /// Puts those of two components in turn.
+    pub fn put_pair_keys(&self, second: &Gathered, matrix: &Matrix, out: &mut [u16]) -> Keyed
+        requires entries { matrix.now.depth ≡ self.now.depth }
+        requires depth { second.now.depth ≡ self.now.depth }
+        requires ends { (k : ℕ) → k ≤ 3 * self.now.depth
+            → slice_index second.now.ends k ≡ slice_index self.now.ends k }
+        ensures inside { result.count ≤ length out.old }
+        ensures keys { result.small ≡ true → AreKeys (take result.count out.new) (2 ^ 32)
+            (gathered_pairs self.now second.now matrix.now) }
+    {
+        let _ = &second.depth;
+        if out.len() < 2 * self.values.len() {
+            return Keyed {
+                count: 0,
+                small: false,
+            };
+        }
+        let mut count = 0;
+        let mut top = 0;
+        for k in 1..3 * self.depth + 1 {
+            let band = self.band(k);
+            let other = second.band(k);
+            let most = put_bands_at(band, other, entry_of(matrix, k), out, count);
+            top = most.max(top);
+            count += 2 * band.len();
+        }
+        Keyed {
+            count,
+            small: top < ENTRIES,
         }
     }
 
@@ -372,13 +394,7 @@ impl Gathered {
         for passed in 0..3 * self.depth {
             let k = 3 * self.depth - passed;
             let quantiser = quantiser_at(matrix, index, k);
-            bits = reach_over(
-                self.band(k),
-                self.sizes(k),
-                quantiser,
-                lengths.row(quantiser),
-                bits,
-            );
+            bits = reach_over(self.band(k), quantiser, lengths.row(quantiser), bits);
         }
         bits
     }
@@ -407,8 +423,6 @@ impl Gathered {
             bits = reach_over_pairs(
                 self.band(k),
                 second.band(k),
-                self.sizes(k),
-                second.sizes(k),
                 quantiser,
                 lengths.row(quantiser),
                 bits,
@@ -484,22 +498,30 @@ impl GatheredSlice {
             luma: Gathered::new(alloc, layout, shape.luma)?,
             c1: Gathered::new(alloc, layout, shape.colour)?,
             c2: Gathered::new(alloc, layout, shape.colour)?,
+            luma_keys: Keys::new(alloc, most_places(layout, shape.luma))?,
+            colour_keys: Keys::new(alloc, 2 * most_places(layout, shape.colour))?,
             lengths: CodeLengths::new(alloc)?,
         })
     }
 
-    // Takes the magnitudes, unless so small an index is looked for that few looks are to be expected.
-    fn measure(&mut self, near: u32)
+    // Takes the keys, unless so small an index is looked for that few looks are to be expected.
+    fn take_keys(&mut self, matrix: &Matrix, near: u32)
+        requires luma { matrix.now.depth ≡ self.old.luma.depth }
+        requires c1 { matrix.now.depth ≡ self.old.c1.depth }
+        requires c2 { matrix.now.depth ≡ self.old.c2.depth }
+        requires ends { (k : ℕ) → k ≤ 3 * self.old.c1.depth
+            → slice_index self.old.c2.ends k ≡ slice_index self.old.c1.ends k }
         ensures luma { self.new.luma ≡ self.old.luma }
         ensures c1 { self.new.c1 ≡ self.old.c1 }
         ensures c2 { self.new.c2 ≡ self.old.c2 }
+        ensures keys { HasKeys self.new matrix.now }
     {
-        if near == 0 {
-            return;
+        if self.luma_keys.start() && near > 0 {
+            self.luma_keys.take_one(&self.luma, matrix);
         }
-        self.luma.measure();
-        self.c1.measure();
-        self.c2.measure();
+        if self.colour_keys.start() && near > 0 {
+            self.colour_keys.take_two(&self.c1, &self.c2, matrix);
+        }
     }
 
     /// Gathers the coefficients of a slice whose index is looked for from one near it.
@@ -524,7 +546,40 @@ impl GatheredSlice {
             .gather(layout, shape.colour, sx, sy, coefficients.c1());
         self.c2
             .gather(layout, shape.colour, sx, sy, coefficients.c2());
-        self.measure(near);
+        self.take_keys(job.matrix, near);
+    }
+
+    // How far the codes of its luma values reach at an index.
+    fn luma_reach(&self, matrix: &Matrix, index: u32) -> u64
+        requires index { index ≤ 127 }
+        requires luma { matrix.now.depth ≡ self.now.luma.depth }
+        requires keys { HasKeys self.now matrix.now }
+        ensures value { result ≡ gathered_reach self.now.luma matrix.now index }
+        ensures few { result ≤ 2 ^ 38 }
+    {
+        if self.luma_keys.are_known() {
+            self.luma_keys.reach(index, &self.lengths)
+        } else {
+            self.luma.reach(matrix, index, &self.lengths)
+        }
+    }
+
+    // How far those of its colour values reach.
+    fn colour_reach(&self, matrix: &Matrix, index: u32) -> u64
+        requires index { index ≤ 127 }
+        requires c1 { matrix.now.depth ≡ self.now.c1.depth }
+        requires c2 { matrix.now.depth ≡ self.now.c2.depth }
+        requires ends { (k : ℕ) → k ≤ 3 * self.now.c1.depth
+            → slice_index self.now.c2.ends k ≡ slice_index self.now.c1.ends k }
+        requires keys { HasKeys self.now matrix.now }
+        ensures value { result ≡ gathered_pairs_reach self.now.c1 self.now.c2 matrix.now index }
+        ensures few { result ≤ 2 ^ 39 }
+    {
+        if self.colour_keys.are_known() {
+            self.colour_keys.reach(index, &self.lengths)
+        } else {
+            self.c1.reach_pairs(&self.c2, matrix, index, &self.lengths)
+        }
     }
 
     /// How far the codes of its values reach at an index.
@@ -535,13 +590,14 @@ impl GatheredSlice {
         requires c2 { matrix.now.depth ≡ self.now.c2.depth }
         requires ends { (k : ℕ) → k ≤ 3 * self.now.c1.depth
             → slice_index self.now.c2.ends k ≡ slice_index self.now.c1.ends k }
+        requires keys { HasKeys self.now matrix.now }
         ensures value { result ≡ gathered_reaches self.now matrix.now index }
         ensures few_luma { result.luma ≤ 2 ^ 38 }
         ensures few_colour { result.colour ≤ 2 ^ 39 }
     {
         Reaches {
-            luma: self.luma.reach(matrix, index, &self.lengths),
-            colour: self.c1.reach_pairs(&self.c2, matrix, index, &self.lengths),
+            luma: self.luma_reach(matrix, index),
+            colour: self.colour_reach(matrix, index),
         }
     }
 

@@ -1,12 +1,12 @@
 // How far the codes of coefficients reach, quantised at an index.
 
-ghost use Rattle.std.specs.Prelude.{◌≡◌, ◌+◌, ◌*◌, ◌^◌, ◌≤◌, ◌/◌, length, take, true, false, unsigned_abs, IfSome};
+ghost use Rattle.std.specs.Prelude.{◌≡◌, ◌+◌, ◌*◌, ◌^◌, ◌≤◌, ◌/◌, length, take, true, false, unsigned_abs};
 ghost use Rattle.std.specs.List.{All};
 ghost use Rattle.planes.specs.Numbers.{Within};
 ghost use Rattle.bounded_blocks.specs.Writing.{codes_of};
 ghost use Rattle.quant_factors.specs.Factors.{factor_of, forward_of};
 ghost use Rattle.slice_encoder.specs.CodeLengths.{IsRow};
-ghost use Rattle.slice_encoder.specs.Gathering.{quantised, in_turn, reach, AreSizes};
+ghost use Rattle.slice_encoder.specs.Gathering.{quantised, in_turn, reach};
 
 use crate::code_lengths::length_by;
 use quant_factors::factor;
@@ -25,51 +25,6 @@ fn total_by(coefficients: &[i64], index: u32, row: &[u8]) -> u64
         bits += length_by(row, index, *coefficient);
     }
     bits
-}
-
-// The same by their magnitudes, of which each has its entry in the row.
-fn total_by_sizes(coefficients: &[i64], sizes: &[u16], index: u32, row: &[u8]) -> u64
-    requires index { index ≤ 127 }
-    requires row { IsRow index row.now }
-    requires entries { length row.now ≡ 512 }
-    requires few { length coefficients.now ≤ 2 ^ 31 }
-    requires small { All (Within (2 ^ 27)) coefficients.now }
-    requires sizes { AreSizes sizes.now coefficients.now }
-    ensures value { result ≡ length (codes_of (quantised index coefficients.now)) }
-    ensures most { result ≤ 74 * length coefficients.now }
-{
-    let _ = index;
-    let _ = coefficients;
-    let mut bits = 0;
-    for place in 0..sizes.len() {
-        bits += u64::from(row[sizes[place] as usize]);
-    }
-    bits
-}
-
-// How long the codes of so many coefficients are, by their magnitudes where these are known.
-#[inline(always)]
-fn total_of(
-    coefficients: &[i64],
-    sizes: Option<&[u16]>,
-    count: usize,
-    index: u32,
-    row: &[u8],
-) -> u64
-    requires index { index ≤ 127 }
-    requires row { IsRow index row.now }
-    requires entries { length row.now ≡ 512 }
-    requires few { length coefficients.now ≤ 2 ^ 31 }
-    requires inside { count ≤ length coefficients.now }
-    requires small { All (Within (2 ^ 27)) coefficients.now }
-    requires sizes { IfSome sizes (λ s. AreSizes s.now coefficients.now) }
-    ensures value { result ≡ length (codes_of (quantised index (take count coefficients.now))) }
-    ensures most { result ≤ 74 * length coefficients.now }
-{
-    match sizes {
-        Some(sizes) => total_by_sizes(&coefficients[..count], &sizes[..count], index, row),
-        None => total_by(&coefficients[..count], index, row),
-    }
 }
 
 // Whether something is left of a coefficient at an index, by a fourth of the index's factor: no division is needed.
@@ -121,17 +76,9 @@ fn counted_places(coefficients: &[i64], index: u32, behind: u64) -> usize
 }
 
 /// How far the codes of coefficients reach in front of what is behind.
-pub fn reach_over(
-    coefficients: &[i64],
-    sizes: Option<&[u16]>,
-    index: u32,
-    row: &[u8],
-    behind: u64,
-) -> u64
+pub fn reach_over(coefficients: &[i64], index: u32, row: &[u8], behind: u64) -> u64
     requires index { index ≤ 127 }
     requires row { IsRow index row.now }
-    requires entries { length row.now ≡ 512 }
-    requires sizes { IfSome sizes (λ s. AreSizes s.now coefficients.now) }
     requires few { length coefficients.now ≤ 2 ^ 31 }
     requires behind { behind ≤ 2 ^ 39 }
     requires small { All (Within (2 ^ 27)) coefficients.now }
@@ -139,7 +86,7 @@ pub fn reach_over(
     ensures most { result ≤ behind + 74 * length coefficients.now }
 {
     let count = counted_places(coefficients, index, behind);
-    total_of(coefficients, sizes, count, index, row) + behind
+    total_by(&coefficients[..count], index, row) + behind
 }
 
 /// How many coefficients of two lists of the same length count, whose values are taken in turn.
@@ -208,54 +155,10 @@ fn counted_pairs(first: &[i64], second: &[i64], index: u32, behind: u64) -> Pair
     }
 }
 
-// How long the codes of two lists of one length are, by the magnitudes, in one loop.
-fn total_by_pairs(
-    first: &[i64],
-    second: &[i64],
-    first_sizes: &[u16],
-    second_sizes: &[u16],
-    index: u32,
-    row: &[u8],
-) -> u64
-    requires index { index ≤ 127 }
-    requires row { IsRow index row.now }
-    requires entries { length row.now ≡ 512 }
-    requires same { length second.now ≡ length first.now }
-    requires few { length first.now ≤ 2 ^ 31 }
-    requires first_small { All (Within (2 ^ 27)) first.now }
-    requires second_small { All (Within (2 ^ 27)) second.now }
-    requires first_sizes { AreSizes first_sizes.now first.now }
-    requires second_sizes { AreSizes second_sizes.now second.now }
-    ensures value { result ≡ length (codes_of (quantised index first.now))
-        + length (codes_of (quantised index second.now)) }
-    ensures most { result ≤ 148 * length first.now }
-{
-    let _ = index;
-    let _ = first;
-    let _ = second;
-    let mut bits = 0;
-    for place in 0..first_sizes.len() {
-        bits += u64::from(row[first_sizes[place] as usize])
-            + u64::from(row[second_sizes[place] as usize]);
-    }
-    bits
-}
-
 /// How far the codes of two lists of coefficients in turn reach in front of what is behind.
-pub fn reach_over_pairs(
-    first: &[i64],
-    second: &[i64],
-    first_sizes: Option<&[u16]>,
-    second_sizes: Option<&[u16]>,
-    index: u32,
-    row: &[u8],
-    behind: u64,
-) -> u64
+pub fn reach_over_pairs(first: &[i64], second: &[i64], index: u32, row: &[u8], behind: u64) -> u64
     requires index { index ≤ 127 }
     requires row { IsRow index row.now }
-    requires entries { length row.now ≡ 512 }
-    requires first_sizes { IfSome first_sizes (λ s. AreSizes s.now first.now) }
-    requires second_sizes { IfSome second_sizes (λ s. AreSizes s.now second.now) }
     requires same { length second.now ≡ length first.now }
     requires few { length first.now ≤ 2 ^ 31 }
     requires behind { behind ≤ 2 ^ 39 }
@@ -265,16 +168,8 @@ pub fn reach_over_pairs(
         (quantised index second.now)) behind }
     ensures most { result ≤ behind + 148 * length first.now }
 {
-    if behind > 0 {
-        if let Some(first_sizes) = first_sizes {
-            if let Some(second_sizes) = second_sizes {
-                let bits = total_by_pairs(first, second, first_sizes, second_sizes, index, row);
-                return bits + behind;
-            }
-        }
-    }
     let count = counted_pairs(first, second, index, behind);
-    let first_bits = total_of(first, first_sizes, count.first, index, row);
-    let second_bits = total_of(second, second_sizes, count.second, index, row);
+    let first_bits = total_by(&first[..count.first], index, row);
+    let second_bits = total_by(&second[..count.second], index, row);
     first_bits + second_bits + behind
 }

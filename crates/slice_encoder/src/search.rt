@@ -7,7 +7,7 @@ ghost use Rattle.slice_encoder.specs.TrialLaws.{IsSteepOk};
 ghost use Rattle.slice_encoder.specs.Tries.{AreTried, tried_lists};
 ghost use Rattle.slice_encoder.specs.Buffers.{HasListRoom, HoldsLists};
 ghost use Rattle.slice_encoder.specs.Gathering.{high_reach, high_pairs_reach};
-ghost use Rattle.slice_encoder.specs.GatheredSlices.{AreAllGathered, gathered_reaches};
+ghost use Rattle.slice_encoder.specs.GatheredSlices.{AreAllGathered, HasKeys, gathered_reaches};
 ghost use Rattle.slice_encoder.specs.RestoredSlice.{WasTried, HoldsWhatWasTried, WasRefused};
 ghost use Rattle.slice_encoder.specs.Jobs.{picture_of};
 ghost use Rattle.slice_encoder.specs.Ready.{AreReadyToWrite};
@@ -263,6 +263,7 @@ fn reaches_behind(gathered: &GatheredSlice, matrix: &Matrix, first: First, index
     requires c2 { matrix.now.depth ≡ gathered.now.c2.depth }
     requires ends { (k : ℕ) → k ≤ 3 * gathered.now.c1.depth
         → slice_index gathered.now.c2.ends k ≡ slice_index gathered.now.c1.ends k }
+    requires keys { HasKeys gathered.now matrix.now }
     requires next { first.has_next ≡ true
         → first.next ≡ gathered_reaches gathered.now matrix.now (first.index + 1) }
     requires few_luma { first.next.luma ≤ 2 ^ 38 }

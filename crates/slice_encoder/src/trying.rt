@@ -1,6 +1,7 @@
 // One index tried.
 
 ghost use Rattle.std.specs.Prelude.{◌≡◌, ◌+◌, ◌*◌, ◌^◌, ◌<◌, ◌≤◌, length, take};
+ghost use Rattle.quant_factors.specs.Weights as weights;
 ghost use Rattle.quant_factors.specs.Weights.{band_quantiser};
 ghost use Rattle.planes.specs.Raster.{at};
 ghost use Rattle.bounded_blocks.specs.Writing.{codes_of};
@@ -66,6 +67,15 @@ pub fn band_numbered(k: u32) -> (u32, u32)
     (level, if k == 0 { 0 } else { k + 3 - 3 * level })
 }
 
+// The matrix's entry of band number k.
+#[inline(always)]
+pub fn entry_of(matrix: &Matrix, k: u32) -> u32
+    requires { k ≤ 3 * matrix.now.depth }
+    ensures { result ≡ weights.entry_of matrix.now (level_of k) (orient_of k) }
+{
+    matrix.entries()[k as usize]
+}
+
 // The quantisation index of band number k.
 #[inline(always)]
 pub fn quantiser_at(matrix: &Matrix, index: u32, k: u32) -> u32
@@ -73,7 +83,7 @@ pub fn quantiser_at(matrix: &Matrix, index: u32, k: u32) -> u32
     ensures value { result ≡ band_quantiser matrix.now index (level_of k) (orient_of k) }
     ensures most { result ≤ index }
 {
-    index.saturating_sub(matrix.entries()[k as usize])
+    index.saturating_sub(entry_of(matrix, k))
 }
 
 // How long the codes of the slice's luma values in the lowest subband are. These are listed at the front of a buffer.

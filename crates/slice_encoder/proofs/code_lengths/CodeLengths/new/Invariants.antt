@@ -1,11 +1,11 @@
-use Rattle.std.proofs.Common.{◌≡◌, ℕ, ◌<◌, length, []}
+use Rattle.std.proofs.Common.{◌≡◌, ℕ, ◌-◌, ◌/◌, ◌%◌, ◌<◌, ◌≤◌, length, pos}
 use Rattle.std.specs.Prelude.{slice_index_or}
-use Rattle.slice_encoder.specs.CodeLengths.{IsRow}
+use Rattle.slice_encoder.specs.CodeLengths.{code_length}
 use Rattle.slice_encoder.proofs.code_lengths.CodeLengths.new.Given as goal
 
-abbrev pub invariant-loop-index : goal.invariant-loop-index
-invariant-loop-index l = record {
-  count : length l.rows.items ≡ l.index;
-  so_far : (q : ℕ) → q < l.index → IsRow q (slice_index_or l.rows.items q []);
-  entries : (q : ℕ) → q < l.index → length (slice_index_or l.rows.items q []) ≡ 512;
+abbrev pub invariant-loop-place : goal.invariant-loop-place
+invariant-loop-place l = record {
+  count : length l.entries.items ≡ l.place;
+  so_far : (p : ℕ) → p < l.place → slice_index_or l.entries.items p 0 ≡ code_length (p / 512 - 127) (pos (p % 512));
+  few : (p : ℕ) → p < l.place → slice_index_or l.entries.items p 0 ≤ 74;
 }

@@ -5,7 +5,6 @@ use Rattle.planes.specs.Numbers.{Within}
 use Rattle.slice_encoder.specs.Sources.{stack_seen}
 use Rattle.slice_encoder.specs.Gathering.{raw_before, GatheredSeen}
 use Rattle.slice_encoder.proofs.Gathers.{raw_count, filled_sound, filled_gathers, written_over}
-use Rattle.std.proofs.lemmas.Bool.{true≢false}
 use Rattle.slice_encoder.proofs.gathered.Gathered.gather.Goals as goal
 
 pub invariant_of-self : goal.invariant_of-self
@@ -18,14 +17,7 @@ invariant_of-self c =
     let room : length (raw_before a.layout.now a.size (stack_seen a.bands) a.sx a.sy (3 * a.layout.now.depth + 1)) ≤ length g.values =
     omega (arith, size, raw_count a.layout.now a.size (stack_seen a.bands) a.sx a.sy a.layout.now.depth, c.requires.room, ap (λ (v : GatheredSeen). length v.values) c.self.view_is)
     in
-    let sound = filled_sound a.layout.now a.size (stack_seen a.bands) a.sx a.sy g c.depth-self-inside.ensures.value c.gather_bands-self-inside.ensures.ends room c.depth-self-inside.ensures.allowed.depth (subst (λ (t : List ℤ). All (Within (2 ^ 27)) t) (sym whole) c.gather_bands-self-inside.ensures.small) (omega (arith, size, c.self.invariant.0.few))
-    in (
-      sound,
-      record {
-        same_length = omega (arith, size, c.self.invariant.1.same_length);
-        small = λ flag. absurd (true≢false (sym flag));
-      },
-    )
+    filled_sound a.layout.now a.size (stack_seen a.bands) a.sx a.sy g c.depth-self-inside.ensures.value c.gather_bands-self-inside.ensures.ends room c.depth-self-inside.ensures.allowed.depth (subst (λ (t : List ℤ). All (Within (2 ^ 27)) t) (sym whole) c.gather_bands-self-inside.ensures.small) (omega (arith, size, c.self.invariant.few))
 
 pub returns-clause-gathered : goal.returns-clause-gathered
 returns-clause-gathered c =

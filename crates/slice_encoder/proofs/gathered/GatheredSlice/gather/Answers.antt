@@ -2,7 +2,9 @@ use Rattle.std.proofs.Common.{sym, subst}
 use Rattle.planes.specs.Subbands.{BandStack}
 use Rattle.slice_encoder.specs.Sources.{trio_seen}
 use Rattle.slice_encoder.specs.Buffers.{coded_component}
-use Rattle.slice_encoder.specs.Gathering.{CanGatherAll}
+use Rattle.slice_encoder.specs.Jobs.{picture_of}
+use Rattle.slice_encoder.specs.Gathering.{CanGatherAll, AreGathered}
+use Rattle.slice_encoder.proofs.GatheredLists.{ends_same}
 use Rattle.slice_encoder.proofs.Gathers.{given_gathers}
 use Rattle.slice_encoder.proofs.gathered.GatheredSlice.gather.Goals as goal
 
@@ -26,3 +28,12 @@ gather-requires-3-clause-can c =
     let given = c.requires.given in
     subst (λ (b : BandStack). CanGatherAll a.job.layout.now a.job.shape.now.colour b) (sym c.c2.ensures)
     (given_gathers (coded_component a.job.layout.now a.job.shape.now.colour a.job.matrix.now (trio_seen a.job.coefficients).c2) a.job.shape.now.colour_depth c.depth-depth.ensures.allowed.depth given.colour_bits.most given.c2)
+
+pub take_keys-requires-clause-ends : goal.take_keys-requires-clause-ends
+take_keys-requires-clause-ends c =
+    let a = c.args in
+    let s = a.job.layout.now in
+    let size = a.job.shape.now.colour in
+    let first = subst (λ (b : BandStack). AreGathered s size b a.job.sx a.job.sy c.gather-2.new.self) c.c1.ensures c.gather-2.ensures.gathered in
+    let second = subst (λ (b : BandStack). AreGathered s size b a.job.sx a.job.sy c.gather-3.new.self) c.c2.ensures c.gather-3.ensures.gathered in
+    λ k le. ends_same (picture_of a.job) 0 a.job.sx a.job.sy c.gather-2.new.self c.gather-3.new.self first second k le
