@@ -16,5 +16,10 @@ pub mod WrittenPasses
 pub mod WrittenChosen
 pub mod CodedBands
 pub mod Lossless
+pub mod MadeOrLeft
 pub mod Runs
 pub mod LeastIndices
+pub mod Gathered
+pub mod SameShown
+pub mod TakenRows
+pub mod ShortShown

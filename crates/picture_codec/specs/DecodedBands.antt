@@ -1,13 +1,14 @@
 -- Bands of 32 bits, and those of 64 bits that take their place.
-use Rattle.std.specs.Prelude.{◌≡◌, ◌^◌, Bool, true, pos}
+use Rattle.std.specs.Prelude.{◌≡◌, ◌^◌, Bool, true, false, if◌then◌else◌, ℤ, pos}
 use Rattle.planes.specs.Bounded.{AreBandsWithin}
 use Rattle.planes.specs.Subbands.{BandStack, AgreeInSizes, AreZeroBands}
 use Rattle.planes.specs.declared.LateTrio.{LateTrio}
 use Rattle.planes.specs.declared.Trio.{Trio}
 use Rattle.planes.specs.declared.NarrowTrio.{NarrowTrio}
+use Rattle.slice_bands.specs.ShortBands.{short_stack, IsShortSound}
 use Rattle.slice_decoder.specs.Narrow.{AreNarrowBands}
 use Rattle.picture_codec.specs.declared.decoded_bands.ShownBands.{ShownBands}
-use Rattle.picture_codec.specs.declared.decoded_bands.ShownBands.TheVariants.{Wide, Narrow}
+use Rattle.picture_codec.specs.declared.decoded_bands.ShownBands.TheVariants.{Short, Wide, Narrow}
 
 -- the bands of each component have the same sizes in both
 pub record AllAgree (narrow : NarrowTrio) (wide : Trio) : Type 0 where
@@ -25,22 +26,48 @@ pub record WideSeen : Type 0 where
   pub is_made : Bool
 
 -- the bands that a memory is for
-abbrev pub late_of : LateTrio → Trio
+abbrev pub late_of : LateTrio ℤ → Trio
 late_of b = record { luma = b.luma; c1 = b.c1; c2 = b.c2 }
 
 -- in whose place they are made: as many bands, of no rows and no columns
-pub record AreRowless (late : LateTrio) (made : Trio) : Type 0 where
+pub record AreRowless (late : LateTrio ℤ) (made : Trio) : Type 0 where
   pub luma : AreZeroBands made.luma late.luma.depth 0 0
   pub c1 : AreZeroBands made.c1 late.c1.depth 0 0
   pub c2 : AreZeroBands made.c2 late.c2.depth 0 0
 
--- what is kept: those of 32 bits hold no magnitude above 2 ^ 18, and those of 64 have their sizes, and are made where they serve
-pub record AreBandsKept (narrow : NarrowTrio) (wide : WideSeen) (is_wide : Bool) : Type 0 where
-  pub small : AreNarrowBands narrow
-  pub sizes : AllAgree narrow wide.bands
-  pub made : is_wide ≡ true → wide.is_made ≡ true
+-- what is seen of those of 32 bits: the bands, and whether they are made
+pub record NarrowSeen : Type 0 where
+  pub bands : NarrowTrio
+  pub is_made : Bool
 
--- bands of a component, as they are shown in one width or the other
+-- the bands of 32 bits that a memory is for
+abbrev pub late_narrow_of : LateTrio ℤ → NarrowTrio
+late_narrow_of b = record { luma = b.luma; c1 = b.c1; c2 = b.c2 }
+
+-- the bands in whose place they are made: as many, of no rows and no columns
+pub record AreNarrowRowless (late : LateTrio ℤ) (made : NarrowTrio) : Type 0 where
+  pub luma : AreZeroBands made.luma late.luma.depth 0 0
+  pub c1 : AreZeroBands made.c1 late.c1.depth 0 0
+  pub c2 : AreZeroBands made.c2 late.c2.depth 0 0
+
+-- what they keep: memory and no rows, until they are made, and no magnitude above 2 ^ 18
+pub record IsLateNarrow (late : LateTrio ℤ) (made : NarrowTrio) (is_made : Bool) : Type 0 where
+  pub rowless : is_made ≡ false → AreNarrowRowless late made
+  pub small : AreNarrowBands (if is_made then made else late_narrow_of late)
+
+-- what is seen of rows: the bands, and whether they are made
+pub record RowsSeen : Type 0 where
+  pub bands : Trio
+  pub is_made : Bool
+
+-- what rows keep: those of 64 bits have the sizes of those of 32, and where they serve, both are made
+pub record AreRowsKept (narrow : NarrowSeen) (wide : WideSeen) (is_wide : Bool) : Type 0 where
+  pub sizes : AllAgree narrow.bands wide.bands
+  pub made : is_wide ≡ true → wide.is_made ≡ true
+  pub both : is_wide ≡ true → narrow.is_made ≡ true
+
+-- bands of a component, as they are shown in one width or another
 abbrev pub IsShownAs : BandStack → ShownBands → Type 0
+IsShownAs b (Short shown) = (short_stack shown.now ≡ b) × IsShortSound shown.now
 IsShownAs b (Wide shown) = shown.now ≡ b
 IsShownAs b (Narrow shown) = (shown.now ≡ b) × AreBandsWithin (pos (2 ^ 18)) shown.now

@@ -3,7 +3,7 @@ use Rattle.std.specs.Prelude.{◌≡◌, ℕ, ◌+◌, ◌/◌, ◌%◌, ◌<◌
 use Rattle.planes.specs.declared.TheConstants.{MAX_MAGNITUDE}
 use Rattle.planes.specs.Numbers.{Within}
 use Rattle.planes.specs.Raster.{Raster, height, at}
-use Rattle.planes.specs.Subbands.{BandStack, BandExists, band_of, HaveSizes, AreZeroBands}
+use Rattle.planes.specs.Subbands.{BandsOf, BandStack, BandExists, band_of, HaveSizes, AreFilledBands, AreZeroBands}
 use Rattle.planes.specs.declared.Trio.{Trio}
 use Rattle.dc_prediction.specs.Prediction.{reach}
 use Rattle.slice_geometry.specs.declared.Size.{Size}
@@ -26,6 +26,7 @@ use Rattle.slice_decoder.specs.Slice.{Slice, slice_at, is_small}
 use Rattle.slice_decoder.specs.Decoded.{AllKeepOthers, IsRefused}
 use Rattle.picture_codec.specs.Taking.{holder, Took, TakesSlice}
 use Rattle.picture_codec.specs.declared.workspace.LateWorkspace.{LateWorkspace}
+use Rattle.picture_codec.specs.declared.workspace.GatherRoom.{GatherRoom}
 use Rattle.picture_codec.specs.declared.workspace.SynthesisRoom.{SynthesisRoom}
 use Rattle.picture_codec.specs.declared.workspace.SynthesisRooms.{SynthesisRooms}
 
@@ -117,25 +118,38 @@ pub record ArePadded (s : Slicing) (size : Size) (plane scratch : Raster ℤ) : 
   pub scratch_rows : height scratch ≡ padded_length s.depth size.h
 
 -- the room for a component's synthesis: half of its padded size each way, rows of that size, and three more
-pub record HaveHalfRoom (s : Slicing) (size : Size) (plane scratch : Raster ℤ) : Type 0 where
+pub record HaveHalfRoom {X : Type 0} (s : Slicing) (size : Size) (plane scratch : Raster X) : Type 0 where
   pub columns : plane.w ≡ padded_length s.depth size.w / 2
   pub rows : height plane ≡ padded_length s.depth size.h / 2
   pub scratch_columns : scratch.w ≡ padded_length s.depth size.w
   pub scratch_rows : height scratch ≡ padded_length s.depth size.h / 2 + 3
 
 -- where room isn't made, there are planes of no rows, in whose place it is
-abbrev pub IsRowless : LateWorkspace → Type 0
+abbrev pub IsRowless : {X : Type 0} → LateWorkspace X → Type 0
 IsRowless w = w.is_made ≡ false → (height w.room.plane ≡ 0) × (height w.room.scratch ≡ 0)
 
--- the room for a component's synthesis in 64 bits, or the memory for it
-pub record HasLateRoom (s : Slicing) (size : Size) (w : LateWorkspace) : Type 0 where
+-- the room for a component's synthesis, or the memory for it
+pub record HasLateRoom {X : Type 0} (s : Slicing) (size : Size) (w : LateWorkspace X) : Type 0 where
   pub rowless : IsRowless w
   pub made : w.is_made ≡ true → HaveHalfRoom s size w.room.plane w.room.scratch
   pub late : w.is_made ≡ false → HaveHalfRoom s size w.late_plane w.late_scratch
 
--- in 64 bits and in 32
+-- where the rows aren't made, there are bands of no rows, in whose place they are
+abbrev pub IsGatherRowless : GatherRoom → Type 0
+IsGatherRowless r = r.is_made ≡ false → AreZeroBands r.bands r.late.depth 0 0
+
+-- rows that a component's slices are gathered in, or the memory for them
+pub record HasGatherRoom (s : Slicing) (size : Size) (r : GatherRoom) : Type 0 where
+  pub rowless : IsGatherRowless r
+  pub made : r.is_made ≡ true → HaveSizes r.bands (padded_length s.depth size.w) (padded_length s.depth size.h)
+  pub made_depth : r.is_made ≡ true → r.bands.depth ≡ s.depth
+  pub late : r.is_made ≡ false → HaveSizes r.late (padded_length s.depth size.w) (padded_length s.depth size.h)
+  pub late_depth : r.late.depth ≡ s.depth
+
+-- in 64 bits, in 32 and in 16
 abbrev pub HasSynthesisRoom : Slicing → Size → SynthesisRoom → Type 0
-HasSynthesisRoom s size room = HasLateRoom s size room.late × HaveHalfRoom s size room.narrow.plane room.narrow.scratch
+HasSynthesisRoom s size room =
+    HasLateRoom s size room.late × HasLateRoom s size room.narrow × HasLateRoom s size room.short × HasGatherRoom s size room.gathered
 
 -- ---- its calls
 
@@ -147,7 +161,11 @@ column_of d = d.next % d.params.slicing.slices_x
 abbrev pub row_of_slices : PictureDecoderSeen → ℕ
 row_of_slices d = d.next / d.params.slicing.slices_x
 
--- the bands of a component of this size, of its padded size and all zero
+-- the bands of a component of this size, of its padded size and with one number at each place
+abbrev pub AreNewBandsOf : {X : Type 0} → X → Slicing → Size → BandsOf X → Type 0
+AreNewBandsOf x s size b = AreFilledBands x b s.depth (padded_length s.depth size.w) (padded_length s.depth size.h)
+
+-- all zero
 abbrev pub AreNewBands : Slicing → Size → BandStack → Type 0
 AreNewBands s size b = AreZeroBands b s.depth (padded_length s.depth size.w) (padded_length s.depth size.h)
 

@@ -8,3 +8,4 @@ pub mod Encoding
 pub mod EncoderInside
 pub mod Lossless
 pub mod LeastIndices
+pub mod ShortSlices

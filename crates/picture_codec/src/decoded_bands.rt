@@ -1,164 +1,123 @@
-//! The bands that slices are decoded into: those of 32 bits, until a slice needs more.
+//! The bands that slices are decoded into: those of 16 bits slice by slice, until one needs more, and then rows.
 
-ghost use Rattle.std.specs.Prelude.{◌≡◌, ◌^◌, ◌<◌, ◌≤◌, length, pos, true, IfOk, MatchResult};
-ghost use Rattle.planes.specs.Bounded.{AreBandsWithin};
+ghost use Rattle.std.specs.Prelude.{◌≡◌, ◌^◌, ◌<◌, ◌≤◌, length, true, false, IfOk, MatchResult};
 ghost use Rattle.slice_geometry.specs.Slicing.{IsAllowed, slice_count};
 ghost use Rattle.slice_geometry.specs.Frames.{frame_of};
 ghost use Rattle.slice_decoder.specs.Slice.{slice_at};
 ghost use Rattle.slice_decoder.specs.Decoded.{AreReady, AllKeepOthers, IsDecoded, IsRefused};
-ghost use Rattle.slice_decoder.specs.Narrow.{trio_of, AreNarrowBands};
+ghost use Rattle.slice_bands.specs.ShortBands.{short_stack, IsShortSound};
+ghost use Rattle.slice_decoder.specs.Short.{shown_trio};
+ghost use Rattle.picture_codec.specs.ShortSlices.{AreShortSound};
 ghost use Rattle.picture_codec.specs.Pictures as pictures;
-ghost use Rattle.picture_codec.specs.Decoding.{AreTaken, HasLateRoom, HaveHalfRoom, AreNewBands, stack_of, with_synthesised};
-ghost use Rattle.picture_codec.specs.DecodedBands.{AllAgree, narrow_of, IsShownAs};
+ghost use Rattle.picture_codec.specs.Decoding.{AreTaken, HasSynthesisRoom, AreNewBands, stack_of, with_synthesised};
+ghost use Rattle.picture_codec.specs.DecodedBands.{IsShownAs};
 
 use crate::picture::Picture;
-use crate::wide_bands::WideBands;
-use crate::workspace::{LateWorkspace, NarrowWorkspace, narrow_zero_trio, size_of};
-use bounded_blocks::{CodeTable, SPARE};
-use planes::{Bands, NarrowBands, NarrowTrio, NoMemory, Trio};
+use crate::row_bands::RowBands;
+use crate::short_slices::{ShortSlices, are_short};
+use crate::workspace::{SynthesisRoom, depth_of, size_of};
+use planes::{Bands, NarrowBands, NoMemory};
 use quant_factors::Matrix;
-use slice_decoder::{SliceFault, decode_narrow};
+use slice_bands::{ShortBands, ShortTrio};
+use slice_decoder::SliceFault;
 use slice_geometry::{Component, Layout, PictureShape, SliceHead};
 use std::alloc::Global;
 use std::marker::Model;
 use transform_params::TransformParams;
 
-// The most values of a block that are read into bands of 32 bits.
-const MOST_VALUES: usize = 1 << 20;
-
-// The greatest magnitude in bands of 32 bits.
-const MOST_NARROW: i64 = 262144;
-
-// The samples of a component from its bands, in 64 bits.
-fn show_in_64_bits(
-    params: &TransformParams,
-    bands: &Bands,
-    late: &mut LateWorkspace,
-    c: Component,
-    picture: &mut Picture,
-)
-    requires taken { AreTaken params.now.layout (pictures.size_of (frame_of picture.old.shape) c)
-        (slice_count params.now.layout) bands.now }
-    requires room { HasLateRoom params.now.layout
-        (pictures.size_of (frame_of picture.old.shape) c) late.old }
-    ensures picture { picture.new ≡ with_synthesised params.now.wavelet picture.old c bands.now }
-    ensures room { HasLateRoom params.now.layout
-        (pictures.size_of (frame_of picture.old.shape) c) late.new }
-    ensures allowed { IsAllowed params.now.layout }
-{
-    // The rules of a layout.
-    let _ = params.layout.depth();
-    let padded = params.layout.padded_size(size_of(picture.shape(), c));
-    late.make();
-    picture.synthesise(c, params.wavelet, bands, padded, &mut late.room);
-}
-
-// The same in 32 bits, of bands whose magnitudes are at most 2^18.
-fn show_in_32_bits(
-    params: &TransformParams,
-    bands: &NarrowBands,
-    room: &mut NarrowWorkspace,
-    c: Component,
-    picture: &mut Picture,
-)
-    requires taken { AreTaken params.now.layout (pictures.size_of (frame_of picture.old.shape) c)
-        (slice_count params.now.layout) bands.now }
-    requires narrow { AreBandsWithin (pos (2 ^ 18)) bands.now }
-    requires room { HaveHalfRoom params.now.layout
-        (pictures.size_of (frame_of picture.old.shape) c) room.old.plane room.old.scratch }
-    ensures picture { picture.new ≡ with_synthesised params.now.wavelet picture.old c bands.now }
-    ensures room { HaveHalfRoom params.now.layout
-        (pictures.size_of (frame_of picture.old.shape) c) room.new.plane room.new.scratch }
-    ensures allowed { IsAllowed params.now.layout }
-{
-    // The rules of a layout.
-    let _ = params.layout.depth();
-    let padded = params.layout.padded_size(size_of(picture.shape(), c));
-    picture.synthesise_narrow(c, params.wavelet, bands, padded, room);
-}
-
-// The bands of a component.
-fn wide_stack(bands: &Trio, c: Component) -> &Bands
-    ensures { result.now ≡ stack_of bands.now c }
-{
-    match c {
-        Component::Luma => &bands.luma,
-        Component::C1 => &bands.c1,
-        Component::C2 => &bands.c2,
-    }
-}
-
-fn narrow_stack(bands: &NarrowTrio, c: Component) -> &NarrowBands
-    requires { AreNarrowBands bands.now }
-    ensures value { result.now ≡ stack_of (trio_of bands.now) c }
-    ensures narrow { AreBandsWithin (pos (2 ^ 18)) result.now }
-{
-    match c {
-        Component::Luma => &bands.luma,
-        Component::C1 => &bands.c1,
-        Component::C2 => &bands.c2,
-    }
-}
-
-// How many values there is room for: those of about the greatest block of a picture's slices, and the places behind them
-// that reading takes. A block of more is read into bands of 64 bits.
-fn room_of(layout: &Layout, shape: &PictureShape) -> usize {
-    let depth = layout.depth();
-    let across = shape.luma.w / layout.slices_x() + (2 << depth);
-    let down = shape.luma.h / layout.slices_y() + (2 << depth);
-    let values = across as usize * down as usize;
-    (2 * values).min(MOST_VALUES) + SPARE
-}
-
-// Whether bands of 32 bits may hold all numbers.
-fn are_narrow(wide: &Trio) -> bool
-    ensures { result ≡ true → AreNarrowBands (narrow_of wide.now) }
-{
-    wide.luma.within(MOST_NARROW) && wide.c1.within(MOST_NARROW) && wide.c2.within(MOST_NARROW)
-}
-
-// Gives the bands of 32 bits the numbers of those of 64.
-fn narrow(wide: &Trio, narrow: &mut NarrowTrio)
-    requires sizes { AllAgree narrow.old wide.now }
-    requires small { AreNarrowBands (narrow_of wide.now) }
-    ensures { narrow.new ≡ narrow_of wide.now }
-{
-    narrow.luma.narrow(&wide.luma);
-    narrow.c1.narrow(&wide.c1);
-    narrow.c2.narrow(&wide.c2);
-}
+// The most numbers in a row of bands.
+const LONGEST_ROW: usize = 8208;
 
 /// The bands of a component, in the width that serves.
 #[derive(Clone, Copy)]
 pub enum ShownBands<'a> {
+    /// In 16 bits, slice by slice.
+    Short(&'a ShortBands),
     /// In 64 bits.
     Wide(&'a Bands),
     /// In 32 bits, no magnitude being above 2^18.
     Narrow(&'a NarrowBands),
 }
 
-/// The bands of the three components. Those of 32 bits hold no magnitude above 2^18. They serve until a slice has a
-/// greater one, or more values of a block than there is room for; from then on those of 64 bits do, until `settle`.
+// The bands of a component in 16 bits.
+fn short_bands(bands: &ShortTrio, c: Component) -> &ShortBands
+    requires { AreShortSound bands.now }
+    ensures value { short_stack result.now ≡ stack_of (shown_trio bands.now) c }
+    ensures sound { IsShortSound result.now }
+{
+    match c {
+        Component::Luma => &bands.luma,
+        Component::C1 => &bands.c1,
+        Component::C2 => &bands.c2,
+    }
+}
+
+// The samples of a component from its bands in 16 bits, and whether these have room for it. Where they have not, the picture
+// stays.
+fn show_in_16_bits(
+    params: &TransformParams,
+    bands: &ShortBands,
+    row: &mut [i16],
+    room: &mut SynthesisRoom,
+    c: Component,
+    picture: &mut Picture,
+) -> bool
+    requires sound { IsShortSound bands.now }
+    requires row { length row.old ≡ 8208 }
+    requires taken { AreTaken params.now.layout (pictures.size_of (frame_of picture.old.shape) c)
+        (slice_count params.now.layout) (short_stack bands.now) }
+    requires room { HasSynthesisRoom params.now.layout
+        (pictures.size_of (frame_of picture.old.shape) c) room.old }
+    ensures picture { result ≡ true → picture.new
+        ≡ with_synthesised params.now.wavelet picture.old c (short_stack bands.now) }
+    ensures left { result ≡ false → picture.new ≡ picture.old }
+    ensures room { HasSynthesisRoom params.now.layout
+        (pictures.size_of (frame_of picture.old.shape) c) room.new }
+    ensures allowed { IsAllowed params.now.layout }
+{
+    // The rules of a layout.
+    let _ = params.layout.depth();
+    if depth_of(picture.shape(), c) > 15 {
+        return false;
+    }
+    bands.slices.shows();
+    let padded = params.layout.padded_size(size_of(picture.shape(), c));
+    room.gathered.make();
+    room.short.make();
+    if !bands.gather(&mut room.gathered.bands, row) {
+        return false;
+    }
+    picture.synthesise_short(
+        c,
+        params.wavelet,
+        &room.gathered.bands,
+        padded,
+        &mut room.short.room,
+    )
+}
+
+/// The bands of the three components. Those of 16 bits serve where all slices of a component have one size, until a slice has
+/// a greater number. From then on rows do, as long as the decoder lives: to bring these back slice by slice would take a copy
+/// that few streams gain by.
 #[derive(Drop)]
 pub struct DecodedBands {
-    narrow: NarrowTrio,
-    wide: WideBands,
-    is_wide: bool,
-    codes: CodeTable,
-    buffer: Vec<i32>,
+    short: ShortSlices,
+    rows: RowBands,
+    row: Vec<i16>,
+    is_short: bool,
 }
 
 impl Model for DecodedBands {
-    ghost use Rattle.std.specs.Prelude.{if◌then◌else◌};
+    ghost use Rattle.std.specs.Prelude.{◌≡◌, true, if◌then◌else◌};
     ghost use Rattle.planes.specs.declared.Trio as trio;
-    ghost use Rattle.slice_decoder.specs.Narrow.{trio_of};
-    ghost use Rattle.picture_codec.specs.DecodedBands.{AreBandsKept};
+    ghost use Rattle.slice_decoder.specs.Short.{shown_trio};
+    ghost use Rattle.picture_codec.specs.ShortSlices.{AreBandsKept};
 
     ghost Value = { trio.Trio };
 
-    ghost view = { λ b. if b.is_wide then b.wide.bands else trio_of b.narrow };
+    ghost view = { λ b. if b.is_short then shown_trio b.short else b.rows.bands };
 
-    ghost invariant = { λ b. AreBandsKept b.narrow b.wide b.is_wide };
+    ghost invariant = { λ b. AreBandsKept b.short b.rows b.row.items b.is_short };
 }
 
 impl DecodedBands {
@@ -172,12 +131,18 @@ impl DecodedBands {
             × AreNewBands layout.now shape.now.colour b.c1
             × AreNewBands layout.now shape.now.colour b.c2) }
     {
+        let is_short = are_short(layout, shape);
+        let row = Vec::from_elem(alloc, 0i16, LONGEST_ROW)?;
+        let short = ShortSlices::new(alloc, layout, shape, is_short)?;
+        let mut rows = RowBands::new(alloc, layout, shape)?;
+        if !is_short {
+            rows.make();
+        }
         Ok(DecodedBands {
-            narrow: narrow_zero_trio(alloc, layout, shape)?,
-            wide: WideBands::new(alloc, layout, shape)?,
-            is_wide: false,
-            codes: CodeTable::new(alloc)?,
-            buffer: Vec::from_elem(alloc, 0i32, room_of(layout, shape))?,
+            short,
+            rows,
+            row,
+            is_short,
         })
     }
 
@@ -185,10 +150,10 @@ impl DecodedBands {
     pub fn component(&self, c: Component) -> ShownBands<'_>
         ensures { IsShownAs (stack_of self.now c) result }
     {
-        if self.is_wide {
-            ShownBands::Wide(wide_stack(self.wide.bands(), c))
+        if self.is_short {
+            ShownBands::Short(short_bands(self.short.bands(), c))
         } else {
-            ShownBands::Narrow(narrow_stack(&self.narrow, c))
+            self.rows.component(c)
         }
     }
 
@@ -215,26 +180,20 @@ impl DecodedBands {
             (IsRefused layout.now shape.now sx sy matrix.now slice) }
         ensures others { AllKeepOthers layout.now shape.now sx sy self.old self.new }
     {
-        if self.is_wide {
-            return self.wide.decode(layout, shape, matrix, sx, sy, bytes);
+        if !self.is_short {
+            return self.rows.decode(layout, shape, matrix, sx, sy, bytes);
         }
-        match decode_narrow(
-            layout,
-            shape,
-            matrix,
-            sx,
-            sy,
-            bytes,
-            &self.codes,
-            &mut self.narrow,
-            &mut self.buffer,
-        ) {
+        let codes = self.rows.codes();
+        match self
+            .short
+            .decode(layout, shape, matrix, sx, sy, bytes, codes)
+        {
             Ok(Some(head)) => Ok(head),
             Err(fault) => Err(fault),
             Ok(None) => {
-                self.wide.widen(&self.narrow);
-                self.is_wide = true;
-                self.wide.decode(layout, shape, matrix, sx, sy, bytes)
+                self.rows.take(self.short.bands(), self.row.as_mut_slice());
+                self.is_short = false;
+                self.rows.decode(layout, shape, matrix, sx, sy, bytes)
             }
         }
     }
@@ -243,43 +202,46 @@ impl DecodedBands {
     pub(crate) fn settle(&mut self)
         ensures { self.new ≡ self.old }
     {
-        if self.is_wide && are_narrow(self.wide.bands()) {
-            narrow(self.wide.bands(), &mut self.narrow);
-            self.is_wide = false;
+        if !self.is_short {
+            self.rows.settle();
         }
     }
 
     /// The samples of a component from its bands.
     pub(crate) fn show(
-        &self,
+        &mut self,
         c: Component,
         params: &TransformParams,
-        room: &mut LateWorkspace,
-        narrow_room: &mut NarrowWorkspace,
+        room: &mut SynthesisRoom,
         picture: &mut Picture,
     )
         requires taken { AreTaken params.now.layout
             (pictures.size_of (frame_of picture.old.shape) c) (slice_count params.now.layout)
-            (stack_of self.now c) }
-        requires room { HasLateRoom params.now.layout
+            (stack_of self.old c) }
+        requires room { HasSynthesisRoom params.now.layout
             (pictures.size_of (frame_of picture.old.shape) c) room.old }
-        requires narrow_room { HaveHalfRoom params.now.layout
-            (pictures.size_of (frame_of picture.old.shape) c) narrow_room.old.plane
-            narrow_room.old.scratch }
+        ensures same { self.new ≡ self.old }
         ensures picture { picture.new
-            ≡ with_synthesised params.now.wavelet picture.old c (stack_of self.now c) }
-        ensures room { HasLateRoom params.now.layout
+            ≡ with_synthesised params.now.wavelet picture.old c (stack_of self.old c) }
+        ensures room { HasSynthesisRoom params.now.layout
             (pictures.size_of (frame_of picture.old.shape) c) room.new }
-        ensures narrow_room { HaveHalfRoom params.now.layout
-            (pictures.size_of (frame_of picture.old.shape) c) narrow_room.new.plane
-            narrow_room.new.scratch }
         ensures allowed { IsAllowed params.now.layout }
     {
-        if self.is_wide {
-            show_in_64_bits(params, wide_stack(self.wide.bands(), c), room, c, picture);
-        } else {
-            let bands = narrow_stack(&self.narrow, c);
-            show_in_32_bits(params, bands, narrow_room, c, picture);
+        if !self.is_short {
+            self.rows.show(c, params, room, picture);
+            return;
+        }
+        let short = self.short.bands();
+        let row = self.row.as_mut_slice();
+        if !show_in_16_bits(params, short_bands(short, c), row, room, c, picture) {
+            self.rows.show_short(
+                self.short.bands(),
+                self.row.as_mut_slice(),
+                c,
+                params,
+                room,
+                picture,
+            );
         }
     }
 }

@@ -19,9 +19,9 @@ use transform_params::TransformParams;
 /// Makes pictures of slices, which come to it in order. Contracts see its bands, the number of its next slice, whether
 /// it refused a slice, and the picture that it finished.
 ///
-/// All memory is taken in `new`: about 12 bytes a sample for the subbands in 32 and in 64 bits, 6 for the room of synthesis in
-/// 64 bits, 3 for that in 32, and 2 for the picture. C1 and C2 share their rooms. What serves 64 bits alone isn't touched
-/// before a slice needs it.
+/// All memory is taken in `new`: about 14 bytes a sample for the subbands in 16, 32 and 64 bits, 2 for rows that slices of 16
+/// bits are gathered in, 11 for the rooms of synthesis in these widths, and 2 for the picture. C1 and C2 share their rooms. What
+/// serves 32 or 64 bits alone isn't touched before a slice needs it.
 #[derive(Drop)]
 pub struct PictureDecoder {
     params: TransformParams,
@@ -158,22 +158,19 @@ impl PictureDecoder {
         self.bands.show(
             Component::Luma,
             &params,
-            &mut self.rooms.luma.late,
-            &mut self.rooms.luma.narrow,
+            &mut self.rooms.luma,
             &mut self.picture,
         );
         self.bands.show(
             Component::C1,
             &params,
-            &mut self.rooms.colour.late,
-            &mut self.rooms.colour.narrow,
+            &mut self.rooms.colour,
             &mut self.picture,
         );
         self.bands.show(
             Component::C2,
             &params,
-            &mut self.rooms.colour.late,
-            &mut self.rooms.colour.narrow,
+            &mut self.rooms.colour,
             &mut self.picture,
         );
         self.finished = true;

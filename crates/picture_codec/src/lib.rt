@@ -6,9 +6,12 @@ pub mod closed_loop;
 mod decoded_bands;
 mod decoder;
 mod encoder;
+mod late_narrow;
 pub mod laws;
 mod picture;
+mod row_bands;
 mod samples;
+mod short_slices;
 mod wide_bands;
 mod workspace;
 

@@ -1,6 +1,6 @@
 //! A picture.
 
-ghost use Rattle.std.specs.Prelude.{◌≡◌, ◌+◌, ◌*◌, ◌^◌, ◌<◌, ◌≤◌, length, IfOk};
+ghost use Rattle.std.specs.Prelude.{◌≡◌, ◌+◌, ◌*◌, ◌^◌, ◌<◌, ◌≤◌, length, true, false, IfOk};
 ghost use Rattle.std.specs.List.{All};
 ghost use Rattle.planes.specs.Raster.{height, at};
 ghost use Rattle.lifting.specs.SampleRoom.{HaveRoom, AreSmallIn, AreNarrowIn, synthesis_of};
@@ -189,6 +189,41 @@ impl Picture {
             Component::C2 => self
                 .c2
                 .synthesise_narrow(wavelet, bands, padded, room, shape.colour_depth),
+        }
+    }
+
+    /// The same in 16 bits, and whether these have room for it. Where they have not, the picture stays.
+    pub(crate) fn synthesise_short(
+        &mut self,
+        c: Component,
+        wavelet: Wavelet,
+        bands: &Bands<i16>,
+        padded: Size,
+        room: &mut Workspace<i16>,
+    ) -> bool
+        requires few_bits { sample_bits self.old c ≤ 15 }
+        requires fits { width_of self.old c ≤ padded.w }
+        requires high { height_of self.old c ≤ padded.h }
+        requires room { HaveRoom bands.now padded.w padded.h room.old.plane room.old.scratch }
+        ensures samples { result ≡ true → self.new ≡ with_shown self.old c
+            (synthesis_of wavelet bands.now padded.w padded.h) }
+        ensures left { result ≡ false → self.new ≡ self.old }
+        ensures same_width { room.new.plane.w ≡ room.old.plane.w }
+        ensures same_height { height room.new.plane ≡ height room.old.plane }
+        ensures same_width_scratch { room.new.scratch.w ≡ room.old.scratch.w }
+        ensures same_height_scratch { height room.new.scratch ≡ height room.old.scratch }
+    {
+        let shape = self.shape;
+        match c {
+            Component::Luma => self
+                .luma
+                .synthesise_short(wavelet, bands, padded, room, shape.luma_depth),
+            Component::C1 => self
+                .c1
+                .synthesise_short(wavelet, bands, padded, room, shape.colour_depth),
+            Component::C2 => self
+                .c2
+                .synthesise_short(wavelet, bands, padded, room, shape.colour_depth),
         }
     }
 }

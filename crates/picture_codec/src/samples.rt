@@ -1,6 +1,6 @@
 //! The samples of one component.
 
-ghost use Rattle.std.specs.Prelude.{◌≡◌, ℕ, ◌+◌, ◌-◌, ◌*◌, ◌^◌, ◌<◌, ◌≤◌, length, IfOk, slice_index_or, pos, neg_ℤ, ◌+ℤ◌, ◌-ℤ◌, ◌≤ℤ◌};
+ghost use Rattle.std.specs.Prelude.{◌≡◌, ℕ, ◌+◌, ◌-◌, ◌*◌, ◌^◌, ◌<◌, ◌≤◌, length, IfOk, slice_index_or, true, false, pos, neg_ℤ, ◌+ℤ◌, ◌-ℤ◌, ◌≤ℤ◌};
 ghost use Rattle.std.specs.Int.{int_min, int_max};
 ghost use Rattle.planes.specs.Raster.{height, at};
 ghost use Rattle.slice_geometry.specs.Shape.{IsSize, IsDepth};
@@ -9,7 +9,7 @@ ghost use Rattle.picture_codec.specs.Pictures.{sample_of};
 ghost use Rattle.picture_codec.specs.Samples.{sample_at, with_sample, with_run, samples_by, blank};
 
 use crate::workspace::{NarrowWorkspace, Workspace};
-use lifting::{SampleArea, Wavelet, synth_samples, synth_samples_narrow};
+use lifting::{SampleArea, Wavelet, synth_samples, synth_samples_narrow, synth_samples_short};
 use planes::{Bands, NarrowBands, NoMemory};
 use slice_geometry::Size;
 use std::alloc::Global;
@@ -158,5 +158,45 @@ impl Samples {
             self.cells.as_mut_slice(),
             area,
         );
+    }
+
+    /// The same in 16 bits, and whether these have room for it. Where they have not, the samples stay.
+    pub(crate) fn synthesise_short(
+        &mut self,
+        wavelet: Wavelet,
+        bands: &Bands<i16>,
+        padded: Size,
+        room: &mut Workspace<i16>,
+        depth: u32,
+    ) -> bool
+        requires depth { IsDepth depth }
+        requires few_bits { depth ≤ 15 }
+        requires fits { self.old.w ≤ padded.w }
+        requires high { self.old.h ≤ padded.h }
+        requires room { HaveRoom bands.now padded.w padded.h room.old.plane room.old.scratch }
+        ensures samples { result ≡ true → self.new
+            ≡ samples_by (record { w = self.old.w; h = self.old.h })
+            (λ y x. sample_of depth (synthesis_of wavelet bands.now padded.w padded.h y x)) }
+        ensures left { result ≡ false → self.new ≡ self.old }
+        ensures same_width { room.new.plane.w ≡ room.old.plane.w }
+        ensures same_height { height room.new.plane ≡ height room.old.plane }
+        ensures same_width_scratch { room.new.scratch.w ≡ room.old.scratch.w }
+        ensures same_height_scratch { height room.new.scratch ≡ height room.old.scratch }
+    {
+        let area = SampleArea {
+            w: self.w,
+            h: self.h,
+            depth,
+        };
+        synth_samples_short(
+            wavelet,
+            bands,
+            padded.w,
+            padded.h,
+            &mut room.plane,
+            &mut room.scratch,
+            self.cells.as_mut_slice(),
+            area,
+        )
     }
 }

@@ -19,7 +19,7 @@ use std::marker::Model;
 /// all zero until then, and whether they are made.
 #[derive(Drop)]
 pub struct WideBands {
-    late: LateTrio,
+    late: LateTrio<i64>,
     made: Trio,
     is_made: bool,
 }

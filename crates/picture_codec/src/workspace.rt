@@ -4,37 +4,41 @@ ghost use Rattle.std.specs.Prelude.{◌≡◌, ◌≤◌, true, IfOk};
 ghost use Rattle.slice_geometry.specs.Shape.{IsSize, IsDepth};
 ghost use Rattle.picture_codec.specs.Pictures as pictures;
 ghost use Rattle.slice_geometry.specs.Frames.{frame_of};
-ghost use Rattle.picture_codec.specs.Decoding.{ArePadded, HaveHalfRoom, AreNewBands, IsRowless, HasLateRoom, HasSynthesisRoom};
+ghost use Rattle.picture_codec.specs.Decoding.{ArePadded, HaveHalfRoom, AreNewBands, AreNewBandsOf, IsRowless, HasLateRoom, HasGatherRoom, IsGatherRowless, HasSynthesisRoom};
 ghost use Rattle.planes.specs.Subbands.{AreZeroBands};
 ghost use Rattle.slice_geometry.specs.Slicing.{Slicing};
 ghost use Rattle.slice_geometry.specs.declared.Size.{Size};
 
 use planes::{
-    Bands, LateBands, LatePlane, LateTrio, NarrowBands, NarrowPlane, NarrowTrio, NoMemory, Plane,
-    Trio,
+    Bands, LateBands, LatePlane, LateTrio, NarrowBands, NarrowPlane, NarrowTrio, NoMemory, Number,
+    Plane, Trio,
 };
 use slice_geometry::{Component, Layout, PictureShape, Size};
 use std::alloc::Global;
 
-/// The room for synthesis in 64 bits: a plane for the levels below the last, and a scratch for their rows and for three of
-/// the last, which goes straight into the samples.
+/// The room for synthesis, in 64 bits where no other width is named: a plane for the levels below the last, and a scratch for
+/// their rows and for three of the last, which goes straight into the samples.
 #[derive(Drop)]
-pub(crate) struct Workspace {
-    pub(crate) plane: Plane,
-    pub(crate) scratch: Plane,
+pub(crate) struct Workspace<T = i64> {
+    pub(crate) plane: Plane<T>,
+    pub(crate) scratch: Plane<T>,
 }
 
-/// The same room, which few pictures need: its memory isn't touched before it is made.
+/// The same room, whose memory isn't touched before it is made.
 #[derive(Drop)]
-pub(crate) struct LateWorkspace {
-    pub(crate) room: Workspace,
-    pub(crate) late_plane: LatePlane,
-    pub(crate) late_scratch: LatePlane,
+pub(crate) struct LateWorkspace<T = i64> {
+    pub(crate) room: Workspace<T>,
+    pub(crate) late_plane: LatePlane<T>,
+    pub(crate) late_scratch: LatePlane<T>,
     pub(crate) is_made: bool,
 }
 
-impl LateWorkspace {
-    pub(crate) fn new(alloc: Global, layout: &Layout, size: Size) -> Result<LateWorkspace, NoMemory>
+impl<T: Number> LateWorkspace<T> {
+    pub(crate) fn new(
+        alloc: Global,
+        layout: &Layout,
+        size: Size,
+    ) -> Result<LateWorkspace<T>, NoMemory>
         requires { IsSize size.w size.h }
         ensures { IfOk result (HasLateRoom layout.now size) }
     {
@@ -95,36 +99,49 @@ impl AnalysisWorkspace {
 }
 
 /// The room for synthesis in 32 bits.
+pub(crate) type NarrowWorkspace = Workspace<i32>;
+
+/// The bands of a component in 16 bits as rows, whose memory isn't touched before they are made.
 #[derive(Drop)]
-pub(crate) struct NarrowWorkspace {
-    pub(crate) plane: NarrowPlane,
-    pub(crate) scratch: NarrowPlane,
+pub(crate) struct GatherRoom {
+    pub(crate) bands: Bands<i16>,
+    pub(crate) late: LateBands<i16>,
+    pub(crate) is_made: bool,
 }
 
-impl NarrowWorkspace {
-    pub(crate) fn new(
-        alloc: Global,
-        layout: &Layout,
-        size: Size,
-    ) -> Result<NarrowWorkspace, NoMemory>
+impl GatherRoom {
+    pub(crate) fn new(alloc: Global, layout: &Layout, size: Size) -> Result<GatherRoom, NoMemory>
         requires { IsSize size.w size.h }
-        ensures { IfOk result (λ w. HaveHalfRoom layout.now size w.plane w.scratch) }
+        ensures { IfOk result (HasGatherRoom layout.now size) }
     {
-        // The rules of a layout.
-        let _ = layout.depth();
-        let padded = layout.padded_size(size);
-        Ok(NarrowWorkspace {
-            plane: NarrowPlane::new(alloc, padded.w / 2, padded.h / 2)?,
-            scratch: NarrowPlane::new(alloc, padded.w, padded.h / 2 + 3)?,
+        Ok(GatherRoom {
+            bands: Bands::new(alloc, layout.depth(), 0, 0)?,
+            late: late_zero_bands(alloc, layout, size)?,
+            is_made: false,
         })
+    }
+
+    /// The bands, made if they weren't.
+    pub(crate) fn make(&mut self)
+        requires { IsGatherRowless self.old }
+        ensures { (s : Slicing) (size : Size) → HasGatherRoom s size self.old
+            → HasGatherRoom s size self.new × (self.new.is_made ≡ true) }
+    {
+        if self.is_made {
+            return;
+        }
+        self.late.make(&mut self.bands);
+        self.is_made = true;
     }
 }
 
-/// The room for synthesis of a component: in 64 bits and in 32.
+/// The room for synthesis of a component: in 64 bits, in 32 and in 16, these with rows to gather slices in.
 #[derive(Drop)]
 pub(crate) struct SynthesisRoom {
     pub(crate) late: LateWorkspace,
-    pub(crate) narrow: NarrowWorkspace,
+    pub(crate) narrow: LateWorkspace<i32>,
+    pub(crate) short: LateWorkspace<i16>,
+    pub(crate) gathered: GatherRoom,
 }
 
 impl SynthesisRoom {
@@ -134,7 +151,9 @@ impl SynthesisRoom {
     {
         Ok(SynthesisRoom {
             late: LateWorkspace::new(alloc, layout, size)?,
-            narrow: NarrowWorkspace::new(alloc, layout, size)?,
+            narrow: LateWorkspace::new(alloc, layout, size)?,
+            short: LateWorkspace::new(alloc, layout, size)?,
+            gathered: GatherRoom::new(alloc, layout, size)?,
         })
     }
 }
@@ -163,23 +182,27 @@ impl SynthesisRooms {
 }
 
 // The memory of the bands of a component.
-fn late_zero_bands(alloc: Global, layout: &Layout, size: Size) -> Result<LateBands, NoMemory>
+fn late_zero_bands<T: Number>(
+    alloc: Global,
+    layout: &Layout,
+    size: Size,
+) -> Result<LateBands<T>, NoMemory>
     requires { IsSize size.w size.h }
-    ensures { IfOk result (AreNewBands layout.now size) }
+    ensures { IfOk result (AreNewBandsOf T.none layout.now size) }
 {
     let padded = layout.padded_size(size);
     LateBands::new(alloc, layout.depth(), padded.w, padded.h)
 }
 
 /// The memory of the bands of the three components.
-pub(crate) fn late_zero_trio(
+pub(crate) fn late_zero_trio<T: Number>(
     alloc: Global,
     layout: &Layout,
     shape: &PictureShape,
-) -> Result<LateTrio, NoMemory>
-    ensures { IfOk result (λ bands. AreNewBands layout.now shape.now.luma bands.luma
-        × AreNewBands layout.now shape.now.colour bands.c1
-        × AreNewBands layout.now shape.now.colour bands.c2) }
+) -> Result<LateTrio<T>, NoMemory>
+    ensures { IfOk result (λ bands. AreNewBandsOf T.none layout.now shape.now.luma bands.luma
+        × AreNewBandsOf T.none layout.now shape.now.colour bands.c1
+        × AreNewBandsOf T.none layout.now shape.now.colour bands.c2) }
 {
     Ok(LateTrio {
         luma: late_zero_bands(alloc, layout, shape.luma)?,
@@ -198,6 +221,19 @@ pub(crate) fn rowless_trio(alloc: Global, depth: u32) -> Result<Trio, NoMemory>
         luma: Bands::new(alloc, depth, 0, 0)?,
         c1: Bands::new(alloc, depth, 0, 0)?,
         c2: Bands::new(alloc, depth, 0, 0)?,
+    })
+}
+
+/// The same in 32 bits.
+pub(crate) fn rowless_narrow_trio(alloc: Global, depth: u32) -> Result<NarrowTrio, NoMemory>
+    requires { depth ≤ 4 }
+    ensures { IfOk result (λ bands. AreZeroBands bands.luma depth 0 0
+        × AreZeroBands bands.c1 depth 0 0 × AreZeroBands bands.c2 depth 0 0) }
+{
+    Ok(NarrowTrio {
+        luma: NarrowBands::new(alloc, depth, 0, 0)?,
+        c1: NarrowBands::new(alloc, depth, 0, 0)?,
+        c2: NarrowBands::new(alloc, depth, 0, 0)?,
     })
 }
 

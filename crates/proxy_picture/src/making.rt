@@ -1,19 +1,23 @@
 //! The samples of a component's proxy.
 
-ghost use Rattle.std.specs.Prelude.{◌≡◌, ◌*◌, ◌^◌, ◌<◌, ◌≤◌, length};
+ghost use Rattle.std.specs.Prelude.{◌≡◌, ◌*◌, ◌%◌, ◌^◌, ◌<◌, ◌≤◌, length, pos};
 ghost use Rattle.std.specs.List.{All};
+ghost use Rattle.planes.specs.Bounded.{AreBandsWithin};
 ghost use Rattle.slice_geometry.specs.declared.Component.TheVariants.{Luma};
+ghost use Rattle.slice_geometry.specs.Geometry.{padded_length};
 ghost use Rattle.slice_geometry.specs.Shape.{IsSize, IsDepth};
 ghost use Rattle.picture_codec.specs.Samples.{component_shown, width_of, height_of, sample_bits, with_component};
 ghost use Rattle.picture_codec.specs.Decoding.{CanSynthesise, stack_of};
 ghost use Rattle.proxy_picture.specs.Proxy.{levels_left, reduced_length};
 ghost use Rattle.proxy_picture.specs.Proxy as proxy;
-ghost use Rattle.proxy_picture.specs.Making.{IsRoomFor, reduced};
+ghost use Rattle.transform_params.specs.Views.{params_of};
+ghost use Rattle.proxy_picture.specs.Making.{level_size, AreOfSize, AreSized, IsLateRoom, IsLowerPart, IsRoomFor, reduced};
 
-use crate::room::ProxyRoom;
+use crate::room::{LateRoom, NarrowRoom, ProxyRoom};
 use crate::sizes::{levels_made, reduced_size};
 use lifting::{LowerLevel, SampleArea, Wavelet, synth_lower_samples, synth_lower_samples_narrow};
 use picture_codec::{DecodedBands, Picture, ShownBands};
+use planes::{Bands, NarrowBands};
 use slice_geometry::{Component, PictureShape, Size};
 use transform_params::TransformParams;
 
@@ -62,6 +66,117 @@ impl ComponentShape {
     }
 }
 
+/// A component's lower level: what is made of it, the padded size of the component, and the samples that are kept.
+#[derive(Clone, Copy)]
+pub(crate) struct LowerPart {
+    pub(crate) lower: LowerLevel,
+    pub(crate) padded: Size,
+    pub(crate) area: SampleArea,
+}
+
+// The lower level of a component, where so many levels are asked for.
+fn lower_part(params: &TransformParams, level: u32, of: ComponentShape) -> LowerPart
+    requires size { IsSize of.size.w of.size.h }
+    ensures part { IsLowerPart (params_of params.now) level of.size of.bits result }
+    ensures few { result.lower.levels ≤ params.now.layout.depth }
+    ensures shift { result.lower.shift ≤ 4 }
+    ensures w_whole { result.padded.w % 2 ^ params.now.layout.depth ≡ 0 }
+    ensures h_whole { result.padded.h % 2 ^ params.now.layout.depth ≡ 0 }
+    ensures fits { IsSize result.area.w result.area.h }
+    ensures deep { params.now.layout.depth ≤ 4 }
+{
+    let depth = params.layout.depth();
+    let levels = levels_made(level, depth);
+    let left = depth - levels;
+    let shift = shift_left_out(params.wavelet, left);
+    let padded = params.layout.padded_size(of.size);
+    let kept = reduced_size(left, of.size);
+    let (w, h, depth) = (kept.w, kept.h, of.bits);
+    LowerPart {
+        lower: LowerLevel { levels, shift },
+        padded,
+        area: SampleArea { w, h, depth },
+    }
+}
+
+// The samples of a component, from bands of 64 bits.
+fn make_wide_cells(
+    params: &TransformParams,
+    level: u32,
+    bands: &Bands,
+    of: ComponentShape,
+    late: &mut LateRoom,
+    cells: &mut [u16],
+)
+    requires size { IsSize of.size.w of.size.h }
+    requires bits { IsDepth of.bits }
+    requires ready { CanSynthesise params.now.layout of.size bands.now }
+    requires room { IsLateRoom (level_size params.now.layout level of.size).w
+        (level_size params.now.layout level of.size).h late.old }
+    requires count { length cells.old
+        ≡ reduced_length (levels_left level params.now.layout.depth) of.size.h
+        * reduced_length (levels_left level params.now.layout.depth) of.size.w }
+    ensures room { IsLateRoom (level_size params.now.layout level of.size).w
+        (level_size params.now.layout level of.size).h late.new }
+    ensures count { length cells.new ≡ length cells.old }
+    ensures cells { cells.new
+        ≡ (reduced params.now.wavelet level of.size of.bits bands.now).cells }
+{
+    let part = lower_part(params, level, of);
+    late.make();
+    synth_lower_samples(
+        params.wavelet,
+        bands,
+        part.lower,
+        part.padded.w,
+        part.padded.h,
+        &mut late.plane,
+        &mut late.scratch,
+        cells,
+        part.area,
+    );
+}
+
+// The same from bands of 32 bits, whose magnitudes are at most 2^18.
+fn make_narrow_cells(
+    params: &TransformParams,
+    level: u32,
+    bands: &NarrowBands,
+    of: ComponentShape,
+    room: &mut NarrowRoom,
+    cells: &mut [u16],
+)
+    requires size { IsSize of.size.w of.size.h }
+    requires bits { IsDepth of.bits }
+    requires sized { AreSized params.now.layout.depth
+        (padded_length params.now.layout.depth of.size.w)
+        (padded_length params.now.layout.depth of.size.h) bands.now }
+    requires within { AreBandsWithin (pos (2 ^ 18)) bands.now }
+    requires room { AreOfSize (level_size params.now.layout level of.size).w
+        (level_size params.now.layout level of.size).h room.old.plane room.old.scratch }
+    requires count { length cells.old
+        ≡ reduced_length (levels_left level params.now.layout.depth) of.size.h
+        * reduced_length (levels_left level params.now.layout.depth) of.size.w }
+    ensures room { AreOfSize (level_size params.now.layout level of.size).w
+        (level_size params.now.layout level of.size).h room.new.plane room.new.scratch }
+    ensures count { length cells.new ≡ length cells.old }
+    ensures cells { cells.new
+        ≡ (reduced params.now.wavelet level of.size of.bits bands.now).cells }
+{
+    let part = lower_part(params, level, of);
+    synth_lower_samples_narrow(
+        params.wavelet,
+        bands,
+        part.lower,
+        part.padded.w,
+        part.padded.h,
+        &mut room.plane,
+        &mut room.scratch,
+        cells,
+        part.area,
+    );
+}
+
 // The samples of a component, in the room's cells.
 fn make_cells(
     params: &TransformParams,
@@ -78,41 +193,21 @@ fn make_cells(
     ensures cells { room.new.cells.items
         ≡ (reduced params.now.wavelet level of.size of.bits (stack_of bands.now of.c)).cells }
 {
-    let depth = params.layout.depth();
-    let levels = levels_made(level, depth);
-    let left = depth - levels;
-    let shift = shift_left_out(params.wavelet, left);
-    let lower = LowerLevel { levels, shift };
-    let padded = params.layout.padded_size(of.size);
-    let kept = reduced_size(left, of.size);
-    let (w, h, depth) = (kept.w, kept.h, of.bits);
-    let area = SampleArea { w, h, depth };
+    // The rules of a layout.
+    let _ = params.layout.depth();
+    let cells = room.cells.as_mut_slice();
     match bands.component(of.c) {
         ShownBands::Wide(bands) => {
-            room.late.make();
-            synth_lower_samples(
-                params.wavelet,
-                bands,
-                lower,
-                padded.w,
-                padded.h,
-                &mut room.late.plane,
-                &mut room.late.scratch,
-                room.cells.as_mut_slice(),
-                area,
-            )
+            make_wide_cells(params, level, bands, of, &mut room.late, cells)
         }
-        ShownBands::Narrow(bands) => synth_lower_samples_narrow(
-            params.wavelet,
-            bands,
-            lower,
-            padded.w,
-            padded.h,
-            &mut room.plane,
-            &mut room.scratch,
-            room.cells.as_mut_slice(),
-            area,
-        ),
+        ShownBands::Narrow(bands) => {
+            make_narrow_cells(params, level, bands, of, &mut room.narrow, cells)
+        }
+        ShownBands::Short(bands) => {
+            room.widened.take(bands);
+            let bands = &room.widened.bands;
+            make_narrow_cells(params, level, bands, of, &mut room.narrow, cells)
+        }
     }
 }
 

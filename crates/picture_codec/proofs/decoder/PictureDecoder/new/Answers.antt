@@ -1,6 +1,8 @@
-use Rattle.std.proofs.Common.{◌≡◌, ap, sym, subst, arith}
+use Rattle.std.proofs.Common.{◌≡◌, IfOk, ap, sym, subst, arith}
+use Rattle.std.proofs.lemmas.Result.{err_from_is_err_and}
+use Rattle.transform_params.specs.Views.{params_of}
 use Rattle.slice_geometry.specs.declared.PictureShape.{PictureShape}
-use Rattle.picture_codec.specs.Decoding.{IsDecoderSound}
+use Rattle.picture_codec.specs.Decoding.{IsDecoderSound, IsNewDecoder}
 use Rattle.picture_codec.proofs.Steps.{taken_none}
 use Rattle.picture_codec.proofs.decoder.PictureDecoder.new.Goals as goal
 
@@ -21,3 +23,8 @@ invariant_of-result c =
       luma = c.in_ok-rooms.ensures.0;
       colour = c.in_ok-rooms.ensures.1;
     })
+
+pub returns-in_err-new-2 : goal.returns-in_err-new-2
+returns-in_err-new-2 c =
+    let p = err_from_is_err_and c.from_residual-in_err-new-2.result c.from_residual-in_err-new-2.ensures.1 in
+    subst (λ r. IfOk r (IsNewDecoder c.args.shape.now (params_of c.args.params.now))) (sym p.1) tt

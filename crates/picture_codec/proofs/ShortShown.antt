@@ -1,0 +1,47 @@
+-- Rooms of synthesis in 16 bits, and the bands that serve from one slice to the next.
+use Rattle.std.proofs.Common.{◌≡◌, ℕ, ◌≤◌, refl, sym, ap, subst, ◌∙◌, arith}
+use Rattle.std.specs.Prelude.{Bool, true, false, ℤ}
+use Rattle.planes.specs.Raster.{Raster, height}
+use Rattle.planes.specs.Subbands.{BandStack, BandExists, subband_length, AgreeInSizes, HaveSizes}
+use Rattle.planes.specs.declared.Trio.{Trio}
+use Rattle.slice_geometry.specs.declared.Size.{Size}
+use Rattle.slice_geometry.specs.declared.Component.{Component}
+use Rattle.slice_geometry.specs.declared.Component.TheVariants.{Luma, C1, C2}
+use Rattle.slice_geometry.specs.declared.PictureShape.{PictureShape}
+use Rattle.slice_geometry.specs.Slicing.{Slicing}
+use Rattle.slice_geometry.specs.Geometry.{padded_length}
+use Rattle.slice_bands.specs.declared.short_bands.ShortBands.{ShortBands}
+use Rattle.slice_bands.specs.declared.short_bands.ShortTrio.{ShortTrio}
+use Rattle.slice_bands.specs.Short.{ShowTheSame}
+use Rattle.slice_bands.specs.ShortBands.{short_stack, IsShortSound}
+use Rattle.slice_decoder.specs.Short.{shown_trio}
+use Rattle.picture_codec.specs.Decoding.{AreTaken, HaveHalfRoom, HasLateRoom, HasGatherRoom, stack_of}
+use Rattle.picture_codec.specs.ShortSlices.{AllShowTheSame, AreShortSound}
+use Rattle.picture_codec.specs.declared.workspace.LateWorkspace.{LateWorkspace}
+use Rattle.picture_codec.specs.declared.workspace.GatherRoom.{GatherRoom}
+
+-- ---- rooms that are made
+
+-- rows that are made stay a room where they take bands
+pub gathered_room : (s : Slicing) (size : Size) (n : ℕ) (b : BandStack) (r after : GatherRoom) → HasGatherRoom s size r → AreTaken s size n b → after.bands ≡ b → after.late ≡ r.late → after.is_made ≡ true → HasGatherRoom s size after
+gathered_room s size n b r after room taken is late made = record {
+  rowless = λ none. absurd cc;
+  made = λ some. subst (λ (a : BandStack). HaveSizes a (padded_length s.depth size.w) (padded_length s.depth size.h)) (sym is) taken.sizes;
+  made_depth = λ some. ap (λ (a : BandStack). a.depth) is ∙ taken.depth;
+  late = λ none. absurd cc;
+  late_depth = ap (λ (l : BandStack). l.depth) late ∙ room.late_depth;
+}
+
+-- a room that was made stays one of its size
+pub made_room : {X : Type 0} (s : Slicing) (size : Size) (w : LateWorkspace X) (plane scratch : Raster X) → HaveHalfRoom s size plane scratch → w.is_made ≡ true → w.room.plane.w ≡ plane.w → height w.room.plane ≡ height plane
+    → w.room.scratch.w ≡ scratch.w → height w.room.scratch ≡ height scratch → HasLateRoom s size w
+made_room s size w plane scratch half made same_w same_h same_sw same_sh = record {
+  rowless = λ none. absurd cc;
+  made = λ some. record {
+    columns = same_w ∙ half.columns;
+    rows = same_h ∙ half.rows;
+    scratch_columns = same_sw ∙ half.scratch_columns;
+    scratch_rows = same_sh ∙ half.scratch_rows;
+  };
+  late = λ none. absurd cc;
+}
