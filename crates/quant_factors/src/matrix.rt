@@ -79,6 +79,7 @@ impl Matrix {
         requires { BandExists self.now.depth level (orient_number orient) }
         ensures { result ≡ entry_of self.now level (orient_number orient) }
     {
+        // The rules of a matrix: it has as many entries as its depth wants.
         let _ = &self.depth;
         self.entries[place_of(level, orient)]
     }

@@ -11,7 +11,7 @@ use Rattle.raw_video.specs.RawText.{is_wide, raw_text}
 abbrev pub sample_size : Bool → ℕ
 sample_size wide = if wide then 2 else 1
 
--- how many samples luma has, and each colour component
+-- how many samples luma has
 abbrev pub luma_count : Frame → ℕ
 luma_count f = f.luma.h * f.luma.w
 

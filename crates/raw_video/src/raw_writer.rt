@@ -46,13 +46,14 @@ impl RawWriter {
         }
     }
 
-    /// The sink takes all that waits. Where a write fails, only `drop` may follow.
+    /// The sink takes all that waits. Where a write fails, all of it still waits, and the sink has a front of it.
     pub fn finish<K: Sink>(&mut self, sink: &mut K) -> Result<(), Failed>
         ensures ok { OnOk result (Appends (K.written sink.old)
             (K.written sink.new) self.old.waiting) }
         ensures err { OnErr result (GrewShort (K.written sink.old)
             (K.written sink.new) self.old.waiting) }
         ensures after { OnOk result (self.new ≡ record self.old { waiting = [] }) }
+        ensures kept { OnErr result (self.new ≡ self.old) }
         ensures cause { HasCause (K.faults sink.old) (K.faults sink.new) result }
     {
         write_whole(sink, &self.buffer[..self.len])?;
@@ -69,6 +70,7 @@ impl RawWriter {
             (K.written sink.new) self.old.waiting self.new.waiting []) }
         ensures err { OnErr result (GrewShort (K.written sink.old)
             (K.written sink.new) self.old.waiting) }
+        ensures kept { OnErr result (self.new ≡ self.old) }
         ensures cause { HasCause (K.faults sink.old) (K.faults sink.new) result }
     {
         if more <= PIECE - self.len {
@@ -78,7 +80,7 @@ impl RawWriter {
     }
 
     /// Puts a row behind what waits; where there is no room for it, the sink takes first what waits. At most 8192 samples
-    /// are a row.
+    /// are a row. Where a write fails, what waited still waits.
     pub fn put<K: Sink>(&mut self, sink: &mut K, row: &[u16]) -> Result<(), Failed>
         requires { length row.now ≤ 8192 }
         ensures wide { OnOk result (self.new.wide ≡ self.old.wide) }
@@ -87,6 +89,7 @@ impl RawWriter {
             (text_of self.old.wide row.now)) }
         ensures err { OnErr result (GrewShort (K.written sink.old) (K.written sink.new)
             (self.old.waiting ++ text_of self.old.wide row.now)) }
+        ensures kept { OnErr result (self.new ≡ self.old) }
         ensures cause { HasCause (K.faults sink.old) (K.faults sink.new) result }
     {
         self.make_room(sink, 2 * row.len())?;

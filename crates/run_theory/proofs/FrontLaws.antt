@@ -1,5 +1,5 @@
 -- What stands in front, and the machine of a command.
-use Rattle.std.proofs.Common.{◌≡◌, ℕ, ◌-◌, ◌*◌, ◌<◌, ◌≤◌, Bool, true, false, not, ◌&&◌, ltb, List, [], ◌∷◌, ◌++◌, length, take, drop, Result, Ok, Err, refl, sym, ap, subst, ◌∙◌, arith, inl, inr, append-nil}
+use Rattle.std.proofs.Common.{◌≡◌, ℕ, ◌-◌, ◌*◌, ◌<◌, ◌≤◌, Bool, true, false, not, ◌&&◌, ltb, List, [], ◌∷◌, ◌++◌, length, take, drop, Result, Ok, Err, refl, sym, ap, subst, ◌∙◌, arith, inl, inr, append-nil, if◌then◌else◌}
 use Rattle.std.proofs.lemmas.Bool.{cases_lt, lt-ltb, le-ltb, ltb-true}
 use Rattle.std.proofs.lemmas.List.{length-append, length-take, length-drop, take-append-le, take-append-drop, take_all}
 use Rattle.std.proofs.Math.Seq.{take-append-add}
@@ -11,7 +11,7 @@ use Rattle.run_theory.specs.Walk.{Step, Whole, IsMachine, NoneWhole}
 pub use Rattle.run_theory.specs.GrammarLaws.{AreFronts}
 use Rattle.run_theory.specs.Grammar.{Grammar, Behind, Inner, Final, ends_by, unit_at, is_settled_by, Waits}
 use Rattle.run_theory.specs.Fronts.{Front, Stands, Finishes, Rests, Refuses, size_to, front_behind, front_by, front_of, front_within, front_or_rest, Between, Command, step_by, machine_of}
-use Rattle.run_theory.proofs.GrammarLaws.{IsGrammar, unit-more, unit-shorter}
+use Rattle.run_theory.proofs.GrammarLaws.{IsGrammar, unit-more, unit-shorter, unit-refused, not_short}
 
 size-more : (bytes more : List ℕ) (behind : Cursor) → length behind.rest < 8 * length bytes → size_to (bytes ++ more) (with_more behind (bits_of more)) ≡ size_to bytes behind
 size-more bytes more behind h = omega (arith, h, length-append bytes more, length-append behind.rest (bits_of more), length-bits more)
@@ -166,6 +166,49 @@ none_stands limit past g laws z bytes f size unit k =
     let far = stands_settles (g.behind unit) u.behind.rest (bits_of (drop n bytes)) (ltb n (length bytes)) (λ e. omega (arith, ltb-true n (length bytes) e, length-bits (drop n bytes), length-drop n bytes)) u.stands in
     let clash : true ≡ false = sym (ap (is_settled_by g) all ∙ far) ∙ f.waits in
     cc
+
+-- ---- a refusal that isn't for a short field
+
+unit_unrefused : {R U : Type 0} (b : Behind) (empty : Bool) (size : ℕ) (unit : U) (fault : Fault R) → front_behind {R = R} b empty size unit ≡ Refuses fault → ⊥
+unit_unrefused Inner empty size unit fault k = cc
+unit_unrefused Final true size unit fault k = cc
+unit_unrefused Final false size unit fault k = cc
+
+refused_by : {Z R U : Type 0} (g : Grammar Z R U) (past : Fault R → Fault R) (cut : Bool) (bytes : List ℕ) (fault : Fault R) (r : Result (U × Cursor) (Fault R)) → front_by g past cut bytes r ≡ Refuses fault → (f : Fault R) × (r ≡ Err f) × ((if cut then past f else f) ≡ fault)
+refused_by g past cut bytes fault (Err f) k = (f, refl, cc)
+refused_by g past cut bytes fault (Ok x) k = absurd (unit_unrefused (g.behind x.0) (is_nil x.1.rest && not cut) (size_to bytes x.1) x.0 fault k)
+
+-- it stands whatever follows
+pub refusal_grows : {Z R U : Type 0} (g : Grammar Z R U) → IsGrammar g → (z : Z) (bytes more : List ℕ) (fault : Fault R) → g.is_short fault.reason ≡ false → front_of g z bytes ≡ Refuses fault → front_of g z (bytes ++ more) ≡ Refuses fault
+refusal_grows {R = R} g laws z bytes more fault long k =
+    let f = refused_by g (λ fault. fault) false bytes fault _ k in
+    ap (front_by g (λ fault. fault) false (bytes ++ more)) (unit-refused g laws z bytes more fault (not_short g laws fault.reason long) (f.1 ∙ ap (λ (f : Fault R). Err f) f.2))
+
+keeps_by : {R : Type 0} (past : Fault R → Fault R) (fault : Fault R) (cut : Bool) → past fault ≡ fault → (if cut then past fault else fault) ≡ fault
+keeps_by past fault true e = e
+keeps_by past fault false e = refl
+
+-- and so it does up to a limit
+pub refusal_grows_within : {Z R U : Type 0} (limit : ℕ) (past : Fault R → Fault R) (g : Grammar Z R U) → IsGrammar g → ((other : Fault R) → g.is_short other.reason ≡ false → past other ≡ other) → (z : Z) (bytes more : List ℕ) (fault : Fault R) → g.is_short fault.reason ≡ false → front_within limit past g z bytes ≡ Refuses fault → front_within limit past g z (bytes ++ more) ≡ Refuses fault
+refusal_grows_within {R = R} limit past g laws keeps z bytes more fault long k = elim (cases_lt (limit - g.place z) (length bytes)) [
+  | inl lt ↦ (
+      let n = limit - g.place z in
+      let t = take n bytes in
+      front_past limit past g z (bytes ++ more) (omega (arith, lt, length-append bytes more))
+      ∙ ap (λ l. front_by g past true l (unit_at g z l)) (take-append-le n bytes more (omega (arith, lt)))
+      ∙ sym (front_past limit past g z bytes lt) ∙ k
+      )
+  | inr le ↦ (
+      let n = limit - g.place z in
+      let t = take_grows n bytes more in
+      let cut = ltb n (length (bytes ++ more)) in
+      let f = refused_by g past false bytes fault _ (sym (front_near limit past g z bytes le) ∙ k) in
+      let there : unit_at g z (take n bytes) ≡ Err fault = ap (unit_at g z) (take_all n bytes le) ∙ f.1 ∙ ap (λ (f : Fault R). Err f) f.2 in
+      ap (λ l. front_by g past cut l (unit_at g z l)) t.1
+      ∙ ap (front_by g past cut (take n bytes ++ t.0)) (unit-refused g laws z (take n bytes) t.0 fault (not_short g laws fault.reason long) there)
+      ∙ ap (λ (f : Fault R). Refuses f) (keeps_by past fault cut (keeps fault long))
+      )
+]
 
 -- ---- where nothing is left
 

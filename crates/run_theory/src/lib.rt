@@ -12,8 +12,8 @@ mod laws;
 mod refusal;
 
 pub use laws::{
-    commands_are_machines, due_is_never_taken_back, each_input_is_one_run, settled_stays_settled,
-    units_stand_whatever_follows,
+    commands_are_machines, due_is_never_taken_back, each_input_is_one_run,
+    refusals_stand_whatever_follows, settled_stays_settled, units_stand_whatever_follows,
 };
 pub use refusal::Refusal;
 

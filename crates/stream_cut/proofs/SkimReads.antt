@@ -72,4 +72,4 @@ next_told old new rest0 rest1 (Ok (turns.Last item)) n =
       over = (n.none, n.over.0, n.over.1);
     }
 next_told old new rest0 rest1 (Ok turns.Rest) n = absurd (let clash : false ≡ true = n.rests.may in cc)
-next_told old new rest0 rest1 (Err stop) n = (n.0, record { past = n.1; header = n.2.header; kept = n.3; ended = n.4 })
+next_told old new rest0 rest1 (Err stop) n = (n.0, record { past = n.1; header = n.2.header; shape = n.2.shape; kept = n.3; ended = n.4 })

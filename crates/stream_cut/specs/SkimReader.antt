@@ -16,7 +16,7 @@ use Rattle.stream_rows.specs.Streams.{limit, past_limit}
 use Rattle.unit_reader.specs.Stops.{LimitStops}
 use Rattle.stream_cut.specs.Skim.{skim_grammar}
 use Rattle.stream_reader.specs.Reader.{header_behind}
-use Rattle.stream_cut.specs.SkimTable.{SkimTableSeen, kept_behind, shape_behind, item_of}
+use Rattle.stream_cut.specs.SkimTable.{SkimTableSeen, kept_behind, first_shape, shape_behind, item_of}
 use Rattle.stream_cut.specs.declared.table.SkimItem.{SkimItem}
 use Rattle.stream_cut.specs.declared.table.SkimItem.TheVariants as items
 
@@ -36,6 +36,7 @@ pub record IsNewSkimReader (r : SkimReaderSeen) : Type 0 where
   pub past : r.past ≡ nothing_yet
   pub header : r.header ≡ None
   pub unit : r.unit ≡ []
+  pub shape : r.shape ≡ first_shape
   pub held : r.held ≡ []
   pub going : (r.stop ≡ None) × (r.ended ≡ false)
 
@@ -68,6 +69,7 @@ pub record TakesSkimEnd (old new : SkimReaderSeen) (rest0 rest1 : Option (List �
 pub record KeepsSkimStop (old new : SkimReaderSeen) (stop : ReadStop) : Type 0 where
   pub past : new.past ≡ old.past
   pub header : new.header ≡ old.header
+  pub shape : new.shape ≡ old.shape
   pub kept : new.stop ≡ Some stop
   pub ended : new.ended ≡ false
 

@@ -39,6 +39,10 @@ kept_behind (Picture parts number p slices) bytes before = bytes
 kept_behind Skipped bytes before = before
 kept_behind End bytes before = before
 
+-- before the first picture: of no byte and no slice
+abbrev pub first_shape : UnitShape
+first_shape = record { start = 0; head = 0; slices = 0; a = 1; b = 1 }
+
 -- the shape of a picture's unit
 abbrev pub shape_behind : Past → DataUnit → List ℕ → UnitShape → UnitShape
 shape_behind z (Picture parts number p slices) bytes before = record {
@@ -86,6 +90,7 @@ pub record TellsSkimUnit (before behind : SkimTableSeen) (unit : DataUnit) (byte
   pub short : length bytes < 2 ^ 32
   pub holds : IsKnownUnit before.past unit bytes
 
--- where a unit stops, the header is as before; any bytes may be kept
+-- where a unit stops, the header and the shape are as before; any bytes may be kept
 pub record KeepsSkimHeader (before now : SkimTableSeen) : Type 0 where
   pub header : now.header ≡ before.header
+  pub shape : now.shape ≡ before.shape

@@ -14,7 +14,7 @@ ghost use Rattle.stream_rows.specs.declared.reason.Reason.TheVariants as reasons
 ghost use Rattle.stream_rows.proofs.Answering.{after-place};
 ghost use Rattle.stream_cut.specs.Skim.{skim_grammar, skim_rows};
 ghost use Rattle.stream_cut.specs.SkimGrammar.{skimmed_laws};
-ghost use Rattle.stream_cut.specs.SkimTable.{IsSkimFoundBy, TellsSkimUnit, KeepsSkimHeader};
+ghost use Rattle.stream_cut.specs.SkimTable.{first_shape, IsSkimFoundBy, TellsSkimUnit, KeepsSkimHeader};
 
 use crate::opening::{Opening, PictureOpening, read_opening};
 use sequence_header::SequenceHeader;
@@ -201,6 +201,7 @@ impl SkimTable {
         ensures past { result.past ≡ nothing_yet }
         ensures header { result.header ≡ None }
         ensures unit { result.unit ≡ [] }
+        ensures shape { result.shape ≡ first_shape }
     {
         SkimTable {
             alloc,
@@ -405,11 +406,11 @@ impl Table for SkimTable {
 
     ghost stopped = { λ before now held0 rest0 held stop. KeepsSkimHeader before now };
 
-    ghost stops_before = { λ table held0 rest0 held stop few. record { header = refl } };
+    ghost stops_before = { λ table held0 rest0 held stop few. record { header = refl; shape = refl } };
 
     ghost stops_otherwise = { λ before now held0 rest0 held refusal stop h. h };
 
-    ghost stops_behind = { λ before now found unit bytes held0 rest0 held stop is final few. record { header = is.header } };
+    ghost stops_behind = { λ before now found unit bytes held0 rest0 held stop is final few. record { header = is.header; shape = is.shape } };
 
     fn place(&self) -> u64 {
         self.earlier.place()

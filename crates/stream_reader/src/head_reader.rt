@@ -33,11 +33,13 @@ pub struct HeadReader {
 }
 
 impl Model for HeadReader {
-    ghost use Rattle.stream_reader.specs.HeadReader.{HeadReaderSeen, heads_seen};
+    ghost use Rattle.stream_reader.specs.HeadReader.{HeadReaderSeen, heads_seen, HoldsFewHeads};
 
     ghost Value = { HeadReaderSeen };
 
     ghost view = { λ a. heads_seen a.reader };
+
+    ghost invariant = { λ a. HoldsFewHeads a.reader };
 }
 
 impl HeadReader {
@@ -57,8 +59,10 @@ impl HeadReader {
         // The unit is taken, or refused as the table of heads refuses it, or the input is over, or something outside failed.
         ensures next { self.old.stop ≡ None → self.old.ended ≡ false
             → NextHeadOver self.old self.new (S.rest src.old) (S.rest src.new) result }
-        // Where the reader goes on, few bytes are held.
+        // Where the reader goes on, few bytes are held,
         ensures few { self.new.stop ≡ None → length self.new.held ≤ READ_SIZE }
+        // and behind a stop at most 8192.
+        ensures held { length self.new.held ≤ 8192 }
         // A failed read is answered where the count rose, and nothing else is.
         ensures cause { self.old.stop ≡ None
             → StopCause (S.faults src.old) (S.faults src.new) result }

@@ -6,7 +6,7 @@ ghost use Rattle.std.specs.Prelude.{◌≡◌, ◌+◌, ◌≤◌, length, OnOk,
 ghost use Rattle.unit_reader.specs.Stops.{StopCause, PartOver};
 ghost use Rattle.stream_rows.specs.declared.reason.Reason.TheVariants as reasons;
 ghost use Rattle.stream_reader.specs.HeadUnits.{leads_on, payload_length, head_only_head, heads};
-ghost use Rattle.stream_reader.specs.HeadLaws.{heads_laws};
+ghost use Rattle.stream_reader.specs.HeadLaws.{heads_laws, few_held};
 ghost use Rattle.stream_reader.specs.Heads.{HeadAt, head_only_judged};
 
 use crate::heads::refuse;
@@ -77,6 +77,7 @@ fn head<S: Source>(
     ensures place { OnOk result (place + HEAD_SIZE + length window.new.held + window.new.room
         ≡ INPUT_LIMIT) }
     ensures room { window.new.room ≤ window.old.room }
+    ensures held { length window.new.held ≤ 8192 }
     ensures cause { StopCause (S.faults src.old) (S.faults src.new) result }
 {
     loop {
@@ -139,13 +140,13 @@ impl Table for HeadTable {
 
     ghost tells = { λ before behind unit bytes item. item ≡ unit };
 
-    ghost stopped = { λ before now held0 rest0 held stop. Unit {0} };
+    ghost stopped = { λ before now held0 rest0 held stop. length held ≤ 8192 };
 
-    ghost stops_before = { λ table held0 rest0 held stop few. tt };
+    ghost stops_before = { λ table held0 rest0 held stop few. few_held held few };
 
-    ghost stops_otherwise = { λ before now held0 rest0 held refusal stop h. tt };
+    ghost stops_otherwise = { λ before now held0 rest0 held refusal stop h. h };
 
-    ghost stops_behind = { λ before now found unit bytes held0 rest0 held stop is final few. tt };
+    ghost stops_behind = { λ before now found unit bytes held0 rest0 held stop is final few. few_held held few };
 
     fn place(&self) -> u64 {
         self.place

@@ -103,7 +103,7 @@ fn finish(decoder: &mut PictureDecoder)
     let _ = decoder.finish();
 }
 
-/// KeepsDecoder the decoder that took a picture's slices, which first makes the picture where pictures are asked for.
+/// Keeps the decoder that took a picture's slices, which first makes the picture where pictures are asked for.
 pub(crate) fn keep(
     kept: &mut Option<PictureDecoder>,
     took: Option<PictureDecoder>,

@@ -131,7 +131,7 @@ module _ (rows : UnitRows) (table : IsTable rows) where
         taken = refl;
       }
 
-  -- UnitsBy rows that stand one after another: what follows them, and the answer by it.
+  -- Units that stand one after another: what follows them, and the answer by that.
   pub record Stood {W E : Type 0} (command : Command Past Reason DataUnit W E) (plain : IsPlain command) (z : Past) (own : W) (v : List ℕ) (es : List Entry) (z' : Past) (c' : Cursor) : Type 0 where
     pub tail : List ℕ
     pub at : c' ≡ bytes_at z'.place (near z' tail)

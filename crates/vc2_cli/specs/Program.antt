@@ -38,7 +38,7 @@ pub record ProgramRan (words : List (List ℕ)) (src out note : Change) (told : 
   -- Where a write of the note failed, all of the output was written, and a proper prefix of the note.
   pub note_fault : IfSome src.was (λ input. let reply = reply_to words input in told ≡ st.NoteFault
       → Appends out.was out.is reply.out × GrewShort note.was note.is reply.note)
-  -- A command over the units of a stream takes at most 4096 bytes behind a refusal, those that came with it in one read, and
+  -- A command over the units of a stream takes fewer than 4096 bytes behind a refusal, which came with it in one read, and
   -- `header` none: without its last 4096 bytes, or its last byte, what was taken is not refused as an input of its own,
   -- unless for a field that is short. Where a read failed, all that was taken is not.
   pub soon : IfSome src.was (λ input. IfUnits (words_ask words) (λ most. StopsSoon (reply_to words) most input src.is told))

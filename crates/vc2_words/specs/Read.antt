@@ -16,7 +16,7 @@ pub record IsTableRead (given : Table) : Type 0 where
   pub read : (key : Key) (ns : List ℕ) → value_of given key ≡ Some ns → IsValue key ns
   pub many : length given ≡ KEY_COUNT
 
--- the greatest number that a value of this key can hold: 32 bits, but for a schedule's delay, buffer and idle slots
+-- A bound of the numbers that a value of this key can hold: 32 bits, but for a schedule's delay, buffer and idle slots.
 abbrev pub bound_of : Key → ℕ
 bound_of of_key.Delay = 2 ^ 72
 bound_of of_key.Buffer = 2 ^ 40

@@ -233,7 +233,7 @@ pub record Asked : Type 0 where
   pub group : Option ℕ
   pub idle : ℕ
 
--- the rate that is given, in bytes a second
+-- the rate that is given: so many bytes in so many slots
 abbrev pub rate_given : Option (List ℕ) → Option Rate
 rate_given None = None
 rate_given (Some ns) = Some (record { num = slice_index ns 0; den = slice_index ns 1 })

@@ -57,3 +57,18 @@ returns-in-Err-read_on-clause-part g c = λ others held0 rest0 b.
     let front : c.front.result.now ≡ take (min (length held) 13) held = c.front.ensures.value ∙ ap (λ n. take n held) (c.min-count.ensures ∙ ap (λ n. min n 13) c.len.ensures) in
     let f = head_fault heads_table c.args.place held head_only_head others c.front.result.now c.in-Err.refusal head_only_steady front c.in-Err.ensures in
     c.in-Err-read_on.ensures.more c.args.place held0 rest0 c.args.place (head_only_head >>= others) f.0 (c.loop-info.invariant.begun others held0 rest0 b) f.2 (ap (λ (r : Refusal). is_truncated r.reason) (sym f.1) ∙ sym c.is_truncated.ensures ∙ c.if-not-is_truncated.false) f.1 c.loop-info.invariant.total
+
+pub returns-in-Ok-clause-held : goal.returns-in-Ok-clause-held
+returns-in-Ok-clause-held g c =
+    let held = c.loop-info.window.held in
+    omega (arith, c.loop-info.invariant.few, ap (λ (l : List ℕ). length l) c.advance.ensures.held, length-drop 13 held)
+
+pub returns-then-not-is_truncated-clause-held : goal.returns-then-not-is_truncated-clause-held
+returns-then-not-is_truncated-clause-held g c = omega (arith, c.loop-info.invariant.few)
+
+pub returns-in-Err-read_on-clause-held : goal.returns-in-Err-read_on-clause-held
+returns-in-Err-read_on-clause-held g c =
+    let held = c.loop-info.window.held in
+    let front : c.front.result.now ≡ take (min (length held) 13) held = c.front.ensures.value ∙ ap (λ n. take n held) (c.min-count.ensures ∙ ap (λ n. min n 13) c.len.ensures) in
+    let short = head_few c.args.place held head_only_head c.front.result.now c.in-Err.refusal front c.in-Err.ensures (sym c.is_truncated.ensures ∙ c.if-not-is_truncated.false) in
+    got_most 8192 c.read_on.ensures.got (omega (arith, c.loop-info.invariant.few)) (omega (arith, short))

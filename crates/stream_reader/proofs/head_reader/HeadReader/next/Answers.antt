@@ -2,7 +2,7 @@ use Rattle.std.proofs.Common.{◌≡◌, ◌∙◌, true, false, None, Ok, Err, 
 use Rattle.std.specs.Prelude.{IfSome}
 use Rattle.unit_reader.specs.Stops.{StopCause}
 use Rattle.stream_reader.specs.HeadReader.{HeadReaderSeen, NextHeadOver, heads_seen, answer_of}
-use Rattle.stream_reader.proofs.HeadReads.{next_told, cause_told, kept_told}
+use Rattle.stream_reader.proofs.HeadReads.{next_told, cause_told, kept_told, few_behind}
 use Rattle.stream_reader.proofs.head_reader.HeadReader.next.Goals as goal
 
 pub returns-clause-next : goal.returns-clause-next
@@ -35,3 +35,15 @@ returns-clause-ended g c =
     let faults = g.S.Source.faults in
     subst (λ (o : HeadReaderSeen). o.stop ≡ None → o.ended ≡ true → (c.answer_of.result ≡ Ok None) × (heads_seen c.next.new.self ≡ o) × (rest c.next.new.src ≡ rest c.args.src.now) × (faults c.next.new.src ≡ faults c.args.src.now)) c.self.view_is
     (λ stop ended. let h = c.next.ensures.ended stop ended in (c.answer_of.ensures ∙ ap answer_of h.0, ap heads_seen h.1, h.2, h.3))
+
+pub invariant_of-self : goal.invariant_of-self
+invariant_of-self g c =
+    let rest = g.S.Source.rest in
+    let faults = g.S.Source.faults in
+    few_behind c.self.inside.reader c.next.new.self (rest c.args.src.now) (rest c.next.new.src) (faults c.args.src.now) (faults c.next.new.src) c.next.result c.self.invariant c.next.ensures.next c.next.ensures.few c.next.ensures.kept c.next.ensures.ended
+
+pub returns-clause-held : goal.returns-clause-held
+returns-clause-held g c =
+    let rest = g.S.Source.rest in
+    let faults = g.S.Source.faults in
+    few_behind c.self.inside.reader c.next.new.self (rest c.args.src.now) (rest c.next.new.src) (faults c.args.src.now) (faults c.next.new.src) c.next.result c.self.invariant c.next.ensures.next c.next.ensures.few c.next.ensures.kept c.next.ensures.ended
