@@ -369,4 +369,4 @@ module _ (p : Part) (stream : ℕ → UnitShapesSeen) (idle : ℕ) (is : IsPart 
       omega (arith, (r n).slots g j (g * p.slices + j) refl low inside, (r n).slots 0 j j (omega arith) (omega arith) inside)
 
   pub are_known : AreKnown stream (rate_for p) idle p.slices p.slots
-  are_known = record { plans = record { plan = known-plan; delay = known-delay }; taken = known-slots }
+  are_known = record { in_turn = in_turn; plans = record { plan = known-plan; delay = known-delay }; taken = known-slots }

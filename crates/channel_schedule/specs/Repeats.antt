@@ -1,7 +1,7 @@
 -- Streams that repeat their units: what their schedules share, however long they are.
 use Rattle.std.specs.Prelude.{◌≡◌, ℕ, zero, suc, ◌+◌, ◌*◌, ◌<◌, ◌≤◌, List, [], ◌∷◌, ◌++◌}
 use Rattle.slice_geometry.specs.declared.unit_list.UnitShape.{UnitShape}
-use Rattle.slice_geometry.specs.UnitLengths.{IsUnitAllowed, UnitShapesSeen, shape_length}
+use Rattle.slice_geometry.specs.UnitLengths.{IsUnitAllowed, UnitShapesSeen, ShapesInTurn, shape_length}
 use Rattle.channel_schedule.specs.declared.schedule.Rate.{Rate}
 use Rattle.channel_schedule.specs.Slices.{slots_to}
 use Rattle.channel_schedule.specs.Plans.{plan_delay, plan_of}
@@ -52,8 +52,9 @@ abbrev pub SlotsAreKnown : (ℕ → UnitShapesSeen) → ℕ → ℕ → ℕ → 
 SlotsAreKnown stream idle slices slots = (n p j : ℕ) → p < n → j < slices
     → slots_to idle (stream n).units (p * slices + j) ≡ p * slots + slots_to idle (stream n).units j
 
--- of a family of streams both the plans and the slots are known
+-- Of a family of streams the units stand in turn, so that each has one plan, and both the plans and the slots are known.
 pub record AreKnown (stream : ℕ → UnitShapesSeen) (rate : Rate) (idle slices slots : ℕ) : Type 0 where
+  pub in_turn : (n : ℕ) → ShapesInTurn 0 (stream n).units (stream n).total
   pub plans : PlansAreKnown stream rate idle
   pub taken : SlotsAreKnown stream idle slices slots
 

@@ -14,9 +14,8 @@ use Rattle.raw_video.specs.RawText.{is_wide, text_of, raw_text}
 use Rattle.raw_video.specs.Waiting.{PassesOn}
 use Rattle.raw_video.proofs.Pieces.{text_joined, text_cut, raw_text_is}
 use Rattle.raw_video.proofs.Waits.{passes_nothing, passes_along, passes_then, short_then, short_more}
-use Rattle.field_weave.specs.declared.Order.TheVariants.{Top}
+use Rattle.field_weave.specs.declared.Order.TheVariants.{Top, Bottom}
 use Rattle.field_weave.specs.Weaving.{twice_high, woven_lines, woven_frame}
-use Rattle.field_weave.specs.Writing.{alternating_lines, alternating}
 use Rattle.field_weave.proofs.Tables.{row_inside, tabulated_long, tabulated_at}
 use Rattle.field_weave.proofs.WeaveLaws.{same_picture}
 
@@ -88,7 +87,7 @@ lower_row upper lower n x =
     rw odd (ap (λ (k : ℕ). sample_at lower k x) (omega arith))
 
 -- which field has the upper rows
-top_lines : (size : Size) (first second : SamplesSeen) → alternating_lines size first second ≡ woven_lines Top size first second
+top_lines : (size : Size) (first second : SamplesSeen) → woven_lines Bottom size second first ≡ woven_lines Top size first second
 top_lines size first second =
     tabulated_same (twice_high size) (λ y x. cond (eqb (y % 2) 0) (sample_at first (y / 2) x) (sample_at second (y / 2) x)) (λ y x. cond (eqb (y % 2) 1) (sample_at second (y / 2) x) (sample_at first (y / 2) x))
     (λ y x down across. by (y % 2) (sample_at first (y / 2) x) (sample_at second (y / 2) x) (omega arith))
@@ -98,7 +97,7 @@ top_lines size first second =
     by (suc zero) a b lt = refl
     by (suc (suc k)) a b lt = absurd (omega (arith, lt))
 
-pub top_is : (f : Frame) (first second : PictureSamples) → alternating f first second ≡ woven_frame Top f first second
+pub top_is : (f : Frame) (first second : PictureSamples) → woven_frame Bottom f second first ≡ woven_frame Top f first second
 top_is f first second =
     same_picture _ _ _ (woven_lines Top f.luma first.luma second.luma) (woven_lines Top f.colour first.c1 second.c1) (woven_lines Top f.colour first.c2 second.c2)
     (top_lines f.luma first.luma second.luma) (top_lines f.colour first.c1 second.c1) (top_lines f.colour first.c2 second.c2)

@@ -1,4 +1,3 @@
 pub mod Weaving
 pub mod WeaveRuns
 pub mod WeaveAnswers
-pub mod Writing

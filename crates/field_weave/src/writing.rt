@@ -7,8 +7,8 @@ ghost use Rattle.picture_codec.specs.Pictures as pictures;
 ghost use Rattle.picture_codec.specs.Samples.{component_shown};
 ghost use Rattle.raw_video.specs.RawText.{is_wide, raw_text, text_of};
 ghost use Rattle.raw_video.specs.Waiting.{PassesOn};
-ghost use Rattle.field_weave.specs.Weaving.{frame_of_two, woven_frame, split, split_lines};
-ghost use Rattle.field_weave.specs.Writing.{alternating_lines, alternating};
+ghost use Rattle.field_weave.specs.declared.Order.TheVariants.{Bottom};
+ghost use Rattle.field_weave.specs.Weaving.{frame_of_two, woven_frame, split, split_lines, woven_lines};
 
 use crate::Order;
 use crate::lines::{line_of, size_of};
@@ -17,7 +17,7 @@ use raw_video::RawWriter;
 use slice_geometry::{Component, PictureShape};
 use vc2_io::{Failed, Sink};
 
-// Writes a component of a frame: the rows of two fields in turn.
+// Writes a component of a frame: the rows of two fields in turn. The upper one is the second in the order Bottom.
 fn write_alternating<K: Sink>(
     upper: &Picture,
     lower: &Picture,
@@ -29,13 +29,13 @@ fn write_alternating<K: Sink>(
     ensures wide { OnOk result (writer.new.wide ≡ writer.old.wide) }
     ensures ok { OnOk result (PassesOn (K.written out.old)
         (K.written out.new) writer.old.waiting writer.new.waiting
-        (text_of writer.old.wide (alternating_lines (pictures.size_of (frame_of upper.now.shape) c)
-        (component_shown upper.now c) (component_shown lower.now c)).cells)) }
+        (text_of writer.old.wide (woven_lines Bottom (pictures.size_of (frame_of upper.now.shape) c)
+        (component_shown lower.now c) (component_shown upper.now c)).cells)) }
     ensures err { OnErr result (GrewShort (K.written out.old) (K.written out.new)
         (writer.old.waiting
-        ++ text_of writer.old.wide (alternating_lines
-        (pictures.size_of (frame_of upper.now.shape) c) (component_shown upper.now c)
-        (component_shown lower.now c)).cells)) }
+        ++ text_of writer.old.wide (woven_lines Bottom
+        (pictures.size_of (frame_of upper.now.shape) c) (component_shown lower.now c)
+        (component_shown upper.now c)).cells)) }
     ensures cause { HasCause (K.faults out.old) (K.faults out.new) result }
 {
     let size = size_of(upper.shape(), c);
@@ -103,15 +103,15 @@ pub(crate) fn write_frame<K: Sink>(
     }
 }
 
-// Writes the frame whose rows are those of two fields in turn.
+// Writes the frame whose rows are those of two fields in turn. The upper one is the second in the order Bottom.
 fn write_rows_of<K: Sink>(upper: &Picture, lower: &Picture, out: &mut K) -> Result<(), Failed>
     requires { lower.now.shape ≡ upper.now.shape }
     ensures ok { OnOk result (Appends (K.written out.old) (K.written out.new)
         (raw_text (frame_of_two (frame_of upper.now.shape))
-        (alternating (frame_of upper.now.shape) upper.now.samples lower.now.samples))) }
+        (woven_frame Bottom (frame_of upper.now.shape) lower.now.samples upper.now.samples))) }
     ensures err { OnErr result (GrewShort (K.written out.old) (K.written out.new)
         (raw_text (frame_of_two (frame_of upper.now.shape))
-        (alternating (frame_of upper.now.shape) upper.now.samples lower.now.samples))) }
+        (woven_frame Bottom (frame_of upper.now.shape) lower.now.samples upper.now.samples))) }
     ensures cause { HasCause (K.faults out.old) (K.faults out.new) result }
 {
     let mut writer = RawWriter::new(upper.shape());

@@ -7,8 +7,8 @@ use Rattle.picture_codec.specs.Samples.{component_shown}
 use Rattle.raw_video.specs.RawText.{text_of}
 use Rattle.raw_video.specs.Waiting.{PassesOn}
 use Rattle.raw_video.proofs.Pieces.{OnErr-always}
-use Rattle.field_weave.specs.Weaving.{twice_high}
-use Rattle.field_weave.specs.Writing.{alternating_lines}
+use Rattle.field_weave.specs.declared.Order.TheVariants.{Bottom}
+use Rattle.field_weave.specs.Weaving.{twice_high, woven_lines}
 use Rattle.field_weave.proofs.Tables.{row_inside}
 use Rattle.field_weave.proofs.LineTurns.{lent_at, lent_long}
 use Rattle.field_weave.proofs.WrittenLines.{no_rows, row_passes, row_short, rows_passed, turn_of, upper_row, lower_row, passes_by, short_by}
@@ -19,7 +19,7 @@ loop-y-init g c =
     let size = size_of (frame_of c.args.upper.now.shape) c.args.c in
     record {
       wide = refl;
-      passed = no_rows c.args.writer.now.wide size.w (2 * 0) (alternating_lines size (component_shown c.args.upper.now c.args.c) (component_shown c.args.lower.now c.args.c)).cells (g.K.Sink.written c.args.out.now) c.args.writer.now.waiting refl;
+      passed = no_rows c.args.writer.now.wide size.w (2 * 0) (woven_lines Bottom size (component_shown c.args.lower.now c.args.c) (component_shown c.args.upper.now c.args.c)).cells (g.K.Sink.written c.args.out.now) c.args.writer.now.waiting refl;
       steady = refl;
     }
 
@@ -149,7 +149,7 @@ loop-y-preserved g c =
     let next : 2 * y + 1 + 1 ≡ 2 * (y + 1) = omega arith in
     record {
       wide = c.in_ok-put-2.ensures.wide ∙ same;
-      passed = subst (λ (n : ℕ). PassesOn out0 out3 p t (text_of b (take (n * size.w) (alternating_lines size upper lower).cells))) next both;
+      passed = subst (λ (n : ℕ). PassesOn out0 out3 p t (text_of b (take (n * size.w) (woven_lines Bottom size lower upper).cells))) next both;
       steady = c.in_ok-put-2.ensures.cause ∙ c.in_ok-put.ensures.cause ∙ i.steady;
     }
 

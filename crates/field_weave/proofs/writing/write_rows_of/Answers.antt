@@ -6,8 +6,8 @@ use Rattle.raw_video.specs.RawText.{is_wide, raw_text}
 use Rattle.raw_video.specs.Waiting.{RawWriterSeen}
 use Rattle.raw_video.proofs.Pieces.{OnErr-always}
 use Rattle.raw_video.proofs.Waits.{passes_all, short_at_last}
-use Rattle.field_weave.specs.Weaving.{frame_of_two}
-use Rattle.field_weave.specs.Writing.{alternating}
+use Rattle.field_weave.specs.declared.Order.TheVariants.{Bottom}
+use Rattle.field_weave.specs.Weaving.{frame_of_two, woven_frame}
 use Rattle.field_weave.proofs.WrittenLines.{passes_by, short_by, passes_from, short_from, luma_short, c1_short, c2_short, c2_passes}
 use Rattle.field_weave.proofs.writing.write_rows_of.Goals as goal
 
@@ -15,7 +15,7 @@ pub returns-in_err-write_alternating-clause-err : goal.returns-in_err-write_alte
 returns-in_err-write_alternating-clause-err g c =
     let written = g.K.Sink.written in
     let f = frame_of_two (frame_of c.args.upper.now.shape) in
-    let s = alternating (frame_of c.args.upper.now.shape) c.args.upper.now.samples c.args.lower.now.samples in
+    let s = woven_frame Bottom (frame_of c.args.upper.now.shape) c.args.lower.now.samples c.args.upper.now.samples in
     let out0 = written c.args.out.now in
     let b = c.new-writer.result.wide in
     let p = c.new-writer.result.waiting in
@@ -28,7 +28,7 @@ pub returns-in_err-write_alternating-2-clause-err : goal.returns-in_err-write_al
 returns-in_err-write_alternating-2-clause-err g c =
     let written = g.K.Sink.written in
     let f = frame_of_two (frame_of c.args.upper.now.shape) in
-    let s = alternating (frame_of c.args.upper.now.shape) c.args.upper.now.samples c.args.lower.now.samples in
+    let s = woven_frame Bottom (frame_of c.args.upper.now.shape) c.args.lower.now.samples c.args.upper.now.samples in
     let out0 = written c.args.out.now in
     let b = c.new-writer.result.wide in
     let p = c.new-writer.result.waiting in
@@ -47,7 +47,7 @@ pub returns-in_err-write_alternating-3-clause-err : goal.returns-in_err-write_al
 returns-in_err-write_alternating-3-clause-err g c =
     let written = g.K.Sink.written in
     let f = frame_of_two (frame_of c.args.upper.now.shape) in
-    let s = alternating (frame_of c.args.upper.now.shape) c.args.upper.now.samples c.args.lower.now.samples in
+    let s = woven_frame Bottom (frame_of c.args.upper.now.shape) c.args.lower.now.samples c.args.upper.now.samples in
     let out0 = written c.args.out.now in
     let b = c.new-writer.result.wide in
     let p = c.new-writer.result.waiting in
@@ -71,7 +71,7 @@ pub returns-clause-ok : goal.returns-clause-ok
 returns-clause-ok g c =
     let written = g.K.Sink.written in
     let f = frame_of_two (frame_of c.args.upper.now.shape) in
-    let s = alternating (frame_of c.args.upper.now.shape) c.args.upper.now.samples c.args.lower.now.samples in
+    let s = woven_frame Bottom (frame_of c.args.upper.now.shape) c.args.lower.now.samples c.args.upper.now.samples in
     let out0 = written c.args.out.now in
     let b = c.new-writer.result.wide in
     let p = c.new-writer.result.waiting in
@@ -97,7 +97,7 @@ pub returns-clause-err : goal.returns-clause-err
 returns-clause-err g c =
     let written = g.K.Sink.written in
     let f = frame_of_two (frame_of c.args.upper.now.shape) in
-    let s = alternating (frame_of c.args.upper.now.shape) c.args.upper.now.samples c.args.lower.now.samples in
+    let s = woven_frame Bottom (frame_of c.args.upper.now.shape) c.args.lower.now.samples c.args.upper.now.samples in
     let out0 = written c.args.out.now in
     let b = c.new-writer.result.wide in
     let p = c.new-writer.result.waiting in
