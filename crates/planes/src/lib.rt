@@ -15,7 +15,6 @@ mod narrow_bands;
 mod number;
 mod number_list;
 mod row_store;
-mod short_copies;
 
 pub use band_set::Bands;
 pub use late::{LateBands, LatePlane};

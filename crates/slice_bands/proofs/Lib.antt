@@ -3,5 +3,5 @@ pub mod Stacked
 pub mod Dealt
 pub mod Every
 pub mod Past
-pub mod Widened
+pub mod Strips
 pub mod Lowest

@@ -3,7 +3,8 @@ use Rattle.std.specs.Prelude.{◌≡◌, ℕ, ◌+◌, ◌*◌, ◌^◌, ◌<◌
 use Rattle.std.specs.List.{range_with_len}
 use Rattle.planes.specs.Bounded.{IsWithin}
 use Rattle.planes.specs.Raster.{Raster, height, row_of, at}
-use Rattle.planes.specs.Subbands.{BandStack, BandExists, band_of}
+use Rattle.planes.specs.Subbands.{BandsOf, BandStack, BandExists, band_of}
+use Rattle.planes.specs.Valued.{grid_of}
 use Rattle.slice_bands.specs.Slices.{Slices}
 use Rattle.slice_bands.specs.Places.{part_h}
 use Rattle.slice_bands.specs.Stack.{stack_of}
@@ -24,14 +25,14 @@ pub record ShowTheSame (a b : BandStack) : Type 0 where
   pub places : (level orient y x : ℕ) → BandExists a.depth level orient → at (band_of b level orient) y x ≡ at (band_of a level orient) y x
 
 -- the first n rows of a plane are those of another of its size, and no magnitude in them passes 2 ^ 18
-pub record HaveRows (p q : Raster ℤ) (n : ℕ) : Type 0 where
+pub record HaveRows {X : Type 0} (value : X → ℤ) (none : X) (p : Raster ℤ) (q : Raster X) (n : ℕ) : Type 0 where
   pub same_width : q.w ≡ p.w
   pub same_height : height q ≡ height p
   pub long : (y : ℕ) → y < n → length (row_of q y) ≡ q.w
-  pub same : (y x : ℕ) → y < n → x < q.w → at q y x ≡ at p y x
-  pub within : (y x : ℕ) → y < n → x < q.w → IsWithin (pos (2 ^ 18)) (at q y x)
+  pub same : (y x : ℕ) → y < n → x < q.w → grid_of value none q y x ≡ at p y x
+  pub within : (y x : ℕ) → y < n → x < q.w → IsWithin (pos (2 ^ 18)) (grid_of value none q y x)
 
 -- in each band these are the rows of the first n strips of slices
-abbrev pub HaveStrips : Slices ℤ → BandStack → ℕ → Type 0
-HaveStrips s b n = (level orient : ℕ) → BandExists s.depth level orient
-    → HaveRows (band_of (shorts_of s) level orient) (band_of b level orient) (n * part_h s level)
+abbrev pub HaveStrips : {X : Type 0} → (X → ℤ) → X → Slices ℤ → BandsOf X → ℕ → Type 0
+HaveStrips value none s b n = (level orient : ℕ) → BandExists s.depth level orient
+    → HaveRows value none (band_of (shorts_of s) level orient) (band_of b level orient) (n * part_h s level)

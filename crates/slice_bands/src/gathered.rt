@@ -1,9 +1,10 @@
-//! Slices of 16 bits gathered into rows of 16 bits.
+//! Slices of 16 bits gathered into rows, of 16 bits or of 32.
 
 ghost use Rattle.std.specs.Prelude.{◌≡◌, ◌↔◌, ℕ, ◌+◌, ◌*◌, ◌^◌, ◌<◌, ◌≤◌, length, slice_index_or, pos, true, false};
 ghost use Rattle.planes.specs.Bounded.{IsWithin, IsPlaneWithin};
 ghost use Rattle.planes.specs.Raster.{height};
 ghost use Rattle.planes.specs.Subbands.{BandExists, band_of, AgreeInSizes};
+ghost use Rattle.planes.specs.Valued.{valued};
 ghost use Rattle.slice_bands.specs.declared.short.TheConstants.{MAX_SHORT};
 ghost use Rattle.slice_bands.specs.Places.{part_h};
 ghost use Rattle.slice_bands.specs.Short.{shorts_of, ShowTheSame, HaveRows, HaveStrips};
@@ -11,19 +12,41 @@ ghost use Rattle.slice_bands.specs.ShortBands.{short_stack, IsShortSound};
 
 use crate::short::band_at;
 use crate::{MAX_SHORT, ShortBands, SliceBands};
-use planes::{Bands, NarrowPlane, Plane};
+use planes::{Bands, NarrowPlane, Number, Plane};
 
-// Gives a row the numbers of another.
+/// Numbers of rows that slices of 16 bits are gathered into.
+pub trait Gathered: Number {
+    /// The number that is a number of 16 bits.
+    fn of(short: i16) -> Self
+        ensures value { Self.value result ≡ short }
+        ensures within { IsWithin (pos (2 ^ 18)) (Self.value result) };
+}
+
+impl Gathered for i16 {
+    #[inline(always)]
+    fn of(short: i16) -> i16 {
+        short
+    }
+}
+
+impl Gathered for i32 {
+    #[inline(always)]
+    fn of(short: i16) -> i32 {
+        i32::from(short)
+    }
+}
+
+// Gives a row the numbers of a row of 16 bits.
 #[inline(always)]
-fn take_row(to: &mut [i16], row: &[i16])
+fn take_row<T: Gathered>(to: &mut [T], row: &[i16])
     requires { length row.now ≡ length to.old }
     ensures value { (x : ℕ) → x < length to.old
-        → slice_index_or to.new x (pos 0) ≡ slice_index_or row.now x (pos 0) }
+        → valued T.value T.none to.new x ≡ slice_index_or row.now x (pos 0) }
     ensures within { (x : ℕ) → x < length to.old
-        → IsWithin (pos (2 ^ 18)) (slice_index_or to.new x (pos 0)) }
+        → IsWithin (pos (2 ^ 18)) (valued T.value T.none to.new x) }
 {
     for x in 0..to.len() {
-        to[x] = row[x];
+        to[x] = T::of(row[x]);
     }
 }
 
@@ -86,13 +109,20 @@ fn narrow_plane(to: &mut Plane<i16>, from: &NarrowPlane)
 
 impl SliceBands<i16> {
     // Gives a plane the rows that a strip of slices has in a band, by a row.
-    fn gather_rows(&self, level: u32, orient: u32, sy: u32, plane: &mut Plane<i16>, row: &mut [i16])
+    fn gather_rows<T: Gathered>(
+        &self,
+        level: u32,
+        orient: u32,
+        sy: u32,
+        plane: &mut Plane<T>,
+        row: &mut [i16],
+    )
         requires exists { BandExists self.now.depth level orient }
         requires strip { sy < self.now.down }
         requires room { length row.old ≡ plane.old.w }
-        requires before { HaveRows (band_of (shorts_of self.now) level orient) plane.old
-            (sy * part_h self.now level) }
-        ensures { HaveRows (band_of (shorts_of self.now) level orient) plane.new
+        requires before { HaveRows T.value T.none (band_of (shorts_of self.now) level orient)
+            plane.old (sy * part_h self.now level) }
+        ensures { HaveRows T.value T.none (band_of (shorts_of self.now) level orient) plane.new
             ((sy + 1) * part_h self.now level) }
     {
         self.shows();
@@ -104,13 +134,13 @@ impl SliceBands<i16> {
     }
 
     // The same in all bands.
-    fn gather_strip(&self, sy: u32, bands: &mut Bands<i16>, row: &mut [i16])
+    fn gather_strip<T: Gathered>(&self, sy: u32, bands: &mut Bands<T>, row: &mut [i16])
         requires strip { sy < self.now.down }
         requires depth { bands.old.depth ≡ self.now.depth }
         requires room { self.now.across * self.now.sw ≤ length row.old }
-        requires before { HaveStrips self.now bands.old sy }
+        requires before { HaveStrips T.value T.none self.now bands.old sy }
         ensures depth { bands.new.depth ≡ self.now.depth }
-        ensures strips { HaveStrips self.now bands.new (sy + 1) }
+        ensures strips { HaveStrips T.value T.none self.now bands.new (sy + 1) }
     {
         for k in 0..3 * self.depth + 1 {
             let (level, orient) = band_at(k);
@@ -126,10 +156,12 @@ impl SliceBands<i16> {
     }
 
     // Gives bands of rows the numbers of these, by a row.
-    fn gather(&self, bands: &mut Bands<i16>, row: &mut [i16])
-        requires sizes { AgreeInSizes (shorts_of self.now) bands.old }
+    pub(crate) fn gather<T: Gathered>(&self, bands: &mut Bands<T>, row: &mut [i16])
+        requires depth { bands.old.depth ≡ self.now.depth }
+        requires sizes { HaveStrips T.value T.none self.now bands.old 0 }
         requires room { self.now.across * self.now.sw ≤ length row.old }
-        ensures same { ShowTheSame (shorts_of self.now) bands.new }
+        ensures depth { bands.new.depth ≡ self.now.depth }
+        ensures strips { HaveStrips T.value T.none self.now bands.new self.now.down }
     {
         // Strip by strip, so that each line of memory is read once.
         for sy in 0..self.down {

@@ -6,11 +6,11 @@ use Rattle.slice_bands.specs.Places.{part_w, part_h}
 use Rattle.slice_bands.specs.Short.{shorts_of, HaveRows}
 use Rattle.slice_bands.proofs.Parts.{part_most}
 use Rattle.slice_bands.proofs.Past.{width_shown, height_shown}
-use Rattle.slice_bands.proofs.Widened.{rows_more}
+use Rattle.slice_bands.proofs.Strips.{rows_more}
 use Rattle.slice_bands.proofs.gathered.SliceBands+i16.gather_rows.Goals as goal
 
 pub overflow_cast-h : goal.overflow_cast-h
-overflow_cast-h c =
+overflow_cast-h g c =
     let s = c.args.self.now in
     let sound = c.shows.ensures.sound in
     let most : part_h s c.args.level ≤ s.sh = part_most s.depth c.args.level s.sh in
@@ -19,11 +19,11 @@ overflow_cast-h c =
     omega (arith, few)
 
 pub copy_row-requires-clause-room : goal.copy_row-requires-clause-room
-copy_row-requires-clause-room c =
+copy_row-requires-clause-room g c =
     c.loop-y.auto.row ∙ c.requires.room ∙ c.requires.before.same_width ∙ width_shown (λ z. z) (pos 0) c.args.self.now c.args.level c.args.orient c.requires.exists
 
 pub row_mut-requires : goal.row_mut-requires
-row_mut-requires c =
+row_mut-requires g c =
     let s = c.args.self.now in
     let h : ℕ = part_h s c.args.level in
     let strips : (c.args.sy + 1) * h ≤ s.down * h = mul-le (c.args.sy + 1) h s.down h (omega (arith, c.requires.strip)) (omega arith) in
@@ -32,7 +32,7 @@ row_mut-requires c =
     omega (arith, c.loop-y-test.true, c.loop-y.auto.y-end, strips, tall, end)
 
 pub loop-y-preserved : goal.loop-y-preserved
-loop-y-preserved c =
+loop-y-preserved g c =
     let s = c.args.self.now in
     let h : ℕ = part_h s c.args.level in
     let q = c.loop-y.plane in
@@ -41,14 +41,14 @@ loop-y-preserved c =
     let end : (c.args.sy + 1) * c.part_h-h.result ≡ (c.args.sy + 1) * h = ap (λ (n : ℕ). (c.args.sy + 1) * n) c.part_h-h.ensures in
     let inside : c.loop-y.y < height q = omega (arith, c.loop-y-test.true, c.loop-y.auto.y-end, strips, tall, end) in
     let wide : q.w ≡ s.across * part_w s c.args.level = c.loop-y.invariant.same_width ∙ width_shown (λ z. z) (pos 0) s c.args.level c.args.orient c.requires.exists in
-    rows_more (band_of (shorts_of s) c.args.level c.args.orient) q c.loop-y.y c.take_row.new.to c.loop-y.invariant inside
+    rows_more g.T.Number.value g.T.Number.none (band_of (shorts_of s) c.args.level c.args.orient) q c.loop-y.y c.take_row.new.to c.loop-y.invariant inside
     (c.take_row.auto.to ∙ c.row_mut.ensures.len) (sym (ap length c.row_mut.ensures.value) ∙ c.row_mut.ensures.len)
     (λ x lx. c.take_row.ensures.value x (omega (arith, lx, c.row_mut.ensures.len)) ∙ c.copy_row.ensures.shown x (omega (arith, lx, wide)))
     (λ x lx. c.take_row.ensures.within x (omega (arith, lx, c.row_mut.ensures.len)))
 
 pub returns : goal.returns
-returns c =
+returns g c =
     let s = c.args.self.now in
     let e : c.loop-y.y ≡ (c.args.sy + 1) * c.part_h-h.result = omega (arith, c.loop-y-test.false, c.loop-y.auto.y-end, c.loop-y.auto.y) in
-    subst (λ (n : ℕ). HaveRows (band_of (shorts_of s) c.args.level c.args.orient) c.loop-y.plane n)
+    subst (λ (n : ℕ). HaveRows g.T.Number.value g.T.Number.none (band_of (shorts_of s) c.args.level c.args.orient) c.loop-y.plane n)
     (e ∙ ap (λ (n : ℕ). (c.args.sy + 1) * n) c.part_h-h.ensures) c.loop-y.invariant

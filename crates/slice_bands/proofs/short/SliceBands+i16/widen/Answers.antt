@@ -1,26 +1,15 @@
-use Rattle.std.proofs.Common.{◌≡◌, ap, sym, arith}
-use Rattle.slice_bands.specs.Short.{shorts_of}
-use Rattle.planes.specs.Subbands.{band_of}
-use Rattle.slice_bands.proofs.Widened.{no_rows_yet, all_same, all_within}
+use Rattle.std.proofs.Common.{sym}
+use Rattle.slice_bands.proofs.Strips.{no_strips_yet, all_same, all_within}
 use Rattle.slice_bands.proofs.short.SliceBands+i16.widen.Goals as goal
 
-pub loop-sy-init : goal.loop-sy-init
-loop-sy-init c =
-    let s = c.args.self.now in
-    record {
-      depth = sym c.requires.sizes.same_depth;
-      strips = λ level orient e.
-          no_rows_yet (band_of (shorts_of s) level orient) (band_of c.args.bands.now level orient) _ (omega arith) (c.requires.sizes.widths level orient e) (c.requires.sizes.heights level orient e);
-    }
+pub gather-requires-clause-depth : goal.gather-requires-clause-depth
+gather-requires-clause-depth c = sym c.requires.sizes.same_depth
+
+pub gather-requires-clause-sizes : goal.gather-requires-clause-sizes
+gather-requires-clause-sizes c = no_strips_yet c.args.self.now c.args.bands.now c.requires.sizes
 
 pub returns-clause-same : goal.returns-clause-same
-returns-clause-same c =
-    let s = c.args.self.now in
-    let all : c.loop-sy.sy ≡ s.down = omega (arith, c.loop-sy-test.false, c.loop-sy.auto.sy-end, ap (λ s. s.down) c.self.view_is) in
-    all_same s c.loop-sy.bands c.loop-sy.invariant.depth c.loop-sy.sy all c.loop-sy.invariant.strips
+returns-clause-same c = all_same c.args.self.now c.gather.new.bands c.gather.ensures.depth c.gather.ensures.strips
 
 pub returns-clause-within : goal.returns-clause-within
-returns-clause-within c =
-    let s = c.args.self.now in
-    let all : c.loop-sy.sy ≡ s.down = omega (arith, c.loop-sy-test.false, c.loop-sy.auto.sy-end, ap (λ s. s.down) c.self.view_is) in
-    all_within s c.loop-sy.bands c.loop-sy.invariant.depth c.loop-sy.sy all c.loop-sy.invariant.strips
+returns-clause-within c = all_within c.args.self.now c.gather.new.bands c.gather.ensures.depth c.gather.ensures.strips

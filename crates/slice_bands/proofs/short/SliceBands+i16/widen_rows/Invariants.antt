@@ -1,6 +1,0 @@
-use Rattle.planes.specs.Subbands.{band_of}
-use Rattle.slice_bands.specs.Short.{shorts_of, HaveRows}
-use Rattle.slice_bands.proofs.short.SliceBands+i16.widen_rows.Given as goal
-
-abbrev pub invariant-loop-y : goal.invariant-loop-y
-invariant-loop-y l = HaveRows (band_of (shorts_of l.self) l.level l.orient) l.plane l.y
