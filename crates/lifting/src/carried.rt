@@ -7,7 +7,7 @@ ghost use Rattle.planes.specs.Raster.{height, at};
 ghost use Rattle.lifting.specs.Places.{place};
 ghost use Rattle.lifting.specs.Ranges.{LineWithin, GridWithin};
 ghost use Rattle.lifting.specs.Turns.{HasBands};
-ghost use Rattle.lifting.specs.Carried.{even_carried, line_carried, level_entered, IsShortLevel, IsShortAt};
+ghost use Rattle.lifting.specs.Carried.{level_entered, IsShortLevel, IsShortAt};
 ghost use Rattle.lifting.specs.LevelRoom.{HaveLevelRoom, HoldsLevels};
 
 use crate::Wavelet;
@@ -18,29 +18,14 @@ use planes::{Bands, Plane};
 // The greatest magnitude that a step takes in 16 bits.
 const MOST: u32 = (1 << 14) - 2;
 
-fn even_of(even: u32, odd: u32) -> u32
-    requires even { even < 2 ^ 20 }
-    requires odd { odd < 2 ^ 20 }
-    ensures { result ≡ even_carried even odd }
-{
-    even + (odd + 1) / 2
-}
-
-fn line_of(even: u32, odd: u32) -> u32
-    requires even { even < 2 ^ 18 }
-    requires odd { odd < 2 ^ 18 }
-    ensures { result ≡ line_carried even odd }
-{
-    odd + even_of(even, odd)
-}
-
 // The greatest number that enters a step of a level.
 fn entered_of(low: u32, high: u32) -> u32
     requires low { low < 2 ^ 16 }
     requires high { high < 2 ^ 16 }
     ensures { result ≡ level_entered low high }
 {
-    even_of(line_of(low, high), line_of(high, high))
+    let half = (high + 1) / 2;
+    low + high + half + (2 * high + half + 1) / 2
 }
 
 // The greatest magnitude of the first w places of a row. Of -32768 it is 32768.

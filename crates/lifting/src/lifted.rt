@@ -1,4 +1,4 @@
-//! Lifting of rows at each width: by lanes at 32 and 64 bits, by a plain loop at 16.
+//! Lifting of rows and copies of rows, at each width.
 
 ghost use Rattle.std.specs.Prelude.{◌≡◌, ℕ, ◌^◌, ◌<◌, ◌≤◌, length};
 ghost use Rattle.std.proofs.Common.{lit≤};
@@ -8,48 +8,13 @@ ghost use Rattle.lifting.specs.Ranges.{SameInside};
 ghost use Rattle.lifting.specs.Steps.{step};
 ghost use Rattle.lifting.specs.Turns.{SameSize};
 
-use crate::kernels::{lift_between, stepped};
+use crate::kernels::stepped;
 use crate::{PairStep, Wavelet};
 use planes::{Number, Plane};
 
-/// Numbers whose rows are lifted.
-pub trait Lifted: Number {
-    /// A wavelet's step on each place of `dst`, whose neighbours are those of `a` before it and `b` behind it.
-    fn lift(dst: &mut [Self], a: &[Self], b: &[Self], wavelet: Wavelet, kind: PairStep)
-        requires a_len { length a.now ≡ length dst.old }
-        requires b_len { length b.now ≡ length dst.old }
-        requires dst_small { EachValued Self.value Self.none Self.reach dst.old }
-        requires a_small { EachValued Self.value Self.none Self.reach a.now }
-        requires b_small { EachValued Self.value Self.none Self.reach b.now }
-        ensures { let at = valued Self.value Self.none in
-            (i : ℕ) → i < length dst.old
-            → at dst.new i ≡ step wavelet kind (at dst.old i) (at a.now i) (at b.now i) };
-}
-
 /// Numbers with room for a level of analysis, which takes those within 2^25.
-pub trait Analysed: Lifted {
+pub trait Analysed: Number {
     ghost back_law: { 2 ^ 29 ≤ Self.Number.reach };
-}
-
-impl Lifted for i16 {
-    #[inline(always)]
-    fn lift(dst: &mut [i16], a: &[i16], b: &[i16], wavelet: Wavelet, kind: PairStep) {
-        lift_places(dst, a, b, wavelet, kind);
-    }
-}
-
-impl Lifted for i32 {
-    #[inline(always)]
-    fn lift(dst: &mut [i32], a: &[i32], b: &[i32], wavelet: Wavelet, kind: PairStep) {
-        lift_between(wavelet, kind, dst, a, b);
-    }
-}
-
-impl Lifted for i64 {
-    #[inline(always)]
-    fn lift(dst: &mut [i64], a: &[i64], b: &[i64], wavelet: Wavelet, kind: PairStep) {
-        lift_between(wavelet, kind, dst, a, b);
-    }
 }
 
 impl Analysed for i32 {
@@ -60,9 +25,15 @@ impl Analysed for i64 {
     ghost back_law = { lit≤ tt };
 }
 
-// The step place by place.
+/// A wavelet's step on each place of `dst`, whose neighbours are those of `a` before it and `b` behind it.
 #[inline(always)]
-fn lift_each<T: Number>(dst: &mut [T], a: &[T], b: &[T], wavelet: Wavelet, kind: PairStep)
+pub(crate) fn lift_each<T: Number>(
+    dst: &mut [T],
+    a: &[T],
+    b: &[T],
+    wavelet: Wavelet,
+    kind: PairStep,
+)
     requires a_len { length a.now ≡ length dst.old }
     requires b_len { length b.now ≡ length dst.old }
     requires dst_small { EachValued T.value T.none T.reach dst.old }
@@ -77,9 +48,15 @@ fn lift_each<T: Number>(dst: &mut [T], a: &[T], b: &[T], wavelet: Wavelet, kind:
     }
 }
 
-// The same, with a loop for each wavelet by itself, so that no turn of it asks which wavelet it is.
+/// The same, with a loop for each wavelet by itself, so that no turn of it asks which wavelet it is.
 #[inline(always)]
-fn lift_places<T: Number>(dst: &mut [T], a: &[T], b: &[T], wavelet: Wavelet, kind: PairStep)
+pub(crate) fn lift_between<T: Number>(
+    dst: &mut [T],
+    a: &[T],
+    b: &[T],
+    wavelet: Wavelet,
+    kind: PairStep,
+)
     requires a_len { length a.now ≡ length dst.old }
     requires b_len { length b.now ≡ length dst.old }
     requires dst_small { EachValued T.value T.none T.reach dst.old }

@@ -14,7 +14,7 @@ ghost use Rattle.lifting.specs.Ranges.{LineWithin, GridWithin, SameInside};
 ghost use Rattle.lifting.specs.Bands.{SameSizes, HoldLevel, OtherLevelsStay};
 ghost use Rattle.lifting.specs.Turns.{SameSize, IsRowPut};
 
-use crate::columns::{lift_row_between, row_after, row_before};
+use crate::columns::{lift_row_between, place_after, place_before};
 use crate::halves_back::analyse_sides;
 use crate::lifted::Analysed;
 use crate::{PairStep, Wavelet};
@@ -110,9 +110,9 @@ fn finish_two<T: Analysed>(scratch: &mut Plane<T>, y: u32, w: u32, h: u32, wavel
         → grid scratch.new k x ≡ grid scratch.old k x }
 {
     let (even, odd) = (2 * y % 4, (2 * y + 1) % 4);
-    let below = row_after(2 * h, 2 * y + 1) % 4;
+    let below = place_after(2 * h, 2 * y + 1) % 4;
     lift_row_between(scratch, odd, even, below, 2 * w, wavelet, PairStep::OddDown);
-    let above = row_before(2 * y) % 4;
+    let above = place_before(2 * y) % 4;
     lift_row_between(scratch, even, above, odd, 2 * w, wavelet, PairStep::EvenUp);
 }
 

@@ -1,6 +1,6 @@
 //! The samples of a row: lifted, shifted, clipped, offset, and woven of its halves.
 
-ghost use Rattle.std.specs.Prelude.{◌≡◌, ℕ, ◌+◌, ◌-◌, ◌*◌, ◌/◌, ◌^◌, ◌<◌, ◌≤◌, length, slice_index_or, pos, neg_ℤ, ◌+ℤ◌, ◌-ℤ◌, ◌≤ℤ◌};
+ghost use Rattle.std.specs.Prelude.{◌≡◌, ℕ, ◌+◌, ◌-◌, ◌*◌, ◌/◌, ◌^◌, ◌<◌, ◌≤◌, length, slice_index_or, pos, neg_ℤ, ◌-ℤ◌, ◌≤ℤ◌};
 ghost use Rattle.std.specs.Int.{int_min, int_max};
 ghost use Rattle.std.proofs.Common.{lit≤};
 ghost use Rattle.planes.specs.Numbers.{Within};
@@ -14,12 +14,12 @@ ghost use Rattle.lifting.specs.Clipping.{sample_of, clipped_up};
 ghost use Rattle.lifting.specs.LowerSamples.{rounded};
 
 use crate::halves::lift_even_half;
-use crate::kernels::{half_of, shifts, stepped};
-use crate::lifted::Lifted;
+use crate::kernels::{shifted, stepped};
 use crate::{PairStep, Wavelet};
+use planes::Number;
 
 /// Numbers that become samples.
-pub trait Sampled: Lifted {
+pub trait Sampled: Number {
     // The most bits of a sample.
     ghost depths: { ℕ };
 
@@ -136,15 +136,6 @@ impl Sampled for i64 {
     fn rounded(v: i64, half: i64, shift: u32) -> i64 {
         (v + half) >> shift
     }
-}
-
-// A level's last step on a number.
-#[inline(always)]
-fn shifted<T: Sampled>(v: T, wavelet: Wavelet) -> T
-    requires { Within (T.reach + T.reach) (T.value v) }
-    ensures { T.value result ≡ halved wavelet (T.value v) }
-{
-    if shifts(wavelet) { half_of(v) } else { v }
 }
 
 // The sample of a lifted number.

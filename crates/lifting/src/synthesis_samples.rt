@@ -1,12 +1,11 @@
 //! Synthesis of all levels, the last one straight into samples.
 
-ghost use Rattle.std.specs.Prelude.{◌≡◌, ◌≢◌, ℕ, ◌+◌, ◌-◌, ◌*◌, ◌/◌, ◌%◌, ◌^◌, ◌<◌, ◌≤◌, length, slice_index_or};
+ghost use Rattle.std.specs.Prelude.{◌≡◌, ℕ, ◌+◌, ◌-◌, ◌*◌, ◌/◌, ◌^◌, ◌<◌, ◌≤◌, length, slice_index_or};
 ghost use Rattle.planes.specs.Raster.{height};
 ghost use Rattle.planes.specs.Valued.{grid_of};
 ghost use Rattle.planes.specs.Subbands.{HaveSizes};
 ghost use Rattle.lifting.specs.Transform.{synthesis};
-ghost use Rattle.lifting.specs.Ranges.{GridWithin, SameInside};
-ghost use Rattle.lifting.specs.Bands.{coefficients_in, lowest};
+ghost use Rattle.lifting.specs.Bands.{lowest};
 ghost use Rattle.lifting.specs.declared.Wavelet.{Wavelet};
 ghost use Rattle.lifting.specs.Fits.{FitIn, LevelFitsIn};
 ghost use Rattle.lifting.specs.LevelRoom.{HoldsLevels};
