@@ -1,18 +1,16 @@
 -- How many bits a code takes: by the magnitude alone, and one bit for 0 alone.
-use Rattle.std.proofs.Common.{◌≡◌, ◌∙◌, sym, ap, ℕ, Bool, ◌+◌, ◌-◌, ◌*◌, ◌/◌, ◌%◌, ◌^◌, ◌<◌, ◌≤◌, List, [], ◌∷◌, ◌++◌, length, take, drop, get_or, arith, ℤ, pos, inl, inr, subst}
-use Rattle.std.proofs.lemmas.Bool.{cases_eq}
+use Rattle.std.proofs.Common.{◌≡◌, ◌∙◌, sym, ap, ℕ, Bool, ◌+◌, ◌-◌, ◌*◌, ◌/◌, ◌%◌, ◌^◌, ◌<◌, ◌≤◌, List, length, take, drop, set, replicate, get_or, arith, ℤ, pos, inl, inr, subst}
+use Rattle.std.proofs.lemmas.Bool.{cases_eq, cases_lt}
 use Rattle.std.specs.Prelude.{unsigned_abs, slice_index_or}
-use Rattle.std.proofs.lemmas.List.{length-take, get_or-take, get_or-drop}
-use Rattle.std.proofs.Math.ListN.{get_or-append}
-use Rattle.std.proofs.Math.Seq.{get_or-append_seam}
+use Rattle.std.proofs.lemmas.List.{length-take, length-drop, length-replicate, get_or-take, get_or-drop, get_or-replicate, get_or-set_same, get_or-set_other}
 use Rattle.bit_codes.specs.Codes.{signed_code_of}
 use Rattle.quant_factors.specs.Factors.{forward_of, factor_of}
-use Rattle.quant_factors.proofs.QuantLemmas.{abs-signed}
+use Rattle.quant_factors.proofs.QuantLemmas.{abs-signed, coarser}
 use Rattle.bounded_blocks.proofs.Needs.{code-zero}
 use Rattle.planes.specs.Numbers.{Within}
 use Rattle.slice_encoder.proofs.CountedBits.{one_code-most}
 use Rattle.slice_encoder.proofs.Gathers.{value_small}
-use Rattle.slice_encoder.specs.CodeLengths.{code_length, key_length, IsRow, AreLengths}
+use Rattle.slice_encoder.specs.CodeLengths.{code_length, AreLengths, AreKeyLengths, AreOneBits}
 use Rattle.slice_encoder.proofs.Reaches.{code_rises, code_long}
 
 same_length : (v w : ℤ) → unsigned_abs v ≡ unsigned_abs w → length (signed_code_of v) ≡ length (signed_code_of w)
@@ -47,32 +45,60 @@ few_bits q v le near = one_code-most (forward_of v q) (value_small v q le near)
 
 -- ---- the table
 
--- one entry more
-pub entries_more : (Is : ℕ → ℕ → Type 0) (entries : List ℕ) (bits : ℕ) → Is (length entries) bits → ((p : ℕ) → p < length entries → Is p (slice_index_or entries p 0)) → (p : ℕ) → p < length entries + 1 → Is p (slice_index_or (entries ++ bits ∷ []) p 0)
-entries_more Is entries bits here so_far p below = elim (cases_eq p (length entries)) [
-  | inl same ↦ subst (λ (n : ℕ). Is n (get_or (entries ++ bits ∷ []) n 0)) (sym same) (subst (Is (length entries)) (sym (get_or-append_seam entries bits [] 0)) here)
-  | inr other ↦ subst (Is p) (sym (get_or-append entries (bits ∷ []) 0 p (omega (arith, below, other)))) (so_far p (omega (arith, below, other)))
+pub ones_are : (count : ℕ) (entries : List ℕ) → entries ≡ replicate count 1 → AreOneBits count entries
+ones_are count entries are = record {
+  size = ap (λ (t : List ℕ). length t) are ∙ length-replicate count 1;
+  each = λ place lt. ap (λ (t : List ℕ). get_or t place 0) are ∙ get_or-replicate count place 1 0 lt;
+}
+
+-- one entry more, in its place
+pub entries_more : (Is : ℕ → ℕ → Type 0) (entries : List ℕ) (place bits : ℕ) → place < length entries → Is place bits → ((p : ℕ) → p < place → Is p (slice_index_or entries p 0)) → (p : ℕ) → p < place + 1 → Is p (slice_index_or (set entries place bits) p 0)
+entries_more Is entries place bits lt here so_far p below = elim (cases_eq p place) [
+  | inl same ↦ subst (λ (n : ℕ). Is n (get_or (set entries place bits) n 0)) (sym same) (subst (Is place) (sym (get_or-set_same entries place bits 0 lt)) here)
+  | inr other ↦ subst (Is p) (sym (get_or-set_other entries place p bits 0 other)) (so_far p (omega (arith, below, other)))
 ]
 
--- the row of an index
-pub row_is : (entries : List ℕ) (index from : ℕ) → AreLengths entries → index ≤ 127 → from ≡ 512 * (127 + index) → IsRow index (take (from + 512 - from) (drop from entries))
-row_is entries index from are le from_is magnitude inside =
-    let short : from + 512 - from ≡ 512 = omega arith in
-    let below : magnitude < 512 = omega (arith, inside, length-take (from + 512 - from) (drop from entries)) in
-    let place : from + magnitude < 130560 = omega (arith, le, from_is, below) in
-    let row : (from + magnitude) / 512 - 127 ≡ index = omega (arith, from_is, below) in
-    let rest : (from + magnitude) % 512 ≡ magnitude = omega (arith, from_is, below) in
-    get_or-take (from + 512 - from) (drop from entries) magnitude 0 (omega (arith, below))
-    ∙ get_or-drop from entries magnitude 0
-    ∙ are.each (from + magnitude) place
-    ∙ ap (λ (n : ℕ). code_length n (pos ((from + magnitude) % 512))) row
-    ∙ ap (λ (n : ℕ). code_length index (pos n)) rest
+-- Past index 35 nothing is left of a magnitude in the table.
+nothing_left : (index m : ℕ) → 36 ≤ index → index ≤ 127 → m < 512 → unsigned_abs (forward_of (pos m) index) ≡ 0
+unfolding factor_of
+nothing_left index m past le small =
+    let coarse : unsigned_abs (forward_of (pos m) index) ≤ unsigned_abs (forward_of (pos m) 36) = coarser (pos m) 36 index past le in
+    let here : unsigned_abs (forward_of (pos m) 36) ≡ 4 * m / 2048 = forward_abs (pos m) 36 in
+    omega (arith, coarse, here, small)
 
--- a key's entry
-pub key_entry : (entries : List ℕ) (index key : ℕ) → AreLengths entries → index ≤ 127 → key < 65536 → slice_index_or entries (key + 512 * index) 0 ≡ key_length index key
-key_entry entries index key are le small =
-    let row : (key + 512 * index) / 512 - 127 ≡ key / 512 + index - 127 = omega arith in
-    let rest : (key + 512 * index) % 512 ≡ key % 512 = omega arith in
-    are.each (key + 512 * index) (omega (arith, le, small))
-    ∙ ap (λ (n : ℕ). code_length n (pos ((key + 512 * index) % 512))) row
-    ∙ ap (λ (n : ℕ). code_length (key / 512 + index - 127) (pos n)) rest
+pub one_left : (index m : ℕ) → 36 ≤ index → index ≤ 127 → m < 512 → code_length index (pos m) ≡ 1
+one_left index m past le small = zero_bits (forward_of (pos m) index) (nothing_left index m past le small)
+
+-- a table of which entries from index 36 on are one bit
+pub table_is : (entries : List ℕ) (place : ℕ) → length entries ≡ 130560 → 83456 ≤ place → ((p : ℕ) → p < place → slice_index_or entries p 0 ≡ code_length (p / 512 - 127) (pos (p % 512)))
+    → ((p : ℕ) → p < place → slice_index_or entries p 0 ≤ 74) → ((p : ℕ) → place ≤ p → p < 130560 → slice_index_or entries p 0 ≡ 1) → AreLengths entries
+table_is entries place count end so_far few rest = record {
+  count = count;
+  each = λ p below. elim (cases_lt p place) [
+    | inl lt ↦ so_far p lt
+    | inr past ↦ rest p past below ∙ sym (one_left (p / 512 - 127) (p % 512) (omega (arith, past, end)) (omega (arith, below)) (omega arith))
+  ];
+  few = λ p below. elim (cases_lt p place) [
+    | inl lt ↦ few p lt
+    | inr past ↦ omega (arith, rest p past below)
+  ];
+}
+
+-- the lengths by the key at an index of the slice
+pub by_key_are : (entries : List ℕ) (index from : ℕ) → AreLengths entries → index ≤ 127 → from ≡ 512 * index → AreKeyLengths index (take (from + 65536 - from) (drop from entries))
+by_key_are entries index from are le from_is =
+    let short : from + 65536 - from ≡ 65536 = omega arith in
+    let at_key : (key : ℕ) → key < 65536 → get_or (take (from + 65536 - from) (drop from entries)) key 0 ≡ get_or entries (from + key) 0 = λ key lt.
+    get_or-take (from + 65536 - from) (drop from entries) key 0 (omega (arith, lt)) ∙ get_or-drop from entries key 0
+    in
+    record {
+      count = omega (arith, are.count, le, from_is, short, length-take (from + 65536 - from) (drop from entries), length-drop from entries);
+      each = λ key lt.
+          let row : (from + key) / 512 - 127 ≡ key / 512 + index - 127 = omega (arith, from_is) in
+          let rest : (from + key) % 512 ≡ key % 512 = omega (arith, from_is) in
+          at_key key lt
+          ∙ are.each (from + key) (omega (arith, le, lt, from_is))
+          ∙ ap (λ (n : ℕ). code_length n (pos ((from + key) % 512))) row
+          ∙ ap (λ (n : ℕ). code_length (key / 512 + index - 127) (pos n)) rest;
+      few = λ key lt. subst (λ (n : ℕ). n ≤ 74) (sym (at_key key lt)) (are.few (from + key) (omega (arith, le, lt, from_is)));
+    }

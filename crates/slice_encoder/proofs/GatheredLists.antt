@@ -13,7 +13,8 @@ use Rattle.slice_encoder.specs.Choice.{needs_fit, fits}
 use Rattle.slice_encoder.specs.LowNeeds.{may_fit}
 use Rattle.slice_encoder.specs.Listing.{band_part, pair_part}
 use Rattle.slice_encoder.specs.Gathering.{raw_part, raw_before, GatheredSeen, AreGathered, piece_of, quantised, quantised_piece, in_turn, high_part, high_reach, high_pair, high_pairs_reach, quantised_pair, gathered_reach, gathered_pairs_reach, behind_lowest, reach}
-use Rattle.slice_encoder.specs.GatheredSlices.{AreAllGathered, gathered_low}
+use Rattle.slice_encoder.specs.GatheredSlices.{AreAllGathered, HasRoomFor, gathered_low}
+use Rattle.slice_encoder.specs.Buffers.{HasListRoom}
 use Rattle.slice_encoder.proofs.Parts.{reach_of}
 use Rattle.std.proofs.lemmas.List.{length-append}
 use Rattle.planes.specs.Subbands.{BandStack}
@@ -141,3 +142,11 @@ low_refuted_below g matrix bytes i k le most refused =
 
 pub gathered_may : (bytes : ℕ) (found low : Lower) (b : Bool) → found ≡ low → needs_fit bytes found.luma found.colour ≡ b → may_fit bytes low ≡ b
 gathered_may bytes found low b e fit = subst (λ (l : Lower). may_fit bytes l ≡ b) e fit
+
+-- ---- room for the values
+
+pub has_room : (j : CodedPicture) (sx sy : ℕ) (g : GatheredSlice) (lumas colours : ℕ) → AreAllGathered j sx sy g → HasListRoom j sx sy lumas colours → HasRoomFor g lumas colours
+has_room j sx sy g lumas colours gathered room = record {
+  luma = omega (arith, last_end (luma_of j) 0 sx sy g.luma gathered.luma, room.luma);
+  colour = omega (arith, last_end (c1_of j) 0 sx sy g.c1 gathered.c1, room.colour);
+}

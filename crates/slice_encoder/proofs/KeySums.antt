@@ -116,6 +116,17 @@ module _ (index : ℕ) (keys : List ℕ) (vs : List ℤ) (are : map (key_length 
         length-append (codes_of (take p vs)) (signed_code_of v),
       )
 
+  -- four more
+  pub four_more : (p bits a b c d second third fourth : ℕ) → p + 3 < length keys → second ≡ p + 1 → third ≡ second + 1 → fourth ≡ third + 1
+      → bits ≡ length (codes_of (take p vs))
+      → a ≡ key_length index (get_or keys p 0) → b ≡ key_length index (get_or keys second 0) → c ≡ key_length index (get_or keys third 0) → d ≡ key_length index (get_or keys fourth 0)
+      → bits + a + b + c + d ≡ length (codes_of (take (fourth + 1) vs))
+  four_more p bits a b c d second third fourth lt second_is third_is fourth_is so_far a_is b_is c_is d_is =
+      let one = total_more p bits a (omega (arith, lt)) so_far a_is ∙ ap (λ (n : ℕ). length (codes_of (take n vs))) (sym second_is) in
+      let two = total_more second (bits + a) b (omega (arith, lt, second_is)) one b_is ∙ ap (λ (n : ℕ). length (codes_of (take n vs))) (sym third_is) in
+      let three = total_more third (bits + a + b) c (omega (arith, lt, second_is, third_is)) two c_is ∙ ap (λ (n : ℕ). length (codes_of (take n vs))) (sym fourth_is) in
+      total_more fourth (bits + a + b + c) d (omega (arith, lt, second_is, third_is, fourth_is)) three d_is
+
   -- all are counted
   pub all_counted : (p bits : ℕ) → length keys ≤ p → bits ≡ length (codes_of (take p vs)) → bits ≡ length (codes_of vs)
   all_counted p bits le is = is ∙ ap (λ (t : List ℤ). length (codes_of t)) (take_all p vs (omega (arith, le, same_count)))

@@ -1,6 +1,7 @@
 -- How far codes reach, by the last value that isn't 0, and what is needed of that.
-use Rattle.std.proofs.Common.{◌≡◌, ◌≢◌, ◌∙◌, refl, sym, ap, ℕ, zero, suc, ◌+◌, ◌*◌, ◌<◌, ◌≤◌, Bool, List, [], ◌∷◌, ◌++◌, length, take, drop, get_or, arith, ℤ, pos, negsuc}
+use Rattle.std.proofs.Common.{◌≡◌, ◌≢◌, ◌∙◌, refl, sym, ap, ℕ, zero, suc, ◌+◌, ◌-◌, ◌*◌, ◌<◌, ◌≤◌, Bool, List, [], ◌∷◌, ◌++◌, length, take, drop, get_or, arith, ℤ, pos, negsuc, inl, inr}
 use Rattle.std.specs.Prelude.{unsigned_abs}
+use Rattle.std.proofs.lemmas.Bool.{cases_eq}
 use Rattle.std.specs.List.{flat_map, range_with_len}
 use Rattle.std.proofs.Math.Seq.{drop-append_seam}
 use Rattle.std.proofs.lemmas.List.{take_more, length-append, take-append-drop}
@@ -41,6 +42,18 @@ reach_with vs n lt some =
       length-append (codes_of front) (signed_code_of v),
       ap (λ (t : List Bool). length t) (codes-more [] v),
     )
+
+-- So all codes up to the last value that isn't 0 count.
+pub reach_to_last : (vs : List ℤ) (count : ℕ) → count ≤ length vs → (0 < count → get_or vs (count - 1) (pos 0) ≢ pos 0) → length (codes_of (take count vs)) ≡ reach (take count vs) 0
+reach_to_last vs count le last = elim (cases_eq count 0) [
+  | inl none ↦ ap (λ (k : ℕ). length (codes_of (take k vs))) none ∙ sym (ap (λ (k : ℕ). reach (take k vs) 0) none)
+  | inr some ↦
+      let n : ℕ = count - 1 in
+      let v = get_or vs n (pos 0) in
+      let up : count ≡ n + 1 = omega (arith, some) in
+      let more : take count vs ≡ take n vs ++ v ∷ [] = ap (λ (k : ℕ). take k vs) up ∙ take_more vs n (pos 0) (omega (arith, le, some)) in
+      ap (λ (t : List ℤ). length (codes_of t)) more ∙ reach_some (take n vs) v (not_none v (last (omega (arith, some)))) ∙ sym (ap (λ (t : List ℤ). reach t 0) more)
+]
 
 -- what is behind the first so many values, and these
 pub reach_front : (vs : List ℤ) (n behind : ℕ) → 1 ≤ behind → behind ≡ reach (drop n vs) 0 → length (codes_of (take n vs)) + behind ≡ reach vs 0

@@ -36,6 +36,7 @@ pub mod ReachPairs
 pub mod RestoredNeeds
 pub mod LastReaches
 pub mod GatheredLists
+pub mod ListedReaches
 pub mod CodeSizes
 pub mod KeySums
 pub mod WorkedLowNeeds

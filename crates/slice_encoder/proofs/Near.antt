@@ -1,5 +1,5 @@
 -- How near a coefficient the value is that a reader restores.
-use Rattle.std.proofs.Common.{◌≡◌, ◌≢◌, ◌∙◌, sym, ap, subst, refl, ℕ, zero, suc, ◌+◌, ◌*◌, ◌/◌, ◌≤◌, List, length, get_or, arith, inl, inr, ℤ, pos, negsuc, ◌+ℤ◌, ◌-ℤ◌}
+use Rattle.std.proofs.Common.{◌≡◌, ◌≢◌, ◌∙◌, sym, ap, subst, refl, ℕ, zero, suc, ◌+◌, ◌*◌, ◌/◌, ◌≤◌, List, length, get_or, arith, inl, inr, ℤ, pos, negsuc, ◌+ℤ◌, ◌-ℤ◌, ◌^◌, to_z, of_z, w32}
 use Rattle.std.specs.Prelude.{◌⊎◌, unsigned_abs}
 use Rattle.std.specs.List.{All}
 use Rattle.std.proofs.lemmas.Int.{ints}
@@ -74,3 +74,7 @@ inverse_small r m q le h = elim (is_zero_or_not (forward_of r q)) as (λ _. unsi
       let own = abs_within (unsigned_abs r) r (omega arith) in
       within_abs (2 * m + 1) (inverse_of (forward_of r q) q) (record { low = omega (arith, ints, off.low, own.low); high = omega (arith, ints, off.high, own.high) })
 ]
+
+-- a coefficient is kept in 32 bits
+pub fits_narrow : (v : ℤ) → Within (2 ^ 27) v → to_z w32 (of_z w32 v) ≡ v
+fits_narrow v near = omega (arith, ints)

@@ -46,3 +46,8 @@ pub record CanHoldAll (s : Slicing) (shape : PictureShape) (g : GatheredSlice) :
   pub luma : (sx sy : ℕ) → sx < s.slices_x → sy < s.slices_y → place_count s shape.luma sx sy ≤ length g.luma.values
   pub c1 : (sx sy : ℕ) → sx < s.slices_x → sy < s.slices_y → place_count s shape.colour sx sy ≤ length g.c1.values
   pub c2 : (sx sy : ℕ) → sx < s.slices_x → sy < s.slices_y → place_count s shape.colour sx sy ≤ length g.c2.values
+
+-- Two buffers have room for the slice's values.
+pub record HasRoomFor (g : GatheredSlice) (lumas colours : ℕ) : Type 0 where
+  pub luma : slice_index g.luma.ends (3 * g.luma.depth) ≤ lumas
+  pub colour : 2 * slice_index g.c1.ends (3 * g.c1.depth) ≤ colours

@@ -1,9 +1,9 @@
 // The first index that may fit.
 
-ghost use Rattle.std.specs.Prelude.{◌≡◌, ℕ, ◌+◌, ◌*◌, ◌^◌, ◌<◌, ◌≤◌, max, true, slice_index};
+ghost use Rattle.std.specs.Prelude.{◌≡◌, ℕ, ◌+◌, ◌*◌, ◌^◌, ◌<◌, ◌≤◌, max, true, length, slice_index};
 ghost use Rattle.slice_encoder.specs.TrialLaws.{IsSteepOk};
 ghost use Rattle.slice_encoder.specs.LowNeeds.{lower_of, may_fit, IsFirstCandidate};
-ghost use Rattle.slice_encoder.specs.GatheredSlices.{HasKeys, gathered_reaches, gathered_low};
+ghost use Rattle.slice_encoder.specs.GatheredSlices.{HasKeys, HasRoomFor, gathered_reaches, gathered_low};
 ghost use Rattle.slice_encoder.specs.Ready.{coded_picture, AreGiven};
 
 use crate::bounding::lower_at;
@@ -94,7 +94,14 @@ fn is_next(known: bool, end: u32, index: u32) -> bool
 
 // The first index that may fit by how far the codes of what was gathered reach. It is looked for from an index near it,
 // in steps of 1, 1, 2, 4 and 8, and then by halves: none below the start may fit, and the end may.
-pub fn find_first(gathered: &GatheredSlice, matrix: &Matrix, bytes: u32, near: u32) -> First
+pub fn find_first(
+    gathered: &GatheredSlice,
+    matrix: &Matrix,
+    bytes: u32,
+    near: u32,
+    luma: &mut [i64],
+    colour: &mut [i64],
+) -> First
     requires some { 1 ≤ bytes }
     requires most { bytes ≤ 2 ^ 28 }
     requires near { near ≤ 127 }
@@ -104,6 +111,7 @@ pub fn find_first(gathered: &GatheredSlice, matrix: &Matrix, bytes: u32, near: u
     requires ends { (k : ℕ) → k ≤ 3 * gathered.now.c1.depth
         → slice_index gathered.now.c2.ends k ≡ slice_index gathered.now.c1.ends k }
     requires keys { HasKeys gathered.now matrix.now }
+    requires room { HasRoomFor gathered.now (length luma.old) (length colour.old) }
     requires last { may_fit bytes (gathered_low gathered.now matrix.now 127) ≡ true }
     ensures first { IsFirstCandidate bytes (gathered_low gathered.now matrix.now) result.index }
     ensures reaches { result.reaches ≡ gathered_reaches gathered.now matrix.now result.index }
@@ -124,7 +132,7 @@ pub fn find_first(gathered: &GatheredSlice, matrix: &Matrix, bytes: u32, near: u
     let mut next = reaches;
     while start < end {
         let index = probe(start, end, wanted, step);
-        let here = gathered.reaches(matrix, index);
+        let here = gathered.reaches(matrix, index, luma, colour);
         let low = gathered.low(here);
         let may = do_fit(bytes, low.luma, low.colour);
         let taken = (step + 1) / 2;
@@ -142,7 +150,7 @@ pub fn find_first(gathered: &GatheredSlice, matrix: &Matrix, bytes: u32, near: u
         }
     }
     if !known {
-        reaches = gathered.reaches(matrix, start);
+        reaches = gathered.reaches(matrix, start, luma, colour);
     }
     First {
         index: start,

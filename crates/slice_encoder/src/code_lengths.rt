@@ -2,7 +2,7 @@
 
 ghost use Rattle.std.specs.Prelude.{◌≡◌, ℕ, ◌-◌, ◌/◌, ◌%◌, ◌^◌, ◌<◌, ◌≤◌, length, slice_index_or, pos, IfOk};
 ghost use Rattle.planes.specs.Numbers.{Within};
-ghost use Rattle.slice_encoder.specs.CodeLengths.{code_length, key_length, IsRow, AreLengths};
+ghost use Rattle.slice_encoder.specs.CodeLengths.{code_length, AreLengths, AreKeyLengths, AreOneBits};
 
 use bit_codes::sint_len;
 use planes::NoMemory;
@@ -31,9 +31,7 @@ impl Model for CodeLengths {
     ghost invariant = { λ t. AreLengths t.entries.items };
 }
 
-// How many bits the code of a coefficient takes at an index. It stays out of the loops that look codes up: with it in
-// them they would branch on signs.
-#[inline(never)]
+// How many bits the code of a coefficient takes at an index.
 fn counted(v: i64, index: u32) -> u32
     requires index { index ≤ 127 }
     requires small { Within (2 ^ 27) v }
@@ -54,10 +52,10 @@ fn entry_in(place: usize) -> u8
     counted(magnitude, index) as u8
 }
 
-// The entry in the next place of the table: the rows of index 0 are alike.
+// The entry in a place of the table, by those in front of it: the rows of index 0 are alike.
 fn next_entry(entries: &[u8], place: usize) -> u8
     requires inside { place < 130560 }
-    requires next { length entries.now ≡ place }
+    requires whole { length entries.now ≡ 130560 }
     requires each { (p : ℕ) → p < place
         → slice_index_or entries.now p 0 ≡ code_length (p / 512 - 127) (pos (p % 512)) }
     requires few { (p : ℕ) → p < place → slice_index_or entries.now p 0 ≤ 74 }
@@ -70,53 +68,33 @@ fn next_entry(entries: &[u8], place: usize) -> u8
     entry_in(place)
 }
 
+// So many entries of one bit.
+#[tactic(auto, using(crate::proofs::CodeSizes::ones_are))]
+fn one_bits(alloc: Global, count: usize) -> Result<Vec<u8>, NoMemory>
+    ensures { IfOk result (λ v. AreOneBits count v.items) }
+{
+    let entries = Vec::from_elem(alloc, 1u8, count)?;
+    Ok(entries)
+}
+
 impl CodeLengths {
-    /// The whole table.
+    /// The whole table. From index 36 on nothing is left of a magnitude that has an entry: its code is the bit of a 0.
     pub fn new(alloc: Global) -> Result<CodeLengths, NoMemory>
         ensures { IfOk result AreLengths }
     {
-        let mut entries = Vec::with_capacity(alloc, 255 * ENTRIES)?;
-        for place in 0..255 * ENTRIES {
-            let entry = next_entry(&entries, place);
-            entries.push(entry)?;
+        let mut entries = one_bits(alloc, 255 * ENTRIES)?;
+        for place in 0..163 * ENTRIES {
+            entries[place] = next_entry(&entries, place);
         }
         Ok(CodeLengths { entries })
     }
 
-    /// The row of an index.
-    pub fn row(&self, index: u32) -> &[u8]
-        requires index { index ≤ 127 }
-        ensures row { IsRow index result.now }
-        ensures entries { length result.now ≡ 512 }
+    /// How many bits the codes take at an index of the slice, by the key.
+    pub fn by_key(&self, index: u32) -> &[u8]
+        requires { index ≤ 127 }
+        ensures { AreKeyLengths index result.now }
     {
-        let from = ENTRIES * (127 + index as usize);
-        &self.entries[from..from + ENTRIES]
-    }
-
-    /// How many bits the code of a key's coefficient takes at an index of the slice.
-    #[inline(always)]
-    pub fn of_key(&self, key: u16, index: u32) -> u8
-        requires index { index ≤ 127 }
-        ensures value { result ≡ key_length index key }
-        ensures most { result ≤ 74 }
-    {
-        self.entries[key as usize + ENTRIES * index as usize]
-    }
-}
-
-/// How many bits the code of a coefficient takes at an index, by the index's row.
-#[inline(always)]
-pub fn length_by(row: &[u8], index: u32, v: i64) -> u64
-    requires index { index ≤ 127 }
-    requires row { IsRow index row.now }
-    requires small { Within (2 ^ 27) v }
-    ensures value { result ≡ code_length index v }
-    ensures most { result ≤ 74 }
-{
-    let magnitude = v.unsigned_abs() as usize;
-    if magnitude < row.len() {
-        u64::from(row[magnitude])
-    } else {
-        u64::from(counted(v, index))
+        let from = ENTRIES * index as usize;
+        &self.entries[from..from + 65536]
     }
 }

@@ -117,7 +117,7 @@ impl SliceEncoder {
             sy,
             bytes: share_of(&self.layout, sx, sy),
         };
-        self.gathered.gather(job, 0);
+        self.gathered.gather(job);
         let trying = try_at(
             job,
             qindex,
@@ -297,7 +297,7 @@ impl SliceEncoder {
             sy,
             bytes: bytes.len() as u32,
         };
-        self.gathered.gather(job, self.near);
+        self.gathered.gather(job);
         let found = find_least(
             job,
             &self.gathered,

@@ -9,7 +9,7 @@ ghost use Rattle.slice_geometry.specs.Shape.{IsSize};
 ghost use Rattle.slice_geometry.specs.SliceOrder.{level_rect, level_of, area, place_count};
 ghost use Rattle.slice_encoder.specs.Listing.{rect_values};
 ghost use Rattle.slice_encoder.specs.Gathering.{raw_before, piece_of, quantised, quantised_piece, in_turn, CanGather, CanGatherAll, AreGathered, gathered_values, gathered_pairs, gathered_reach, gathered_pairs_reach, behind_lowest};
-ghost use Rattle.slice_encoder.specs.GatheredSlices.{AreAllGathered, HasKeys, gathered_reaches, low_by, CanHoldAll};
+ghost use Rattle.slice_encoder.specs.GatheredSlices.{AreAllGathered, HasKeys, HasRoomFor, gathered_reaches, low_by, CanHoldAll};
 ghost use Rattle.slice_encoder.specs.Keys.{AreKeys};
 ghost use Rattle.slice_encoder.specs.Jobs.{picture_of};
 ghost use Rattle.slice_encoder.specs.Ready.{AreGiven};
@@ -19,13 +19,13 @@ use crate::bounding::Lower;
 use crate::code_lengths::CodeLengths;
 use crate::jobs::SliceJob;
 use crate::keys::{ENTRIES, Keyed, Keys, put_band_at, put_bands_at};
-use crate::reaching::{reach_over, reach_over_pairs};
+use crate::needs::reach_of_values;
 use crate::room::most_places;
 use crate::sources::{BandSource, StackSource};
-use crate::trying::{band_numbered, entry_of, quantiser_at};
+use crate::trying::{entry_of, quantiser_at};
 use planes::{NarrowPlane, NoMemory, Plane, Rect};
 use quant_factors::{Matrix, forward};
-use slice_geometry::{Layout, PictureShape, Size};
+use slice_geometry::{Layout, PictureShape, Size, band_numbered};
 use std::alloc::Global;
 use std::marker::Model;
 
@@ -35,7 +35,7 @@ use std::marker::Model;
 pub struct Gathered {
     depth: u32,
     ends: [usize; 13],
-    values: Vec<i64>,
+    values: Vec<i32>,
 }
 
 impl Model for Gathered {
@@ -70,7 +70,26 @@ pub struct Reaches {
 }
 
 // Copies the coefficients of a rectangle, row by row, from a place on.
-fn gather_rect(coefficients: &Plane, rect: Rect, out: &mut [i64], from: usize)
+fn gather_rect(coefficients: &Plane, rect: Rect, out: &mut [i32], from: usize)
+    requires can { CanGather rect coefficients.now }
+    requires room { from + area rect ≤ length out.old }
+    requires small { All (Within (2 ^ 27)) out.old }
+    ensures gathered { take (from + area rect) out.new
+        ≡ take from out.old ++ rect_values (at coefficients.now) rect }
+    ensures small { All (Within (2 ^ 27)) out.new }
+{
+    let mut place = from;
+    for y in rect.y0..rect.y1 {
+        let row = coefficients.row(y);
+        for x in rect.x0..rect.x1 {
+            out[place] = row[x as usize] as i32;
+            place += 1;
+        }
+    }
+}
+
+// The same of coefficients in 32 bits.
+fn gather_narrow_rect(coefficients: &NarrowPlane, rect: Rect, out: &mut [i32], from: usize)
     requires can { CanGather rect coefficients.now }
     requires room { from + area rect ≤ length out.old }
     requires small { All (Within (2 ^ 27)) out.old }
@@ -88,26 +107,7 @@ fn gather_rect(coefficients: &Plane, rect: Rect, out: &mut [i64], from: usize)
     }
 }
 
-// The same of coefficients in 32 bits.
-fn gather_narrow_rect(coefficients: &NarrowPlane, rect: Rect, out: &mut [i64], from: usize)
-    requires can { CanGather rect coefficients.now }
-    requires room { from + area rect ≤ length out.old }
-    requires small { All (Within (2 ^ 27)) out.old }
-    ensures gathered { take (from + area rect) out.new
-        ≡ take from out.old ++ rect_values (at coefficients.now) rect }
-    ensures small { All (Within (2 ^ 27)) out.new }
-{
-    let mut place = from;
-    for y in rect.y0..rect.y1 {
-        let row = coefficients.row(y);
-        for x in rect.x0..rect.x1 {
-            out[place] = i64::from(row[x as usize]);
-            place += 1;
-        }
-    }
-}
-
-fn gather_band(coefficients: BandSource<'_>, rect: Rect, out: &mut [i64], from: usize)
+fn gather_band(coefficients: BandSource<'_>, rect: Rect, out: &mut [i32], from: usize)
     requires can { CanGather rect (band_seen coefficients) }
     requires room { from + area rect ≤ length out.old }
     requires small { All (Within (2 ^ 27)) out.old }
@@ -147,7 +147,7 @@ fn gather_bands(
     sx: u32,
     sy: u32,
     bands: StackSource<'_>,
-    out: &mut [i64],
+    out: &mut [i32],
 ) -> [usize; 13]
     requires size { IsSize size.w size.h }
     requires across { sx < layout.now.slices_x }
@@ -178,7 +178,7 @@ fn gather_bands(
 
 // 1 or -1, with the sign of a number.
 #[inline(always)]
-fn sign_of(v: i64) -> i64
+fn sign_of(v: i32) -> i64
     ensures { result ≡ signed v 1 }
 {
     if v < 0 { -1 } else { 1 }
@@ -186,16 +186,16 @@ fn sign_of(v: i64) -> i64
 
 // The magnitude of a coefficient. That it is below 2^28 is said for the compiler: so quantising it has no branch.
 #[inline(always)]
-fn magnitude_of(v: i64) -> i64
+fn magnitude_of(v: i32) -> i64
     requires { Within (2 ^ 27) v }
     ensures { result ≡ pos (unsigned_abs v) }
 {
-    (v.unsigned_abs() % (1 << 28)) as i64
+    i64::from(v.unsigned_abs() % (1 << 28))
 }
 
 // A coefficient, quantised. Its sign is put on by a product, since a branch on it is guessed wrong half of the time.
 #[inline(always)]
-fn quantised_value(coefficient: i64, index: u32) -> i64
+fn quantised_value(coefficient: i32, index: u32) -> i64
     requires index { index ≤ 127 }
     requires small { Within (2 ^ 27) coefficient }
     ensures { result ≡ forward_of coefficient index }
@@ -207,7 +207,7 @@ fn quantised_value(coefficient: i64, index: u32) -> i64
 }
 
 // Quantises coefficients.
-fn quantise(coefficients: &[i64], index: u32, out: &mut [i64])
+fn quantise(coefficients: &[i32], index: u32, out: &mut [i64])
     requires index { index ≤ 127 }
     requires same { length out.old ≡ length coefficients.now }
     requires small { All (Within (2 ^ 27)) coefficients.now }
@@ -219,7 +219,7 @@ fn quantise(coefficients: &[i64], index: u32, out: &mut [i64])
 }
 
 // Quantises those of two components in turn.
-fn quantise_pair(first: &[i64], second: &[i64], index: u32, out: &mut [i64])
+fn quantise_pair(first: &[i32], second: &[i32], index: u32, out: &mut [i64])
     requires index { index ≤ 127 }
     requires same { length second.now ≡ length first.now }
     requires room { length out.old ≡ 2 * length first.now }
@@ -234,7 +234,7 @@ fn quantise_pair(first: &[i64], second: &[i64], index: u32, out: &mut [i64])
 }
 
 // The same from a place on.
-fn quantise_at(coefficients: &[i64], index: u32, out: &mut [i64], from: usize)
+fn quantise_at(coefficients: &[i32], index: u32, out: &mut [i64], from: usize)
     requires index { index ≤ 127 }
     requires room { from + length coefficients.now ≤ length out.old }
     requires small { All (Within (2 ^ 27)) coefficients.now }
@@ -245,7 +245,7 @@ fn quantise_at(coefficients: &[i64], index: u32, out: &mut [i64], from: usize)
     quantise(coefficients, index, &mut out[from..end]);
 }
 
-fn quantise_pair_at(first: &[i64], second: &[i64], index: u32, out: &mut [i64], from: usize)
+fn quantise_pair_at(first: &[i32], second: &[i32], index: u32, out: &mut [i64], from: usize)
     requires index { index ≤ 127 }
     requires same { length second.now ≡ length first.now }
     requires few { length first.now ≤ 2 ^ 31 }
@@ -277,7 +277,7 @@ impl Gathered {
             → sy < layout.now.slices_y → place_count layout.now size sx sy ≤ length g.values) }
     {
         let places = most_places(layout, size);
-        let values = Vec::from_elem(alloc, 0i64, places)?;
+        let values = Vec::from_elem(alloc, 0i32, places)?;
         Ok(Gathered {
             depth: 0,
             ends: [0; 13],
@@ -304,13 +304,14 @@ impl Gathered {
         ensures value { result ≡ slice_index self.now.ends 0 }
         ensures few { result ≤ 2 ^ 31 }
     {
+        // The contract alone names these.
         let _ = &self.depth;
         let _ = &self.values;
         self.ends[0] as u64
     }
 
     // The coefficients in band number k.
-    fn band(&self, k: u32) -> &[i64]
+    fn band(&self, k: u32) -> &[i32]
         requires some { 1 ≤ k }
         requires most { k ≤ 3 * self.now.depth }
         ensures value { result.now ≡ piece_of self.now k }
@@ -319,6 +320,7 @@ impl Gathered {
             ≡ slice_index self.now.ends k - slice_index self.now.ends (k - 1) }
         ensures small { All (Within (2 ^ 27)) result.now }
     {
+        // The contract alone names these.
         let _ = &self.depth;
         let k = k as usize;
         &self.values[self.ends[k - 1]..self.ends[k]]
@@ -361,6 +363,7 @@ impl Gathered {
         ensures keys { result.small ≡ true → AreKeys (take result.count out.new) (2 ^ 32)
             (gathered_pairs self.now second.now matrix.now) }
     {
+        // The contract alone names it.
         let _ = &second.depth;
         if out.len() < 2 * self.values.len() {
             return Keyed {
@@ -381,54 +384,6 @@ impl Gathered {
             count,
             small: top < ENTRIES,
         }
-    }
-
-    /// How far the codes of the slice's values reach at an index, but for its lowest subband.
-    pub fn reach(&self, matrix: &Matrix, index: u32, lengths: &CodeLengths) -> u64
-        requires index { index ≤ 127 }
-        requires entries { matrix.now.depth ≡ self.now.depth }
-        ensures value { result ≡ gathered_reach self.now matrix.now index }
-        ensures most { result ≤ 2 ^ 38 }
-    {
-        let mut bits = 0;
-        for passed in 0..3 * self.depth {
-            let k = 3 * self.depth - passed;
-            let quantiser = quantiser_at(matrix, index, k);
-            bits = reach_over(self.band(k), quantiser, lengths.row(quantiser), bits);
-        }
-        bits
-    }
-
-    /// How far the codes of two components in turn reach at an index, but for their lowest subbands.
-    pub fn reach_pairs(
-        &self,
-        second: &Gathered,
-        matrix: &Matrix,
-        index: u32,
-        lengths: &CodeLengths,
-    ) -> u64
-        requires index { index ≤ 127 }
-        requires entries { matrix.now.depth ≡ self.now.depth }
-        requires depth { second.now.depth ≡ self.now.depth }
-        requires ends { (k : ℕ) → k ≤ 3 * self.now.depth
-            → slice_index second.now.ends k ≡ slice_index self.now.ends k }
-        ensures value { result ≡ gathered_pairs_reach self.now second.now matrix.now index }
-        ensures most { result ≤ 2 ^ 39 }
-    {
-        let _ = &second.depth;
-        let mut bits = 0;
-        for passed in 0..3 * self.depth {
-            let k = 3 * self.depth - passed;
-            let quantiser = quantiser_at(matrix, index, k);
-            bits = reach_over_pairs(
-                self.band(k),
-                second.band(k),
-                quantiser,
-                lengths.row(quantiser),
-                bits,
-            );
-        }
-        bits
     }
 
     /// Lists the slice's values behind those of the lowest subband, and tells how many there are with these.
@@ -473,6 +428,7 @@ impl Gathered {
             (quantised_piece second.now matrix.now index k))
             (range_with_len 1 (3 * self.now.depth)) }
     {
+        // The contract alone names it.
         let _ = &second.depth;
         let mut place = 2 * self.ends[0];
         for k in 1..3 * self.depth + 1 {
@@ -482,6 +438,43 @@ impl Gathered {
             place += 2 * band.len();
         }
         place
+    }
+    /// How far the codes of the slice's values reach at an index, but for its lowest subband. The values are listed, which is
+    /// rare, and so stays out of the loops over keys.
+    #[inline(never)]
+    pub fn listed_reach(&self, matrix: &Matrix, index: u32, out: &mut [i64]) -> u64
+        requires index { index ≤ 127 }
+        requires entries { matrix.now.depth ≡ self.now.depth }
+        requires room { slice_index self.now.ends (3 * self.now.depth) ≤ length out.old }
+        ensures value { result ≡ gathered_reach self.now matrix.now index }
+        ensures most { result ≤ 2 ^ 38 }
+    {
+        let count = self.list(matrix, index, out);
+        reach_of_values(&out[self.ends[0]..count])
+    }
+
+    /// How far the codes of two components in turn reach at an index, but for their lowest subbands.
+    #[inline(never)]
+    pub fn listed_pairs_reach(
+        &self,
+        second: &Gathered,
+        matrix: &Matrix,
+        index: u32,
+        out: &mut [i64],
+    ) -> u64
+        requires index { index ≤ 127 }
+        requires entries { matrix.now.depth ≡ self.now.depth }
+        requires depth { second.now.depth ≡ self.now.depth }
+        requires ends { (k : ℕ) → k ≤ 3 * self.now.depth
+            → slice_index second.now.ends k ≡ slice_index self.now.ends k }
+        requires room { 2 * slice_index self.now.ends (3 * self.now.depth) ≤ length out.old }
+        ensures value { result ≡ gathered_pairs_reach self.now second.now matrix.now index }
+        ensures most { result ≤ 2 ^ 39 }
+    {
+        // The contract alone names it.
+        let _ = &second.depth;
+        let count = self.list_pair(second, matrix, index, out);
+        reach_of_values(&out[2 * self.ends[0]..count])
     }
 }
 
@@ -504,8 +497,8 @@ impl GatheredSlice {
         })
     }
 
-    // Takes the keys, unless so small an index is looked for that few looks are to be expected.
-    fn take_keys(&mut self, matrix: &Matrix, near: u32)
+    // Takes the keys, where all magnitudes are small.
+    fn take_keys(&mut self, matrix: &Matrix)
         requires luma { matrix.now.depth ≡ self.old.luma.depth }
         requires c1 { matrix.now.depth ≡ self.old.c1.depth }
         requires c2 { matrix.now.depth ≡ self.old.c2.depth }
@@ -516,16 +509,12 @@ impl GatheredSlice {
         ensures c2 { self.new.c2 ≡ self.old.c2 }
         ensures keys { HasKeys self.new matrix.now }
     {
-        if self.luma_keys.start() && near > 0 {
-            self.luma_keys.take_one(&self.luma, matrix);
-        }
-        if self.colour_keys.start() && near > 0 {
-            self.colour_keys.take_two(&self.c1, &self.c2, matrix);
-        }
+        self.luma_keys.take_one(&self.luma, matrix);
+        self.colour_keys.take_two(&self.c1, &self.c2, matrix);
     }
 
-    /// Gathers the coefficients of a slice whose index is looked for from one near it.
-    pub fn gather(&mut self, job: SliceJob<'_>, near: u32)
+    /// Gathers the coefficients of a slice.
+    pub fn gather(&mut self, job: SliceJob<'_>)
         requires across { job.sx < job.layout.now.slices_x }
         requires down { job.sy < job.layout.now.slices_y }
         requires given { AreGiven (picture_of job) }
@@ -546,44 +535,50 @@ impl GatheredSlice {
             .gather(layout, shape.colour, sx, sy, coefficients.c1());
         self.c2
             .gather(layout, shape.colour, sx, sy, coefficients.c2());
-        self.take_keys(job.matrix, near);
+        self.take_keys(job.matrix);
     }
 
-    // How far the codes of its luma values reach at an index.
-    fn luma_reach(&self, matrix: &Matrix, index: u32) -> u64
+    // How far the codes of its luma values reach at an index. Where their keys aren't known, the values are listed.
+    fn luma_reach(&self, matrix: &Matrix, index: u32, out: &mut [i64]) -> u64
         requires index { index ≤ 127 }
         requires luma { matrix.now.depth ≡ self.now.luma.depth }
         requires keys { HasKeys self.now matrix.now }
+        requires room { slice_index self.now.luma.ends (3 * self.now.luma.depth) ≤ length out.old }
         ensures value { result ≡ gathered_reach self.now.luma matrix.now index }
         ensures few { result ≤ 2 ^ 38 }
     {
         if self.luma_keys.are_known() {
-            self.luma_keys.reach(index, &self.lengths)
-        } else {
-            self.luma.reach(matrix, index, &self.lengths)
+            return self.luma_keys.reach(index, &self.lengths);
         }
+        self.luma.listed_reach(matrix, index, out)
     }
 
     // How far those of its colour values reach.
-    fn colour_reach(&self, matrix: &Matrix, index: u32) -> u64
+    fn colour_reach(&self, matrix: &Matrix, index: u32, out: &mut [i64]) -> u64
         requires index { index ≤ 127 }
         requires c1 { matrix.now.depth ≡ self.now.c1.depth }
         requires c2 { matrix.now.depth ≡ self.now.c2.depth }
         requires ends { (k : ℕ) → k ≤ 3 * self.now.c1.depth
             → slice_index self.now.c2.ends k ≡ slice_index self.now.c1.ends k }
         requires keys { HasKeys self.now matrix.now }
+        requires room { 2 * slice_index self.now.c1.ends (3 * self.now.c1.depth) ≤ length out.old }
         ensures value { result ≡ gathered_pairs_reach self.now.c1 self.now.c2 matrix.now index }
         ensures few { result ≤ 2 ^ 39 }
     {
         if self.colour_keys.are_known() {
-            self.colour_keys.reach(index, &self.lengths)
-        } else {
-            self.c1.reach_pairs(&self.c2, matrix, index, &self.lengths)
+            return self.colour_keys.reach(index, &self.lengths);
         }
+        self.c1.listed_pairs_reach(&self.c2, matrix, index, out)
     }
 
-    /// How far the codes of its values reach at an index.
-    pub fn reaches(&self, matrix: &Matrix, index: u32) -> Reaches
+    /// How far the codes of its values reach at an index. Two buffers have room for its values.
+    pub fn reaches(
+        &self,
+        matrix: &Matrix,
+        index: u32,
+        luma: &mut [i64],
+        colour: &mut [i64],
+    ) -> Reaches
         requires index { index ≤ 127 }
         requires luma { matrix.now.depth ≡ self.now.luma.depth }
         requires c1 { matrix.now.depth ≡ self.now.c1.depth }
@@ -591,13 +586,14 @@ impl GatheredSlice {
         requires ends { (k : ℕ) → k ≤ 3 * self.now.c1.depth
             → slice_index self.now.c2.ends k ≡ slice_index self.now.c1.ends k }
         requires keys { HasKeys self.now matrix.now }
+        requires room { HasRoomFor self.now (length luma.old) (length colour.old) }
         ensures value { result ≡ gathered_reaches self.now matrix.now index }
         ensures few_luma { result.luma ≤ 2 ^ 38 }
         ensures few_colour { result.colour ≤ 2 ^ 39 }
     {
         Reaches {
-            luma: self.luma_reach(matrix, index),
-            colour: self.colour_reach(matrix, index),
+            luma: self.luma_reach(matrix, index, luma),
+            colour: self.colour_reach(matrix, index, colour),
         }
     }
 

@@ -1,10 +1,10 @@
 // The keys of coefficients, by which the lengths of their codes are looked up at every index.
 
-ghost use Rattle.std.specs.Prelude.{◌≡◌, ℕ, ℤ, List, ◌+◌, ◌-◌, ◌*◌, ◌^◌, ◌<◌, ◌≤◌, ◌++◌, length, take, map, slice_index, true, false, unsigned_abs};
+ghost use Rattle.std.specs.Prelude.{◌≡◌, ℕ, ℤ, List, ◌+◌, ◌-◌, ◌*◌, ◌/◌, ◌^◌, ◌<◌, ◌≤◌, ◌++◌, length, take, map, slice_index, true, false, unsigned_abs};
 ghost use Rattle.std.specs.List.{All};
 ghost use Rattle.planes.specs.Numbers.{Within};
 ghost use Rattle.bounded_blocks.specs.Writing.{codes_of};
-ghost use Rattle.slice_encoder.specs.CodeLengths.{key_length};
+ghost use Rattle.slice_encoder.specs.CodeLengths.{key_length, AreKeyLengths};
 ghost use Rattle.slice_encoder.specs.Gathering.{quantised, in_turn, reach, gathered_values, gathered_pairs};
 ghost use Rattle.slice_encoder.specs.Keys.{code_sizes, AreKeys};
 
@@ -25,8 +25,6 @@ pub struct Keys {
     known: bool,
     list: Vec<u16>,
     count: usize,
-    // How many slices are still passed over, after one whose magnitudes aren't small.
-    rest: u32,
 }
 
 impl Model for Keys {
@@ -49,11 +47,11 @@ pub struct Keyed {
 
 // The magnitude of a coefficient.
 #[inline(always)]
-fn size_of(coefficient: i64) -> u32
+fn size_of(coefficient: i32) -> u32
     requires { Within (2 ^ 27) coefficient }
     ensures { result ≡ unsigned_abs coefficient }
 {
-    (coefficient as i32).unsigned_abs()
+    coefficient.unsigned_abs()
 }
 
 // The key of magnitude 0 in a band of this entry.
@@ -66,7 +64,7 @@ fn first_key(entry: u32) -> u32
 }
 
 // Puts the keys of a band's coefficients, and tells the greatest magnitude.
-fn put_band(coefficients: &[i64], entry: u32, out: &mut [u16]) -> u32
+fn put_band(coefficients: &[i32], entry: u32, out: &mut [u16]) -> u32
     requires same { length out.old ≡ length coefficients.now }
     requires small { All (Within (2 ^ 27)) coefficients.now }
     ensures keys { result < 512 → (index : ℕ) → index ≤ 127
@@ -83,7 +81,7 @@ fn put_band(coefficients: &[i64], entry: u32, out: &mut [u16]) -> u32
 }
 
 // Puts those of the coefficients of two bands in turn.
-fn put_bands(first: &[i64], second: &[i64], entry: u32, out: &mut [u16]) -> u32
+fn put_bands(first: &[i32], second: &[i32], entry: u32, out: &mut [u16]) -> u32
     requires same { length second.now ≡ length first.now }
     requires room { length out.old ≡ 2 * length first.now }
     requires first_small { All (Within (2 ^ 27)) first.now }
@@ -106,7 +104,7 @@ fn put_bands(first: &[i64], second: &[i64], entry: u32, out: &mut [u16]) -> u32
 }
 
 /// Puts the keys of a band's coefficients from a place on.
-pub fn put_band_at(coefficients: &[i64], entry: u32, out: &mut [u16], from: usize) -> u32
+pub fn put_band_at(coefficients: &[i32], entry: u32, out: &mut [u16], from: usize) -> u32
     requires room { from + length coefficients.now ≤ length out.old }
     requires small { All (Within (2 ^ 27)) coefficients.now }
     ensures keys { result < 512 → (index : ℕ) → index ≤ 127
@@ -119,7 +117,7 @@ pub fn put_band_at(coefficients: &[i64], entry: u32, out: &mut [u16], from: usiz
 }
 
 /// Puts those of two bands in turn from a place on.
-pub fn put_bands_at(first: &[i64], second: &[i64], entry: u32, out: &mut [u16], from: usize) -> u32
+pub fn put_bands_at(first: &[i32], second: &[i32], entry: u32, out: &mut [u16], from: usize) -> u32
     requires same { length second.now ≡ length first.now }
     requires few { length first.now ≤ 2 ^ 31 }
     requires room { from + 2 * length first.now ≤ length out.old }
@@ -135,16 +133,28 @@ pub fn put_bands_at(first: &[i64], second: &[i64], entry: u32, out: &mut [u16], 
     put_bands(first, second, entry, &mut out[from..end])
 }
 
+// How many bits the code of a key's coefficient takes.
+#[inline(always)]
+fn length_of(key: u16, index: u32, lengths: &[u8]) -> u32
+    requires lengths { AreKeyLengths index lengths.now }
+    ensures value { result ≡ key_length index key }
+    ensures most { result ≤ 74 }
+{
+    // The contract alone names it.
+    let _ = index;
+    u32::from(lengths[key as usize])
+}
+
 // How many keys there are up to the last one whose code is longer than a bit: the codes of these reach as far as all do.
-fn places_to_last(keys: &[u16], index: u32, lengths: &CodeLengths) -> usize
-    requires index { index ≤ 127 }
+fn places_to_last(keys: &[u16], index: u32, lengths: &[u8]) -> usize
+    requires lengths { AreKeyLengths index lengths.now }
     ensures most { result ≤ length keys.now }
     ensures reach { (vs : List ℤ) → map (key_length index) keys.now ≡ code_sizes vs
         → length (codes_of (take result vs)) ≡ reach vs 0 }
 {
     for passed in 0..keys.len() {
         let count = keys.len() - passed;
-        let bits = lengths.of_key(keys[count - 1], index);
+        let bits = length_of(keys[count - 1], index, lengths);
         if bits > 1 {
             return count;
         }
@@ -152,19 +162,53 @@ fn places_to_last(keys: &[u16], index: u32, lengths: &CodeLengths) -> usize
     0
 }
 
+// How long the codes of keys are, but for those behind the last four: four by four this takes a third less time.
+fn total_of_fours(keys: &[u16], index: u32, lengths: &[u8]) -> u64
+    requires lengths { AreKeyLengths index lengths.now }
+    requires few { length keys.now ≤ 2 ^ 32 }
+    ensures value { (vs : List ℤ) → map (key_length index) keys.now ≡ code_sizes vs
+        → result ≡ length (codes_of (take (4 * (length keys.now / 4)) vs)) }
+    ensures most { result ≤ 74 * (4 * (length keys.now / 4)) }
+{
+    let mut bits = 0;
+    for four in 0..keys.len() / 4 {
+        let place = 4 * four;
+        let first = length_of(keys[place], index, lengths);
+        let second = length_of(keys[place + 1], index, lengths);
+        let third = length_of(keys[place + 2], index, lengths);
+        let fourth = length_of(keys[place + 3], index, lengths);
+        bits += u64::from(first + second + (third + fourth));
+    }
+    bits
+}
+
+// How long the codes of keys behind the first so many are, with the bits of those.
+fn total_from(keys: &[u16], index: u32, lengths: &[u8], from: usize, front: u64) -> u64
+    requires lengths { AreKeyLengths index lengths.now }
+    requires few { length keys.now ≤ 2 ^ 32 }
+    requires from { from ≤ length keys.now }
+    requires most { front ≤ 74 * from }
+    ensures value { (vs : List ℤ) → map (key_length index) keys.now ≡ code_sizes vs
+        → front ≡ length (codes_of (take from vs)) → result ≡ length (codes_of vs) }
+    ensures most { result ≤ 74 * length keys.now }
+{
+    let mut bits = front;
+    for place in from..keys.len() {
+        bits += u64::from(length_of(keys[place], index, lengths));
+    }
+    bits
+}
+
 // How long the codes are.
-fn total_by(keys: &[u16], index: u32, lengths: &CodeLengths) -> u64
-    requires index { index ≤ 127 }
+fn total_by(keys: &[u16], index: u32, lengths: &[u8]) -> u64
+    requires lengths { AreKeyLengths index lengths.now }
     requires few { length keys.now ≤ 2 ^ 32 }
     ensures value { (vs : List ℤ) → map (key_length index) keys.now ≡ code_sizes vs
         → result ≡ length (codes_of vs) }
     ensures most { result ≤ 74 * length keys.now }
 {
-    let mut bits = 0;
-    for key in keys {
-        bits += u64::from(lengths.of_key(*key, index));
-    }
-    bits
+    let front = total_of_fours(keys, index, lengths);
+    total_from(keys, index, lengths, 4 * (keys.len() / 4), front)
 }
 
 impl Keys {
@@ -175,7 +219,6 @@ impl Keys {
             known: false,
             list,
             count: 0,
-            rest: 0,
         })
     }
 
@@ -184,16 +227,6 @@ impl Keys {
         ensures { result ≡ self.now.known }
     {
         self.known
-    }
-
-    /// Forgets the keys, and tells whether those of this slice are to be taken.
-    pub fn start(&mut self) -> bool
-        ensures { self.new.known ≡ false }
-    {
-        self.known = false;
-        let is_over = self.rest == 0;
-        self.rest = self.rest.saturating_sub(1);
-        is_over
     }
 
     /// Takes the keys of a component.
@@ -205,7 +238,6 @@ impl Keys {
         let keyed = gathered.put_keys(matrix, &mut self.list);
         self.count = keyed.count;
         self.known = keyed.small;
-        self.rest = if keyed.small { 0 } else { 3 };
     }
 
     /// Takes those of two components in turn.
@@ -220,7 +252,6 @@ impl Keys {
         let keyed = first.put_pair_keys(second, matrix, &mut self.list);
         self.count = keyed.count;
         self.known = keyed.small;
-        self.rest = if keyed.small { 0 } else { 3 };
     }
 
     /// How far codes reach at an index.
@@ -232,6 +263,7 @@ impl Keys {
         ensures most { result ≤ 74 * length self.now.list }
     {
         let keys = &self.list[..self.count];
+        let lengths = lengths.by_key(index);
         let count = places_to_last(keys, index, lengths);
         total_by(&keys[..count], index, lengths)
     }

@@ -19,7 +19,6 @@ pub mod laws;
 mod listing;
 mod needs;
 mod packing;
-mod reaching;
 mod rect_trials;
 mod room;
 mod search;

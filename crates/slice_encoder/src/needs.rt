@@ -64,6 +64,17 @@ pub fn total_length(values: &[i64]) -> u64
     bits
 }
 
+/// How far the codes of values reach.
+pub fn reach_of_values(values: &[i64]) -> u64
+    requires few { length values.now ≤ 2 ^ 32 }
+    requires small { AreSmallValues values.now }
+    ensures value { result ≡ reach values.now 0 }
+    ensures most { result ≤ 75 * length values.now }
+{
+    let count = count_to_last(values);
+    total_length(&values[..count])
+}
+
 // The need of values.
 pub fn need_of_values(values: &[i64]) -> u64
     requires few { length values.now ≤ 2 ^ 32 }

@@ -7,7 +7,7 @@ ghost use Rattle.slice_encoder.specs.TrialLaws.{IsSteepOk};
 ghost use Rattle.slice_encoder.specs.Tries.{AreTried, tried_lists};
 ghost use Rattle.slice_encoder.specs.Buffers.{HasListRoom, HoldsLists};
 ghost use Rattle.slice_encoder.specs.Gathering.{high_reach, high_pairs_reach};
-ghost use Rattle.slice_encoder.specs.GatheredSlices.{AreAllGathered, HasKeys, gathered_reaches};
+ghost use Rattle.slice_encoder.specs.GatheredSlices.{AreAllGathered, HasKeys, HasRoomFor, gathered_reaches};
 ghost use Rattle.slice_encoder.specs.RestoredSlice.{WasTried, HoldsWhatWasTried, WasRefused};
 ghost use Rattle.slice_encoder.specs.Jobs.{picture_of};
 ghost use Rattle.slice_encoder.specs.Ready.{AreReadyToWrite};
@@ -251,12 +251,19 @@ pub fn try_at(
         kept.new }
 {
     restore_lowest(job, index, kept);
-    let reaches = gathered.reaches(job.matrix, index);
+    let reaches = gathered.reaches(job.matrix, index, luma, colour);
     list_and_count(job, index, gathered, reaches, kept, luma, colour)
 }
 
 // How far codes reach at the index behind one, which may have been found with the first candidate.
-fn reaches_behind(gathered: &GatheredSlice, matrix: &Matrix, first: First, index: u32) -> Reaches
+fn reaches_behind(
+    gathered: &GatheredSlice,
+    matrix: &Matrix,
+    first: First,
+    index: u32,
+    luma: &mut [i64],
+    colour: &mut [i64],
+) -> Reaches
     requires index { index < 127 }
     requires luma { matrix.now.depth ≡ gathered.now.luma.depth }
     requires c1 { matrix.now.depth ≡ gathered.now.c1.depth }
@@ -264,6 +271,7 @@ fn reaches_behind(gathered: &GatheredSlice, matrix: &Matrix, first: First, index
     requires ends { (k : ℕ) → k ≤ 3 * gathered.now.c1.depth
         → slice_index gathered.now.c2.ends k ≡ slice_index gathered.now.c1.ends k }
     requires keys { HasKeys gathered.now matrix.now }
+    requires room { HasRoomFor gathered.now (length luma.old) (length colour.old) }
     requires next { first.has_next ≡ true
         → first.next ≡ gathered_reaches gathered.now matrix.now (first.index + 1) }
     requires few_luma { first.next.luma ≤ 2 ^ 38 }
@@ -275,7 +283,7 @@ fn reaches_behind(gathered: &GatheredSlice, matrix: &Matrix, first: First, index
     if first.has_next && first.index == index {
         return first.next;
     }
-    gathered.reaches(matrix, index + 1)
+    gathered.reaches(matrix, index + 1, luma, colour)
 }
 
 // Tries the indices from the first candidate on, and keeps the trial of the first that fits.
@@ -304,7 +312,7 @@ pub fn find_least(
     ensures kept { AreTried (picture_of job.entry) job.entry.sx job.entry.sy result.index kept.old
         kept.new }
 {
-    let first = find_first(gathered, job.matrix, job.bytes, near);
+    let first = find_first(gathered, job.matrix, job.bytes, near, luma, colour);
     let mut reaches = first.reaches;
     for index in first.index..127 {
         let trying = try_if_may(job, index, gathered, reaches, kept, luma, colour);
@@ -315,7 +323,7 @@ pub fn find_least(
                 trying,
             };
         }
-        reaches = reaches_behind(gathered, job.matrix, first, index);
+        reaches = reaches_behind(gathered, job.matrix, first, index, luma, colour);
     }
     let trying = try_at(job, 127, gathered, kept, luma, colour);
     Found {

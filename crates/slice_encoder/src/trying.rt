@@ -50,21 +50,12 @@ pub fn try_lowest(
     ensures { IsTried (coded_component job.entry.layout.now size job.entry.matrix.now
         (stack_seen coefficients.entry)) job.entry.sx job.entry.sy index kept.old kept.new }
 {
+    // The contract alone names it.
     let _ = sample_depth;
     let _depth = job.layout.depth();
     let rect = job.layout.band_rect(size, 0, job.sx, job.sy);
     let quantiser = job.matrix.quantiser(index, 0, Orient::Ll);
     try_rect(coefficients.band(0, 0), kept, rect, quantiser);
-}
-
-// The level of band number k, and the number of its orientation.
-pub fn band_numbered(k: u32) -> (u32, u32)
-    requires { k ≤ 12 }
-    ensures level { result.0 ≡ level_of k }
-    ensures orient { result.1 ≡ orient_of k }
-{
-    let level = (k + 2) / 3;
-    (level, if k == 0 { 0 } else { k + 3 - 3 * level })
 }
 
 // The matrix's entry of band number k.

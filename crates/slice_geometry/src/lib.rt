@@ -3,6 +3,7 @@
 
 ghost use Rattle.std.specs.Prelude.{◌≡◌, ◌≤◌, ◌^◌};
 ghost use Rattle.slice_geometry.specs.Shape.{IsSize, IsDepth};
+ghost use Rattle.slice_geometry.specs.SliceOrder.{level_of, orient_of};
 ghost use Rattle.slice_geometry.specs.Slicing as slicing;
 
 pub mod laws;
@@ -48,6 +49,17 @@ pub struct PictureShape {
 pub struct SliceHead {
     pub qindex: u32,
     pub luma_bits: u32,
+}
+
+/// The level of a component's subband k, in the order of the stream, and the number of its orientation: 0 to 3 for LL, HL, LH,
+/// HH. There are at most five levels, and so 13 subbands.
+pub fn band_numbered(k: u32) -> (u32, u32)
+    requires { k ≤ 12 }
+    ensures level { result.0 ≡ level_of k }
+    ensures orient { result.1 ≡ orient_of k }
+{
+    let level = (k + 2) / 3;
+    (level, if k == 0 { 0 } else { k + 3 - 3 * level })
 }
 
 /// How many bits give the length of the luma block in a slice of so many bytes, 1 to 2^28.

@@ -1,4 +1,4 @@
-use Rattle.std.proofs.Common.{◌≡◌, ◌∙◌, ℕ, true, false, sym, ap, arith}
+use Rattle.std.proofs.Common.{◌≡◌, ◌∙◌, ℕ, true, false, refl, sym, ap, arith}
 use Rattle.slice_encoder.specs.declared.gathered.Reaches.{Reaches}
 use Rattle.slice_encoder.specs.GatheredSlices.{low_by, gathered_low, gathered_reaches}
 use Rattle.slice_encoder.proofs.GatheredLists.{low_refuted_below, gathered_may}
@@ -6,6 +6,8 @@ use Rattle.slice_encoder.proofs.candidates.find_first.Goals as goal
 
 pub loop-start-init : goal.loop-start-init
 loop-start-init c = record {
+  luma_length = refl;
+  colour_length = refl;
   order = omega arith;
   most = omega arith;
   steps = omega arith;
@@ -26,6 +28,8 @@ loop-start-preserved-then-may c =
     let g = c.args.gathered.now in
     let low_is : c.low-low.result ≡ gathered_low g c.args.matrix.now c.probe-index.result = c.low-low.ensures.value ∙ ap (λ (r : Reaches). low_by g r) c.reaches-here.ensures.value in
     record {
+      luma_length = c.reaches-here.auto.luma ∙ l.invariant.luma_length;
+      colour_length = c.reaches-here.auto.colour ∙ l.invariant.colour_length;
       order = c.probe-index.ensures.low;
       most = omega (arith, l.invariant.most, c.probe-index.ensures.high);
       steps = c.longer-step.ensures;
@@ -46,6 +50,8 @@ loop-start-preserved c =
     let g = c.args.gathered.now in
     let low_is : c.low-low.result ≡ gathered_low g c.args.matrix.now c.probe-index.result = c.low-low.ensures.value ∙ ap (λ (r : Reaches). low_by g r) c.reaches-here.ensures.value in
     record {
+      luma_length = c.reaches-here.auto.luma ∙ l.invariant.luma_length;
+      colour_length = c.reaches-here.auto.colour ∙ l.invariant.colour_length;
       order = omega (arith, c.probe-index.ensures.high);
       most = l.invariant.most;
       steps = c.longer-step.ensures;
@@ -61,3 +67,15 @@ loop-start-preserved c =
           low_refuted_below g c.args.matrix.now c.args.bytes i c.probe-index.result (omega arith) (omega (arith, l.invariant.most, c.probe-index.ensures.high))
           (gathered_may c.args.bytes c.low-low.result (gathered_low g c.args.matrix.now c.probe-index.result) false low_is (sym c.do_fit-may.ensures ∙ c.if-may.false));
     }
+
+pub reaches-here-requires-clause-room : goal.reaches-here-requires-clause-room
+reaches-here-requires-clause-room c = record {
+  luma = omega (arith, c.requires.room.luma, c.loop-start.invariant.luma_length);
+  colour = omega (arith, c.requires.room.colour, c.loop-start.invariant.colour_length);
+}
+
+pub reaches-reaches-requires-clause-room : goal.reaches-reaches-requires-clause-room
+reaches-reaches-requires-clause-room c = record {
+  luma = omega (arith, c.requires.room.luma, c.loop-start.invariant.luma_length);
+  colour = omega (arith, c.requires.room.colour, c.loop-start.invariant.colour_length);
+}

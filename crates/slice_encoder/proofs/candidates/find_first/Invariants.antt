@@ -1,10 +1,12 @@
-use Rattle.std.proofs.Common.{◌≡◌, ℕ, ◌+◌, ◌-◌, ◌<◌, ◌≤◌, ◌^◌, true, false}
+use Rattle.std.proofs.Common.{◌≡◌, ℕ, ◌+◌, ◌-◌, ◌<◌, ◌≤◌, ◌^◌, length, true, false}
 use Rattle.slice_encoder.specs.LowNeeds.{may_fit}
 use Rattle.slice_encoder.specs.GatheredSlices.{gathered_reaches, gathered_low}
 use Rattle.slice_encoder.proofs.candidates.find_first.Given as goal
 
 abbrev pub invariant-loop-start : goal.invariant-loop-start
 invariant-loop-start l = record {
+  luma_length : length l.luma ≡ length l.fn.luma;
+  colour_length : length l.colour ≡ length l.fn.colour;
   order : l.start ≤ l.end;
   most : l.end ≤ 127;
   steps : l.step ≤ 32;

@@ -1,4 +1,4 @@
-use Rattle.std.proofs.Common.{◌≡◌, ◌∙◌, ℕ, ◌+◌, ◌-◌, ◌*◌, ◌^◌, ◌<◌, ◌++◌, List, length, get_or, pos, take, map, sym, subst, ap, arith, ℤ, to_z, of_z, w64}
+use Rattle.std.proofs.Common.{◌≡◌, ◌∙◌, ℕ, ◌+◌, ◌-◌, ◌*◌, ◌^◌, ◌<◌, ◌++◌, List, length, get_or, pos, take, map, sym, subst, ap, arith, ℤ, to_z, of_z, w32, w64}
 use Rattle.std.specs.List.{flat_map, range_with_len}
 use Rattle.dc_prediction.proofs.PredictionLemmas.{fits}
 use Rattle.std.proofs.lemmas.List.{length-set}
@@ -7,6 +7,7 @@ use Rattle.std.proofs.lemmas.Nat.{mul-add-lt}
 use Rattle.planes.specs.Numbers.{Within}
 use Rattle.planes.specs.Raster.{at}
 use Rattle.slice_encoder.specs.Listing.{row_values}
+use Rattle.slice_encoder.proofs.Near.{fits_narrow}
 use Rattle.slice_encoder.proofs.Listed.{listed_one, flat_more, next_row, turned}
 use Rattle.slice_encoder.proofs.gathered.gather_rect.Goals as goal
 
@@ -21,8 +22,9 @@ loop-x-preserved c =
     let before = flat_map (row_values value r) (range_with_len r.y0 (y - r.y0)) in
     let e : ℤ = get_or c.row-row.result.now l.x (pos 0) in
     let e_is : e ≡ value y l.x = ap (λ (t : List ℤ). get_or t l.x (pos 0)) c.row-row.ensures.value in
-    let v = to_z w64 (of_z w64 e) in
-    let v_is : v ≡ e = fits (2 ^ 27) e (omega arith) (subst (λ (u : ℤ). Within (2 ^ 27) u) (sym e_is) (c.requires.can.small y l.x)) in
+    let e_near : Within (2 ^ 27) e = subst (λ (u : ℤ). Within (2 ^ 27) u) (sym e_is) (c.requires.can.small y l.x) in
+    let v = to_z w32 (of_z w32 (to_z w64 (of_z w64 e))) in
+    let v_is : v ≡ e = ap (λ (u : ℤ). to_z w32 (of_z w32 u)) (fits (2 ^ 27) e (omega arith) e_near) ∙ fits_narrow e e_near in
     let near : Within (2 ^ 27) v = subst (λ (u : ℤ). Within (2 ^ 27) u) (sym (v_is ∙ e_is)) (c.requires.can.small y l.x) in
     let inside = mul-add-lt (y - r.y0) w (l.x - r.x0) h (omega arith) (omega arith) in
     let lt : l.place < length l.out = omega (arith, l.invariant.place, l.invariant.same_length, c.requires.room, inside, turned w h) in

@@ -1,11 +1,11 @@
-use Rattle.std.proofs.Common.{◌≡◌, ◌∙◌, ◌+◌, ◌*◌, ◌^◌, ◌<◌, length, get_or, ap, arith, pos, ℤ, to_z, of_z, w64}
+use Rattle.std.proofs.Common.{◌≡◌, ◌∙◌, ◌+◌, ◌*◌, ◌^◌, ◌<◌, length, get_or, ap, arith, pos, ℤ, to_z, of_z, w32, w64}
 use Rattle.std.proofs.lemmas.Int.{to_z-of_z}
 use Rattle.std.proofs.lemmas.List.{length-set}
 use Rattle.std.proofs.lemmas.List.Elements.{All-get_or}
 use Rattle.planes.specs.Numbers.{Within}
-use Rattle.dc_prediction.proofs.PredictionLemmas.{fits}
 use Rattle.quant_factors.specs.Factors.{forward_of}
 use Rattle.slice_encoder.proofs.Gathers.{pair_more}
+use Rattle.slice_encoder.proofs.Near.{fits_narrow}
 use Rattle.slice_encoder.proofs.gathered.quantise_pair.Goals as goal
 
 pub loop-place-preserved : goal.loop-place-preserved
@@ -16,8 +16,8 @@ loop-place-preserved c =
     let two : ℤ = get_or a.second.now l.place (pos 0) in
     let v = to_z w64 (of_z w64 c.quantised_value.result) in
     let w = to_z w64 (of_z w64 c.quantised_value-in-loop-place.result) in
-    let one_is : to_z w64 (of_z w64 one) ≡ one = fits (2 ^ 27) one (omega arith) (All-get_or (Within (2 ^ 27)) a.first.now l.place (pos 0) (omega arith) c.requires.first_small) in
-    let two_is : to_z w64 (of_z w64 two) ≡ two = fits (2 ^ 27) two (omega arith) (All-get_or (Within (2 ^ 27)) a.second.now l.place (pos 0) (omega (arith, c.requires.same)) c.requires.second_small) in
+    let one_is : to_z w32 (of_z w32 one) ≡ one = fits_narrow one (All-get_or (Within (2 ^ 27)) a.first.now l.place (pos 0) (omega arith) c.requires.first_small) in
+    let two_is : to_z w32 (of_z w32 two) ≡ two = fits_narrow two (All-get_or (Within (2 ^ 27)) a.second.now l.place (pos 0) (omega (arith, c.requires.same)) c.requires.second_small) in
     let v_is : v ≡ c.quantised_value.result = to_z-of_z w64 c.quantised_value.result (record { sfits = c.quantised_value.type_inv }) in
     let w_is : w ≡ c.quantised_value-in-loop-place.result = to_z-of_z w64 c.quantised_value-in-loop-place.result (record { sfits = c.quantised_value-in-loop-place.type_inv }) in
     let room : 2 * l.place + 1 < length l.out = omega (arith, l.invariant.same_length, c.requires.room) in

@@ -1,8 +1,8 @@
-use Rattle.std.proofs.Common.{◌≡◌, ◌^◌, pos, to_z, of_z, w64, arith}
+use Rattle.std.proofs.Common.{◌≡◌, ◌^◌, pos, to_z, of_z, w32, w64, arith}
 use Rattle.std.specs.Prelude.{unsigned_abs}
 use Rattle.dc_prediction.proofs.PredictionLemmas.{fits}
 use Rattle.quant_factors.specs.Factors.{forward_of, signed}
-use Rattle.slice_encoder.proofs.Near.{within_abs, abs_within}
+use Rattle.slice_encoder.proofs.Near.{within_abs, abs_within, fits_narrow}
 use Rattle.slice_encoder.proofs.Signs.{product_fits, quantised_is}
 use Rattle.slice_encoder.proofs.gathered.quantised_value.Goals as goal
 
@@ -10,7 +10,7 @@ pub overflow_mul-result : goal.overflow_mul-result
 unfolding forward_of
 overflow_mul-result c =
     let v = c.args.coefficient in
-    let same : to_z w64 (of_z w64 v) ≡ v = fits (2 ^ 27) v (omega arith) c.requires.small in
+    let same : to_z w32 (of_z w32 v) ≡ v = fits_narrow v c.requires.small in
     let sign = c.sign_of-sign.ensures in
     let size = c.magnitude_of-size.ensures in
     let forward = c.forward-magnitude.ensures in
@@ -24,7 +24,7 @@ pub returns : goal.returns
 unfolding forward_of
 returns c =
     let v = c.args.coefficient in
-    let same : to_z w64 (of_z w64 v) ≡ v = fits (2 ^ 27) v (omega arith) c.requires.small in
+    let same : to_z w32 (of_z w32 v) ≡ v = fits_narrow v c.requires.small in
     let sign = c.sign_of-sign.ensures in
     let size = c.magnitude_of-size.ensures in
     let forward = c.forward-magnitude.ensures in

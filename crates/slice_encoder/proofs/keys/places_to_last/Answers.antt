@@ -15,7 +15,7 @@ loop-passed-preserved c =
     record {
       reach = λ vs are.
           ap (λ (k : ℕ). reach (take k vs) 0) back
-          ∙ last_none c.args.index keys vs are n c.of_key-bits.result lt c.of_key-bits.ensures.value (omega (arith, c.if-bits-gt1.false))
+          ∙ last_none c.args.index keys vs are n c.length_of-bits.result lt c.length_of-bits.ensures.value (omega (arith, c.if-bits-gt1.false))
           ∙ ap (λ (k : ℕ). reach (take k vs) 0) up
           ∙ l.invariant.reach vs are;
     }
@@ -28,7 +28,7 @@ returns-then-bits-gt1-clause-reach c = λ vs are.
     let lt : n < length keys = omega (arith, c.loop-passed-test.true) in
     let up : n + 1 ≡ length keys - l.passed = omega (arith, c.loop-passed-test.true) in
     sym (ap (λ (k : ℕ). length (codes_of (take k vs))) up)
-    ∙ last_some c.args.index keys vs are n c.of_key-bits.result lt c.of_key-bits.ensures.value (omega (arith, c.if-bits-gt1.true))
+    ∙ last_some c.args.index keys vs are n c.length_of-bits.result lt c.length_of-bits.ensures.value (omega (arith, c.if-bits-gt1.true))
     ∙ ap (λ (k : ℕ). reach (take k vs) 0) up
     ∙ l.invariant.reach vs are
 

@@ -3,7 +3,7 @@ use Rattle.std.specs.Prelude.{unsigned_abs}
 use Rattle.std.proofs.lemmas.List.{length-set}
 use Rattle.std.proofs.lemmas.List.Elements.{All-get_or}
 use Rattle.planes.specs.Numbers.{Within}
-use Rattle.dc_prediction.proofs.PredictionLemmas.{fits}
+use Rattle.slice_encoder.proofs.Near.{fits_narrow}
 use Rattle.slice_encoder.proofs.KeySums.{key_is, keys_more}
 use Rattle.slice_encoder.proofs.keys.put_band.Goals as goal
 
@@ -14,7 +14,7 @@ loop-place-preserved c =
     let l = c.loop-place in
     let lt : l.place < length vs = omega (arith, c.loop-place-test.true) in
     let v : ℤ = get_or vs l.place (pos 0) in
-    let size_is : c.size_of-size.result ≡ unsigned_abs v = c.size_of-size.ensures ∙ ap unsigned_abs (fits (2 ^ 27) v (omega arith) (All-get_or (Within (2 ^ 27)) vs l.place (pos 0) lt c.requires.small)) in
+    let size_is : c.size_of-size.result ≡ unsigned_abs v = c.size_of-size.ensures ∙ ap unsigned_abs (fits_narrow v (All-get_or (Within (2 ^ 27)) vs l.place (pos 0) lt c.requires.small)) in
     let key : ℕ = (c.first_key-first.result + c.size_of-size.result) % 65536 in
     record {
       same_length = length-set l.out l.place key ∙ l.invariant.same_length;

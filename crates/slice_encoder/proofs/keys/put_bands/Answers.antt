@@ -3,7 +3,7 @@ use Rattle.std.specs.Prelude.{unsigned_abs}
 use Rattle.std.proofs.lemmas.List.{length-set}
 use Rattle.std.proofs.lemmas.List.Elements.{All-get_or}
 use Rattle.planes.specs.Numbers.{Within}
-use Rattle.dc_prediction.proofs.PredictionLemmas.{fits}
+use Rattle.slice_encoder.proofs.Near.{fits_narrow}
 use Rattle.slice_encoder.proofs.KeySums.{key_is, pair_keys_more}
 use Rattle.slice_encoder.proofs.keys.put_bands.Goals as goal
 
@@ -16,8 +16,8 @@ loop-place-preserved c =
     let lt : l.place < length vs = omega (arith, c.loop-place-test.true) in
     let v : ℤ = get_or vs l.place (pos 0) in
     let w : ℤ = get_or ws l.place (pos 0) in
-    let one_is : c.size_of-one.result ≡ unsigned_abs v = c.size_of-one.ensures ∙ ap unsigned_abs (fits (2 ^ 27) v (omega arith) (All-get_or (Within (2 ^ 27)) vs l.place (pos 0) lt c.requires.first_small)) in
-    let two_is : c.size_of-two.result ≡ unsigned_abs w = c.size_of-two.ensures ∙ ap unsigned_abs (fits (2 ^ 27) w (omega arith) (All-get_or (Within (2 ^ 27)) ws l.place (pos 0) (omega (arith, lt, c.requires.same)) c.requires.second_small)) in
+    let one_is : c.size_of-one.result ≡ unsigned_abs v = c.size_of-one.ensures ∙ ap unsigned_abs (fits_narrow v (All-get_or (Within (2 ^ 27)) vs l.place (pos 0) lt c.requires.first_small)) in
+    let two_is : c.size_of-two.result ≡ unsigned_abs w = c.size_of-two.ensures ∙ ap unsigned_abs (fits_narrow w (All-get_or (Within (2 ^ 27)) ws l.place (pos 0) (omega (arith, lt, c.requires.same)) c.requires.second_small)) in
     let one : ℕ = (c.first_key-start.result + c.size_of-one.result) % 65536 in
     let two : ℕ = (c.first_key-start.result + c.size_of-two.result) % 65536 in
     record {

@@ -1,11 +1,11 @@
-use Rattle.std.proofs.Common.{◌∙◌, true, refl, arith}
+use Rattle.std.proofs.Common.{◌∙◌, true, arith}
 use Rattle.planes.specs.Raster.{at}
 use Rattle.slice_encoder.specs.Trials.{CodedPicture, luma_of, c1_of, c2_of}
 use Rattle.slice_encoder.specs.Tries.{tried, tried_lists}
 use Rattle.slice_encoder.specs.Choice.{fits}
 use Rattle.slice_encoder.specs.Jobs.{picture_of}
 use Rattle.slice_encoder.proofs.Again.{all_tried_again, all_tried_keep, all_keep_nothing, coarsest_tried}
-use Rattle.slice_encoder.proofs.GatheredLists.{ends_same, fit_may, low_refutes}
+use Rattle.slice_encoder.proofs.GatheredLists.{ends_same, fit_may, low_refutes, has_room}
 use Rattle.slice_encoder.proofs.Searching.{ready_again, holds_again, fit_again, refused_again, refuted_more}
 use Rattle.slice_encoder.proofs.search.find_least.Goals as goal
 
@@ -33,8 +33,8 @@ loop-index-init c =
     let a = c.args in
     let j : CodedPicture = picture_of a.job in
     record {
-      luma_length = refl;
-      colour_length = refl;
+      luma_length = c.find_first-first.auto.luma;
+      colour_length = c.find_first-first.auto.colour;
       reaches = c.find_first-first.ensures.reaches;
       few_luma = c.find_first-first.ensures.few_luma;
       few_colour = c.find_first-first.ensures.few_colour;
@@ -89,8 +89,8 @@ loop-index-preserved c =
     let j : CodedPicture = picture_of a.job in
     let l = c.loop-index in
     record {
-      luma_length = c.try_if_may-trying.auto.luma ∙ l.invariant.luma_length;
-      colour_length = c.try_if_may-trying.auto.colour ∙ l.invariant.colour_length;
+      luma_length = c.reaches_behind-reaches.auto.luma ∙ c.try_if_may-trying.auto.luma ∙ l.invariant.luma_length;
+      colour_length = c.reaches_behind-reaches.auto.colour ∙ c.try_if_may-trying.auto.colour ∙ l.invariant.colour_length;
       reaches = c.reaches_behind-reaches.ensures.value;
       few_luma = c.reaches_behind-reaches.ensures.few_luma;
       few_colour = c.reaches_behind-reaches.ensures.few_colour;
@@ -136,3 +136,17 @@ returns-then-trying-clause-near c = c.find_first-first.ensures.first.most
 
 pub returns-clause-near : goal.returns-clause-near
 returns-clause-near c = c.find_first-first.ensures.first.most
+
+pub find_first-first-requires-clause-room : goal.find_first-first-requires-clause-room
+find_first-first-requires-clause-room c =
+    let a = c.args in
+    has_room (picture_of a.job) a.job.sx a.job.sy a.gathered.now _ _ c.requires.gathered c.requires.room
+
+pub reaches_behind-reaches-requires-clause-room : goal.reaches_behind-reaches-requires-clause-room
+reaches_behind-reaches-requires-clause-room c =
+    let a = c.args in
+    let all = has_room (picture_of a.job) a.job.sx a.job.sy a.gathered.now _ _ c.requires.gathered c.requires.room in
+    record {
+      luma = omega (arith, all.luma, c.try_if_may-trying.auto.luma, c.loop-index.invariant.luma_length);
+      colour = omega (arith, all.colour, c.try_if_may-trying.auto.colour, c.loop-index.invariant.colour_length);
+    }

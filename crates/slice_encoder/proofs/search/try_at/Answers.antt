@@ -2,7 +2,7 @@ use Rattle.std.proofs.Common.{◌∙◌, ap}
 use Rattle.slice_encoder.specs.declared.gathered.Reaches.{Reaches}
 use Rattle.slice_encoder.specs.Trials.{CodedPicture, luma_of}
 use Rattle.slice_encoder.specs.Jobs.{picture_of}
-use Rattle.slice_encoder.proofs.GatheredLists.{ends_same, reach_is, pairs_reach_is}
+use Rattle.slice_encoder.proofs.GatheredLists.{ends_same, reach_is, pairs_reach_is, has_room}
 use Rattle.slice_encoder.proofs.search.try_at.Goals as goal
 
 pub reaches-reaches-requires-clause-ends : goal.reaches-reaches-requires-clause-ends
@@ -25,3 +25,8 @@ list_and_count-requires-clause-colour_reach c =
 
 pub returns-clause-holds : goal.returns-clause-holds
 returns-clause-holds c = c.list_and_count.ensures c.args.kept.now c.requires.ready c.restore_lowest.ensures
+
+pub reaches-reaches-requires-clause-room : goal.reaches-reaches-requires-clause-room
+reaches-reaches-requires-clause-room c =
+    let a = c.args in
+    has_room (picture_of a.job) a.job.sx a.job.sy a.gathered.now _ _ c.requires.gathered c.requires.room
