@@ -1,22 +1,12 @@
 -- Rooms of synthesis in 16 bits, and the bands that serve from one slice to the next.
-use Rattle.std.proofs.Common.{◌≡◌, ℕ, ◌≤◌, refl, sym, ap, subst, ◌∙◌, arith}
-use Rattle.std.specs.Prelude.{Bool, true, false, ℤ}
+use Rattle.std.proofs.Common.{◌≡◌, ℕ, sym, ap, subst, ◌∙◌}
+use Rattle.std.specs.Prelude.{true}
 use Rattle.planes.specs.Raster.{Raster, height}
-use Rattle.planes.specs.Subbands.{BandStack, BandExists, subband_length, AgreeInSizes, HaveSizes}
-use Rattle.planes.specs.declared.Trio.{Trio}
+use Rattle.planes.specs.Subbands.{BandStack, HaveSizes}
 use Rattle.slice_geometry.specs.declared.Size.{Size}
-use Rattle.slice_geometry.specs.declared.Component.{Component}
-use Rattle.slice_geometry.specs.declared.Component.TheVariants.{Luma, C1, C2}
-use Rattle.slice_geometry.specs.declared.PictureShape.{PictureShape}
 use Rattle.slice_geometry.specs.Slicing.{Slicing}
 use Rattle.slice_geometry.specs.Geometry.{padded_length}
-use Rattle.slice_bands.specs.declared.short_bands.ShortBands.{ShortBands}
-use Rattle.slice_bands.specs.declared.short_bands.ShortTrio.{ShortTrio}
-use Rattle.slice_bands.specs.Short.{ShowTheSame}
-use Rattle.slice_bands.specs.ShortBands.{short_stack, IsShortSound}
-use Rattle.slice_decoder.specs.Short.{shown_trio}
-use Rattle.picture_codec.specs.Decoding.{AreTaken, HaveHalfRoom, HasLateRoom, HasGatherRoom, stack_of}
-use Rattle.picture_codec.specs.ShortSlices.{AllShowTheSame, AreShortSound}
+use Rattle.picture_codec.specs.Decoding.{AreTaken, HaveHalfRoom, HasLateRoom, HasGatherRoom}
 use Rattle.picture_codec.specs.declared.workspace.LateWorkspace.{LateWorkspace}
 use Rattle.picture_codec.specs.declared.workspace.GatherRoom.{GatherRoom}
 

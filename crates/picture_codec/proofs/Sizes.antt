@@ -1,12 +1,15 @@
 -- Sizes of padded components, and what synthesis asks of taken bands.
 use Rattle.std.proofs.Common.{◌≡◌, ℕ, zero, suc, ◌+◌, ◌*◌, ◌/◌, ◌%◌, ◌^◌, ◌<◌, ◌≤◌, inl, inr, refl, pos, sym, ap, subst, ◌∙◌, arith}
 use Rattle.std.proofs.Math.Nat.{mul_comm}
-use Rattle.std.specs.Prelude.{ℤ}
 use Rattle.planes.specs.Raster.{Raster, at}
-use Rattle.planes.specs.Subbands.{BandStack, BandExists, band_of, subband_length}
+use Rattle.planes.specs.Subbands.{BandsOf, BandStack, BandExists, band_of, subband_length, HaveSizes}
 use Rattle.planes.specs.Bounded.{AreBandsWithin}
 use Rattle.dc_prediction.specs.Prediction.{reach}
 use Rattle.slice_geometry.specs.declared.Size.{Size}
+use Rattle.slice_geometry.specs.declared.Component.{Component}
+use Rattle.slice_geometry.specs.declared.Component.TheVariants.{Luma, C1, C2}
+use Rattle.slice_geometry.specs.declared.PictureShape.{PictureShape}
+use Rattle.slice_geometry.specs.Frames.{frame_of}
 use Rattle.slice_geometry.specs.Shape.{IsSize}
 use Rattle.slice_geometry.specs.Slicing.{Slicing, AreSlicesAllowed, slice_count}
 use Rattle.slice_geometry.specs.Geometry.{padded_length, band_size, holding}
@@ -18,7 +21,7 @@ use Rattle.lifting.specs.Ranges.{GridWithin}
 use Rattle.lifting.proofs.Levels as levels
 use Rattle.lifting.specs.declared.Wavelet.{Wavelet}
 use Rattle.lifting.specs.Transform.{synthesis}
-use Rattle.picture_codec.specs.Pictures.{sample_of}
+use Rattle.picture_codec.specs.Pictures.{size_of, sample_of}
 use Rattle.picture_codec.specs.Samples.{samples_by}
 use Rattle.picture_codec.specs.Decoding.{AreTaken, HaveHalfRoom, synthesised}
 use Rattle.picture_codec.specs.Taking.{holder}
@@ -51,6 +54,29 @@ holder_below s band y x allowed y_in x_in =
     let sy = holding s.slices_y band.h y in
     omega (arith, down, across, times-le (sy + 1) s.slices_y s.slices_x (omega (arith, down)), times-suc sy s.slices_x, mul_comm s.slices_x s.slices_y)
 
+-- the size of a component of a picture
+pub is_size_of : (shape : PictureShape) (c : Component) → IsSize (size_of (frame_of shape) c).w (size_of (frame_of shape) c).h
+is_size_of shape Luma = shape.luma_fits
+is_size_of shape C1 = shape.colour_fits
+is_size_of shape C2 = shape.colour_fits
+
+-- half a component's room serves bands of its sizes
+pub half_room : {X : Type 0} (s : Slicing) (size : Size) (b : BandsOf X) → b.depth ≡ s.depth → HaveSizes b (padded_length s.depth size.w) (padded_length s.depth size.h) → s.depth ≤ 4 → IsSize size.w size.h
+    → (plane scratch : Raster X) → HaveHalfRoom s size plane scratch → HaveRoom b (padded_length s.depth size.w) (padded_length s.depth size.h) plane scratch
+half_room s size b depth sizes low is_size plane scratch room = record {
+  some_columns = omega (arith, is_size.some_columns, padded_covers s.depth size.w low);
+  some_rows = omega (arith, is_size.some_rows, padded_covers s.depth size.h low);
+  low = omega (arith, padded_most s.depth size.h low is_size.height);
+  whole_columns = rw depth (padded_whole s.depth size.w low);
+  whole_rows = rw depth (padded_whole s.depth size.h low);
+  bands = sizes;
+  columns = omega (arith, room.columns);
+  rows = omega (arith, room.rows);
+  scratch_columns = omega (arith, room.scratch_columns);
+  scratch_rows = omega (arith, room.scratch_rows);
+  three_rows = omega (arith, room.scratch_rows);
+}
+
 module _ (s : Slicing) (size : Size) (b : BandStack) (n : ℕ) (taken : AreTaken s size n b) (low : s.depth ≤ 4) (is_size : IsSize size.w size.h) where
   abbrev w : ℕ
   w = padded_length s.depth size.w
@@ -63,21 +89,6 @@ module _ (s : Slicing) (size : Size) (b : BandStack) (n : ℕ) (taken : AreTaken
 
   whole_rows : h % 2 ^ b.depth ≡ 0
   whole_rows = rw taken.depth (padded_whole s.depth size.h low)
-
-  pub half_room : (plane scratch : Raster ℤ) → HaveHalfRoom s size plane scratch → HaveRoom b w h plane scratch
-  half_room plane scratch room = record {
-    some_columns = omega (arith, is_size.some_columns, padded_covers s.depth size.w low);
-    some_rows = omega (arith, is_size.some_rows, padded_covers s.depth size.h low);
-    low = omega (arith, padded_most s.depth size.h low is_size.height);
-    whole_columns = whole_columns;
-    whole_rows = whole_rows;
-    bands = taken.sizes;
-    columns = omega (arith, room.columns);
-    rows = omega (arith, room.rows);
-    scratch_columns = omega (arith, room.scratch_columns);
-    scratch_rows = omega (arith, room.scratch_rows);
-    three_rows = omega (arith, room.scratch_rows);
-  }
 
   -- bands of slices that were all taken
   module _ (all : n ≡ slice_count s) (allowed : AreSlicesAllowed s) where

@@ -1,7 +1,6 @@
 -- The picture of one unit, place by place (SMPTE ST 2042-1:2017, 15.3 inverse_wavelet_transform, 15.5 clip_picture,
 -- offset_picture).
-use Rattle.std.specs.Prelude.{ℕ, ◌+◌, ◌-◌, ◌*◌, ◌^◌, List, [], slice_index_or, ℤ, pos, neg_ℤ, ◌+ℤ◌, unsigned_abs}
-use Rattle.std.specs.Int.{int_min, int_max}
+use Rattle.std.specs.Prelude.{ℕ, ◌+◌, ◌*◌, List, [], slice_index_or, ℤ, pos}
 use Rattle.slice_geometry.specs.Frames.{Frame}
 use Rattle.slice_geometry.specs.declared.Size.{Size}
 use Rattle.slice_geometry.specs.declared.Component.{Component}
@@ -12,6 +11,7 @@ use Rattle.slice_decoder.specs.Slice.{slice_at, luma_values, colour_values}
 use Rattle.slice_geometry.specs.SliceOrder.{place_number}
 use Rattle.dc_prediction.specs.Prediction.{restored}
 use Rattle.lifting.specs.Transform.{Grid, Coefficients, synthesis}
+pub use Rattle.lifting.specs.Clipping.{clipped, sample_of}
 use Rattle.transform_params.specs.Params.{Params}
 
 -- the size of a component
@@ -60,14 +60,6 @@ coefficients f p slices c = record {
 }
 
 -- ---- the samples
-
--- the nearest number that fits in a signal of so many bits
-abbrev pub clipped : ℕ → ℤ → ℤ
-clipped depth v = int_max (neg_ℤ (pos (2 ^ (depth - 1)))) (int_min (pos (2 ^ (depth - 1) - 1)) v)
-
--- clipped, and offset to begin at 0
-abbrev pub sample_of : ℕ → ℤ → ℕ
-sample_of depth v = unsigned_abs (clipped depth v +ℤ pos (2 ^ (depth - 1)))
 
 -- The sample of a component in row y and column x: over the synthesis of its bands.
 unfoldable pub sample : Frame → Params → List (List ℕ) → Component → ℕ → ℕ → ℕ

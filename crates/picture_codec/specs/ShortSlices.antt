@@ -11,7 +11,7 @@ use Rattle.slice_decoder.specs.Short.{shown_trio}
 use Rattle.picture_codec.specs.DecodedBands.{AllAgree, RowsSeen, narrow_of}
 
 -- All slices of a component have one size, and each level of the transform halves it.
-pub record IsWhole (s : Slicing) (size : Size) : Type 0 where
+pub record HasSlicesOfOneSize (s : Slicing) (size : Size) : Type 0 where
   pub across : padded_length s.depth size.w % s.slices_x ≡ 0
   pub down : padded_length s.depth size.h % s.slices_y ≡ 0
   pub columns : padded_length s.depth size.w / s.slices_x % 2 ^ s.depth ≡ 0

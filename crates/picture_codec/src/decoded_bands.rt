@@ -15,9 +15,9 @@ ghost use Rattle.picture_codec.specs.DecodedBands.{IsShownAs};
 use crate::picture::Picture;
 use crate::row_bands::RowBands;
 use crate::short_slices::{ShortSlices, are_short};
-use crate::workspace::{SynthesisRoom, depth_of, size_of};
+use crate::showing::show_rows;
+use crate::workspace::{SynthesisRoom, depth_of};
 use planes::{Bands, NarrowBands, NoMemory};
-use quant_factors::Matrix;
 use slice_bands::{ShortBands, ShortTrio};
 use slice_decoder::SliceFault;
 use slice_geometry::{Component, Layout, PictureShape, SliceHead};
@@ -81,19 +81,11 @@ fn show_in_16_bits(
         return false;
     }
     bands.slices.shows();
-    let padded = params.layout.padded_size(size_of(picture.shape(), c));
     room.gathered.make();
-    room.short.make();
     if !bands.gather(&mut room.gathered.bands, row) {
         return false;
     }
-    picture.synthesise_short(
-        c,
-        params.wavelet,
-        &room.gathered.bands,
-        padded,
-        &mut room.short.room,
-    )
+    show_rows(params, &room.gathered.bands, &mut room.short, c, picture)
 }
 
 /// The bands of the three components. Those of 16 bits serve where all slices of a component have one size, until a slice has
@@ -160,34 +152,32 @@ impl DecodedBands {
     /// Decodes a slice as `decode_slice` does.
     pub(crate) fn decode(
         &mut self,
-        layout: &Layout,
+        params: &TransformParams,
         shape: &PictureShape,
-        matrix: &Matrix,
         sx: u32,
         sy: u32,
         bytes: &[u8],
     ) -> Result<SliceHead, SliceFault>
-        requires across { sx < layout.now.slices_x }
-        requires down { sy < layout.now.slices_y }
+        requires across { sx < params.now.layout.slices_x }
+        requires down { sy < params.now.layout.slices_y }
         requires some { 1 ≤ length bytes.now }
         requires most { length bytes.now ≤ 2 ^ 28 }
-        requires entries { matrix.now.depth ≡ layout.now.depth }
-        requires ready { AreReady layout.now shape.now sx sy self.old }
-        ensures decoded { let slice = slice_at layout.now shape.now.luma shape.now.colour sx sy
-            bytes.now in
+        requires entries { params.now.matrix.depth ≡ params.now.layout.depth }
+        requires ready { AreReady params.now.layout shape.now sx sy self.old }
+        ensures decoded { let slice = slice_at params.now.layout shape.now.luma shape.now.colour sx
+            sy bytes.now in
             MatchResult result
-            (λ head. IsDecoded layout.now shape.now sx sy matrix.now slice head self.new)
-            (IsRefused layout.now shape.now sx sy matrix.now slice) }
-        ensures others { AllKeepOthers layout.now shape.now sx sy self.old self.new }
+            (λ head. IsDecoded params.now.layout shape.now sx sy params.now.matrix slice head
+            self.new)
+            (IsRefused params.now.layout shape.now sx sy params.now.matrix slice) }
+        ensures others { AllKeepOthers params.now.layout shape.now sx sy self.old self.new }
     {
+        let (layout, matrix) = (&params.layout, &params.matrix);
         if !self.is_short {
             return self.rows.decode(layout, shape, matrix, sx, sy, bytes);
         }
         let codes = self.rows.codes();
-        match self
-            .short
-            .decode(layout, shape, matrix, sx, sy, bytes, codes)
-        {
+        match self.short.decode(params, shape, sx, sy, bytes, codes) {
             Ok(Some(head)) => Ok(head),
             Err(fault) => Err(fault),
             Ok(None) => {

@@ -115,10 +115,7 @@ impl PictureDecoder {
         let (params, shape) = (self.params, *self.picture.shape());
         let across = params.layout.slices_x();
         let (sx, sy) = (self.next % across, self.next / across);
-        match self
-            .bands
-            .decode(&params.layout, &shape, &params.matrix, sx, sy, bytes)
-        {
+        match self.bands.decode(&params, &shape, sx, sy, bytes) {
             Ok(_) => {
                 self.next += 1;
                 Ok(())

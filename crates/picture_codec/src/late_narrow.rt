@@ -22,12 +22,12 @@ use slice_geometry::{Component, Layout, PictureShape, SliceHead};
 use std::alloc::Global;
 use std::marker::Model;
 
-// The most values of a block that are read into bands of 16 or 32 bits.
-const MOST_VALUES: usize = 1 << 20;
+/// The most values of a block that are read into bands of 16 or 32 bits.
+pub(crate) const MOST_VALUES: usize = 1 << 20;
 
-/// How many values there is room for: those of about the greatest block of a picture's slices, and the places behind them
-/// that reading takes. A block of more is read into wider bands.
-pub(crate) fn room_of(layout: &Layout, shape: &PictureShape) -> usize {
+// How many values there is room for: those of about the greatest block of a picture's slices, and the places behind them
+// that reading takes. A block of more is read into wider bands.
+fn room_of(layout: &Layout, shape: &PictureShape) -> usize {
     let depth = layout.depth();
     let across = shape.luma.w / layout.slices_x() + (2 << depth);
     let down = shape.luma.h / layout.slices_y() + (2 << depth);

@@ -12,6 +12,8 @@ mod picture;
 mod row_bands;
 mod samples;
 mod short_slices;
+mod showing;
+mod synthesised;
 mod wide_bands;
 mod workspace;
 

@@ -3,13 +3,14 @@
 ghost use Rattle.std.specs.Prelude.{◌≡◌, ◌+◌, ◌*◌, ◌^◌, ◌<◌, ◌≤◌, length, true, false, IfOk};
 ghost use Rattle.std.specs.List.{All};
 ghost use Rattle.planes.specs.Raster.{height, at};
-ghost use Rattle.lifting.specs.SampleRoom.{HaveRoom, AreSmallIn, AreNarrowIn, synthesis_of};
+ghost use Rattle.lifting.specs.SampleRoom.{HaveRoom, synthesis_in};
 ghost use Rattle.picture_codec.specs.Samples.{AreBelow, PictureSeen, blank_picture, component_shown, width_of, height_of, sample_bits, sample_at, with_sample, with_run, with_component, with_shown};
 
 use crate::samples::Samples;
-use crate::workspace::{NarrowWorkspace, Workspace};
+use crate::synthesised::Synthesised;
+use crate::workspace::Workspace;
 use lifting::Wavelet;
-use planes::{Bands, NarrowBands, NoMemory};
+use planes::{Bands, NoMemory};
 use slice_geometry::{Component, PictureShape, Size};
 use std::alloc::Global;
 use std::marker::Model;
@@ -124,21 +125,24 @@ impl Picture {
         }
     }
 
-    /// A component's samples from its bands: synthesised, trimmed to the component's size, clipped to its depth and offset.
-    pub(crate) fn synthesise(
+    /// A component's samples from its bands: synthesised, trimmed to the component's size, clipped to its depth and offset; and
+    /// whether the width has room for that. Where it has none, the picture stays.
+    pub(crate) fn synthesise<T: Synthesised>(
         &mut self,
         c: Component,
         wavelet: Wavelet,
-        bands: &Bands,
+        bands: &Bands<T>,
         padded: Size,
-        room: &mut Workspace,
-    )
+        room: &mut Workspace<T>,
+    ) -> bool
         requires fits { width_of self.old c ≤ padded.w }
         requires high { height_of self.old c ≤ padded.h }
         requires room { HaveRoom bands.now padded.w padded.h room.old.plane room.old.scratch }
-        requires small { AreSmallIn bands.now padded.w padded.h }
-        ensures samples { self.new ≡ with_shown self.old c
-            (synthesis_of wavelet bands.now padded.w padded.h) }
+        requires serve { T.serve (sample_bits self.old c) bands.now padded.w padded.h }
+        ensures samples { result ≡ true → self.new ≡ with_shown self.old c
+            (synthesis_in T.value T.none wavelet bands.now padded.w padded.h) }
+        ensures roomy { T.is_roomy ≡ true → result ≡ true }
+        ensures left { result ≡ false → self.new ≡ self.old }
         ensures same_width { room.new.plane.w ≡ room.old.plane.w }
         ensures same_height { height room.new.plane ≡ height room.old.plane }
         ensures same_width_scratch { room.new.scratch.w ≡ room.old.scratch.w }
@@ -155,75 +159,6 @@ impl Picture {
             Component::C2 => self
                 .c2
                 .synthesise(wavelet, bands, padded, room, shape.colour_depth),
-        }
-    }
-
-    /// The same of bands whose magnitudes are at most 2^18, in 32 bits.
-    pub(crate) fn synthesise_narrow(
-        &mut self,
-        c: Component,
-        wavelet: Wavelet,
-        bands: &NarrowBands,
-        padded: Size,
-        room: &mut NarrowWorkspace,
-    )
-        requires fits { width_of self.old c ≤ padded.w }
-        requires high { height_of self.old c ≤ padded.h }
-        requires room { HaveRoom bands.now padded.w padded.h room.old.plane room.old.scratch }
-        requires small { AreNarrowIn bands.now padded.w padded.h }
-        ensures samples { self.new ≡ with_shown self.old c
-            (synthesis_of wavelet bands.now padded.w padded.h) }
-        ensures same_width { room.new.plane.w ≡ room.old.plane.w }
-        ensures same_height { height room.new.plane ≡ height room.old.plane }
-        ensures same_width_scratch { room.new.scratch.w ≡ room.old.scratch.w }
-        ensures same_height_scratch { height room.new.scratch ≡ height room.old.scratch }
-    {
-        let shape = self.shape;
-        match c {
-            Component::Luma => self
-                .luma
-                .synthesise_narrow(wavelet, bands, padded, room, shape.luma_depth),
-            Component::C1 => self
-                .c1
-                .synthesise_narrow(wavelet, bands, padded, room, shape.colour_depth),
-            Component::C2 => self
-                .c2
-                .synthesise_narrow(wavelet, bands, padded, room, shape.colour_depth),
-        }
-    }
-
-    /// The same in 16 bits, and whether these have room for it. Where they have not, the picture stays.
-    pub(crate) fn synthesise_short(
-        &mut self,
-        c: Component,
-        wavelet: Wavelet,
-        bands: &Bands<i16>,
-        padded: Size,
-        room: &mut Workspace<i16>,
-    ) -> bool
-        requires few_bits { sample_bits self.old c ≤ 15 }
-        requires fits { width_of self.old c ≤ padded.w }
-        requires high { height_of self.old c ≤ padded.h }
-        requires room { HaveRoom bands.now padded.w padded.h room.old.plane room.old.scratch }
-        ensures samples { result ≡ true → self.new ≡ with_shown self.old c
-            (synthesis_of wavelet bands.now padded.w padded.h) }
-        ensures left { result ≡ false → self.new ≡ self.old }
-        ensures same_width { room.new.plane.w ≡ room.old.plane.w }
-        ensures same_height { height room.new.plane ≡ height room.old.plane }
-        ensures same_width_scratch { room.new.scratch.w ≡ room.old.scratch.w }
-        ensures same_height_scratch { height room.new.scratch ≡ height room.old.scratch }
-    {
-        let shape = self.shape;
-        match c {
-            Component::Luma => self
-                .luma
-                .synthesise_short(wavelet, bands, padded, room, shape.luma_depth),
-            Component::C1 => self
-                .c1
-                .synthesise_short(wavelet, bands, padded, room, shape.colour_depth),
-            Component::C2 => self
-                .c2
-                .synthesise_short(wavelet, bands, padded, room, shape.colour_depth),
         }
     }
 }

@@ -10,14 +10,15 @@ ghost use Rattle.slice_decoder.specs.Narrow.{trio_of, AreNarrowBands};
 ghost use Rattle.slice_decoder.specs.Short.{shown_trio};
 ghost use Rattle.picture_codec.specs.ShortSlices.{AllShowTheSame, AreShortSound, AreBeside};
 ghost use Rattle.picture_codec.specs.Pictures as pictures;
-ghost use Rattle.picture_codec.specs.Decoding.{AreTaken, HasLateRoom, HasSynthesisRoom, AreNewBands, stack_of, with_synthesised};
+ghost use Rattle.picture_codec.specs.Decoding.{AreTaken, HasSynthesisRoom, AreNewBands, stack_of, with_synthesised};
 ghost use Rattle.picture_codec.specs.DecodedBands.{narrow_of, IsShownAs};
 
 use crate::decoded_bands::ShownBands;
 use crate::late_narrow::LateNarrow;
 use crate::picture::Picture;
+use crate::showing::{show_in_32_bits, show_in_64_bits};
 use crate::wide_bands::WideBands;
-use crate::workspace::{LateWorkspace, SynthesisRoom, size_of};
+use crate::workspace::SynthesisRoom;
 use bounded_blocks::CodeTable;
 use planes::{Bands, NarrowBands, NarrowTrio, NoMemory, Trio};
 use quant_factors::Matrix;
@@ -30,55 +31,6 @@ use transform_params::TransformParams;
 
 // The greatest magnitude in bands of 32 bits.
 const MOST_NARROW: i64 = 262144;
-
-// The samples of a component from its bands, in 64 bits.
-fn show_in_64_bits(
-    params: &TransformParams,
-    bands: &Bands,
-    late: &mut LateWorkspace,
-    c: Component,
-    picture: &mut Picture,
-)
-    requires taken { AreTaken params.now.layout (pictures.size_of (frame_of picture.old.shape) c)
-        (slice_count params.now.layout) bands.now }
-    requires room { HasLateRoom params.now.layout
-        (pictures.size_of (frame_of picture.old.shape) c) late.old }
-    ensures picture { picture.new ≡ with_synthesised params.now.wavelet picture.old c bands.now }
-    ensures room { HasLateRoom params.now.layout
-        (pictures.size_of (frame_of picture.old.shape) c) late.new }
-    ensures allowed { IsAllowed params.now.layout }
-{
-    // The rules of a layout.
-    let _ = params.layout.depth();
-    let padded = params.layout.padded_size(size_of(picture.shape(), c));
-    late.make();
-    picture.synthesise(c, params.wavelet, bands, padded, &mut late.room);
-}
-
-// The same in 32 bits, of bands whose magnitudes are at most 2^18.
-fn show_in_32_bits(
-    params: &TransformParams,
-    bands: &NarrowBands,
-    late: &mut LateWorkspace<i32>,
-    c: Component,
-    picture: &mut Picture,
-)
-    requires taken { AreTaken params.now.layout (pictures.size_of (frame_of picture.old.shape) c)
-        (slice_count params.now.layout) bands.now }
-    requires narrow { AreBandsWithin (pos (2 ^ 18)) bands.now }
-    requires room { HasLateRoom params.now.layout
-        (pictures.size_of (frame_of picture.old.shape) c) late.old }
-    ensures picture { picture.new ≡ with_synthesised params.now.wavelet picture.old c bands.now }
-    ensures room { HasLateRoom params.now.layout
-        (pictures.size_of (frame_of picture.old.shape) c) late.new }
-    ensures allowed { IsAllowed params.now.layout }
-{
-    // The rules of a layout.
-    let _ = params.layout.depth();
-    let padded = params.layout.padded_size(size_of(picture.shape(), c));
-    late.make();
-    picture.synthesise_narrow(c, params.wavelet, bands, padded, &mut late.room);
-}
 
 // The bands of a component.
 fn wide_stack(bands: &Trio, c: Component) -> &Bands

@@ -4,13 +4,14 @@ ghost use Rattle.std.specs.Prelude.{◌≡◌, ℕ, ◌+◌, ◌-◌, ◌*◌, �
 ghost use Rattle.std.specs.Int.{int_min, int_max};
 ghost use Rattle.planes.specs.Raster.{height, at};
 ghost use Rattle.slice_geometry.specs.Shape.{IsSize, IsDepth};
-ghost use Rattle.lifting.specs.SampleRoom.{HaveRoom, AreSmallIn, AreNarrowIn, synthesis_of};
+ghost use Rattle.lifting.specs.SampleRoom.{HaveRoom, synthesis_in};
 ghost use Rattle.picture_codec.specs.Pictures.{sample_of};
 ghost use Rattle.picture_codec.specs.Samples.{sample_at, with_sample, with_run, samples_by, blank};
 
-use crate::workspace::{NarrowWorkspace, Workspace};
-use lifting::{SampleArea, Wavelet, synth_samples, synth_samples_narrow, synth_samples_short};
-use planes::{Bands, NarrowBands, NoMemory};
+use crate::synthesised::Synthesised;
+use crate::workspace::Workspace;
+use lifting::{SampleArea, Wavelet};
+use planes::{Bands, NoMemory};
 use slice_geometry::Size;
 use std::alloc::Global;
 use std::marker::Model;
@@ -83,100 +84,26 @@ impl Samples {
         self.cells.as_slice()
     }
 
-    /// The samples of a component from its bands: synthesised, and of the first rows and columns each number clipped to so
-    /// many bits and offset.
-    pub(crate) fn synthesise(
+    /// These samples from bands: synthesised, trimmed, clipped to a depth and offset; and whether the width has room for that.
+    /// Where it has none, the samples stay.
+    pub(crate) fn synthesise<T: Synthesised>(
         &mut self,
         wavelet: Wavelet,
-        bands: &Bands,
+        bands: &Bands<T>,
         padded: Size,
-        room: &mut Workspace,
-        depth: u32,
-    )
-        requires depth { IsDepth depth }
-        requires fits { self.old.w ≤ padded.w }
-        requires high { self.old.h ≤ padded.h }
-        requires room { HaveRoom bands.now padded.w padded.h room.old.plane room.old.scratch }
-        requires small { AreSmallIn bands.now padded.w padded.h }
-        ensures samples { self.new ≡ samples_by (record { w = self.old.w; h = self.old.h })
-            (λ y x. sample_of depth (synthesis_of wavelet bands.now padded.w padded.h y x)) }
-        ensures same_width { room.new.plane.w ≡ room.old.plane.w }
-        ensures same_height { height room.new.plane ≡ height room.old.plane }
-        ensures same_width_scratch { room.new.scratch.w ≡ room.old.scratch.w }
-        ensures same_height_scratch { height room.new.scratch ≡ height room.old.scratch }
-    {
-        let area = SampleArea {
-            w: self.w,
-            h: self.h,
-            depth,
-        };
-        synth_samples(
-            wavelet,
-            bands,
-            padded.w,
-            padded.h,
-            &mut room.plane,
-            &mut room.scratch,
-            self.cells.as_mut_slice(),
-            area,
-        );
-    }
-
-    /// The same of bands whose magnitudes are at most 2^18, in 32 bits.
-    pub(crate) fn synthesise_narrow(
-        &mut self,
-        wavelet: Wavelet,
-        bands: &NarrowBands,
-        padded: Size,
-        room: &mut NarrowWorkspace,
-        depth: u32,
-    )
-        requires depth { IsDepth depth }
-        requires fits { self.old.w ≤ padded.w }
-        requires high { self.old.h ≤ padded.h }
-        requires room { HaveRoom bands.now padded.w padded.h room.old.plane room.old.scratch }
-        requires small { AreNarrowIn bands.now padded.w padded.h }
-        ensures samples { self.new ≡ samples_by (record { w = self.old.w; h = self.old.h })
-            (λ y x. sample_of depth (synthesis_of wavelet bands.now padded.w padded.h y x)) }
-        ensures same_width { room.new.plane.w ≡ room.old.plane.w }
-        ensures same_height { height room.new.plane ≡ height room.old.plane }
-        ensures same_width_scratch { room.new.scratch.w ≡ room.old.scratch.w }
-        ensures same_height_scratch { height room.new.scratch ≡ height room.old.scratch }
-    {
-        let area = SampleArea {
-            w: self.w,
-            h: self.h,
-            depth,
-        };
-        synth_samples_narrow(
-            wavelet,
-            bands,
-            padded.w,
-            padded.h,
-            &mut room.plane,
-            &mut room.scratch,
-            self.cells.as_mut_slice(),
-            area,
-        );
-    }
-
-    /// The same in 16 bits, and whether these have room for it. Where they have not, the samples stay.
-    pub(crate) fn synthesise_short(
-        &mut self,
-        wavelet: Wavelet,
-        bands: &Bands<i16>,
-        padded: Size,
-        room: &mut Workspace<i16>,
+        room: &mut Workspace<T>,
         depth: u32,
     ) -> bool
         requires depth { IsDepth depth }
-        requires few_bits { depth ≤ 15 }
         requires fits { self.old.w ≤ padded.w }
         requires high { self.old.h ≤ padded.h }
         requires room { HaveRoom bands.now padded.w padded.h room.old.plane room.old.scratch }
+        requires serve { T.serve depth bands.now padded.w padded.h }
         ensures samples { result ≡ true → self.new
             ≡ samples_by (record { w = self.old.w; h = self.old.h })
-            (λ y x. sample_of depth (synthesis_of wavelet bands.now padded.w padded.h y x)) }
+            (λ y x. sample_of depth
+            (synthesis_in T.value T.none wavelet bands.now padded.w padded.h y x)) }
+        ensures roomy { T.is_roomy ≡ true → result ≡ true }
         ensures left { result ≡ false → self.new ≡ self.old }
         ensures same_width { room.new.plane.w ≡ room.old.plane.w }
         ensures same_height { height room.new.plane ≡ height room.old.plane }
@@ -188,13 +115,11 @@ impl Samples {
             h: self.h,
             depth,
         };
-        synth_samples_short(
+        T::synth(
             wavelet,
             bands,
-            padded.w,
-            padded.h,
-            &mut room.plane,
-            &mut room.scratch,
+            padded,
+            room,
             self.cells.as_mut_slice(),
             area,
         )

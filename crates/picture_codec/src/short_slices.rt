@@ -8,22 +8,22 @@ ghost use Rattle.slice_decoder.specs.Slice.{slice_at};
 ghost use Rattle.slice_decoder.specs.Decoded.{AreReady, AllKeepOthers, IsDecoded, IsRefused};
 ghost use Rattle.slice_decoder.specs.Short.{shown_trio, IsCut, AreCut};
 ghost use Rattle.picture_codec.specs.Decoding.{AreNewBands};
-ghost use Rattle.picture_codec.specs.ShortSlices.{IsWhole, AreShortSound, AreBeside};
+ghost use Rattle.picture_codec.specs.ShortSlices.{HasSlicesOfOneSize, AreShortSound, AreBeside};
 
-use crate::late_narrow::room_of;
+use crate::late_narrow::MOST_VALUES;
 use bounded_blocks::CodeTable;
 use planes::NoMemory;
-use quant_factors::Matrix;
 use slice_bands::{ShortBands, ShortTrio};
-use slice_decoder::{SliceFault, decode_short};
+use slice_decoder::{ShortRoom, SliceFault, decode_short};
 use slice_geometry::{Layout, PictureShape, Size, SliceHead};
 use std::alloc::Global;
 use std::marker::Model;
+use transform_params::TransformParams;
 
 // Whether all slices of a component have one size, which the levels of the transform divide.
-fn is_whole(layout: &Layout, size: Size) -> bool
+fn has_slices_of_one_size(layout: &Layout, size: Size) -> bool
     requires { IsSize size.w size.h }
-    ensures { result ≡ true → IsWhole layout.now size }
+    ensures { result ≡ true → HasSlicesOfOneSize layout.now size }
 {
     let padded = layout.padded_size(size);
     let (across, down) = (layout.slices_x(), layout.slices_y());
@@ -36,13 +36,13 @@ fn is_whole(layout: &Layout, size: Size) -> bool
 
 /// Whether all slices of each component have one size, and its samples have at most 15 bits.
 pub(crate) fn are_short(layout: &Layout, shape: &PictureShape) -> bool
-    ensures luma { result ≡ true → IsWhole layout.now shape.now.luma }
-    ensures colour { result ≡ true → IsWhole layout.now shape.now.colour }
+    ensures luma { result ≡ true → HasSlicesOfOneSize layout.now shape.now.luma }
+    ensures colour { result ≡ true → HasSlicesOfOneSize layout.now shape.now.colour }
     ensures luma_depth { result ≡ true → shape.now.luma_depth ≤ 15 }
     ensures colour_depth { result ≡ true → shape.now.colour_depth ≤ 15 }
 {
-    is_whole(layout, shape.luma)
-        && is_whole(layout, shape.colour)
+    has_slices_of_one_size(layout, shape.luma)
+        && has_slices_of_one_size(layout, shape.colour)
         && shape.luma_depth <= 15
         && shape.colour_depth <= 15
 }
@@ -55,7 +55,7 @@ fn short_zero_bands(
     is_cut: bool,
 ) -> Result<ShortBands, NoMemory>
     requires size { IsSize size.w size.h }
-    requires whole { is_cut ≡ true → IsWhole layout.now size }
+    requires whole { is_cut ≡ true → HasSlicesOfOneSize layout.now size }
     ensures zero { IfOk result (λ b. is_cut ≡ true → AreNewBands layout.now size (short_stack b)) }
     ensures sound { IfOk result IsShortSound }
 {
@@ -66,6 +66,16 @@ fn short_zero_bands(
     let (across, down) = (layout.slices_x(), layout.slices_y());
     let (sw, sh) = (padded.w / across, padded.h / down);
     ShortBands::new(alloc, layout.depth(), across, down, sw, sh)
+}
+
+// How many values a slice of a component has, where all have one size.
+fn values_of(layout: &Layout, size: Size) -> usize
+    requires { IsSize size.w size.h }
+    ensures { result ≤ 2 ^ 26 }
+{
+    let padded = layout.padded_size(size);
+    let (sw, sh) = (padded.w / layout.slices_x(), padded.h / layout.slices_y());
+    sw as usize * sh as usize
 }
 
 // Whether a component's slices lie as a layout cuts it.
@@ -81,11 +91,22 @@ fn is_cut(bands: &ShortBands, layout: &Layout, size: Size) -> bool
         .covers(layout.slices_x(), layout.slices_y(), padded.w, padded.h)
 }
 
+// How many values the greatest block of a slice has, where the layout cuts the components. Blocks of very many are read into
+// wider bands.
+fn most_values(layout: &Layout, shape: &PictureShape, is_cut: bool) -> usize {
+    if !is_cut {
+        return 1;
+    }
+    let luma = values_of(layout, shape.luma);
+    let colour = values_of(layout, shape.colour);
+    luma.max(2 * colour).min(MOST_VALUES)
+}
+
 /// The bands of the three components in 16 bits, slice by slice.
 #[derive(Drop)]
 pub struct ShortSlices {
     bands: ShortTrio,
-    buffer: Vec<i16>,
+    room: ShortRoom,
 }
 
 impl Model for ShortSlices {
@@ -107,8 +128,8 @@ impl ShortSlices {
         shape: &PictureShape,
         is_cut: bool,
     ) -> Result<ShortSlices, NoMemory>
-        requires luma { is_cut ≡ true → IsWhole layout.now shape.now.luma }
-        requires colour { is_cut ≡ true → IsWhole layout.now shape.now.colour }
+        requires luma { is_cut ≡ true → HasSlicesOfOneSize layout.now shape.now.luma }
+        requires colour { is_cut ≡ true → HasSlicesOfOneSize layout.now shape.now.colour }
         ensures luma { IfOk result (λ b. is_cut ≡ true
             → AreNewBands layout.now shape.now.luma (short_stack b.luma)) }
         ensures c1 { IfOk result (λ b. is_cut ≡ true
@@ -122,7 +143,7 @@ impl ShortSlices {
                 c1: short_zero_bands(alloc, layout, shape.colour, is_cut)?,
                 c2: short_zero_bands(alloc, layout, shape.colour, is_cut)?,
             },
-            buffer: Vec::from_elem(alloc, 0i16, room_of(layout, shape))?,
+            room: ShortRoom::new(alloc, most_values(layout, shape, is_cut))?,
         })
     }
 
@@ -141,54 +162,54 @@ impl ShortSlices {
         requires c2 { self.now.c2.slices.depth ≡ layout.now.depth }
         ensures { result ≡ true → AreCut layout.now shape.now self.now }
     {
-        let _ = &self.buffer;
+        // The contract alone names it.
+        let _ = &self.room;
         is_cut(&self.bands.luma, layout, shape.luma)
             && is_cut(&self.bands.c1, layout, shape.colour)
             && is_cut(&self.bands.c2, layout, shape.colour)
     }
 
-    /// Decodes a slice as `decode_slice` does. It gives no head where 16 bits don't serve, or the slices don't lie as the layout
-    /// cuts the picture; to look at that costs less than to know it.
+    /// Decodes a slice as `decode_slice` does. It gives no head where 16 bits don't serve, or where these slices don't lie as the
+    /// layout cuts the picture. That is asked at each slice, since no clause says that they were made for this layout.
     pub(crate) fn decode(
         &mut self,
-        layout: &Layout,
+        params: &TransformParams,
         shape: &PictureShape,
-        matrix: &Matrix,
         sx: u32,
         sy: u32,
         bytes: &[u8],
         codes: &CodeTable,
     ) -> Result<Option<SliceHead>, SliceFault>
-        requires across { sx < layout.now.slices_x }
-        requires down { sy < layout.now.slices_y }
+        requires across { sx < params.now.layout.slices_x }
+        requires down { sy < params.now.layout.slices_y }
         requires some { 1 ≤ length bytes.now }
         requires most { length bytes.now ≤ 2 ^ 28 }
-        requires entries { matrix.now.depth ≡ layout.now.depth }
-        requires ready { AreReady layout.now shape.now sx sy (shown_trio self.old) }
-        ensures decoded { let slice = slice_at layout.now shape.now.luma shape.now.colour sx sy
-            bytes.now in
+        requires entries { params.now.matrix.depth ≡ params.now.layout.depth }
+        requires ready { AreReady params.now.layout shape.now sx sy (shown_trio self.old) }
+        ensures decoded { let slice = slice_at params.now.layout shape.now.luma shape.now.colour sx
+            sy bytes.now in
             MatchResult result
             (λ answer. MatchOption answer ⊤
-            (λ head. IsDecoded layout.now shape.now sx sy matrix.now slice head
+            (λ head. IsDecoded params.now.layout shape.now sx sy params.now.matrix slice head
             (shown_trio self.new)))
-            (IsRefused layout.now shape.now sx sy matrix.now slice) }
-        ensures others { AllKeepOthers layout.now shape.now sx sy (shown_trio self.old)
+            (IsRefused params.now.layout shape.now sx sy params.now.matrix slice) }
+        ensures others { AllKeepOthers params.now.layout shape.now sx sy (shown_trio self.old)
             (shown_trio self.new) }
         ensures beside { (rows : Trio) → AreBeside self.old rows → AreBeside self.new rows }
     {
-        if !self.are_cut(layout, shape) {
+        if !self.are_cut(&params.layout, shape) {
             return Ok(None);
         }
         match decode_short(
-            layout,
+            &params.layout,
             shape,
-            matrix,
+            &params.matrix,
             sx,
             sy,
             bytes,
             codes,
             &mut self.bands,
-            &mut self.buffer,
+            &mut self.room,
         ) {
             Ok(answer) => Ok(answer),
             Err(fault) => Err(fault),

@@ -19,7 +19,7 @@ use std::alloc::Global;
 /// The room for synthesis, in 64 bits where no other width is named: a plane for the levels below the last, and a scratch for
 /// their rows and for three of the last, which goes straight into the samples.
 #[derive(Drop)]
-pub(crate) struct Workspace<T = i64> {
+pub struct Workspace<T = i64> {
     pub(crate) plane: Plane<T>,
     pub(crate) scratch: Plane<T>,
 }
@@ -97,9 +97,6 @@ impl AnalysisWorkspace {
         })
     }
 }
-
-/// The room for synthesis in 32 bits.
-pub(crate) type NarrowWorkspace = Workspace<i32>;
 
 /// The bands of a component in 16 bits as rows, whose memory isn't touched before they are made.
 #[derive(Drop)]

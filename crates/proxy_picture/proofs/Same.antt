@@ -17,7 +17,7 @@ use Rattle.picture_codec.specs.Pictures.{sample_of}
 use Rattle.picture_codec.specs.Samples.{SamplesSeen, samples_by}
 use Rattle.picture_codec.proofs.Tables.{tabulated_same}
 use Rattle.proxy_picture.specs.Proxy.{levels_made, levels_left, shift_left_out, reduced_size}
-use Rattle.proxy_picture.specs.Making.{reduced, AreSized, AreForWidening}
+use Rattle.proxy_picture.specs.Making.{reduced, reduced_in, AreSized, AreForWidening}
 use Rattle.proxy_picture.specs.declared.widened.WidenedBands.{WidenedBands}
 use Rattle.proxy_picture.proofs.Lengths.{made_few, level_covers}
 
@@ -46,7 +46,7 @@ module _ (a b : BandStack) (same : ShowTheSame a b) where
 
   -- so the samples of a component's proxy are the same
   pub reduced_same : (k : Wavelet) (level : ℕ) (size : Size) (bits : ℕ) → a.depth ≤ 4 → reduced k level size bits b ≡ reduced k level size bits a
-  unfolding reduced
+  unfolding reduced_in
   reduced_same k level size bits low =
       let d = a.depth in
       let lowest = band_size d 0 size in

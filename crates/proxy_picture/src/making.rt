@@ -1,8 +1,7 @@
 //! The samples of a component's proxy.
 
-ghost use Rattle.std.specs.Prelude.{◌≡◌, ◌*◌, ◌%◌, ◌^◌, ◌<◌, ◌≤◌, length, pos};
+ghost use Rattle.std.specs.Prelude.{◌≡◌, ◌*◌, ◌%◌, ◌^◌, ◌<◌, ◌≤◌, length};
 ghost use Rattle.std.specs.List.{All};
-ghost use Rattle.planes.specs.Bounded.{AreBandsWithin};
 ghost use Rattle.slice_geometry.specs.declared.Component.TheVariants.{Luma};
 ghost use Rattle.slice_geometry.specs.Geometry.{padded_length};
 ghost use Rattle.slice_geometry.specs.Shape.{IsSize, IsDepth};
@@ -11,13 +10,14 @@ ghost use Rattle.picture_codec.specs.Decoding.{CanSynthesise, stack_of};
 ghost use Rattle.proxy_picture.specs.Proxy.{levels_left, reduced_length};
 ghost use Rattle.proxy_picture.specs.Proxy as proxy;
 ghost use Rattle.transform_params.specs.Views.{params_of};
-ghost use Rattle.proxy_picture.specs.Making.{level_size, AreOfSize, AreSized, IsLateRoom, IsLowerPart, IsRoomFor, reduced};
+ghost use Rattle.proxy_picture.specs.Making.{level_size, AreOfSize, AreSized, IsLowerPart, IsRoomFor, reduced, reduced_in};
 
-use crate::room::{LateRoom, NarrowRoom, ProxyRoom};
+use crate::lowered::{LevelPlanes, LowerPart, Lowered};
+use crate::room::ProxyRoom;
 use crate::sizes::{levels_made, reduced_size};
-use lifting::{LowerLevel, SampleArea, Wavelet, synth_lower_samples, synth_lower_samples_narrow};
+use lifting::{LowerLevel, SampleArea, Wavelet};
 use picture_codec::{DecodedBands, Picture, ShownBands};
-use planes::{Bands, NarrowBands};
+use planes::Bands;
 use slice_geometry::{Component, PictureShape, Size};
 use transform_params::TransformParams;
 
@@ -66,14 +66,6 @@ impl ComponentShape {
     }
 }
 
-/// A component's lower level: what is made of it, the padded size of the component, and the samples that are kept.
-#[derive(Clone, Copy)]
-pub(crate) struct LowerPart {
-    pub(crate) lower: LowerLevel,
-    pub(crate) padded: Size,
-    pub(crate) area: SampleArea,
-}
-
 // The lower level of a component, where so many levels are asked for.
 fn lower_part(params: &TransformParams, level: u32, of: ComponentShape) -> LowerPart
     requires size { IsSize of.size.w of.size.h }
@@ -99,51 +91,13 @@ fn lower_part(params: &TransformParams, level: u32, of: ComponentShape) -> Lower
     }
 }
 
-// The samples of a component, from bands of 64 bits.
-fn make_wide_cells(
+// The samples of a component, from its bands in one width.
+fn make_level<T: Lowered>(
     params: &TransformParams,
     level: u32,
-    bands: &Bands,
+    bands: &Bands<T>,
     of: ComponentShape,
-    late: &mut LateRoom,
-    cells: &mut [u16],
-)
-    requires size { IsSize of.size.w of.size.h }
-    requires bits { IsDepth of.bits }
-    requires ready { CanSynthesise params.now.layout of.size bands.now }
-    requires room { IsLateRoom (level_size params.now.layout level of.size).w
-        (level_size params.now.layout level of.size).h late.old }
-    requires count { length cells.old
-        ≡ reduced_length (levels_left level params.now.layout.depth) of.size.h
-        * reduced_length (levels_left level params.now.layout.depth) of.size.w }
-    ensures room { IsLateRoom (level_size params.now.layout level of.size).w
-        (level_size params.now.layout level of.size).h late.new }
-    ensures count { length cells.new ≡ length cells.old }
-    ensures cells { cells.new
-        ≡ (reduced params.now.wavelet level of.size of.bits bands.now).cells }
-{
-    let part = lower_part(params, level, of);
-    late.make();
-    synth_lower_samples(
-        params.wavelet,
-        bands,
-        part.lower,
-        part.padded.w,
-        part.padded.h,
-        &mut late.plane,
-        &mut late.scratch,
-        cells,
-        part.area,
-    );
-}
-
-// The same from bands of 32 bits, whose magnitudes are at most 2^18.
-fn make_narrow_cells(
-    params: &TransformParams,
-    level: u32,
-    bands: &NarrowBands,
-    of: ComponentShape,
-    room: &mut NarrowRoom,
+    planes: &mut LevelPlanes<T>,
     cells: &mut [u16],
 )
     requires size { IsSize of.size.w of.size.h }
@@ -151,30 +105,21 @@ fn make_narrow_cells(
     requires sized { AreSized params.now.layout.depth
         (padded_length params.now.layout.depth of.size.w)
         (padded_length params.now.layout.depth of.size.h) bands.now }
-    requires within { AreBandsWithin (pos (2 ^ 18)) bands.now }
+    requires serve { T.serve bands.now (padded_length params.now.layout.depth of.size.w)
+        (padded_length params.now.layout.depth of.size.h) }
     requires room { AreOfSize (level_size params.now.layout level of.size).w
-        (level_size params.now.layout level of.size).h room.old.plane room.old.scratch }
+        (level_size params.now.layout level of.size).h planes.old.plane planes.old.scratch }
     requires count { length cells.old
         ≡ reduced_length (levels_left level params.now.layout.depth) of.size.h
         * reduced_length (levels_left level params.now.layout.depth) of.size.w }
     ensures room { AreOfSize (level_size params.now.layout level of.size).w
-        (level_size params.now.layout level of.size).h room.new.plane room.new.scratch }
+        (level_size params.now.layout level of.size).h planes.new.plane planes.new.scratch }
     ensures count { length cells.new ≡ length cells.old }
     ensures cells { cells.new
-        ≡ (reduced params.now.wavelet level of.size of.bits bands.now).cells }
+        ≡ (reduced_in T.value T.none params.now.wavelet level of.size of.bits bands.now).cells }
 {
     let part = lower_part(params, level, of);
-    synth_lower_samples_narrow(
-        params.wavelet,
-        bands,
-        part.lower,
-        part.padded.w,
-        part.padded.h,
-        &mut room.plane,
-        &mut room.scratch,
-        cells,
-        part.area,
-    );
+    T::synth_lower(params.wavelet, bands, part, planes, cells);
 }
 
 // The samples of a component, in the room's cells.
@@ -198,15 +143,16 @@ fn make_cells(
     let cells = room.cells.as_mut_slice();
     match bands.component(of.c) {
         ShownBands::Wide(bands) => {
-            make_wide_cells(params, level, bands, of, &mut room.late, cells)
+            room.late.make();
+            make_level(params, level, bands, of, &mut room.late.planes, cells)
         }
         ShownBands::Narrow(bands) => {
-            make_narrow_cells(params, level, bands, of, &mut room.narrow, cells)
+            make_level(params, level, bands, of, &mut room.narrow, cells)
         }
         ShownBands::Short(bands) => {
             room.widened.take(bands);
             let bands = &room.widened.bands;
-            make_narrow_cells(params, level, bands, of, &mut room.narrow, cells)
+            make_level(params, level, bands, of, &mut room.narrow, cells)
         }
     }
 }

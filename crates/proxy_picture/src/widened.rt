@@ -6,7 +6,7 @@ ghost use Rattle.slice_geometry.specs.Shape.{IsSize};
 ghost use Rattle.slice_geometry.specs.Geometry.{padded_length};
 ghost use Rattle.slice_bands.specs.Short.{ShowTheSame};
 ghost use Rattle.slice_bands.specs.ShortBands.{short_stack, IsShortSound};
-ghost use Rattle.proxy_picture.specs.Making.{AreRowless, AreForWidening};
+ghost use Rattle.proxy_picture.specs.Making.{AreWidenedRowless, AreForWidening};
 
 use planes::{LateBands, NarrowBands, NoMemory};
 use slice_bands::ShortBands;
@@ -51,7 +51,7 @@ impl WidenedBands {
 
     // Sees to it that the bands are made.
     fn make(&mut self)
-        requires { AreRowless self.old }
+        requires { AreWidenedRowless self.old }
         ensures { (depth w h : ℕ) → AreForWidening depth w h self.old
             → AreForWidening depth w h self.new × (self.new.is_made ≡ true) }
     {

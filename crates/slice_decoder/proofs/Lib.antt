@@ -17,3 +17,4 @@ pub mod PairLanes
 pub mod ShortPlaces
 pub mod ShortTakes
 pub mod SliceSteps
+pub mod StepRows

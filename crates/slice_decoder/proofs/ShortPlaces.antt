@@ -17,6 +17,7 @@ use Rattle.slice_geometry.specs.Slicing.{Slicing}
 use Rattle.slice_geometry.specs.Geometry.{padded_length, slice_start, band_size}
 use Rattle.slice_geometry.specs.SliceOrder.{level_rect, area, places_to, places_before, place_count, number_in}
 use Rattle.slice_decoder.specs.Levels.{places_in}
+use Rattle.slice_decoder.specs.StepRows.{area_above}
 use Rattle.slice_decoder.proofs.LevelHalves.{over_power}
 use Rattle.slice_decoder.proofs.LevelLemmas.{places_to_band}
 
@@ -102,6 +103,32 @@ module _ (s : Slicing) (size : Size) (b : Slices ℤ) (laid : IsLaid s size b) (
       let one : (sx + 1) * w - sx * w ≡ w = omega arith in
       let two : (sy + 1) * h - sy * h ≡ h = omega arith in
       ap area (rect_is level orient e) ∙ ap (λ (n : ℕ). n * ((sy + 1) * h - sy * h)) one ∙ ap (λ (n : ℕ). w * n) two
+
+  -- each level's rectangle has four times as many places as that of the level below it, but for the first
+  pub area_grows : (level : ℕ) → level ≤ b.depth → area (level_rect s size sx sy level) ≡ area_above (area (level_rect s size sx sy 0)) level
+  area_grows zero le = let one : 4 ^ 0 * area (level_rect s size sx sy 0) ≡ area (level_rect s size sx sy 0) = omega arith in sym one
+  area_grows (suc zero) le =
+      let one : 4 ^ 0 * area (level_rect s size sx sy 0) ≡ area (level_rect s size sx sy 0) = omega arith in
+      area_cut 1 1 (inr (omega arith, omega (arith, le), omega arith, omega arith))
+      ∙ ap (λ (n : ℕ). n * part_h b 1) (length_first b.depth b.sw le) ∙ ap (λ (n : ℕ). part_w b 0 * n) (length_first b.depth b.sh le)
+      ∙ sym (area_cut 0 0 (inl (refl, refl))) ∙ sym one
+  area_grows (suc (suc level)) le =
+      let w : ℕ = part_w b (suc level) in
+      let h : ℕ = part_h b (suc level) in
+      let lowest : ℕ = area (level_rect s size sx sy 0) in
+      let next : suc level + 1 ≡ suc (suc level) = omega arith in
+      let wide : part_w b (suc (suc level)) ≡ 2 * w = ap (λ (n : ℕ). subband_length b.depth n b.sw) (sym next) ∙ length_doubles b.depth (suc level) b.sw laid.sound.whole_w (omega arith) (omega (arith, le)) in
+      let tall : part_h b (suc (suc level)) ≡ 2 * h = ap (λ (n : ℕ). subband_length b.depth n b.sh) (sym next) ∙ length_doubles b.depth (suc level) b.sh laid.sound.whole_h (omega arith) (omega (arith, le)) in
+      let back : suc level - 1 ≡ level = omega arith in
+      let next_back : suc (suc level) - 1 ≡ suc level = omega arith in
+      let below : w * h ≡ 4 ^ level * lowest = sym (area_cut (suc level) 1 (inr (omega arith, omega (arith, le), omega arith, omega arith))) ∙ area_grows (suc level) (omega (arith, le))
+      ∙ ap (λ (n : ℕ). 4 ^ n * lowest) back in
+      let one_more : 1 + level ≡ suc level = omega arith in
+      let power : 4 ^ suc level ≡ 4 * 4 ^ level = ap (λ (n : ℕ). 4 ^ n) (sym one_more) ∙ pow-add 4 1 level in
+      area_cut (suc (suc level)) 1 (inr (omega arith, omega (arith, le), omega arith, omega arith))
+      ∙ ap (λ (n : ℕ). n * part_h b (suc (suc level))) wide ∙ ap (λ (n : ℕ). 2 * w * n) tall ∙ four_times w h
+      ∙ ap (λ (n : ℕ). 4 * n) below ∙ sym (mul_assoc 4 (4 ^ level) lowest) ∙ ap (λ (n : ℕ). n * lowest) (sym power)
+      ∙ ap (λ (n : ℕ). 4 ^ n * lowest) (sym next_back)
 
   -- all lower levels together are as large as one part of a level
   lower_levels : (level : ℕ) → suc level ≤ b.depth → places_to s size sx sy level ≡ part_w b (suc level) * part_h b (suc level)

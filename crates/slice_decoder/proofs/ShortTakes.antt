@@ -31,12 +31,15 @@ use Rattle.slice_geometry.proofs.NumberedBands.{index-numbered, band-exists}
 use Rattle.dc_prediction.specs.Restoring.{RestoresRect, IsStopped}
 use Rattle.slice_decoder.specs.Dealing.{HoldsRect, KeepsOutside}
 use Rattle.slice_decoder.specs.Levels.{places_in, BandsTake, AreRects, IsLowRect}
+use Rattle.slice_decoder.specs.Components.{Part}
+use Rattle.slice_decoder.specs.Jobs.{places_of}
 use Rattle.slice_decoder.specs.Short.{IsCut}
+use Rattle.slice_decoder.specs.StepRows.{AreasGrow}
 use Rattle.slice_decoder.specs.Narrow.{NeedMore, LowestKeeps}
 use Rattle.slice_decoder.specs.Restored.{StayWithin}
 use Rattle.slice_decoder.proofs.NarrowBands.{zero_narrow, rect_narrow}
 use Rattle.slice_decoder.proofs.LevelLemmas.{places_inside}
-use Rattle.slice_decoder.proofs.ShortPlaces.{IsLaid, cut_rect, rect_is, places_are, slice_here, number_here, in_slice, count_is_size}
+use Rattle.slice_decoder.proofs.ShortPlaces.{IsLaid, cut_rect, rect_is, area_grows, places_are, slice_here, number_here, in_slice, count_is_size}
 
 module _ (each from : ℕ) (s : Slicing) (size : Size) (b : Slices ℤ) (laid : IsLaid s size b) (sx sy : ℕ) (across : sx < s.slices_x) (values : List ℤ)
     (there : (sy * s.slices_x + sx) * slice_size b + slice_size b ≤ length b.numbers) where
@@ -160,6 +163,14 @@ laid-of s size b cut sound = record { depth = cut.depth; across = cut.across; do
 
 pub whole-values : (each : ℕ) (s : Slicing) (size : Size) (b : ShortBands) (sx sy n : ℕ) → IsCut s size b → AreSlicesSound b.slices → n ≡ each * place_count s size sx sy → n ≡ each * slice_size b.slices
 whole-values each s size b sx sy n cut sound is = is ∙ ap (λ (c : ℕ). each * c) (count_is_size s size b.slices (laid-of s size b cut sound) sx sy)
+
+-- and the levels' rectangles grow by four
+pub areas-grow : (p : Part) (b : ShortBands) → IsCut p.slicing p.size b → AreSlicesSound b.slices → AreasGrow p
+areas-grow p b cut sound level le = area_grows p.slicing p.size b.slices (laid-of p.slicing p.size b cut sound) p.sx p.sy level (omega (arith, le, cut.depth))
+
+-- as many as a slice has numbers
+pub places-are-size : (p : Part) (b : ShortBands) → IsCut p.slicing p.size b → AreSlicesSound b.slices → places_of p ≡ slice_size b.slices
+places-are-size p b cut sound = count_is_size p.slicing p.size b.slices (laid-of p.slicing p.size b cut sound) p.sx p.sy
 
 pub number-inside : (s : Slicing) (size : Size) (b : ShortBands) (n : ℕ) → IsCut s size b → n < s.slices_x * s.slices_y → n < b.slices.across * b.slices.down
 number-inside s size b n cut lt = rw (cut.across, cut.down) lt

@@ -1,15 +1,13 @@
 -- Restoring in 16 bits, index by index.
-use Rattle.std.proofs.Common.{◌≡◌, ℕ, zero, suc, ◌+◌, ◌-◌, ◌*◌, ◌/◌, ◌^◌, ◌<◌, ◌≤◌, Bool, true, false, List, get_or, ℤ, pos, unsigned_abs, sym, ap, subst, ◌∙◌, inl, inr, arith}
-use Rattle.std.specs.Prelude.{◌↔◌, ◌==◌, if◌then◌else◌}
+use Rattle.std.proofs.Common.{◌≡◌, ℕ, zero, suc, ◌+◌, ◌-◌, ◌*◌, ◌/◌, ◌^◌, ◌<◌, ◌≤◌, get_or, sym, ap, subst, ◌∙◌, arith}
+use Rattle.std.specs.Prelude.{◌==◌, if◌then◌else◌}
 use Rattle.std.proofs.Math.Dec.{leb, leb→le}
 use Rattle.std.proofs.Math.Nat.{mul-le-mul_right}
-use Rattle.std.proofs.lemmas.Bool.{cases_lt}
-use Rattle.quant_factors.specs.Factors.{factor_of, offset_of, restored_of, inverse_of}
+use Rattle.quant_factors.specs.Factors.{factor_of, offset_of, restored_of}
 use Rattle.quant_factors.proofs.Tables.{passed}
-use Rattle.quant_factors.proofs.QuantLemmas.{restored-zero, restored-some, abs-inverse}
+use Rattle.quant_factors.proofs.QuantLemmas.{restored-zero, restored-some}
 use Rattle.slice_decoder.specs.declared.short_restoring.Step.{Step}
 use Rattle.slice_decoder.specs.declared.short_restoring.TheConstants.{LIMITS}
-use Rattle.slice_decoder.specs.Restored.{StayWithin}
 use Rattle.slice_decoder.specs.Steps.{restored_by, IsStep}
 
 pub low_factor16 : (i : ℕ) → i < 54 → factor_of i + 1 ≤ 2 ^ 16
@@ -84,19 +82,3 @@ high-step i s high most factor_is add_is limit_is =
 
     zero_low : (m : ℕ) → m ≡ 0 → restored_of m i ≤ 2 ^ 14 - 1
     zero_low m is = omega (arith, ap (λ (n : ℕ). restored_of n i) is, restored-zero i)
-
--- none passes the limit exactly where all are restored within 2 ^ 14 - 1
-pub run-stays : (index n : ℕ) (s : Step) (vs : List ℤ) (answer : Bool) → IsStep index s
-    → ((answer ≡ true) ↔ ((j : ℕ) → j < n → unsigned_abs (get_or vs j (pos 0)) ≤ s.limit))
-    → StayWithin (2 ^ 14 - 1) answer (λ k. inverse_of (get_or vs k (pos 0)) index) 0 n
-run-stays index n s vs answer step test = record {
-  yes = λ e k low lt.
-      omega (arith, abs-inverse (get_or vs k (pos 0)) index, step.low (unsigned_abs (get_or vs k (pos 0))) (test.0 e k lt));
-  no = λ e all. absurd (let both : false ≡ true = sym e ∙ test.1 (λ j lt. within j (all j (omega arith) lt)) in cc);
-}
-  where
-    within : (j : ℕ) → unsigned_abs (inverse_of (get_or vs j (pos 0)) index) ≤ 2 ^ 14 - 1 → unsigned_abs (get_or vs j (pos 0)) ≤ s.limit
-    within j few = elim (cases_lt s.limit (unsigned_abs (get_or vs j (pos 0)))) [
-      | inl above ↦ absurd (omega (arith, abs-inverse (get_or vs j (pos 0)) index, step.past (unsigned_abs (get_or vs j (pos 0))) above, few))
-      | inr le ↦ omega (arith, le)
-    ]

@@ -10,3 +10,4 @@ pub mod Read
 pub mod Narrow
 pub mod Short
 pub mod Steps
+pub mod StepRows

@@ -6,9 +6,8 @@
 ghost use Rattle.std.specs.Prelude.{◌≡◌, ◌<◌};
 ghost use Rattle.slice_geometry.specs.Shape.{IsSize};
 
-use crate::components::band_numbered;
 use planes::{NarrowBands, NarrowPlane, NarrowTrio};
-use slice_geometry::{Layout, PictureShape, Size};
+use slice_geometry::{Layout, PictureShape, Size, band_numbered};
 
 // Numbers in a line of the cache.
 const LINE: usize = 16;

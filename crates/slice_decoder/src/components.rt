@@ -8,7 +8,6 @@ ghost use Rattle.slice_decoder.specs.Dealing.{dealt};
 ghost use Rattle.slice_decoder.specs.Components.{BandsKeep};
 ghost use Rattle.slice_decoder.specs.Jobs.{part_in, IsPartJob, AreSizedBands, AllHold};
 ghost use Rattle.slice_decoder.specs.RestoredBands.{all_quantisers};
-ghost use Rattle.slice_geometry.specs.SliceOrder.{level_of, orient_of};
 
 use crate::bands::{fill_rect, fill_rects};
 use crate::jobs::PartJob;
@@ -17,16 +16,7 @@ use crate::placing::put_values;
 use crate::restoring::read_values;
 use bounded_blocks::Block;
 use planes::{Bands, Orient};
-
-// The level of band number k, and the number of its orientation.
-pub fn band_numbered(k: u32) -> (u32, u32)
-    requires { k ≤ 12 }
-    ensures level { result.0 ≡ level_of k }
-    ensures orient { result.1 ≡ orient_of k }
-{
-    let level = (k + 2) / 3;
-    (level, if k == 0 { 0 } else { k + 3 - 3 * level })
-}
+use slice_geometry::band_numbered;
 
 // The orientation of a number.
 pub fn orient_numbered(number: u32) -> Orient

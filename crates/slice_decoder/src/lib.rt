@@ -27,7 +27,9 @@ mod placing;
 mod restoring;
 mod short;
 mod short_restoring;
+mod short_room;
 mod short_slice;
+mod step_rows;
 
 pub use ahead::read_ahead;
 use bit_codes::BitReader;
@@ -39,6 +41,7 @@ use levels::{level_rects, lowest_of};
 pub use narrow_slice::decode_narrow;
 use planes::{Bands, Rect, Trio};
 use quant_factors::Matrix;
+pub use short_room::ShortRoom;
 pub use short_slice::decode_short;
 use slice_geometry::{Layout, PictureShape, SliceHead, length_bits};
 

@@ -7,10 +7,10 @@ ghost use Rattle.slice_decoder.specs.Dealing.{StaysBeside, HoldsRect};
 ghost use Rattle.slice_decoder.specs.Jobs.{part_in, IsPartJob, AreSizedBands, AllTake, RestStays, places_of};
 ghost use Rattle.dc_prediction.specs.Restoring.{IsNarrow};
 
-use crate::components::band_numbered;
 use crate::jobs::PartJob;
 use crate::levels::area_of;
 use planes::{NarrowBands, NarrowPlane, Rect};
+use slice_geometry::band_numbered;
 use std::simd::prelude::*;
 
 // Puts four numbers at the places from x on.

@@ -6,10 +6,10 @@ ghost use Rattle.slice_geometry.specs.SliceOrder.{area};
 ghost use Rattle.slice_decoder.specs.Dealing.{StaysBeside, HoldsRect};
 ghost use Rattle.slice_decoder.specs.Jobs.{part_in, IsPartJob, AreSizedBands, AllTake, RestStays, places_of};
 
-use crate::components::band_numbered;
 use crate::jobs::PartJob;
 use crate::levels::area_of;
 use planes::{Bands, Plane, Rect};
+use slice_geometry::band_numbered;
 
 // Puts values from one on at the places of a row from `start` to `end`: of EACH that a place has, the one that is counted by
 // `from`.

@@ -9,11 +9,12 @@ ghost use Rattle.slice_decoder.specs.Slice.{are_small};
 ghost use Rattle.slice_decoder.specs.RestoredBands.{all_quantisers};
 ghost use Rattle.slice_decoder.specs.Restored.{restored_at, StayWithin};
 
-use crate::components::{band_numbered, orient_numbered};
+use crate::components::orient_numbered;
 use crate::dealing::dequantise;
 use crate::jobs::PartJob;
 use crate::levels::area_of;
 use bounded_blocks::Block;
+use slice_geometry::band_numbered;
 
 // Dequantises the values from one place to another.
 fn restore_part(values: &mut [i64], from: usize, to: usize, index: u32) -> bool

@@ -1,20 +1,25 @@
 //! A slice into bands of 16 bits, whose slices lie as the layout cuts a component.
 
-ghost use Rattle.std.specs.Prelude.{◌≡◌, ℕ, ◌+◌, ◌-◌, ◌*◌, ◌<◌, ◌≤◌, length, drop, slice_index_or, pos};
+ghost use Rattle.std.specs.Prelude.{◌≡◌, ℕ, ◌+◌, ◌-◌, ◌*◌, ◌<◌, ◌≤◌, true, length, drop, slice_index_or, pos};
+ghost use Rattle.bounded_blocks.specs.declared.TheConstants as blocks;
+ghost use Rattle.bounded_blocks.specs.declared.TheConstants.{SPARE};
 ghost use Rattle.planes.specs.Bounded.{IsWithin};
 ghost use Rattle.planes.specs.Raster.{height};
 ghost use Rattle.slice_bands.specs.declared.short.TheConstants.{MAX_SHORT};
 ghost use Rattle.slice_bands.specs.ShortBands.{short_stack};
 ghost use Rattle.slice_geometry.specs.SliceOrder.{area};
 ghost use Rattle.slice_decoder.specs.Components.{BandsKeep};
-ghost use Rattle.slice_decoder.specs.Dealing.{StaysBeside, HoldsRect};
+ghost use Rattle.slice_decoder.specs.Dealing.{dealt, StaysBeside, HoldsRect};
 ghost use Rattle.slice_decoder.specs.Jobs.{part_in, IsPartJob, AllHold, AllTake, RestStays, places_of};
 ghost use Rattle.slice_decoder.specs.Narrow.{block_values, Answers};
+ghost use Rattle.slice_decoder.specs.Restored.{StayWithin};
+ghost use Rattle.slice_decoder.specs.RestoredBands.{all_quantisers};
 ghost use Rattle.slice_decoder.specs.Short.{IsCut};
+ghost use Rattle.slice_decoder.specs.StepRows.{AreasGrow};
 
 use crate::jobs::{PartJob, Place};
-use crate::levels::{count_places, lowest_of};
-use crate::short_restoring::read_values;
+use crate::levels::lowest_of;
+use crate::step_rows::{StepRows, key_of};
 use bounded_blocks::{Block, CodeTable, SPARE};
 use planes::{NarrowPlane, Rect};
 use slice_bands::ShortBands;
@@ -99,6 +104,34 @@ fn put_values<const EACH: usize>(
     bands.slices.put_every::<EACH>(n, values, from);
 }
 
+// Reads the values of a slice in one component, or of two that take them in turn, dequantised, into the front of a
+// buffer. It answers false where a magnitude passes 2^14 - 1.
+fn read_values(
+    block: &Block<'_>,
+    codes: &CodeTable,
+    buffer: &mut [i16],
+    count: usize,
+    each: usize,
+    steps: &mut StepRows,
+    job: PartJob<'_>,
+) -> bool
+    requires job { IsPartJob job }
+    requires areas { AreasGrow (part_in job) }
+    requires count { count ≡ each * places_of (part_in job) }
+    requires room { count + SPARE ≤ length buffer.old }
+    requires places { count ≤ steps.old }
+    ensures within { StayWithin blocks.MAX_SHORT result (λ k. slice_index_or
+        (dealt block.now (all_quantisers each (part_in job.entry))) k (pos 0)) 0 count }
+    ensures values { result ≡ true → (k : ℕ) → k < count → slice_index_or buffer.new k (pos 0)
+        ≡ slice_index_or (dealt block.now (all_quantisers each (part_in job.entry))) k (pos 0) }
+    ensures places { steps.new ≡ steps.old }
+{
+    if !block.short_values(codes, count, buffer) {
+        return false;
+    }
+    steps.restore(key_of(each, job), &mut buffer[..count])
+}
+
 /// Reads the values of a block into a component's subbands. It answers false where these don't serve: there are more
 /// values than the buffer has room for, or the magnitude of one passes `MAX_SHORT`.
 pub fn read_luma(
@@ -106,22 +139,26 @@ pub fn read_luma(
     codes: &CodeTable,
     bands: &mut ShortBands,
     job: PartJob<'_>,
+    steps: &mut StepRows,
     buffer: &mut [i16],
 ) -> bool
     requires job { IsPartJob job }
     requires cut { IsCut job.layout.now job.size bands.old }
+    requires places { length buffer.old ≤ steps.old + SPARE }
     ensures answer { Answers MAX_SHORT (length buffer.old)
         (block_values 1 (part_in job.entry) block.now)
         (AllHold 1 0 (part_in job.entry) block.now (short_stack bands.old) (short_stack bands.new))
         result }
     ensures keeps { BandsKeep (part_in job.entry) (short_stack bands.old) (short_stack bands.new) }
     ensures cut { IsCut job.entry.layout.now job.entry.size bands.new }
+    ensures places { steps.new ≡ steps.old }
 {
-    let count = count_places(job);
+    bands.slices.shows();
+    let count = bands.slices.size();
     if count + SPARE > buffer.len() {
         return false;
     }
-    if !read_values(block, codes, buffer, count, 1, job) {
+    if !read_values(block, codes, buffer, count, 1, steps, job) {
         return false;
     }
     put_values::<1>(&buffer[..count], 0, bands, job);
@@ -136,11 +173,13 @@ pub fn read_colour(
     first: &mut ShortBands,
     second: &mut ShortBands,
     job: PartJob<'_>,
+    steps: &mut StepRows,
     buffer: &mut [i16],
 ) -> bool
     requires job { IsPartJob job }
     requires first_cut { IsCut job.layout.now job.size first.old }
     requires second_cut { IsCut job.layout.now job.size second.old }
+    requires places { length buffer.old ≤ steps.old + SPARE }
     ensures answer { Answers MAX_SHORT (length buffer.old)
         (block_values 2 (part_in job.entry) block.now)
         (AllHold 2 0 (part_in job.entry) block.now (short_stack first.old) (short_stack first.new)
@@ -152,12 +191,14 @@ pub fn read_colour(
         (short_stack second.new) }
     ensures first_cut { IsCut job.entry.layout.now job.entry.size first.new }
     ensures second_cut { IsCut job.entry.layout.now job.entry.size second.new }
+    ensures places { steps.new ≡ steps.old }
 {
-    let count = 2 * count_places(job);
+    first.slices.shows();
+    let count = 2 * first.slices.size();
     if count + SPARE > buffer.len() {
         return false;
     }
-    if !read_values(block, codes, buffer, count, 2, job) {
+    if !read_values(block, codes, buffer, count, 2, steps, job) {
         return false;
     }
     let values = &buffer[..count];

@@ -19,7 +19,7 @@ ghost use Rattle.slice_decoder.specs.Short.{shown_trio, IsCut, AreCut};
 
 use crate::jobs::{Place, SliceJob};
 use crate::levels::{level_rects, lowest_of};
-use crate::short::{read_colour, read_luma};
+use crate::short_room::ShortRoom;
 use crate::{SliceFault, head_of};
 use bounded_blocks::{Block, CodeTable};
 use dc_prediction::restore_narrow;
@@ -35,7 +35,7 @@ fn read_blocks(
     codes: &CodeTable,
     luma_bits: u32,
     bands: &mut ShortTrio,
-    buffer: &mut [i16],
+    room: &mut ShortRoom,
 ) -> bool
     requires some { 1 ≤ length bytes.now }
     requires most { length bytes.now ≤ 2 ^ 28 }
@@ -43,7 +43,7 @@ fn read_blocks(
     requires job { IsSliceJob job }
     requires cut { AreCut job.layout.now job.shape.now bands.old }
     ensures read { let start = 7 + slicing.length_bits (length bytes.now) in
-        AreRead MAX_SHORT (length buffer.old) (luma_part job.entry) (colour_part job.entry)
+        AreRead MAX_SHORT room.old (luma_part job.entry) (colour_part job.entry)
         (block_of bytes.now start (start + luma_bits))
         (block_of bytes.now (start + luma_bits) (8 * length bytes.now))
         (shown_trio bands.old) (shown_trio bands.new) result }
@@ -54,12 +54,12 @@ fn read_blocks(
     let luma = Block::new(bytes, start, u64::from(luma_bits));
     let colour = Block::new(bytes, middle, 8 * bytes.len() as u64 - middle);
     let luma_job = job.luma();
-    if !read_luma(&luma, codes, &mut bands.luma, luma_job, buffer) {
+    if !room.read_luma(&luma, codes, &mut bands.luma, luma_job) {
         return false;
     }
     let (c1, c2) = (&mut bands.c1, &mut bands.c2);
     let colour_job = job.colour();
-    read_colour(&colour, codes, c1, c2, colour_job, buffer)
+    room.read_colour(&colour, codes, c1, c2, colour_job)
 }
 
 // Restores the residuals of a rectangle in the lowest of a component's subbands, up to a value that would pass 2^18.
@@ -103,8 +103,8 @@ fn restore_all(bands: &mut ShortTrio, luma: Rect, colour: Rect) -> bool
 
 /// Decodes a slice as `decode_slice` does, into bands of 16 bits, whose slices lie as the layout cuts each component.
 ///
-/// It gives no head where such bands don't serve: a dequantised magnitude passes `MAX_SHORT`, a restored one 2^18, or the
-/// buffer has no room for the values of a block and `SPARE` of `bounded_blocks` more. The slice's own places hold any
+/// It gives no head where such bands don't serve: a dequantised magnitude passes `MAX_SHORT`, a restored one 2^18, or
+/// there is no room for the values of a block and `SPARE` of `bounded_blocks` more. The slice's own places hold any
 /// values then, as after a refusal. All other places stay.
 pub fn decode_short(
     layout: &Layout,
@@ -115,7 +115,7 @@ pub fn decode_short(
     bytes: &[u8],
     codes: &CodeTable,
     bands: &mut ShortTrio,
-    buffer: &mut [i16],
+    room: &mut ShortRoom,
 ) -> Result<Option<SliceHead>, SliceFault>
     requires across { sx < layout.now.slices_x }
     requires down { sy < layout.now.slices_y }
@@ -127,7 +127,7 @@ pub fn decode_short(
         bytes.now in
         MatchResult result
         (λ answer. MatchOption answer
-        (NeedsWide MAX_SHORT (length buffer.old) layout.now shape.now sx sy matrix.now slice
+        (NeedsWide MAX_SHORT room.old layout.now shape.now sx sy matrix.now slice
         (shown_trio bands.new))
         (λ head. IsDecoded layout.now shape.now sx sy matrix.now slice head (shown_trio bands.new)))
         (IsRefused layout.now shape.now sx sy matrix.now slice) }
@@ -157,7 +157,7 @@ pub fn decode_short(
         luma_rects: &luma_rects,
         colour_rects: &colour_rects,
     };
-    if !read_blocks(job, bytes, codes, head.luma_bits, bands, buffer) {
+    if !read_blocks(job, bytes, codes, head.luma_bits, bands, room) {
         return Ok(None);
     }
     let luma = lowest_of(&luma_rects);

@@ -1,13 +1,13 @@
-use Rattle.std.proofs.Common.{◌≡◌, ℕ, ◌+◌, ◌-◌, ◌*◌, ◌^◌, ◌<◌, length, take, get_or, pos, ◌∙◌, inl, arith}
+use Rattle.std.proofs.Common.{◌≡◌, ℕ, ◌+◌, ◌-◌, ◌*◌, ◌^◌, ◌<◌, length, take, get_or, pos, sym, ◌∙◌, inl, arith}
 use Rattle.std.proofs.lemmas.List.{length-take-le, get_or-take}
 use Rattle.slice_decoder.specs.Jobs.{part_in}
 use Rattle.slice_decoder.specs.Components.{Part, quantisers_before}
 use Rattle.slice_decoder.specs.Narrow.{block_values}
 use Rattle.slice_decoder.proofs.Dealt.{length-dealt}
-use Rattle.slice_decoder.proofs.LevelLemmas.{length-places, places_all}
+use Rattle.slice_decoder.proofs.LevelLemmas.{count_few, length-places, places_all}
 use Rattle.slice_decoder.proofs.Placed.{takes-hold, takes-keep}
 use Rattle.slice_decoder.proofs.NarrowBands.{all-small, nothing-read}
-use Rattle.slice_decoder.proofs.ShortTakes.{short-needs-more, short-values}
+use Rattle.slice_decoder.proofs.ShortTakes.{areas-grow, places-are-size, short-needs-more, short-values}
 use Rattle.slice_bands.specs.ShortBands.{short_stack}
 use Rattle.slice_decoder.proofs.short.read_colour.Goals as goal
 
@@ -15,7 +15,7 @@ pub returns-then-count-buffer-clause-answer : goal.returns-then-count-buffer-cla
 returns-then-count-buffer-clause-answer c =
     let part : Part = part_in c.args.job in
     let total : ℕ = 3 * c.args.job.layout.now.depth + 1 in
-    inl (omega (arith, c.if-count-buffer.true, c.count_places-count.ensures.count, length-dealt c.args.block.now (quantisers_before 2 part total), length-places 2 part total, places_all c.args.job.layout.now c.args.job.size c.args.job.place.sx c.args.job.place.sy))
+    inl (omega (arith, c.if-count-buffer.true, (c.size-count.ensures.value ∙ sym (places-are-size (part_in c.args.job) c.args.first.now c.requires.first_cut c.shows.ensures.sound)), length-dealt c.args.block.now (quantisers_before 2 part total), length-places 2 part total, places_all c.args.job.layout.now c.args.job.size c.args.job.place.sx c.args.job.place.sy))
 
 pub returns-then-count-buffer-clause-first_keeps : goal.returns-then-count-buffer-clause-first_keeps
 returns-then-count-buffer-clause-first_keeps c =
@@ -42,13 +42,13 @@ pub returns-clause-answer : goal.returns-clause-answer
 returns-clause-answer c =
     let part : Part = part_in c.args.job in
     let total : ℕ = 3 * c.args.job.layout.now.depth + 1 in
-    let n : ℕ = (2 * c.count_places-count.result) in
+    let n : ℕ = (2 * c.size-count.result) in
     let count : n ≡ length (quantisers_before 2 part total) =
     omega (
       arith,
       length-places 2 part total,
       places_all c.args.job.layout.now c.args.job.size c.args.job.place.sx c.args.job.place.sy,
-      c.count_places-count.ensures.count,
+      (c.size-count.ensures.value ∙ sym (places-are-size (part_in c.args.job) c.args.first.now c.requires.first_cut c.shows.ensures.sound)),
     ) in
     let agree : (j : ℕ) → j < length (quantisers_before 2 part total)
     → get_or (take n c.read_values.new.buffer) j (pos 0) ≡ get_or (block_values 2 part c.args.block.now) j (pos 0) =
@@ -68,20 +68,20 @@ pub returns-clause-first_keeps : goal.returns-clause-first_keeps
 returns-clause-first_keeps c =
     let part : Part = part_in c.args.job in
     let total : ℕ = 3 * c.args.job.layout.now.depth + 1 in
-    takes-keep 2 0 part total (take (2 * c.count_places-count.result) c.read_values.new.buffer) (short_stack c.args.first.now) (short_stack c.put_values.new.bands)
+    takes-keep 2 0 part total (take (2 * c.size-count.result) c.read_values.new.buffer) (short_stack c.args.first.now) (short_stack c.put_values.new.bands)
     c.put_values.ensures.takes c.put_values.ensures.rest
 
 pub returns-clause-second_keeps : goal.returns-clause-second_keeps
 returns-clause-second_keeps c =
     let part : Part = part_in c.args.job in
     let total : ℕ = 3 * c.args.job.layout.now.depth + 1 in
-    takes-keep 2 1 part total (take (2 * c.count_places-count.result) c.read_values.new.buffer) (short_stack c.args.second.now) (short_stack c.put_values-2.new.bands)
+    takes-keep 2 1 part total (take (2 * c.size-count.result) c.read_values.new.buffer) (short_stack c.args.second.now) (short_stack c.put_values-2.new.bands)
     c.put_values-2.ensures.takes c.put_values-2.ensures.rest
 
 pub put_values-requires-clause-short : goal.put_values-requires-clause-short
 put_values-requires-clause-short c =
     let part : Part = part_in c.args.job in
-    let n : ℕ = 2 * c.count_places-count.result in
+    let n : ℕ = 2 * c.size-count.result in
     let out = c.read_values.new.buffer in
     let good = c.if-not-read_values.false in
     let long : length (take n out) ≡ n = length-take-le n out (omega (arith, c.read_values.auto.buffer, c.if-count-buffer.false)) in
@@ -91,9 +91,40 @@ put_values-requires-clause-short c =
 pub put_values-requires-2-clause-short : goal.put_values-requires-2-clause-short
 put_values-requires-2-clause-short c =
     let part : Part = part_in c.args.job in
-    let n : ℕ = 2 * c.count_places-count.result in
+    let n : ℕ = 2 * c.size-count.result in
     let out = c.read_values.new.buffer in
     let good = c.if-not-read_values.false in
     let long : length (take n out) ≡ n = length-take-le n out (omega (arith, c.read_values.auto.buffer, c.if-count-buffer.false)) in
     short-values n (block_values 2 part c.args.block.now) (take n out) c.read_values.result good c.read_values.ensures.within long
     (λ k lt. get_or-take n out k (pos 0) lt ∙ c.read_values.ensures.values good k lt)
+
+pub read_values-requires-clause-areas : goal.read_values-requires-clause-areas
+read_values-requires-clause-areas c = areas-grow (part_in c.args.job) c.args.first.now c.requires.first_cut c.shows.ensures.sound
+
+pub overflow_mul-count : goal.overflow_mul-count
+overflow_mul-count c =
+    let job = c.args.job in
+    let few = count_few job.layout.now job.size job.place.sx job.place.sy job.rects.now c.requires.job.rects in
+    omega (arith, few, c.size-count.ensures.value, places-are-size (part_in job) c.args.first.now c.requires.first_cut c.shows.ensures.sound)
+
+pub overflow_add-count : goal.overflow_add-count
+overflow_add-count c =
+    let job = c.args.job in
+    let few = count_few job.layout.now job.size job.place.sx job.place.sy job.rects.now c.requires.job.rects in
+    omega (arith, few, c.size-count.ensures.value, places-are-size (part_in job) c.args.first.now c.requires.first_cut c.shows.ensures.sound)
+
+pub read_values-requires-clause-count : goal.read_values-requires-clause-count
+read_values-requires-clause-count c =
+    omega (arith, c.size-count.ensures.value, places-are-size (part_in c.args.job) c.args.first.now c.requires.first_cut c.shows.ensures.sound)
+
+pub put_values-requires-clause-count : goal.put_values-requires-clause-count
+put_values-requires-clause-count c =
+    let n : ℕ = 2 * c.size-count.result in
+    let out = c.read_values.new.buffer in
+    omega (arith, length-take-le n out (omega (arith, c.read_values.auto.buffer, c.if-count-buffer.false)), c.size-count.ensures.value, places-are-size (part_in c.args.job) c.args.first.now c.requires.first_cut c.shows.ensures.sound)
+
+pub put_values-requires-2-clause-count : goal.put_values-requires-2-clause-count
+put_values-requires-2-clause-count c =
+    let n : ℕ = 2 * c.size-count.result in
+    let out = c.read_values.new.buffer in
+    omega (arith, length-take-le n out (omega (arith, c.read_values.auto.buffer, c.if-count-buffer.false)), c.size-count.ensures.value, places-are-size (part_in c.args.job) c.args.first.now c.requires.first_cut c.shows.ensures.sound)

@@ -35,18 +35,18 @@ pub returns-then-not-read_blocks-clause-decoded : goal.returns-then-not-read_blo
 returns-then-not-read_blocks-clause-decoded c =
     let r : SliceRead = record { slicing = c.args.layout.now; shape = c.args.shape.now; sx = c.args.sx; sy = c.args.sy; matrix = c.args.matrix.now; bytes = c.args.bytes.now; head = c.head_of-head.result } in
     let head : IsHeaded r = headed r (omega (arith, c.if-head-left.false, c.length_bits.ensures, length_bits-fit (length c.args.bytes.now) c.requires.some)) c.head_of-head.ensures.qindex c.head_of-head.ensures.luma_bits in
-    wide-after-reading MAX_SHORT (length c.args.buffer.now) (length c.args.buffer.now) r (shown_trio c.args.bands.now) (shown_trio c.read_blocks.new.bands) (shown_trio c.read_blocks.new.bands) head refl c.if-not-read_blocks.ensures.read
+    wide-after-reading MAX_SHORT c.args.room.now c.args.room.now r (shown_trio c.args.bands.now) (shown_trio c.read_blocks.new.bands) (shown_trio c.read_blocks.new.bands) head refl c.if-not-read_blocks.ensures.read
 
 pub returns-then-not-read_blocks-clause-others : goal.returns-then-not-read_blocks-clause-others
 returns-then-not-read_blocks-clause-others c =
     let r : SliceRead = record { slicing = c.args.layout.now; shape = c.args.shape.now; sx = c.args.sx; sy = c.args.sy; matrix = c.args.matrix.now; bytes = c.args.bytes.now; head = c.head_of-head.result } in
-    others-after-reading MAX_SHORT (length c.args.buffer.now) r (shown_trio c.args.bands.now) (shown_trio c.read_blocks.new.bands) _ c.read_blocks.ensures.read
+    others-after-reading MAX_SHORT c.args.room.now r (shown_trio c.args.bands.now) (shown_trio c.read_blocks.new.bands) _ c.read_blocks.ensures.read
 
 pub restore_all-requires-clause-inside : goal.restore_all-requires-clause-inside
 restore_all-requires-clause-inside c =
     let r : SliceRead = record { slicing = c.args.layout.now; shape = c.args.shape.now; sx = c.args.sx; sy = c.args.sy; matrix = c.args.matrix.now; bytes = c.args.bytes.now; head = c.head_of-head.result } in
     let lowest : AreLowest r c.lowest_of-luma.result c.lowest_of-colour.result = record { luma_is = c.lowest_of-luma.ensures _ _ _ _ c.level_rects-luma_rects.ensures; colour_is = c.lowest_of-colour.ensures _ _ _ _ c.level_rects-colour_rects.ensures } in
-    lie-in-lowest MAX_SHORT (length c.args.buffer.now) r (shown_trio c.args.bands.now) (shown_trio c.read_blocks.new.bands) c.lowest_of-luma.result c.lowest_of-colour.result lowest c.requires.across c.requires.down
+    lie-in-lowest MAX_SHORT c.args.room.now r (shown_trio c.args.bands.now) (shown_trio c.read_blocks.new.bands) c.lowest_of-luma.result c.lowest_of-colour.result lowest c.requires.across c.requires.down
     (record { depth = c.requires.cut.luma.depth; sizes = cut_sizes _ _ _ c.requires.cut.luma }) (record { depth = c.requires.cut.c1.depth; sizes = cut_sizes _ _ _ c.requires.cut.c1 }) (record { depth = c.requires.cut.c2.depth; sizes = cut_sizes _ _ _ c.requires.cut.c2 })
     c.if-not-read_blocks.ensures.read
 
@@ -55,14 +55,14 @@ returns-then-not-restore_all-clause-decoded c =
     let r : SliceRead = record { slicing = c.args.layout.now; shape = c.args.shape.now; sx = c.args.sx; sy = c.args.sy; matrix = c.args.matrix.now; bytes = c.args.bytes.now; head = c.head_of-head.result } in
     let head : IsHeaded r = headed r (omega (arith, c.if-head-left.false, c.length_bits.ensures, length_bits-fit (length c.args.bytes.now) c.requires.some)) c.head_of-head.ensures.qindex c.head_of-head.ensures.luma_bits in
     let lowest : AreLowest r c.lowest_of-luma.result c.lowest_of-colour.result = record { luma_is = c.lowest_of-luma.ensures _ _ _ _ c.level_rects-luma_rects.ensures; colour_is = c.lowest_of-colour.ensures _ _ _ _ c.level_rects-colour_rects.ensures } in
-    wide-where-stopped MAX_SHORT (length c.args.buffer.now) r (shown_trio c.args.bands.now) (shown_trio c.read_blocks.new.bands) (shown_trio c.restore_all.new.bands) c.lowest_of-luma.result c.lowest_of-colour.result lowest c.if-not-read_blocks.ensures.read
-    (length c.args.buffer.now) head (c.restore_all.ensures.stopped c.if-not-restore_all.true)
+    wide-where-stopped MAX_SHORT c.args.room.now r (shown_trio c.args.bands.now) (shown_trio c.read_blocks.new.bands) (shown_trio c.restore_all.new.bands) c.lowest_of-luma.result c.lowest_of-colour.result lowest c.if-not-read_blocks.ensures.read
+    c.args.room.now head (c.restore_all.ensures.stopped c.if-not-restore_all.true)
 
 pub returns-then-not-restore_all-clause-others : goal.returns-then-not-restore_all-clause-others
 returns-then-not-restore_all-clause-others c =
     let r : SliceRead = record { slicing = c.args.layout.now; shape = c.args.shape.now; sx = c.args.sx; sy = c.args.sy; matrix = c.args.matrix.now; bytes = c.args.bytes.now; head = c.head_of-head.result } in
     let lowest : AreLowest r c.lowest_of-luma.result c.lowest_of-colour.result = record { luma_is = c.lowest_of-luma.ensures _ _ _ _ c.level_rects-luma_rects.ensures; colour_is = c.lowest_of-colour.ensures _ _ _ _ c.level_rects-colour_rects.ensures } in
-    others-after-restoring MAX_SHORT (length c.args.buffer.now) r (shown_trio c.args.bands.now) (shown_trio c.read_blocks.new.bands) (shown_trio c.restore_all.new.bands) c.lowest_of-luma.result c.lowest_of-colour.result lowest c.if-not-read_blocks.ensures.read
+    others-after-restoring MAX_SHORT c.args.room.now r (shown_trio c.args.bands.now) (shown_trio c.read_blocks.new.bands) (shown_trio c.restore_all.new.bands) c.lowest_of-luma.result c.lowest_of-colour.result lowest c.if-not-read_blocks.ensures.read
     c.restore_all.ensures.keeps
 
 pub returns-clause-decoded : goal.returns-clause-decoded
@@ -70,14 +70,14 @@ returns-clause-decoded c =
     let r : SliceRead = record { slicing = c.args.layout.now; shape = c.args.shape.now; sx = c.args.sx; sy = c.args.sy; matrix = c.args.matrix.now; bytes = c.args.bytes.now; head = c.head_of-head.result } in
     let head : IsHeaded r = headed r (omega (arith, c.if-head-left.false, c.length_bits.ensures, length_bits-fit (length c.args.bytes.now) c.requires.some)) c.head_of-head.ensures.qindex c.head_of-head.ensures.luma_bits in
     let lowest : AreLowest r c.lowest_of-luma.result c.lowest_of-colour.result = record { luma_is = c.lowest_of-luma.ensures _ _ _ _ c.level_rects-luma_rects.ensures; colour_is = c.lowest_of-colour.ensures _ _ _ _ c.level_rects-colour_rects.ensures } in
-    decoded-slice MAX_SHORT (length c.args.buffer.now) r (shown_trio c.args.bands.now) (shown_trio c.read_blocks.new.bands) (shown_trio c.restore_all.new.bands) c.lowest_of-luma.result c.lowest_of-colour.result lowest c.if-not-read_blocks.ensures.read
+    decoded-slice MAX_SHORT c.args.room.now r (shown_trio c.args.bands.now) (shown_trio c.read_blocks.new.bands) (shown_trio c.restore_all.new.bands) c.lowest_of-luma.result c.lowest_of-colour.result lowest c.if-not-read_blocks.ensures.read
     head (c.restore_all.ensures.restored c.if-not-restore_all.false) c.restore_all.ensures.keeps
 
 pub returns-clause-others : goal.returns-clause-others
 returns-clause-others c =
     let r : SliceRead = record { slicing = c.args.layout.now; shape = c.args.shape.now; sx = c.args.sx; sy = c.args.sy; matrix = c.args.matrix.now; bytes = c.args.bytes.now; head = c.head_of-head.result } in
     let lowest : AreLowest r c.lowest_of-luma.result c.lowest_of-colour.result = record { luma_is = c.lowest_of-luma.ensures _ _ _ _ c.level_rects-luma_rects.ensures; colour_is = c.lowest_of-colour.ensures _ _ _ _ c.level_rects-colour_rects.ensures } in
-    others-after-restoring MAX_SHORT (length c.args.buffer.now) r (shown_trio c.args.bands.now) (shown_trio c.read_blocks.new.bands) (shown_trio c.restore_all.new.bands) c.lowest_of-luma.result c.lowest_of-colour.result lowest c.if-not-read_blocks.ensures.read
+    others-after-restoring MAX_SHORT c.args.room.now r (shown_trio c.args.bands.now) (shown_trio c.read_blocks.new.bands) (shown_trio c.restore_all.new.bands) c.lowest_of-luma.result c.lowest_of-colour.result lowest c.if-not-read_blocks.ensures.read
     c.restore_all.ensures.keeps
 
 pub restore_all-requires-clause-luma_sound : goal.restore_all-requires-clause-luma_sound

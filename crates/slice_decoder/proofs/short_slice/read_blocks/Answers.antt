@@ -20,9 +20,9 @@ returns-clause-read c =
     let luma_is : c.new-luma.result ≡ luma_block = same_block c.args.bytes.now c.new-luma.result _ _ start middle c.new-luma.ensures (omega (arith, c.length_bits.ensures, c.from-start.ensures)) (omega (arith, c.length_bits.ensures, c.from-start.ensures, c.from.ensures, c.from-2.ensures)) in
     let colour_is : c.new-colour.result ≡ colour_block = same_block c.args.bytes.now c.new-colour.result _ _ middle (8 * length c.args.bytes.now) c.new-colour.ensures (omega (arith, c.length_bits.ensures, c.from-start.ensures, c.from.ensures, c.from-2.ensures)) (omega (arith, c.length_bits.ensures, c.from-start.ensures, c.from.ensures, c.from-2.ensures, c.requires.fits)) in
     let new : Trio = record { luma = short_stack c.read_luma.new.bands; c1 = short_stack c.read_colour.new.first; c2 = short_stack c.read_colour.new.second } in
-    both-read MAX_SHORT (length c.args.buffer.now) (part_in c.luma-luma_job.result) (luma_part c.args.job) (part_in c.colour-colour_job.result) (colour_part c.args.job) c.new-luma.result luma_block c.new-colour.result colour_block
+    both-read MAX_SHORT c.args.room.now (part_in c.luma-luma_job.result) (luma_part c.args.job) (part_in c.colour-colour_job.result) (colour_part c.args.job) c.new-luma.result luma_block c.new-colour.result colour_block
     c.luma-luma_job.ensures.part c.colour-colour_job.ensures.part luma_is colour_is (shown_trio c.args.bands.now) new
-    (length c.read_luma.new.buffer) c.read_colour.result c.read_luma.auto.buffer c.if-not-read_luma.ensures.answer c.if-not-read_luma.ensures.keeps c.read_colour.ensures.answer c.read_colour.ensures.first_keeps c.read_colour.ensures.second_keeps
+    c.read_luma.new.self c.read_colour.result c.if-not-read_luma.ensures.room c.if-not-read_luma.ensures.answer c.if-not-read_luma.ensures.keeps c.read_colour.ensures.answer c.read_colour.ensures.first_keeps c.read_colour.ensures.second_keeps
 
 pub returns-then-not-read_luma-clause-read : goal.returns-then-not-read_luma-clause-read
 returns-then-not-read_luma-clause-read c =
@@ -33,7 +33,7 @@ returns-then-not-read_luma-clause-read c =
     let luma_is : c.new-luma.result ≡ luma_block = same_block c.args.bytes.now c.new-luma.result _ _ start middle c.new-luma.ensures (omega (arith, c.length_bits.ensures, c.from-start.ensures)) (omega (arith, c.length_bits.ensures, c.from-start.ensures, c.from.ensures, c.from-2.ensures)) in
     let new : Trio = record { luma = short_stack c.read_luma.new.bands; c1 = short_stack c.args.bands.now.c1; c2 = short_stack c.args.bands.now.c2 } in
     let colour : Part = colour_part c.args.job in
-    luma-not-read MAX_SHORT (length c.args.buffer.now) (part_in c.luma-luma_job.result) (luma_part c.args.job) colour colour c.new-luma.result luma_block colour_block colour_block
+    luma-not-read MAX_SHORT c.args.room.now (part_in c.luma-luma_job.result) (luma_part c.args.job) colour colour c.new-luma.result luma_block colour_block colour_block
     c.luma-luma_job.ensures.part refl luma_is refl (shown_trio c.args.bands.now) new
     c.if-not-read_luma.ensures.answer c.if-not-read_luma.ensures.keeps (nothing-read colour (short_stack c.args.bands.now.c1)) (nothing-read colour (short_stack c.args.bands.now.c2))
 

@@ -11,7 +11,7 @@ use Rattle.picture_codec.proofs.decoded_bands.DecodedBands.decode.Goals as goal
 
 pub decode-requires-clause-ready : goal.decode-requires-clause-ready
 decode-requires-clause-ready c =
-    let s = c.args.layout.now in
+    let s = c.args.params.now.layout in
     let shape = c.args.shape.now in
     let sx = c.args.sx in
     let sy = c.args.sy in
@@ -21,7 +21,7 @@ decode-requires-clause-ready c =
 
 pub returns-then-not-self-clause-others : goal.returns-then-not-self-clause-others
 returns-then-not-self-clause-others c =
-    let s = c.args.layout.now in
+    let s = c.args.params.now.layout in
     let shape = c.args.shape.now in
     let sx = c.args.sx in
     let sy = c.args.sy in
@@ -33,7 +33,7 @@ returns-then-not-self-clause-others c =
 
 pub decode-requires-2-clause-ready : goal.decode-requires-2-clause-ready
 decode-requires-2-clause-ready c =
-    let s = c.args.layout.now in
+    let s = c.args.params.now.layout in
     let shape = c.args.shape.now in
     let sx = c.args.sx in
     let sy = c.args.sy in
@@ -44,7 +44,7 @@ decode-requires-2-clause-ready c =
 
 pub returns-in-Ok-Some-clause-others : goal.returns-in-Ok-Some-clause-others
 returns-in-Ok-Some-clause-others c =
-    let s = c.args.layout.now in
+    let s = c.args.params.now.layout in
     let shape = c.args.shape.now in
     let sx = c.args.sx in
     let sy = c.args.sy in
@@ -65,7 +65,7 @@ invariant_of-self-in-Ok-Some c =
 
 pub returns-in-Err-clause-others : goal.returns-in-Err-clause-others
 returns-in-Err-clause-others c =
-    let s = c.args.layout.now in
+    let s = c.args.params.now.layout in
     let shape = c.args.shape.now in
     let sx = c.args.sx in
     let sy = c.args.sy in
@@ -91,7 +91,7 @@ take-requires-clause-beside c =
 
 pub decode-requires-in-Ok-None-clause-ready : goal.decode-requires-in-Ok-None-clause-ready
 decode-requires-in-Ok-None-clause-ready c =
-    let s = c.args.layout.now in
+    let s = c.args.params.now.layout in
     let shape = c.args.shape.now in
     let sx = c.args.sx in
     let sy = c.args.sy in
@@ -108,7 +108,7 @@ decode-requires-in-Ok-None-clause-ready c =
 
 pub returns-in-Ok-None-clause-others : goal.returns-in-Ok-None-clause-others
 returns-in-Ok-None-clause-others c =
-    let s = c.args.layout.now in
+    let s = c.args.params.now.layout in
     let shape = c.args.shape.now in
     let sx = c.args.sx in
     let sy = c.args.sy in

@@ -8,7 +8,7 @@ use Rattle.picture_codec.proofs.short_slices.ShortSlices.decode.Goals as goal
 
 pub returns-clause-beside : goal.returns-clause-beside
 returns-clause-beside c = λ rows agree.
-    let s = c.args.layout.now in
+    let s = c.args.params.now.layout in
     let shape = c.args.shape.now in
     let old = c.self.inside.bands in
     let new = c.decode_short.new.bands in
