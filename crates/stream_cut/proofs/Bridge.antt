@@ -15,7 +15,7 @@ use Rattle.stream_rows.proofs.StreamLaws.{stands_front, refused_front, last_cut,
 use Rattle.stream_rows.proofs.Answering.{IsBytes, fit_drop, near, between, after-place, unit-taken, last-front, all-near, behind_limit}
 use Rattle.stream_cut.specs.Skim.{skim_rows, skim_grammar, IsSkimStream}
 use Rattle.stream_cut.specs.Cut.{Piece}
-use Rattle.stream_cut.specs.CutLaws.{piece_bytes, StandWith, StandWithin, IsStreamWith, HasPieces, HasPiecesBefore, IsMadeOf}
+use Rattle.stream_cut.specs.CutLaws.{piece_bytes, StandWith, StandWithin, IsStreamWith, HasPieces, HasPiecesBefore, PiecesStandWithin}
 use Rattle.stream_cut.proofs.SkimTables.{skim_table}
 use Rattle.stream_cut.proofs.Cuts.{by_reading, last_reading, fit_behind}
 
@@ -109,6 +109,24 @@ has_pieces bytes es last fits s =
       last_same = refl;
     }
 
+-- units that stand in an input that is no longer than the limit stand within it
+stand_within : (pieces : List Piece) (z left : Past) (tail : List ℕ) → z.place + length (piece_bytes pieces ++ tail) ≤ limit → StandWith skim_rows z pieces tail left → StandWithin z pieces tail left × (left.place + length tail ≤ limit)
+stand_within [] z left tail few f = (f, subst (λ (x : Past). x.place + length tail ≤ limit) f few)
+stand_within (p ∷ pieces) z left tail few f =
+    let all = piece_bytes pieces ++ tail in
+    let joined : length ((p.bytes ++ piece_bytes pieces) ++ tail) ≡ length p.bytes + length all = ap length (append_assoc p.bytes (piece_bytes pieces) tail) ∙ length-append p.bytes all in
+    let here : length (p.bytes ++ all) ≤ limit - z.place = omega (arith, few, joined, length-append p.bytes all) in
+    let others = stand_within pieces (after z p.unit p.bytes) left tail (omega (arith, few, joined, after-place z p.unit p.bytes)) f.1 in
+    ((front_before limit past_limit skim_grammar z (p.bytes ++ all) here ∙ f.0, others.0), others.1)
+
+pub pieces_stand_within : PiecesStandWithin
+pieces_stand_within bytes es last s units =
+    let w = units.stream in
+    let tail = units.last_piece.bytes in
+    let few = subst (λ (l : List ℕ). length l ≤ limit) w.parts s.within in
+    let within = stand_within units.pieces nothing_yet w.left tail (omega (arith, few)) w.units in
+    (within.0, front_before limit past_limit skim_grammar w.left tail (omega (arith, within.1)) ∙ w.end)
+
 -- ---- a refusal
 
 bytes_more : (pieces : List Piece) (p : Piece) (tail : List ℕ) → piece_bytes pieces ++ (p.bytes ++ tail) ≡ piece_bytes (pieces ++ p ∷ []) ++ tail
@@ -197,6 +215,14 @@ has_pieces_before bytes es fault fits (BehindLimit lt others last f is e) =
     subst (HasPiecesBefore bytes es) (sym e) (subst (λ (l : List Entry). HasPiecesBefore bytes l behind_limit) (sym is) (before_more bytes others last fits lt f))
 
 -- ---- and back
+
+-- a skimmed stream of exactly these units
+pub record IsMadeOf (bytes : List ℕ) (pieces : List Piece) (last : Piece) : Type 0 where
+  pub es : List Entry
+  pub last_entry : Entry
+  pub stream : IsSkimStream bytes es last_entry
+  pub same : map (λ (e : Entry). e.unit) es ≡ map (λ (p : Piece). p.unit) pieces
+  pub last_same : last_entry.unit ≡ last.unit
 
 -- the fields of a unit in front
 record Stood (z : Past) (bytes more : List ℕ) (unit : DataUnit) : Type 0 where

@@ -9,7 +9,8 @@ use Rattle.slice_geometry.specs.declared.unit_list.UnitShape.{UnitShape}
 use Rattle.slice_geometry.specs.Slicing.{slice_count, total_bytes}
 use Rattle.transform_params.specs.Params.{Params}
 use Rattle.stream_rows.specs.Units.{Past, First, DataUnit, Sequence, Repeated, Picture, Skipped, End, after}
-use Rattle.stream_cut.specs.Cut.{Frames, is_in, cut_header_unit, cut_picture_unit, cut_end_unit, Cutting, frame_now, payload_of, header_due, length_ahead, cut_next, end_due, Piece, left_from, header_shapes, end_shapes, cut_shapes, closing_shapes_by}
+use Rattle.stream_writer.specs.EncodedStream.{end_unit}
+use Rattle.stream_cut.specs.Cut.{Frames, is_in, cut_header_unit, cut_picture_unit, Cutting, frame_now, payload_of, header_due, length_ahead, cut_next, end_due, Piece, left_from, header_shapes, end_shapes, cut_shapes, closing_shapes_by}
 use Rattle.stream_cut.specs.CutLaws.{header_found, end_found, cut_found, closing_found, found_from, shapes_from, shapes_read}
 
 pub length-header : (payload : List ℕ) → length (cut_header_unit payload) ≡ 13 + length payload
@@ -22,7 +23,7 @@ abbrev pub header_piece : HeaderParts → List ℕ → Piece
 header_piece parts payload = record { unit = Sequence parts; bytes = cut_header_unit payload }
 
 abbrev pub end_piece : ℕ → Piece
-end_piece previous = record { unit = End; bytes = cut_end_unit previous }
+end_piece previous = record { unit = End; bytes = end_unit previous }
 
 abbrev pub picture_piece : DataUnit → ℕ → List ℕ → Piece
 picture_piece unit previous bytes = record { unit = unit; bytes = cut_picture_unit previous (drop HEAD_SIZE bytes) }
@@ -149,9 +150,9 @@ nothing_counted v n at = record { behind = v; place = at; read = λ more. refl }
 end_counted : (v : Past) (n : ℕ) → v.place ≡ n → (o : Option ℕ) → Counted v (n + length (end_due o)) (end_pieces o) (end_shapes n o)
 end_counted v n at None = record { behind = v; place = omega (arith, at); read = λ more. refl }
 end_counted v n at (Some previous) = record {
-  behind = after v End (cut_end_unit previous);
+  behind = after v End (end_unit previous);
   place = omega (arith, at);
-  read = λ more. ap (λ s. s ∷ shapes_read (after v End (cut_end_unit previous)) more) (same_plain v.place n (length (cut_end_unit previous)) HEAD_SIZE at (omega arith));
+  read = λ more. ap (λ s. s ∷ shapes_read (after v End (end_unit previous)) more) (same_plain v.place n (length (end_unit previous)) HEAD_SIZE at (omega arith));
 }
 
 unit_counted : (frames : Frames) (z : Past) (w : Cutting) (v : Past) (unit : DataUnit) (bytes : List ℕ) → v.place ≡ w.written → 13 ≤ length bytes → Counted v (cut_next frames z w unit bytes).written (cut_pieces frames z w unit bytes) (cut_shapes frames z w unit bytes)
@@ -170,11 +171,11 @@ unit_counted frames z w v (Picture parts number p slices) bytes at long = by (is
     by false = nothing_counted v w.written at
 
 closing_counted : (v : Past) (previous : Option ℕ) (written : ℕ) (first : Option First) → v.place ≡ written → shapes_read v (closing_pieces previous written first) ≡ closing_shapes_by previous written first
-closing_counted v (Some previous) written first at = ap (λ s. s ∷ []) (same_plain v.place written (length (cut_end_unit previous)) HEAD_SIZE at (omega arith))
+closing_counted v (Some previous) written first at = ap (λ s. s ∷ []) (same_plain v.place written (length (end_unit previous)) HEAD_SIZE at (omega arith))
 closing_counted v None zero (Some first) at =
     let size = HEAD_SIZE + length first.payload in
-    ap (λ s. s ∷ plain (v.place + length (cut_header_unit first.payload)) (length (cut_end_unit size)) ∷ []) (same_plain v.place 0 (length (cut_header_unit first.payload)) size at (length-header first.payload))
-    ∙ ap (λ s. plain 0 size ∷ s ∷ []) (same_plain (v.place + length (cut_header_unit first.payload)) size (length (cut_end_unit size)) HEAD_SIZE (omega (arith, at, length-header first.payload)) (omega arith))
+    ap (λ s. s ∷ plain (v.place + length (cut_header_unit first.payload)) (length (end_unit size)) ∷ []) (same_plain v.place 0 (length (cut_header_unit first.payload)) size at (length-header first.payload))
+    ∙ ap (λ s. plain 0 size ∷ s ∷ []) (same_plain (v.place + length (cut_header_unit first.payload)) size (length (end_unit size)) HEAD_SIZE (omega (arith, at, length-header first.payload)) (omega arith))
 closing_counted v None zero None at = refl
 closing_counted v None (suc n) first at = refl
 

@@ -10,7 +10,8 @@ use Rattle.sequence_header.specs.declared.parts.HeaderParts.{HeaderParts}
 use Rattle.stream_rows.specs.Units.{Past, nothing_yet, First, DataUnit, Sequence, Repeated, Picture, Skipped, End, after}
 use Rattle.stream_rows.specs.Streams.{Entry}
 use Rattle.stream_cut.specs.SkimLaws.{UnitHolds}
-use Rattle.stream_cut.specs.Cut.{Frames, is_in, cut_header_unit, cut_picture_unit, cut_end_unit, Cutting, nothing_cut, frame_now, payload_of, header_due, length_ahead, end_due, cut_text, cut_next, or_else_some, closing_by, closing, Piece, front_from, left_from, cut_of}
+use Rattle.stream_writer.specs.EncodedStream.{end_unit}
+use Rattle.stream_cut.specs.Cut.{Frames, is_in, cut_header_unit, cut_picture_unit, Cutting, nothing_cut, frame_now, payload_of, header_due, length_ahead, end_due, cut_text, cut_next, or_else_some, closing_by, closing, Piece, front_from, left_from, cut_of}
 use Rattle.stream_cut.specs.CutLaws.{piece_bytes, header_found, end_found, cut_found, closing_found, found_from, units_of_cut, frames_behind, chosen_one, chosen_from, piece_pictures, CutsToStreams}
 use Rattle.stream_cut.proofs.Fields.{IsBytes, fit_drop}
 use Rattle.stream_cut.proofs.Skimming.{skims}
@@ -34,7 +35,7 @@ header_fits payload f = let info : ParseInfo = record { code = SequenceHeader; n
 picture_fits : (previous : ℕ) (payload : List ℕ) → IsBytes payload → IsBytes (cut_picture_unit previous payload)
 picture_fits previous payload f = let info : ParseInfo = record { code = LowDelayPicture; next = HEAD_SIZE + length payload; previous = previous } in fit_append (head_bytes info) payload (head_fits info) f
 
-end_fits : (previous : ℕ) → IsBytes (cut_end_unit previous)
+end_fits : (previous : ℕ) → IsBytes (end_unit previous)
 end_fits previous = head_fits (record { code = EndOfSequence; next = 0; previous = previous })
 
 abbrev FirstFits : Option First → Type 0
@@ -91,7 +92,7 @@ closing_fits w f = by w.previous w.written w.first f
   where
     by : (previous : Option ℕ) (written : ℕ) (first : Option First) → FirstFits first → IsBytes (closing_by previous written first)
     by (Some previous) written first f = end_fits previous
-    by None zero (Some first) f = fit_append (cut_header_unit first.payload) (cut_end_unit (13 + length first.payload)) (header_fits first.payload f) (end_fits (13 + length first.payload))
+    by None zero (Some first) f = fit_append (cut_header_unit first.payload) (end_unit (13 + length first.payload)) (header_fits first.payload f) (end_fits (13 + length first.payload))
     by None zero None f = tt
     by None (suc n) first f = tt
 

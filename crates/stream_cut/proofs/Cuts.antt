@@ -15,9 +15,11 @@ use Rattle.run_theory.specs.Fronts.{Stands, Finishes, size_to, front_behind, fro
 use Rattle.stream_rows.specs.declared.reason.Reason.{Reason}
 use Rattle.stream_rows.specs.declared.reason.Reason.TheVariants as reasons
 use Rattle.stream_rows.specs.Units.{Past, nothing_yet, First, DataUnit, Sequence, Repeated, Picture, Skipped, End, unit_behind, has_fields, code_rules, previous_rules, number_rules, after}
+use Rattle.stream_rows.specs.Streams.{UnitRows}
 use Rattle.stream_cut.specs.Skim.{skim_rows, skim_grammar}
-use Rattle.stream_cut.specs.Cut.{Frames, is_in, cut_header_unit, cut_picture_unit, cut_end_unit, Cutting, nothing_cut, frame_now, payload_of, header_due, length_ahead, end_due, cut_text, cut_next, or_else_some, closing_by, closing, Piece, front_from, left_from, cut_of}
-use Rattle.stream_cut.specs.CutLaws.{piece_bytes, StandWith, IsStreamWith, shapes_of_cut, shapes_read, HasShapes, CutsToASkimmedStream}
+use Rattle.stream_writer.specs.EncodedStream.{end_unit}
+use Rattle.stream_cut.specs.Cut.{Frames, is_in, cut_header_unit, cut_picture_unit, Cutting, nothing_cut, frame_now, payload_of, header_due, length_ahead, end_due, cut_text, cut_next, or_else_some, closing_by, closing, Piece, front_from, left_from, cut_of}
+use Rattle.stream_cut.specs.CutLaws.{piece_bytes, StandWith, IsStreamWith, shapes_of_cut, shapes_read, HasShapes, units_of_cut}
 use Rattle.stream_cut.proofs.CutPieces.{header_piece, end_piece, picture_piece, header_pieces, end_pieces, cut_pieces, closing_pieces, pieces_from, length-header, length-picture, made_append, from_made, shapes_counted}
 use Rattle.stream_cut.proofs.Fields.{IsBytes}
 use Rattle.stream_writer.proofs.EncodedParts.{no_previous}
@@ -160,17 +162,17 @@ header_some payload = omega arith
 picture_some : (previous : ℕ) (payload : List ℕ) → 0 < length (cut_picture_unit previous payload)
 picture_some previous payload = omega arith
 
-end_some : (previous : ℕ) → 0 < length (cut_end_unit previous)
+end_some : (previous : ℕ) → 0 < length (end_unit previous)
 end_some previous = omega arith
 
 -- where no picture was chosen
-empty_found : (frames : Frames) (z : Past) (w : Cutting) (z' : Past) (first : First) → Apart frames z w z' → IsHeader first.parts first.payload → Found z' (cut_header_unit first.payload ++ cut_end_unit (HEAD_SIZE + length first.payload)) (header_piece first.parts first.payload ∷ end_piece (HEAD_SIZE + length first.payload) ∷ [])
+empty_found : (frames : Frames) (z : Past) (w : Cutting) (z' : Past) (first : First) → Apart frames z w z' → IsHeader first.parts first.payload → Found z' (cut_header_unit first.payload ++ end_unit (HEAD_SIZE + length first.payload)) (header_piece first.parts first.payload ∷ end_piece (HEAD_SIZE + length first.payload) ∷ [])
 empty_found frames z w z' first a h =
     let unit = cut_header_unit first.payload in
     let behind = after z' (Sequence first.parts) unit in
     let its : First = record { parts = first.parts; payload = drop 13 unit } in
-    found_more z' (Sequence first.parts) unit (cut_end_unit (HEAD_SIZE + length first.payload)) (end_piece (HEAD_SIZE + length first.payload) ∷ []) (moves_header_unit z' first.parts first.payload a.none a.previous h) (header_some first.payload)
-    (found_end behind (cut_end_unit (HEAD_SIZE + length first.payload))
+    found_more z' (Sequence first.parts) unit (end_unit (HEAD_SIZE + length first.payload)) (end_piece (HEAD_SIZE + length first.payload) ∷ []) (moves_header_unit z' first.parts first.payload a.none a.previous h) (header_some first.payload)
+    (found_end behind (end_unit (HEAD_SIZE + length first.payload))
     (moves_end_unit behind its (HEAD_SIZE + length first.payload) refl (sym (length-header first.payload)) (omega (arith, h.most)) (end_code behind its refl (λ e. ap (λ (n : ℕ). n % 2) a.pictures)))
     (end_some (HEAD_SIZE + length first.payload)))
 
@@ -179,7 +181,7 @@ at_end frames z w z' bytes b f = by w.previous w.written w.first refl refl refl 
   where
     by : (previous : Option ℕ) (written : ℕ) (first : Option First) → w.previous ≡ previous → w.written ≡ written → w.first ≡ first → Stays frames z w z' previous → Rest w z' (closing_by previous written first) (closing_pieces previous written first)
     by (Some previous) written first e g h s =
-        inr (found_end z' (cut_end_unit previous) (moves_end_unit z' s.first' previous s.there' s.true_one s.short (ends_whole frames z w z' previous s (even_end z f.0 f.1 f.2))) (end_some previous))
+        inr (found_end z' (end_unit previous) (moves_end_unit z' s.first' previous s.there' s.true_one s.short (ends_whole frames z w z' previous s (even_end z f.0 f.1 f.2))) (end_some previous))
     by None zero (Some first) e g h s = inr (empty_found frames z w z' first s (b.first_header first h))
     by None zero None e g h s = let k = b.has_first f.0 f.1 in absurd (some_none w.first k.0 k.1 h)
     by None (suc n) first e g h s = inl (e, refl, refl, omega (arith, b.written, g))
@@ -527,12 +529,12 @@ behind_end frames z w z' bytes text found b f follows = by w.previous refl b.sta
       state = record { none = none; pictures = pictures; previous = previous; whole = λ e k. refl };
     }
 
-    joined : (previous : ℕ) (s : Inside frames z w z' previous) → Rest (cut_next frames z w End bytes) (after z' End (cut_end_unit previous)) text found → Found z' (cut_end_unit previous ++ text) (end_piece previous ∷ found)
+    joined : (previous : ℕ) (s : Inside frames z w z' previous) → Rest (cut_next frames z w End bytes) (after z' End (end_unit previous)) text found → Found z' (end_unit previous ++ text) (end_piece previous ∷ found)
     joined previous s r =
         let m = moves_end_unit z' s.first' previous s.there' s.true_one s.short (ends_whole frames z w z' previous s (even_end z f.0 f.1 f.2)) in
         elim r [
-          | inl e ↦ subst (λ l. Found z' (cut_end_unit previous ++ text) (end_piece previous ∷ l)) (sym e.2) (subst (λ l. Found z' l (end_piece previous ∷ [])) (sym (ap (λ l. cut_end_unit previous ++ l) e.1 ∙ append-nil (cut_end_unit previous))) (found_end z' (cut_end_unit previous) m (end_some previous)))
-          | inr g ↦ found_more z' End (cut_end_unit previous) text found m (end_some previous) g
+          | inl e ↦ subst (λ l. Found z' (end_unit previous ++ text) (end_piece previous ∷ l)) (sym e.2) (subst (λ l. Found z' l (end_piece previous ∷ [])) (sym (ap (λ l. end_unit previous ++ l) e.1 ∙ append-nil (end_unit previous))) (found_end z' (end_unit previous) m (end_some previous)))
+          | inr g ↦ found_more z' End (end_unit previous) text found m (end_some previous) g
         ]
 
     by : (o : Option ℕ) → w.previous ≡ o → Stays frames z w z' o → Rest w z' (end_due o ++ text) (end_pieces o ++ found)
@@ -543,7 +545,7 @@ behind_end frames z w z' bytes text found b f follows = by w.previous refl b.sta
           | inr g ↦ inr g
         ]
     by (Some previous) e s =
-        let v = after z' End (cut_end_unit previous) in
+        let v = after z' End (end_unit previous) in
         inr (joined previous s (follows v (goes v refl refl (no_previous v refl) (omega (arith, b.written, ap (λ o. length (end_due o)) e)))))
 
 -- ---- all units
@@ -598,7 +600,15 @@ cut_found_by frames bytes pieces last fits s =
       | inr f ↦ f
     ]
 
-pub cuts_to_a_skimmed_stream : CutsToASkimmedStream
+-- The bytes are a stream of these units with their bytes.
+pub record IsStreamOfPieces (rows : UnitRows) (bytes : List ℕ) (units : List DataUnit) : Type 0 where
+  pub pieces : List Piece
+  pub last : Piece
+  pub stream : IsStreamWith rows nothing_yet bytes pieces last
+  pub found : map (λ (p : Piece). p.unit) pieces ++ last.unit ∷ [] ≡ units
+
+-- the cut of a skimmed stream is one
+pub cuts_to_a_skimmed_stream : (frames : Frames) (bytes : List ℕ) (pieces : List Piece) (last : Piece) → IsBytes bytes → IsStreamWith skim_rows nothing_yet bytes pieces last → IsStreamOfPieces skim_rows (cut_of frames pieces) (units_of_cut frames pieces)
 cuts_to_a_skimmed_stream frames bytes pieces last fits s =
     let f = cut_found_by frames bytes pieces last fits s in
     record {

@@ -13,6 +13,7 @@ pub mod Bridge
 mod CutStreams
 pub mod Running
 mod OpeningReads
+mod RestRows
 mod SameRows
 mod OpenTurns
 mod Keeps

@@ -8,8 +8,9 @@ use Rattle.run_theory.specs.Grammar.{unit_at}
 use Rattle.run_theory.specs.Fronts.{Finishes, front_of}
 use Rattle.stream_rows.specs.Units.{Past, nothing_yet, First, DataUnit, Sequence, Repeated, Picture, Skipped, End, after}
 use Rattle.stream_cut.specs.Skim.{skim_rows, skim_grammar}
-use Rattle.stream_cut.specs.Cut.{Frames, is_in, cut_header_unit, cut_picture_unit, cut_end_unit, Cutting, nothing_cut, frame_now, payload_of, header_due, length_ahead, end_due, cut_text, cut_next, or_else_some, closing_by, closing, Piece, front_from, left_from}
-use Rattle.stream_cut.specs.CutLaws.{piece_bytes, StandWith, CutsToNoMore}
+use Rattle.stream_writer.specs.EncodedStream.{end_unit}
+use Rattle.stream_cut.specs.Cut.{Frames, is_in, cut_header_unit, cut_picture_unit, Cutting, nothing_cut, frame_now, payload_of, header_due, length_ahead, end_due, cut_text, cut_next, or_else_some, closing_by, closing, Piece, front_from, left_from, cut_of}
+use Rattle.stream_cut.specs.CutLaws.{piece_bytes, StandWith, IsStreamWith}
 use Rattle.stream_cut.specs.Cutter.{pending}
 use Rattle.stream_rows.proofs.Answering.{after-place}
 use Rattle.stream_cut.proofs.Fields.{IsBytes}
@@ -88,7 +89,7 @@ closing_few w place le first = by w.previous w.written w.first refl refl
   where
     by : (previous : Option ℕ) (written : ℕ) (o : Option First) → w.written ≡ written → w.first ≡ o → w.written + length (closing_by previous written o) ≤ place + 13
     by (Some previous) written o e g = omega (arith, le)
-    by None zero (Some f) e g = omega (arith, first f g, e, length-append (cut_header_unit f.payload) (cut_end_unit (13 + length f.payload)), length-header f.payload)
+    by None zero (Some f) e g = omega (arith, first f g, e, length-append (cut_header_unit f.payload) (end_unit (13 + length f.payload)), length-header f.payload)
     by None zero None e g = omega (arith, le)
     by None (suc n) o e g = omega (arith, le)
 
@@ -116,7 +117,8 @@ few_from frames (p ∷ pieces) z w left last fits units end few =
     let all_in : length ((p.bytes ++ piece_bytes pieces) ++ last.bytes) ≡ length p.bytes + length all = ap (λ (l : List ℕ). length l) (append_assoc p.bytes (piece_bytes pieces) last.bytes) ∙ length-append p.bytes all in
     omega (arith, others, written_by frames z w p.unit p.bytes, after-place z p.unit p.bytes, all_out, all_in)
 
-pub cuts_to_no_more : CutsToNoMore
+-- the cut of a skimmed stream is no longer
+pub cuts_to_no_more : (frames : Frames) (bytes : List ℕ) (pieces : List Piece) (last : Piece) → IsBytes bytes → IsStreamWith skim_rows nothing_yet bytes pieces last → length (cut_of frames pieces) ≤ length bytes
 cuts_to_no_more frames bytes pieces last fits s =
     let few : Few nothing_yet nothing_cut = record { due = omega arith; first = λ f e. absurd (let c : (let n : Option First = None in n) ≡ Some f = e in cc) } in
     let all = few_from frames pieces nothing_yet nothing_cut s.left last (subst IsBytes s.parts fits) s.units s.end few in

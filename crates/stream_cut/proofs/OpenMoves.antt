@@ -21,7 +21,8 @@ use Rattle.stream_rows.specs.Units.{Past, First, DataUnit, reason_of, next_check
 use Rattle.stream_rows.proofs.Exact.{read-others}
 use Rattle.stream_rows.proofs.Steady.{head_steady}
 use Rattle.stream_cut.specs.Skim.{skim_grammar, skim_rows}
-use Rattle.stream_cut.specs.Opening.{Opened, OpensSkipped, OpensEnd, open_first, open_repeated, open_picture, open_payload_of, open_payload, open_rows, rest_rows}
+use Rattle.stream_cut.specs.Opening.{Opened, OpensSkipped, OpensEnd, open_first, open_repeated, open_picture, open_payload_of, open_payload, open_rows}
+use Rattle.stream_cut.proofs.RestRows.{rest_rows}
 use Rattle.stream_cut.proofs.SameRows.{same_rows}
 
 -- ---- the rows of a beginning ask nothing of what follows them

@@ -32,7 +32,8 @@ use Rattle.stream_cut.specs.declared.table.Found.TheVariants as founds
 use Rattle.stream_cut.specs.declared.table.PictureFound.{PictureFound}
 use Rattle.stream_cut.specs.Keeping.{IsCutSlice}
 use Rattle.stream_cut.specs.SkimTable.{SkimTableSeen, IsSkimFoundBy, KeepsSkimHeader}
-use Rattle.stream_cut.specs.Opening.{Opened, OpensSequence, OpensRepeated, OpensEnd, Opens, open_rows, rest_rows}
+use Rattle.stream_cut.specs.Opening.{Opened, OpensSequence, OpensRepeated, OpensEnd, Opens, open_rows}
+use Rattle.stream_cut.proofs.RestRows.{rest_rows}
 use Rattle.stream_cut.specs.Skim.{skim_slices, skim_grammar, skim_rows}
 use Rattle.stream_cut.specs.SkimGrammar.{skimmed_laws}
 use Rattle.stream_rows.proofs.CheckedRows.{read-checked_unit}
@@ -186,16 +187,16 @@ offset_moves z next n unit leads = record {
 -- ---- how the unit comes out
 
 abbrev pub Over : SkimTableSeen → SkimTableSeen → List ℕ → Option (List ℕ) → Option (List ℕ) → WindowSeen → Result Found (ReadStop Reason) → Type 0
-Over before now held0 rest0 rest1 window result = UnitOver skim_grammar (IsSkimFoundBy before now) (λ held0 rest0 held stop. KeepsSkimHeader before now) before.past held0 rest0 rest1 window result
+Over before now held0 rest0 rest1 window result = UnitOver skim_grammar (IsSkimFoundBy before now) (λ held0 rest0 held stop. KeepsSkimHeader before now held) before.past held0 rest0 rest1 window result
 
-pub stopped : (before now : SkimTableSeen) (held0 : List ℕ) (rest0 rest1 : Option (List ℕ)) (window : WindowSeen) (stop : ReadStop Reason) (result : Result Found (ReadStop Reason)) → StopsOver skim_grammar before.past held0 rest0 rest1 window.room stop → now.header ≡ before.header → now.shape ≡ before.shape → result ≡ Err stop
+pub stopped : (before now : SkimTableSeen) (held0 : List ℕ) (rest0 rest1 : Option (List ℕ)) (window : WindowSeen) (stop : ReadStop Reason) (result : Result Found (ReadStop Reason)) → StopsOver skim_grammar before.past held0 rest0 rest1 window.room stop → now.header ≡ before.header → now.shape ≡ before.shape → length window.held ≤ 8192 → result ≡ Err stop
     → Over before now held0 rest0 rest1 window result
-stopped before now held0 rest0 rest1 window stop result over header shape is = subst (Over before now held0 rest0 rest1 window) (sym is) (over, record { header = header; shape = shape })
+stopped before now held0 rest0 rest1 window stop result over header shape few is = subst (Over before now held0 rest0 rest1 window) (sym is) (over, record { header = header; shape = shape; few = few })
 
 pub not_kept : (before now : SkimTableSeen) {held0 held : List ℕ} {rest0 rest1 : Option (List ℕ)} (window : WindowSeen) (stop : ReadStop Reason) (result : Result Found (ReadStop Reason)) → Begun skim_grammar before.past held0 rest0 rest1 before.past.place held (skim_rows before.past) → window.held ≡ held
-    → before.past.place + length held + window.room ≡ limit → now.header ≡ before.header → now.shape ≡ before.shape → stop ≡ stops.NoMemory → result ≡ Err stop → Over before now held0 rest0 rest1 window result
-not_kept before now {held0} {held} {rest0} {rest1} window stop result b same total header shape none is =
-    stopped before now held0 rest0 rest1 window stops.NoMemory result (stops_due window.room b total) header shape (is ∙ ap Err none)
+    → before.past.place + length held + window.room ≡ limit → length held ≤ 8192 → now.header ≡ before.header → now.shape ≡ before.shape → stop ≡ stops.NoMemory → result ≡ Err stop → Over before now held0 rest0 rest1 window result
+not_kept before now {held0} {held} {rest0} {rest1} window stop result b same total few header shape none is =
+    stopped before now held0 rest0 rest1 window stops.NoMemory result (stops_due window.room b total) header shape (omega (arith, few, ap (λ (l : List ℕ). length l) same)) (is ∙ ap Err none)
 
 pub picture_found : (before now : SkimTableSeen) {held0 : List ℕ} {rest0 rest1 : Option (List ℕ)} (first : First) (picture : PictureOpening) (n size : ℕ) (front gone : List ℕ) (slices : List (List ℕ)) (window : WindowSeen) (found : PictureFound) (result : Result Found (ReadStop Reason))
     → (b : Begun skim_grammar before.past held0 rest0 rest1 (before.past.place + n) window.held (checked before.past picture.next (Picture first.parts picture.number (params_of picture.params) slices))) → b.gone ≡ front ++ gone → before.past.first ≡ Some first → length front ≡ size → 13 ≤ size → size ≤ 600

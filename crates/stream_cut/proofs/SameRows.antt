@@ -12,7 +12,8 @@ use Rattle.transform_params.specs.Params.{params_rows}
 use Rattle.stream_rows.specs.declared.reason.Reason.{Reason}
 use Rattle.stream_rows.specs.Units.{Past, First, DataUnit, reason_of, header_reason, transform_reason, number_rules, next_checked, unit_head, first_payload, repeated_payload, skipped_payload, payload_of, payload_rows}
 use Rattle.stream_cut.specs.Skim.{skim_picture, skim_payload_of, skim_payload, skim_rows}
-use Rattle.stream_cut.specs.Opening.{Opened, OpensSequence, OpensRepeated, OpensPicture, open_first, open_repeated, open_picture, open_payload_of, open_payload, open_rows, rest_rows}
+use Rattle.stream_cut.specs.Opening.{Opened, OpensSequence, OpensRepeated, OpensPicture, open_first, open_repeated, open_picture, open_payload_of, open_payload, open_rows}
+use Rattle.stream_cut.proofs.RestRows.{rest_rows}
 
 bind_assoc : {R A B C : Type 0} (rows : Rows R A) (f : A → Rows R B) (g : B → Rows R C) → (rows >>= f) >>= g ≡ rows >>= (λ a. f a >>= g)
 unfolding ◌>>=◌

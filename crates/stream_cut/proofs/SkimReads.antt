@@ -1,5 +1,6 @@
 -- What a call of the reader says, over the reader of its table.
-use Rattle.std.proofs.Common.{◌≡◌, ◌++◌, ℕ, true, false, List, length, Option, Some, Result, Ok, Err, refl, sym, subst}
+use Rattle.std.specs.Prelude.{IfSome}
+use Rattle.std.proofs.Common.{◌≡◌, ◌≤◌, ◌++◌, ℕ, true, false, List, length, Option, Some, None, Result, Ok, Err, refl, sym, subst}
 use Rattle.run_theory.specs.Grammar.{Final}
 use Rattle.run_theory.specs.Fronts.{Finishes}
 use Rattle.run_theory.specs.Turn.{MeetsFront}
@@ -7,6 +8,7 @@ use Rattle.stream_reader.specs.ReadStops.{ReadStop}
 use Rattle.unit_reader.specs.declared.reader.Turn.{Turn}
 use Rattle.unit_reader.specs.declared.reader.Turn.TheVariants as turns
 use Rattle.unit_reader.specs.Reading.{ReaderSeen, NextOver as TableNext}
+use Rattle.unit_reader.proofs.FewHeld.{few_behind as table_few_behind}
 use Rattle.stream_rows.specs.declared.reason.Reason.{Reason}
 use Rattle.stream_rows.specs.declared.reason.Reason.TheVariants as reasons
 use Rattle.stream_rows.specs.Units.{Past, DataUnit, Sequence, Repeated, Picture, Skipped, End, unit_behind}
@@ -23,7 +25,7 @@ abbrev past_of : SkimTableSeen → Past
 past_of table = table.past
 
 abbrev stopped : SkimTableSeen → SkimTableSeen → List ℕ → Option (List ℕ) → List ℕ → ReadStop → Type 0
-stopped before now held0 rest0 held stop = KeepsSkimHeader before now
+stopped before now held0 rest0 held stop = KeepsSkimHeader before now held
 
 abbrev pub TurnOver : Seen → Seen → Option (List ℕ) → Option (List ℕ) → Result (Turn SkimItem) ReadStop → Type 0
 TurnOver old new rest0 rest1 result = TableNext skim_grammar reasons.StreamTooLong past_of TellsSkimUnit stopped old new rest0 rest1 result
@@ -73,3 +75,9 @@ next_told old new rest0 rest1 (Ok (turns.Last item)) n =
     }
 next_told old new rest0 rest1 (Ok turns.Rest) n = absurd (let clash : false ≡ true = n.rests.may in cc)
 next_told old new rest0 rest1 (Err stop) n = (n.0, record { past = n.1; header = n.2.header; shape = n.2.shape; kept = n.3; ended = n.4 })
+
+-- behind a call few bytes are held
+pub few_behind : (old new : Seen) (rest0 rest1 : Option (List ℕ)) (before now : ℕ) (result : Result (Turn SkimItem) ReadStop) → length old.held ≤ 8192 → (old.stop ≡ None → old.ended ≡ false → TurnOver old new rest0 rest1 result) → (new.stop ≡ None → length new.held ≤ 4096)
+    → IfSome old.stop (λ stop. (result ≡ Err stop) × (new ≡ old) × (rest1 ≡ rest0) × (now ≡ before))
+    → (old.stop ≡ None → old.ended ≡ true → (result ≡ Ok turns.Rest) × (new ≡ old) × (rest1 ≡ rest0) × (now ≡ before)) → length new.held ≤ 8192
+few_behind old new = table_few_behind skim_grammar reasons.StreamTooLong past_of TellsSkimUnit stopped (λ before now held0 rest0 held stop h. h.few) old new

@@ -17,7 +17,8 @@ use Rattle.stream_rows.specs.declared.reason.Reason.TheVariants as reasons
 use Rattle.stream_rows.specs.Units.{Past, Skipped, skipped_payload, reason_of}
 use Rattle.stream_cut.specs.declared.opening.Opening.TheVariants as openings
 use Rattle.stream_cut.specs.declared.table.Found.TheVariants as founds
-use Rattle.stream_cut.specs.Opening.{Opens, open_rows, rest_rows}
+use Rattle.stream_cut.specs.Opening.{Opens, open_rows}
+use Rattle.stream_cut.proofs.RestRows.{rest_rows}
 use Rattle.stream_cut.specs.Skim.{skim_grammar, skim_rows}
 use Rattle.stream_cut.specs.SkimGrammar.{skimmed_laws}
 use Rattle.stream_cut.specs.SkimTable.{SkimTableSeen}

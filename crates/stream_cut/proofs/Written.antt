@@ -18,7 +18,8 @@ use Rattle.run_theory.specs.Fronts.{Stands, Finishes, size_to, front_behind, fro
 use Rattle.stream_rows.specs.declared.reason.Reason.{Reason}
 use Rattle.stream_rows.specs.Units.{Past, First, DataUnit, Sequence, Picture, End, unit_behind, reason_of, has_fields, code_rules, previous_rules, number_rules, payload_rows, payload_of, after}
 use Rattle.stream_cut.specs.Skim.{skim_payload_of, skim_payload, skim_rows, skim_grammar}
-use Rattle.stream_cut.specs.Cut.{cut_header_unit, cut_picture_unit, cut_end_unit, Piece}
+use Rattle.stream_writer.specs.EncodedStream.{end_unit}
+use Rattle.stream_cut.specs.Cut.{cut_header_unit, cut_picture_unit, Piece}
 use Rattle.stream_cut.specs.CutLaws.{piece_bytes, IsStreamWith}
 use Rattle.stream_writer.proofs.EncodedPieces.{moves_then, moves_none}
 use Rattle.stream_writer.proofs.EncodedParts.{moves_head, true_previous}
@@ -53,12 +54,12 @@ moves_picture_unit z first parts number p slices previous payload there of true_
     (skims (moves_head z LowDelayPicture (13 + length payload) previous (skim_payload z z.first) h.most short (picture_code z first there) refl (true_previous z previous true_one)))
     rest
 
-pub moves_end_unit : (z : Past) (first : First) (previous : ℕ) → z.first ≡ Some first → previous ≡ z.previous → previous < 2 ^ 32 → first_broken (code_rules z EndOfSequence) ≡ None → Moves skim_grammar (skim_rows z) z.place (cut_end_unit previous) (done End)
+pub moves_end_unit : (z : Past) (first : First) (previous : ℕ) → z.first ≡ Some first → previous ≡ z.previous → previous < 2 ^ 32 → first_broken (code_rules z EndOfSequence) ≡ None → Moves skim_grammar (skim_rows z) z.place (end_unit previous) (done End)
 unfolding skim_rows skim_payload skim_payload_of payload_of
 moves_end_unit z first previous there true_one short code =
     let info : ParseInfo = record { code = EndOfSequence; next = 0; previous = previous } in
     let rest : Moves skim_grammar (skim_payload z z.first info) (z.place + 13) [] (done End) = subst (λ o. Moves skim_grammar (skim_payload z o info) (z.place + 13) [] (done End)) (sym there) (moves_none skim_grammar (done End) (z.place + 13)) in
-    subst (λ l. Moves skim_grammar (skim_rows z) z.place l (done End)) (append-nil (cut_end_unit previous))
+    subst (λ l. Moves skim_grammar (skim_rows z) z.place l (done End)) (append-nil (end_unit previous))
     (moves_then skim_grammar _ _ _ z.place (z.place + 13) (head_bytes info) [] refl (skims (moves_head z EndOfSequence 0 previous (skim_payload z z.first) (omega arith) short code refl (true_previous z previous true_one))) rest)
 
 -- ---- units before others

@@ -4,7 +4,7 @@
 -- there is one header, the first sequence's, and an end. Repeated headers, auxiliary data and padding are left out.
 use Rattle.std.specs.Prelude.{ℕ, zero, suc, ◌+◌, ◌-◌, ◌/◌, ◌&&◌, Bool, List, [], ◌∷◌, ◌++◌, length, drop, Option, Some, None, nat_le, nat_lt, if◌then◌else◌}
 use Rattle.parse_info.specs.declared.TheConstants.{HEAD_SIZE}
-use Rattle.parse_info.specs.declared.Code.TheVariants.{SequenceHeader, EndOfSequence, LowDelayPicture}
+use Rattle.parse_info.specs.declared.Code.TheVariants.{SequenceHeader, LowDelayPicture}
 use Rattle.parse_info.specs.Head.{head_bytes}
 use Rattle.slice_geometry.specs.declared.unit_list.UnitShape.{UnitShape}
 use Rattle.slice_geometry.specs.Slicing.{slice_count, total_bytes}
@@ -14,6 +14,7 @@ use Rattle.stream_rows.specs.declared.reason.Reason.{Reason}
 use Rattle.stream_rows.specs.Refusals.{Refusal}
 use Rattle.stream_rows.specs.Units.{Past, nothing_yet, First, DataUnit, Sequence, Repeated, Picture, Skipped, End, has_fields, after}
 use Rattle.stream_rows.specs.Streams.{limit, past_limit, refusal_of}
+use Rattle.stream_writer.specs.EncodedStream.{end_unit}
 use Rattle.stream_cut.specs.Skim.{skim_grammar}
 
 -- ---- the frames
@@ -42,10 +43,6 @@ cut_header_unit payload =
 abbrev pub cut_picture_unit : ℕ → List ℕ → List ℕ
 cut_picture_unit previous payload =
     head_bytes (record { code = LowDelayPicture; next = HEAD_SIZE + length payload; previous = previous }) ++ payload
-
--- the end of a sequence, behind a unit of so many bytes
-abbrev pub cut_end_unit : ℕ → List ℕ
-cut_end_unit previous = head_bytes (record { code = EndOfSequence; next = 0; previous = previous })
 
 -- ---- what the units so far leave to the cut
 
@@ -83,7 +80,7 @@ length_ahead z (Some previous) = previous
 -- the end of the sequence, if anything was written
 abbrev pub end_due : Option ℕ → List ℕ
 end_due None = []
-end_due (Some previous) = cut_end_unit previous
+end_due (Some previous) = end_unit previous
 
 -- what a unit of these bytes gives
 abbrev pub cut_text : Frames → Past → Cutting → DataUnit → List ℕ → List ℕ
@@ -122,11 +119,11 @@ cut_next frames z w Skipped bytes = w
 
 -- Where no picture is chosen, this is the stream.
 abbrev pub empty_cut : List ℕ → List ℕ
-empty_cut payload = cut_header_unit payload ++ cut_end_unit (HEAD_SIZE + length payload)
+empty_cut payload = cut_header_unit payload ++ end_unit (HEAD_SIZE + length payload)
 
 -- what stands behind the stream's last unit, an end of sequence
 abbrev pub closing_by : Option ℕ → ℕ → Option First → List ℕ
-closing_by (Some previous) written first = cut_end_unit previous
+closing_by (Some previous) written first = end_unit previous
 closing_by None zero (Some first) = empty_cut first.payload
 closing_by None zero None = []
 closing_by None (suc n) first = []

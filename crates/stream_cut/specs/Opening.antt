@@ -1,5 +1,5 @@
--- What a unit begins with, and the rows that are left behind it.
-use Rattle.std.specs.Prelude.{◌≡◌, ◌≤◌, ◌<◌, ℕ, ◌+◌, ◌-◌, List, [], ◌∷◌, length, drop, Option, Some, None, Result, Ok, Err}
+-- What a unit begins with.
+use Rattle.std.specs.Prelude.{◌≡◌, ◌≤◌, ◌<◌, ℕ, ◌+◌, List, [], ◌∷◌, length, drop, Option, Some, None, Result, Ok, Err}
 use Rattle.std.specs.Prelude.{nat_eq}
 use Rattle.std.specs.List.{starts_with}
 use Rattle.parse_info.specs.declared.TheConstants.{HEAD_SIZE}
@@ -11,18 +11,17 @@ use Rattle.sequence_header.specs.declared.parts.HeaderParts.{HeaderParts}
 use Rattle.sequence_header.specs.Header.{header_rows}
 use Rattle.transform_params.specs.Params.{Params, params_rows}
 use Rattle.transform_params.specs.Views.{params_of}
-use Rattle.slice_geometry.specs.Slicing.{slice_count}
 use Rattle.run_theory.specs.Grammar.{bytes_at}
 use Rattle.stream_rows.specs.declared.reason.Reason.{Reason}
 use Rattle.stream_rows.specs.declared.reason.Reason.TheVariants as reasons
 use Rattle.stream_rows.specs.Refusals.{Refusal}
-use Rattle.stream_rows.specs.Units.{Past, First, DataUnit, Sequence, Repeated, Picture, Skipped, End, reason_of, header_reason, transform_reason, number_rules, next_checked, unit_head}
+use Rattle.stream_rows.specs.Units.{Past, First, reason_of, header_reason, transform_reason, number_rules, next_checked, unit_head}
 use Rattle.stream_rows.specs.Streams.{refusal_of}
 use Rattle.run_theory.specs.Begun.{Begun}
 use Rattle.unit_reader.specs.Asking.{WindowSeen}
 use Rattle.unit_reader.specs.Stops.{StopsOver}
 use Rattle.unit_reader.specs.declared.stop.ReadStop.{ReadStop}
-use Rattle.stream_cut.specs.Skim.{skim_slices, skim_rows, skim_grammar}
+use Rattle.stream_cut.specs.Skim.{skim_rows, skim_grammar}
 use Rattle.stream_cut.specs.declared.opening.Opening.{Opening}
 use Rattle.stream_cut.specs.declared.opening.Opening.TheVariants as openings
 
@@ -71,20 +70,6 @@ unfoldable pub open_rows : Past → Rows Reason Opened
 open_rows z = do
   head ← unit_head z
   open_payload z z.first head
-
--- ---- and those behind it
-
-unfoldable pub rest_rows : Past → Opened → Rows Reason DataUnit
-rest_rows z (OpensSequence parts) = done (Sequence parts)
-rest_rows z OpensRepeated = done Repeated
-rest_rows z (OpensPicture parts number p next) = do
-  slices ← skim_slices p (slice_count p.slicing) []
-  length ← next_checked z next
-  done (Picture parts number p slices)
-rest_rows z (OpensSkipped next) = do
-  payload ← bytes_under (next - HEAD_SIZE) (λ bytes. [])
-  done Skipped
-rest_rows z OpensEnd = done End
 
 -- ---- as the code answers it
 

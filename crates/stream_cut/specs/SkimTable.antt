@@ -1,5 +1,5 @@
 -- The table of the units of a stream that is skimmed.
-use Rattle.std.specs.Prelude.{◌≡◌, ◌≢◌, ℕ, ◌+◌, ◌-◌, ◌≤◌, ◌<◌, ◌^◌, List, length, drop, Option, Some, None}
+use Rattle.std.specs.Prelude.{◌≡◌, ◌≢◌, ℕ, ◌+◌, ◌≤◌, ◌<◌, ◌^◌, List, length, drop, Option, Some, None}
 use Rattle.parse_info.specs.declared.TheConstants.{HEAD_SIZE}
 use Rattle.sequence_header.specs.declared.parts.HeaderParts.{HeaderParts}
 use Rattle.slice_geometry.specs.declared.unit_list.UnitShape.{UnitShape}
@@ -7,6 +7,7 @@ use Rattle.slice_geometry.specs.Slicing.{IsAllowed, slice_count, total_bytes}
 use Rattle.transform_params.specs.Params.{Params}
 use Rattle.stream_rows.specs.Units.{Past, First, DataUnit, Sequence, Repeated, Picture, Skipped, End}
 use Rattle.stream_reader.specs.Reader.{header_behind}
+use Rattle.stream_reader.specs.Turns.{shape_of}
 use Rattle.stream_cut.specs.declared.table.Found.{Found}
 use Rattle.stream_cut.specs.declared.table.Found.TheVariants as founds
 use Rattle.stream_cut.specs.declared.table.SkimItem.{SkimItem}
@@ -43,15 +44,9 @@ kept_behind End bytes before = before
 abbrev pub first_shape : UnitShape
 first_shape = record { start = 0; head = 0; slices = 0; a = 1; b = 1 }
 
--- the shape of a picture's unit
+-- the shape of the last picture's unit, behind a unit of these bytes
 abbrev pub shape_behind : Past → DataUnit → List ℕ → UnitShape → UnitShape
-shape_behind z (Picture parts number p slices) bytes before = record {
-  start = z.place;
-  head = length bytes - total_bytes p.slicing;
-  slices = slice_count p.slicing;
-  a = p.slicing.a;
-  b = p.slicing.b;
-}
+shape_behind z (Picture parts number p slices) bytes before = shape_of z (Picture parts number p slices) bytes
 shape_behind z other bytes before = before
 
 -- what a unit is told as
@@ -90,7 +85,8 @@ pub record TellsSkimUnit (before behind : SkimTableSeen) (unit : DataUnit) (byte
   pub short : length bytes < 2 ^ 32
   pub holds : IsKnownUnit before.past unit bytes
 
--- where a unit stops, the header and the shape are as before; any bytes may be kept
-pub record KeepsSkimHeader (before now : SkimTableSeen) : Type 0 where
+-- where a unit stops, the header and the shape are as before, and few bytes are held; any bytes may be kept
+pub record KeepsSkimHeader (before now : SkimTableSeen) (held : List ℕ) : Type 0 where
   pub header : now.header ≡ before.header
   pub shape : now.shape ≡ before.shape
+  pub few : length held ≤ 8192

@@ -1,7 +1,7 @@
 //! The cutter of a stream.
 
 ghost use Rattle.vc2_io.specs.declared.TheConstants.{INPUT_LIMIT, READ_SIZE};
-ghost use Rattle.std.specs.Prelude.{◌≡◌, ◌≤◌, ◌<◌, ◌+◌, ◌++◌, ◌∷◌, [], true, false, refl, length, IfOk, OnOk, OnErr, Ok, Err, Some, None};
+ghost use Rattle.std.specs.Prelude.{◌≡◌, ◌≤◌, ◌+◌, ◌++◌, ◌∷◌, [], true, false, refl, length, IfOk, OnOk, OnErr, Ok, Err, Some, None};
 ghost use Rattle.std.specs.Io.KnownBytes.{Appends};
 ghost use Rattle.vc2_io.specs.Outside.{HasCause, GrewShort};
 ghost use Rattle.run_theory.specs.Ran.{HaltHasCause};
@@ -12,7 +12,8 @@ ghost use Rattle.parse_info.specs.Head.{head_bytes};
 ghost use Rattle.parse_info.specs.declared.ParseInfo.{ParseInfo};
 ghost use Rattle.unit_reader.specs.Soon.{Soon};
 ghost use Rattle.stream_rows.specs.Units.{nothing_yet};
-ghost use Rattle.stream_cut.specs.Cut.{Frames, CutSoFar, is_in, frames_so_far, cut_header_unit, cut_end_unit, empty_cut, no_cut, cutting, cut_machine};
+ghost use Rattle.stream_writer.specs.EncodedStream.{end_unit};
+ghost use Rattle.stream_cut.specs.Cut.{Frames, CutSoFar, is_in, frames_so_far, cut_header_unit, empty_cut, no_cut, cutting, cut_machine};
 ghost use Rattle.stream_cut.specs.Cutter.{IsNewCutter, IsCutToTheEnd, MayGoOn, KeepsCut, run_of};
 
 use crate::table::{SkimItem, SkimTable};
@@ -94,9 +95,9 @@ fn put_header<K: Sink>(out: &mut K, payload: &[u8]) -> Result<u32, Failed>
 // Writes the end of a sequence.
 fn put_end<K: Sink>(out: &mut K, previous: u32) -> Result<(), Failed>
     ensures ok { OnOk result (Appends (K.written out.old) (K.written out.new)
-        (cut_end_unit previous)) }
+        (end_unit previous)) }
     ensures err { OnErr result (GrewShort (K.written out.old) (K.written out.new)
-        (cut_end_unit previous)) }
+        (end_unit previous)) }
     ensures cause { HasCause (K.faults out.old) (K.faults out.new) result }
 {
     put(out, Code::EndOfSequence, 0, previous, &[])
@@ -482,9 +483,8 @@ impl Model for Cutter {
 }
 
 impl Cutter {
-    /// A cutter of the frames from one up to another, which hasn't cut yet.
+    /// A cutter of the frames from one up to another, which hasn't cut yet. Where the other isn't above it, no frame is chosen.
     pub fn new(alloc: Global, from: u32, to: u32) -> Result<Cutter, NoMemory>
-        requires { from < to }
         ensures new { IfOk result (IsNewCutter (record { from = from; to = to })) }
         ensures once { IfOk result (λ cutter. cutter.has_cut ≡ false) }
     {

@@ -37,11 +37,14 @@ pub struct SkimReader {
 }
 
 impl Model for SkimReader {
+    ghost use Rattle.std.specs.Prelude.{◌≤◌, length};
     ghost use Rattle.stream_cut.specs.SkimReader.{SkimReaderSeen, skim_seen};
 
     ghost Value = { SkimReaderSeen };
 
     ghost view = { λ a. skim_seen a.reader };
+
+    ghost invariant = { λ a. length a.reader.held ≤ 8192 };
 }
 
 impl SkimReader {
@@ -62,8 +65,10 @@ impl SkimReader {
         // The unit is taken, or refused as the skimmed table refuses it, or something outside failed.
         ensures next { self.old.stop ≡ None → self.old.ended ≡ false
             → NextSkimmed self.old self.new (S.rest src.old) (S.rest src.new) result }
-        // Where no stop is kept, at most 4096 bytes are held.
+        // Where no stop is kept, at most 4096 bytes are held,
         ensures few { self.new.stop ≡ None → length self.new.held ≤ READ_SIZE }
+        // and behind a stop at most 8192.
+        ensures held { length self.new.held ≤ 8192 }
         // A failed read is answered where the count rose, and nothing else is.
         ensures cause { self.old.stop ≡ None
             → StopCause (S.faults src.old) (S.faults src.new) result }

@@ -8,6 +8,7 @@ ghost use Rattle.unit_reader.specs.Reading.{UnitOver};
 ghost use Rattle.stream_cut.specs.Opening.{OpenOver, Opens};
 ghost use Rattle.stream_cut.specs.declared.opening.Opening.TheVariants as openings;
 ghost use Rattle.unit_reader.specs.Asking.{HaltCause};
+ghost use Rattle.unit_reader.proofs.FewHeld.{few_held};
 ghost use Rattle.stream_cut.specs.Keeping.{Kept, IsCutSlice};
 ghost use Rattle.slice_geometry.specs.Slicing.{total_bytes};
 ghost use Rattle.stream_rows.specs.declared.reason.Reason.TheVariants as reasons;
@@ -94,6 +95,7 @@ pub(crate) fn keep<S: Source>(
 ) -> Result<bool, Halt>
     ensures moved { Kept count window.old window.new (S.rest src.old)
         (S.rest src.new) kept.old.items kept.new.items result }
+    ensures few { length window.old.held ≤ 8192 → length window.new.held ≤ 8192 }
     ensures cause { HaltCause (S.faults src.old) (S.faults src.new) result }
 {
     let mut left = count;
@@ -275,14 +277,15 @@ impl SkimTable {
         requires least { 13 ≤ size }
         requires most { size ≤ 525 }
         requires inside { size ≤ length window.old.held }
+        requires few { length window.old.held ≤ 8192 }
         requires place { self.old.past.place + length window.old.held + window.old.room
             ≡ INPUT_LIMIT }
         ensures unit { (held0 : List ℕ) (rest0 rest1 : Option (List ℕ))
             → Begun skim_grammar self.old.past held0 rest0 rest1 self.old.past.place window.old.held
             (skim_rows self.old.past)
             → UnitOver skim_grammar (IsSkimFoundBy self.old self.new)
-            (λ held0 rest0 held stop. KeepsSkimHeader self.old self.new) self.old.past held0 rest0
-            rest1 window.new result }
+            (λ held0 rest0 held stop. KeepsSkimHeader self.old self.new held) self.old.past held0
+            rest0 rest1 window.new result }
         ensures past { self.new.past ≡ self.old.past }
         ensures stop { (stop : ReadStop Reason) → result ≡ Err stop → stop ≡ stops.NoMemory }
     {
@@ -304,14 +307,15 @@ impl SkimTable {
         size: usize,
     ) -> Result<Found, ReadStop<Reason>>
         requires opened { Opens self.old.past window.old.held (openings.Picture picture) size }
+        requires few { length window.old.held ≤ 8192 }
         requires place { self.old.past.place + length window.old.held + window.old.room
             ≡ INPUT_LIMIT }
         ensures unit { (held0 : List ℕ) (rest0 : Option (List ℕ))
             → Begun skim_grammar self.old.past held0 rest0
             (S.rest src.old) self.old.past.place window.old.held (skim_rows self.old.past)
             → UnitOver skim_grammar (IsSkimFoundBy self.old self.new)
-            (λ held0 rest0 held stop. KeepsSkimHeader self.old self.new) self.old.past held0 rest0
-            (S.rest src.new) window.new result }
+            (λ held0 rest0 held stop. KeepsSkimHeader self.old self.new held) self.old.past held0
+            rest0 (S.rest src.new) window.new result }
         ensures past { self.new.past ≡ self.old.past }
         ensures cause { StopCause (S.faults src.old) (S.faults src.new) result }
     {
@@ -356,8 +360,8 @@ impl SkimTable {
             → Begun skim_grammar self.now.past held0 rest0
             (S.rest src.old) self.now.past.place window.old.held (skim_rows self.now.past)
             → UnitOver skim_grammar (IsSkimFoundBy self.now self.now)
-            (λ held0 rest0 held stop. KeepsSkimHeader self.now self.now) self.now.past held0 rest0
-            (S.rest src.new) window.new result }
+            (λ held0 rest0 held stop. KeepsSkimHeader self.now self.now held) self.now.past held0
+            rest0 (S.rest src.new) window.new result }
         ensures cause { StopCause (S.faults src.old) (S.faults src.new) result }
     {
         window.advance(size);
@@ -404,13 +408,13 @@ impl Table for SkimTable {
 
     ghost tells = { TellsSkimUnit };
 
-    ghost stopped = { λ before now held0 rest0 held stop. KeepsSkimHeader before now };
+    ghost stopped = { λ before now held0 rest0 held stop. KeepsSkimHeader before now held };
 
-    ghost stops_before = { λ table held0 rest0 held stop few. record { header = refl; shape = refl } };
+    ghost stops_before = { λ table held0 rest0 held stop few. record { header = refl; shape = refl; few = few_held held few } };
 
     ghost stops_otherwise = { λ before now held0 rest0 held refusal stop h. h };
 
-    ghost stops_behind = { λ before now found unit bytes held0 rest0 held stop is final few. record { header = is.header; shape = is.shape } };
+    ghost stops_behind = { λ before now found unit bytes held0 rest0 held stop is final few. record { header = is.header; shape = is.shape; few = few_held held few } };
 
     fn place(&self) -> u64 {
         self.earlier.place()

@@ -1,5 +1,5 @@
 -- What a call of the reader over the table of heads says, as the reader of heads tells it.
-use Rattle.std.proofs.Common.{◌≡◌, ◌≤◌, ℕ, List, length, Bool, true, false, Option, Some, None, Result, Ok, Err, refl, sym, ap, subst, ◌∙◌, arith}
+use Rattle.std.proofs.Common.{◌≡◌, ◌≤◌, ℕ, List, length, true, false, Option, Some, None, Result, Ok, Err, sym, ap, subst, ◌∙◌}
 use Rattle.std.specs.Prelude.{IfSome}
 use Rattle.parse_info.specs.declared.ParseInfo.{ParseInfo}
 use Rattle.run_theory.specs.Grammar.{Inner, Final}
@@ -11,10 +11,11 @@ use Rattle.unit_reader.specs.declared.reader.Turn.{Turn}
 use Rattle.unit_reader.specs.declared.reader.Turn.TheVariants as turns
 use Rattle.unit_reader.specs.Stops.{StopCause}
 use Rattle.unit_reader.specs.Reading.{ReaderSeen, NextOver}
+use Rattle.unit_reader.proofs.FewHeld.{few_behind as table_few_behind}
 use Rattle.stream_reader.specs.ReadStops.{ReadStop}
 use Rattle.stream_reader.specs.declared.head_units.HeadTable.{HeadTable}
 use Rattle.stream_reader.specs.HeadUnits.{heads}
-use Rattle.stream_reader.specs.HeadReader.{NextHeadOver, heads_seen, HoldsFewHeads, answer_of}
+use Rattle.stream_reader.specs.HeadReader.{NextHeadOver, heads_seen, answer_of}
 
 -- few bytes are held where the unit of a head stops
 abbrev HeadStopped : HeadTable → HeadTable → List ℕ → Option (List ℕ) → List ℕ → ReadStop → Type 0
@@ -44,29 +45,10 @@ pub kept_told : (old new : ReaderSeen HeadTable Reason) (rest0 rest1 : Option (L
 kept_told old new rest0 rest1 before now result answer None e h = tt
 kept_told old new rest0 rest1 before now result answer (Some stop) e h = (e ∙ ap answer_of h.0, ap heads_seen h.1, h.2, h.3)
 
-few_next : (old new : ReaderSeen HeadTable Reason) (rest0 rest1 : Option (List ℕ)) (result : Result (Turn ParseInfo) ReadStop)
-    → NextOver heads reasons.StreamTooLong (λ (table : HeadTable). table.place) (λ (before behind : HeadTable) (unit : ParseInfo) (bytes : List ℕ) (item : ParseInfo). item ≡ unit) HeadStopped old new rest0 rest1 result
-    → (new.stop ≡ None → length new.held ≤ 4096) → length new.held ≤ 8192
-few_next old new rest0 rest1 (Ok (turns.Unit item)) n few = omega (arith, few n.going.0)
-few_next old new rest0 rest1 (Ok (turns.Last item)) n few = absurd (let clash : Inner ≡ Final = n.final in cc)
-few_next old new rest0 rest1 (Ok turns.Rest) n few = omega (arith, few n.over.0)
-few_next old new rest0 rest1 (Err stop) n few = n.2
-
 -- behind a call few bytes are held
-pub few_behind : (old new : ReaderSeen HeadTable Reason) (rest0 rest1 : Option (List ℕ)) (before now : ℕ) (result : Result (Turn ParseInfo) ReadStop) → HoldsFewHeads old
+pub few_behind : (old new : ReaderSeen HeadTable Reason) (rest0 rest1 : Option (List ℕ)) (before now : ℕ) (result : Result (Turn ParseInfo) ReadStop) → length old.held ≤ 8192
     → (old.stop ≡ None → old.ended ≡ false → NextOver heads reasons.StreamTooLong (λ (table : HeadTable). table.place) (λ (before behind : HeadTable) (unit : ParseInfo) (bytes : List ℕ) (item : ParseInfo). item ≡ unit) HeadStopped old new rest0 rest1 result)
     → (new.stop ≡ None → length new.held ≤ 4096)
     → IfSome old.stop (λ stop. (result ≡ Err stop) × (new ≡ old) × (rest1 ≡ rest0) × (now ≡ before))
-    → (old.stop ≡ None → old.ended ≡ true → (result ≡ Ok turns.Rest) × (new ≡ old) × (rest1 ≡ rest0) × (now ≡ before)) → HoldsFewHeads new
-few_behind old new rest0 rest1 before now result held next few kept ended = by old.stop refl
-  where
-    still : new ≡ old → HoldsFewHeads new
-    still same = subst HoldsFewHeads (sym same) held
-
-    going : old.stop ≡ None → (over : Bool) → old.ended ≡ over → HoldsFewHeads new
-    going none true e = still (ended none e).1
-    going none false e = few_next old new rest0 rest1 result (next none e) few
-
-    by : (stop : Option ReadStop) → old.stop ≡ stop → HoldsFewHeads new
-    by None e = going e old.ended refl
-    by (Some stop) e = still (subst (λ s. IfSome s (λ stop. (result ≡ Err stop) × (new ≡ old) × (rest1 ≡ rest0) × (now ≡ before))) e kept).1
+    → (old.stop ≡ None → old.ended ≡ true → (result ≡ Ok turns.Rest) × (new ≡ old) × (rest1 ≡ rest0) × (now ≡ before)) → length new.held ≤ 8192
+few_behind old new = table_few_behind heads reasons.StreamTooLong (λ (table : HeadTable). table.place) (λ (before behind : HeadTable) (unit : ParseInfo) (bytes : List ℕ) (item : ParseInfo). item ≡ unit) HeadStopped (λ before now held0 rest0 held stop h. h) old new

@@ -1,6 +1,5 @@
 -- The laws of the table of units by their heads alone.
-use Rattle.std.proofs.Common.{◌≤◌, ℕ, List, length, refl, arith}
-use Rattle.vc2_io.specs.declared.TheConstants.{READ_SIZE}
+use Rattle.std.proofs.Common.{refl}
 use Rattle.field_rows.specs.Rows.{◌>>=◌, word_under}
 use Rattle.field_rows.specs.Pieces.{IsSteady}
 use Rattle.field_rows.proofs.Steady.{steady}
@@ -21,7 +20,3 @@ unit_steady = search steady depth 20
 pub heads_laws : IsGrammar heads
 unfolding head_only_unit head_only_head head_rows ◌>>=◌ word_under
 heads_laws = record { steady = λ place. unit_steady; some = λ place. tt; short = refl }
-
--- what one read brings is few
-pub few_held : (held : List ℕ) → length held ≤ READ_SIZE → length held ≤ 8192
-few_held held few = omega (arith, few)

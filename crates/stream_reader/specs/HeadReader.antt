@@ -1,5 +1,5 @@
 -- The reader of units by their heads alone, over any source.
-use Rattle.std.specs.Prelude.{◌≡◌, ◌≤◌, ℕ, ◌+◌, Bool, true, false, List, [], length, Option, Some, None, Result, Ok, Err}
+use Rattle.std.specs.Prelude.{◌≡◌, ℕ, ◌+◌, Bool, true, false, List, [], length, Option, Some, None, Result, Ok, Err}
 use Rattle.parse_info.specs.declared.ParseInfo.{ParseInfo}
 use Rattle.run_theory.specs.Turn.{TakesUnit, RestsHere}
 use Rattle.stream_reader.specs.ReadStops.{ReadStop}
@@ -50,10 +50,6 @@ NextHeadOver old new rest0 rest1 (Err stop) =
 -- what is seen of it, by the reader over its table
 abbrev pub heads_seen : ReaderSeen HeadTable Reason → HeadReaderSeen
 heads_seen r = record { place = r.table.place; held = r.held; stop = r.stop; ended = r.ended }
-
--- what is kept: few bytes are held, also behind a stop
-abbrev pub HoldsFewHeads : ReaderSeen HeadTable Reason → Type 0
-HoldsFewHeads r = length r.held ≤ 8192
 
 -- what a turn tells; no unit is the last one
 abbrev pub answer_of : Result (Turn ParseInfo) ReadStop → Result (Option ParseInfo) ReadStop

@@ -33,13 +33,14 @@ pub struct HeadReader {
 }
 
 impl Model for HeadReader {
-    ghost use Rattle.stream_reader.specs.HeadReader.{HeadReaderSeen, heads_seen, HoldsFewHeads};
+    ghost use Rattle.std.specs.Prelude.{◌≤◌, length};
+    ghost use Rattle.stream_reader.specs.HeadReader.{HeadReaderSeen, heads_seen};
 
     ghost Value = { HeadReaderSeen };
 
     ghost view = { λ a. heads_seen a.reader };
 
-    ghost invariant = { λ a. HoldsFewHeads a.reader };
+    ghost invariant = { λ a. length a.reader.held ≤ 8192 };
 }
 
 impl HeadReader {

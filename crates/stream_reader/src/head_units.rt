@@ -6,7 +6,8 @@ ghost use Rattle.std.specs.Prelude.{◌≡◌, ◌+◌, ◌≤◌, length, OnOk,
 ghost use Rattle.unit_reader.specs.Stops.{StopCause, PartOver};
 ghost use Rattle.stream_rows.specs.declared.reason.Reason.TheVariants as reasons;
 ghost use Rattle.stream_reader.specs.HeadUnits.{leads_on, payload_length, head_only_head, heads};
-ghost use Rattle.stream_reader.specs.HeadLaws.{heads_laws, few_held};
+ghost use Rattle.stream_reader.specs.HeadLaws.{heads_laws};
+ghost use Rattle.unit_reader.proofs.FewHeld.{few_held};
 ghost use Rattle.stream_reader.specs.Heads.{HeadAt, head_only_judged};
 
 use crate::heads::refuse;

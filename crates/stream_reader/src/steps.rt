@@ -100,6 +100,7 @@ fn finish(decoder: &mut PictureDecoder)
         → synthesised_picture decoder.old
         ≡ picture_of (frame_of decoder.old.shape) decoder.old.params slices }
 {
+    // The picture that it lends isn't shown here.
     let _ = decoder.finish();
 }
 

@@ -1,18 +1,14 @@
 -- The replies of `cut`.
-use Rattle.std.proofs.Common.{◌≡◌, ℕ, ◌+◌, ◌-◌, ◌≤◌, List, [], ◌∷◌, ◌++◌, length, Ok, sym, ap, subst, ◌∙◌, append-nil, append_assoc, arith}
-use Rattle.std.proofs.lemmas.List.{length-append}
+use Rattle.std.proofs.Common.{◌≡◌, ℕ, List, [], ◌++◌, Ok, sym, ap, subst, ◌∙◌, append-nil}
 use Rattle.run_theory.specs.Walk.{Answer}
-use Rattle.run_theory.proofs.FrontLaws.{front_before}
 use Rattle.stream_rows.specs.Refusals.{Refusal}
-use Rattle.stream_rows.specs.Units.{Past, nothing_yet, after}
-use Rattle.stream_rows.specs.Streams.{limit, past_limit, refusal_of}
-use Rattle.stream_rows.proofs.Answering.{after-place}
-use Rattle.stream_cut.specs.Skim.{skim_rows, skim_grammar}
+use Rattle.stream_rows.specs.Units.{Past, nothing_yet}
+use Rattle.stream_rows.specs.Streams.{refusal_of}
 use Rattle.stream_cut.specs.Cut.{CutEnd, Piece, cut_front}
 use Rattle.stream_cut.specs.Cut as cutter
-use Rattle.stream_cut.specs.CutLaws.{StandWith, StandWithin, piece_bytes}
+use Rattle.stream_cut.specs.CutLaws.{StandWithin, piece_bytes}
 use Rattle.stream_cut.proofs.Running.{cuts_by_running}
-use Rattle.stream_cut.proofs.Bridge.{has_pieces_before}
+use Rattle.stream_cut.proofs.Bridge.{pieces_stand_within, has_pieces_before}
 use Rattle.vc2_words.specs.declared.settings.CutSettings.{CutSettings}
 use Rattle.vc2_cli.specs.Cut.{ending_of, frames_asked}
 use Rattle.vc2_cli.specs.Mapped.{answer_told}
@@ -35,25 +31,12 @@ are_cut c pieces tail left stand =
           ∙ ap (λ l. refused_reply l (refusal_of fault)) (append-nil (cut_front frames pieces));
     }
 
--- units that stand in an input that is no longer than the limit stand within it
-stand_within : (pieces : List Piece) (z left : Past) (tail : List ℕ) → z.place + length (piece_bytes pieces ++ tail) ≤ limit → StandWith skim_rows z pieces tail left → StandWithin z pieces tail left × (left.place + length tail ≤ limit)
-stand_within [] z left tail few f = (f, subst (λ (x : Past). x.place + length tail ≤ limit) f few)
-stand_within (p ∷ pieces) z left tail few f =
-    let all = piece_bytes pieces ++ tail in
-    let joined : length ((p.bytes ++ piece_bytes pieces) ++ tail) ≡ length p.bytes + length all = ap length (append_assoc p.bytes (piece_bytes pieces) tail) ∙ length-append p.bytes all in
-    let here : length (p.bytes ++ all) ≤ limit - z.place = omega (arith, few, joined, length-append p.bytes all) in
-    let others = stand_within pieces (after z p.unit p.bytes) left tail (omega (arith, few, joined, after-place z p.unit p.bytes)) f.1 in
-    ((front_before limit past_limit skim_grammar z (p.bytes ++ all) here ∙ f.0, others.0), others.1)
-
 pub is_cut_whole : (c : CutSettings) (bytes : List ℕ) → IsCutWhole c bytes
 is_cut_whole c bytes es last s units =
     let w = units.stream in
-    let tail = units.last_piece.bytes in
-    let few = subst (λ (l : List ℕ). length l ≤ limit) w.parts s.within in
-    let within = stand_within units.pieces nothing_yet w.left tail (omega (arith, few)) w.units in
-    let front = front_before limit past_limit skim_grammar w.left tail (omega (arith, within.1)) ∙ w.end in
+    let stand = pieces_stand_within bytes es last s units in
     subst (λ (l : List ℕ). command_reply (Ok (cut c)) l ≡ cut_reply c units.pieces) (sym w.parts)
-    ((are_cut c units.pieces tail w.left within.0).stream units.last_piece.unit front)
+    ((are_cut c units.pieces units.last_piece.bytes w.left stand.0).stream units.last_piece.unit stand.1)
 
 pub is_cut_refused : (c : CutSettings) (bytes : List ℕ) → AreBytes bytes → IsCutRefused c bytes
 is_cut_refused c bytes fits refusal r =

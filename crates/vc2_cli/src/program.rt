@@ -18,6 +18,7 @@ fn words_behind(alloc: Global, args: Args) -> Result<Vec<String>, AllocError>
     ensures { IfOk result (λ words. words.items ≡ drop 1 (into_iter_items args)) }
 {
     let mut left = args;
+    // the program's name
     let _ = left.next();
     let mut words = Vec::new(alloc);
     for word in left {

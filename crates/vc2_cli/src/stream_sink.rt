@@ -38,6 +38,7 @@ impl StreamSink {
     pub(crate) fn steady(&self)
         ensures { turn.FailsWhenFull self.now }
     {
+        // The contract alone names it.
         let _ = &self.inner;
     }
 

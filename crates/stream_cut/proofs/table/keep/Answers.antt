@@ -1,5 +1,6 @@
 use Rattle.std.proofs.Common.{◌≡◌, ℕ, List, [], ◌++◌, length, ap, ◌∙◌, arith, append_assoc}
 use Rattle.std.proofs.lemmas.List.{length-append, take_all, drop_all}
+use Rattle.unit_reader.proofs.Gets.{got_most}
 use Rattle.stream_cut.proofs.Keeps.{keep_step}
 use Rattle.stream_cut.proofs.table.keep.Goals as goal
 
@@ -18,5 +19,6 @@ loop-left-preserved g c =
         omega (arith, joined, inv.3, c.hold.ensures.room, c.advance.ensures.room, ap (λ (l : List ℕ). length l) none),
         c.in-Ok.ensures.items ∙ ap (λ l. c.loop-left.kept.items ++ l) all ∙ ap (λ l. l ++ held) inv.4 ∙ append_assoc c.args.kept.now.items inv.0 held,
       );
+      few = λ few. got_most 8192 c.hold.ensures.got (omega (arith, ap (λ (l : List ℕ). length l) none)) (omega arith);
       steady = cc (c.in-Ok-true.ensures.cause, c.loop-left.invariant.steady);
     }

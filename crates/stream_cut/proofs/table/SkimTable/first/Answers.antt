@@ -8,12 +8,12 @@ use Rattle.stream_cut.proofs.PictureTurns.{not_kept, opens_whole, sequence_whole
 use Rattle.stream_cut.proofs.table.SkimTable.first.Goals as goal
 
 pub returns-in-Err-clause-unit : goal.returns-in-Err-clause-unit
-returns-in-Err-clause-unit c = λ held0 rest0 rest1 b. (stops_due c.args.window.now.room b c.requires.place, record { header = refl; shape = refl })
+returns-in-Err-clause-unit c = λ held0 rest0 rest1 b. (stops_due c.args.window.now.room b c.requires.place, record { header = refl; shape = refl; few = c.requires.few })
 
 pub returns-in_err-keep_front-clause-unit : goal.returns-in_err-keep_front-clause-unit
 returns-in_err-keep_front-clause-unit c = λ held0 rest0 rest1 b.
     let p = err_from_is_err_and c.from_residual.result c.from_residual.ensures.1 in
-    not_kept c.args.self.now c.keep_front.new.self c.keep_front.new.window c.in_err-keep_front.field-0.0 c.from_residual.result b c.in_err-keep_front.ensures.err (omega (arith, c.requires.place, c.in_err-keep_front.ensures.room)) c.in_err-keep_front.ensures.header c.in_err-keep_front.ensures.shape (c.in_err-keep_front.ensures.stop c.in_err-keep_front.field-0.0 refl) (p.1 ∙ ap Err p.2)
+    not_kept c.args.self.now c.keep_front.new.self c.keep_front.new.window c.in_err-keep_front.field-0.0 c.from_residual.result b c.in_err-keep_front.ensures.err (omega (arith, c.requires.place, c.in_err-keep_front.ensures.room)) c.requires.few c.in_err-keep_front.ensures.header c.in_err-keep_front.ensures.shape (c.in_err-keep_front.ensures.stop c.in_err-keep_front.field-0.0 refl) (p.1 ∙ ap Err p.2)
 
 pub returns-clause-unit : goal.returns-clause-unit
 returns-clause-unit c = λ held0 rest0 rest1 b.

@@ -14,7 +14,7 @@ use Rattle.stream_cut.proofs.table.SkimTable.picture.Goals as goal
 pub returns-in_err-keep_front-clause-unit : goal.returns-in_err-keep_front-clause-unit
 returns-in_err-keep_front-clause-unit g c = λ held0 rest0 b.
     let p = err_from_is_err_and c.from_residual.result c.from_residual.ensures.1 in
-    not_kept c.args.self.now c.keep_front.new.self c.keep_front.new.window c.in_err-keep_front.field-0.0 c.from_residual.result b c.in_err-keep_front.ensures.err (omega (arith, c.requires.place, c.in_err-keep_front.ensures.room)) c.in_err-keep_front.ensures.header c.in_err-keep_front.ensures.shape (c.in_err-keep_front.ensures.stop c.in_err-keep_front.field-0.0 refl) (p.1 ∙ ap Err p.2)
+    not_kept c.args.self.now c.keep_front.new.self c.keep_front.new.window c.in_err-keep_front.field-0.0 c.from_residual.result b c.in_err-keep_front.ensures.err (omega (arith, c.requires.place, c.in_err-keep_front.ensures.room)) c.requires.few c.in_err-keep_front.ensures.header c.in_err-keep_front.ensures.shape (c.in_err-keep_front.ensures.stop c.in_err-keep_front.field-0.0 refl) (p.1 ∙ ap Err p.2)
 
 pub returns-in-Ok-false-clause-unit : goal.returns-in-Ok-false-clause-unit
 returns-in-Ok-false-clause-unit g c = λ held0 rest0 b.
@@ -39,7 +39,7 @@ returns-in-Ok-false-clause-unit g c = λ held0 rest0 b.
       slices_ended o.first.parts c.args.picture rest2 c.keep.new.window.room c.cut_slice.result _ c.refused.result some o.begun got short.1 (omega (arith, short.0, count)) short.2
           (omega (arith, moved.room, c.requires.place, front.room, o.inside, less, ap (λ (l : List ℕ). length l) short.1))
           (subst (λ n. IsCutSlice c.args.picture.params.layout n c.cut_slice.result) there c.cut_slice.ensures) (omega (arith, place)) c.refused.ensures,
-      record { header = header; shape = ap (λ (v : SkimTableSeen). v.shape) c.self.view_is ∙ front.shape },
+      record { header = header; shape = ap (λ (v : SkimTableSeen). v.shape) c.self.view_is ∙ front.shape; few = c.keep.ensures.few (omega (arith, less, c.requires.few)) },
     )
 
 pub returns-in-Err-clause-unit : goal.returns-in-Err-clause-unit
@@ -63,7 +63,7 @@ returns-in-Err-clause-unit g c = λ held0 rest0 b.
       slices_halted o.first.parts c.args.picture rest2 c.keep.new.window.room c.in-Err.halt c.stop_of.result some o.begun got
           (λ h. let lost = moved.lost (ap Err h) in (omega (arith, lost.0, count), lost.1))
           (omega (arith, moved.room, c.requires.place, front.room, o.inside, less)) c.stop_of.ensures,
-      record { header = header; shape = ap (λ (v : SkimTableSeen). v.shape) c.self.view_is ∙ front.shape },
+      record { header = header; shape = ap (λ (v : SkimTableSeen). v.shape) c.self.view_is ∙ front.shape; few = c.keep.ensures.few (omega (arith, less, c.requires.few)) },
     )
 
 pub returns-then-not-leads_behind-clause-unit : goal.returns-then-not-leads_behind-clause-unit
@@ -91,7 +91,7 @@ returns-then-not-leads_behind-clause-unit g c = λ held0 rest0 b.
     let begun = subst (λ k. Begun skim_grammar z held0 rest0 rest2 k held2 (checked z c.args.picture.next unit)) (omega (arith, enough, c.from-2.ensures, c.total_bytes-total.ensures)) sliced.begun in (
       offset_refused c.keep.new.window.room c.args.picture.next n _ unit c.refused-then-not-leads_behind.result begun (sym c.leads_behind.ensures ∙ c.if-not-leads_behind.true)
           (omega (arith, moved.room, c.requires.place, front.room, o.inside, less, enough, c.from-2.ensures, c.total_bytes-total.ensures)) (omega (arith, place)) c.refused-then-not-leads_behind.ensures,
-      record { header = header; shape = ap (λ (v : SkimTableSeen). v.shape) c.self.view_is ∙ front.shape },
+      record { header = header; shape = ap (λ (v : SkimTableSeen). v.shape) c.self.view_is ∙ front.shape; few = c.keep.ensures.few (omega (arith, less, c.requires.few)) },
     )
 
 pub returns-clause-unit : goal.returns-clause-unit

@@ -17,7 +17,7 @@ returns-in_err-opening-clause-unit g c = λ held0 rest0 b.
     let same : c.self.inside.earlier ≡ c.args.self.now.past = ap (λ (v : SkimTableSeen). v.past) c.self.view_is in
     let begins = subst (λ (x : Past). Begun skim_grammar x held0 rest0 (g.S.Source.rest c.args.src.now) x.place c.args.window.now.held (skim_rows x)) (sym same) b in
     let over = subst (λ (x : Past). StopsOver skim_grammar x held0 rest0 (g.S.Source.rest c.open.new.src) c.open.new.window.room c.in_err-opening.field-0.0) same (c.in_err-opening.ensures.unit held0 rest0 begins) in
-    stopped c.args.self.now c.args.self.now held0 rest0 (g.S.Source.rest c.open.new.src) c.open.new.window c.in_err-opening.field-0.0 c.from_residual.result over refl refl (p.1 ∙ ap Err p.2)
+    stopped c.args.self.now c.args.self.now held0 rest0 (g.S.Source.rest c.open.new.src) c.open.new.window c.in_err-opening.field-0.0 c.from_residual.result over refl refl c.open.ensures.few (p.1 ∙ ap Err p.2)
 
 pub first-requires-clause-opened : goal.first-requires-clause-opened
 first-requires-clause-opened g c = subst (λ x. Opens x c.open.new.window.held (openings.Sequence c.in-Sequence.header) c.in_ok-opening.size) (ap (λ (v : SkimTableSeen). v.past) c.self.view_is) (subst (λ x. Opens c.self.inside.earlier c.open.new.window.held x c.in_ok-opening.size) c.in-Sequence.is c.in_ok-opening.ensures.opened)
@@ -80,7 +80,7 @@ returns-in_err-keep_front-in-Repeated-clause-unit g c = λ held0 rest0 b.
     let over = subst (λ (x : Past). OpenOver x held0 rest0 (g.S.Source.rest c.open.new.src) c.open.new.window (Ok (c.in_ok-opening.opening, c.in_ok-opening.size))) same (c.in_ok-opening.ensures.unit held0 rest0 begins) in
     let front = c.in_err-keep_front-in-Repeated.ensures in
     let p = err_from_is_err_and c.from_residual-in_err-keep_front-in-Repeated.result c.from_residual-in_err-keep_front-in-Repeated.ensures.1 in
-    not_kept c.args.self.now c.keep_front.new.self c.keep_front.new.window c.in_err-keep_front-in-Repeated.field-0.0 c.from_residual-in_err-keep_front-in-Repeated.result over.0 front.err (omega (arith, c.requires.place, c.open.ensures.room, front.room)) front.header front.shape
+    not_kept c.args.self.now c.keep_front.new.self c.keep_front.new.window c.in_err-keep_front-in-Repeated.field-0.0 c.from_residual-in_err-keep_front-in-Repeated.result over.0 front.err (omega (arith, c.requires.place, c.open.ensures.room, front.room)) c.open.ensures.few front.header front.shape
     (front.stop c.in_err-keep_front-in-Repeated.field-0.0 refl) (p.1 ∙ ap Err p.2)
 
 pub returns-in_ok-keep_front-in-Repeated-clause-unit : goal.returns-in_ok-keep_front-in-Repeated-clause-unit
