@@ -192,6 +192,7 @@ fn unit_by_unit(rt: HostRuntime) -> Result<(), Fail> {
     let mut reader = StreamReader::new(rt.alloc())?;
     expect_steps(&rt, &mut reader, bytes.as_slice(), &STEPS);
     expect_shapes(&rt, reader.shapes(), &SHAPES);
+    drop(reader);
     Ok(())
 }
 
