@@ -11,7 +11,7 @@ ghost use Rattle.lifting.specs.Steps.{step, doubled};
 ghost use Rattle.lifting.specs.Lines.{before, after, analysis_line};
 ghost use Rattle.lifting.specs.Transform.{analysis_level, every_other};
 ghost use Rattle.lifting.specs.Ranges.{LineWithin, GridWithin, SameInside};
-ghost use Rattle.lifting.specs.Bands.{SameSizes, HoldLevel, OtherLevelsStay};
+ghost use Rattle.lifting.specs.Bands.{SameSizes, HoldLevel, OtherLevelsStay, HasRing};
 ghost use Rattle.lifting.specs.Turns.{SameSize, IsRowPut};
 
 use crate::columns::{lift_row_between, place_after, place_before};
@@ -63,7 +63,7 @@ fn put_two<T: Analysed>(
     requires fits { 2 * w ≤ plane.now.w }
     requires high { 2 * h ≤ height plane.now }
     requires fits_scratch { 2 * w ≤ scratch.old.w }
-    requires high_scratch { 2 * h ≤ height scratch.old }
+    requires ring { HasRing (2 * h) scratch.old }
     requires small { (j : ℕ) → 2 * y + 1 ≤ j → j < 2 * h
         → LineWithin (2 * w) (2 ^ 25) (grid_of T.value T.none plane.now j) }
     ensures same_size { SameSize scratch.old scratch.new }
@@ -91,7 +91,7 @@ fn finish_two<T: Analysed>(scratch: &mut Plane<T>, y: u32, w: u32, h: u32, wavel
     requires short { w ≤ 4104 }
     requires low { h ≤ 4104 }
     requires fits { 2 * w ≤ scratch.old.w }
-    requires high { 2 * h ≤ height scratch.old }
+    requires ring { HasRing (2 * h) scratch.old }
     requires small { (j : ℕ) → 2 * y - 1 ≤ j → j ≤ 2 * y + 2 → j < 2 * h
         → LineWithin (2 * w) (2 ^ 28) (grid_of T.value T.none scratch.old (j % 4)) }
     ensures same_size { SameSize scratch.old scratch.new }
@@ -196,7 +196,8 @@ fn deal_two<T: Analysed>(
     requires low { y ≤ 4104 }
     requires y_inside { y < height plane.old }
     requires y_inside_bands { (o : ℕ) → 1 ≤ o → o ≤ 3 → y < height (band_of bands.old level o) }
-    requires inside { 2 * y + 1 < height scratch.now }
+    requires even_inside { 2 * y % 4 < height scratch.now }
+    requires odd_inside { (2 * y + 1) % 4 < height scratch.now }
     requires fits { w ≤ plane.old.w }
     requires fits_bands { (o : ℕ) → 1 ≤ o → o ≤ 3 → w ≤ (band_of bands.old level o).w }
     requires fits_scratch { 2 * w ≤ scratch.now.w }
@@ -236,7 +237,7 @@ pub(crate) fn roll_back<T: Analysed>(
     requires fits { 2 * w ≤ plane.old.w }
     requires high { 2 * h ≤ height plane.old }
     requires fits_scratch { 2 * w ≤ scratch.old.w }
-    requires high_scratch { 2 * h ≤ height scratch.old }
+    requires ring { HasRing (2 * h) scratch.old }
     requires fits_bands { (o : ℕ) → 1 ≤ o → o ≤ 3 → w ≤ (band_of bands.old level o).w }
     requires high_bands { (o : ℕ) → 1 ≤ o → o ≤ 3 → h ≤ height (band_of bands.old level o) }
     requires small { GridWithin (2 * h) (2 * w) (2 ^ 25) (grid_of T.value T.none plane.old) }

@@ -268,32 +268,8 @@ fn weave_samples<T: Sampled>(dst: &mut [u16], even: &[T], odd: &[T], wavelet: Wa
     }
 }
 
-// The samples of a line of a level from its even and its odd places. The even half holds any values afterwards.
-fn sample_halves<T: Sampled>(
-    dst: &mut [u16],
-    even: &mut [T],
-    odd: &[T],
-    wavelet: Wavelet,
-    depth: u32,
-)
-    requires some_bits { 1 ≤ depth }
-    requires bits { depth ≤ T.depths }
-    requires some { 1 ≤ length even.old }
-    requires short { length even.old ≤ 4104 }
-    requires same_len { length odd.now ≡ length even.old }
-    requires room { length dst.old ≤ 2 * length even.old }
-    requires has_room { let at = valued T.value T.none in
-        LineFits wavelet (2 * length even.old) T.reach (woven (at even.old) (at odd.now)) }
-    ensures { let at = valued T.value T.none in
-        (i : ℕ) → i < length dst.old → slice_index_or dst.new i 0
-        ≡ sample_of depth (halved wavelet
-        (synthesis_line wavelet (2 * length even.old) (woven (at even.old) (at odd.now)) i)) }
-{
-    lift_even_half(even, odd, wavelet, PairStep::EvenDown);
-    weave_samples(dst, even, odd, wavelet, depth);
-}
-
-/// The same from a row that holds the even places in its first w and the odd ones in the w behind them.
+/// The samples of a line of a level from a row that holds its even places in the first w and its odd ones in the w behind
+/// them. The row holds any values afterwards.
 pub(crate) fn sample_sides<T: Sampled>(
     dst: &mut [u16],
     row: &mut [T],
@@ -315,5 +291,7 @@ pub(crate) fn sample_sides<T: Sampled>(
         (synthesis_line wavelet (2 * w) (woven (at row.old) (λ j. at row.old (w + j))) i)) }
 {
     let (even, rest) = row.split_at_mut(w);
-    sample_halves(dst, even, &rest[..w], wavelet, depth);
+    let odd = &rest[..w];
+    lift_even_half(even, odd, wavelet, PairStep::EvenDown);
+    weave_samples(dst, even, odd, wavelet, depth);
 }

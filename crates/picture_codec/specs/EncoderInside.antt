@@ -12,7 +12,7 @@ use Rattle.slice_geometry.specs.Geometry.{padded_length, band_size}
 use Rattle.slice_encoder.specs.TrialLaws.{most_coefficient}
 use Rattle.transform_params.specs.Params.{Params}
 use Rattle.picture_codec.specs.Samples.{SamplesSeen}
-use Rattle.picture_codec.specs.Decoding.{ArePadded}
+use Rattle.picture_codec.specs.Decoding.{HaveAnalysisRows}
 use Rattle.picture_codec.specs.Encoding.{analysed_bands}
 
 -- each row is as long as the plane is wide
@@ -41,8 +41,8 @@ pub record IsReadyToEncode (s : Slicing) (shape : PictureShape) (bands : NarrowT
   pub kept_luma : IsLowest s shape.luma kept.luma
   pub kept_c1 : IsLowest s shape.colour kept.c1
   pub kept_c2 : IsLowest s shape.colour kept.c2
-  pub luma_room : ArePadded s shape.luma luma_plane luma_scratch
-  pub colour_room : ArePadded s shape.colour colour_plane colour_scratch
+  pub luma_room : HaveAnalysisRows s shape.luma luma_plane luma_scratch
+  pub colour_room : HaveAnalysisRows s shape.colour colour_plane colour_scratch
 
 -- The bands hold the analysis of a component's samples of d bits, at each place of each band.
 pub record HoldAnalysed (p : Params) (size : Size) (d : ℕ) (s : SamplesSeen) (b : BandStack) : Type 0 where

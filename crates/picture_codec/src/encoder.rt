@@ -12,7 +12,7 @@ ghost use Rattle.transform_params.specs.Views.{params_of};
 ghost use Rattle.transform_params.specs.ParameterFields.{byte_length, unit_length, params_bytes};
 ghost use Rattle.slice_geometry.specs.Frames.{frame_of};
 ghost use Rattle.picture_codec.specs.Samples.{component_shown};
-ghost use Rattle.picture_codec.specs.Decoding.{ArePadded};
+ghost use Rattle.picture_codec.specs.Decoding.{HaveAnalysisRows};
 ghost use Rattle.picture_codec.specs.Pictures as pictures;
 ghost use Rattle.picture_codec.specs.Encoding.{slices_of, picture_bytes, IsSteepOkFor};
 ghost use Rattle.picture_codec.specs.EncoderInside.{AreRowsWhole, AreWhole, HaveBandSizes, IsLowest, IsReadyToEncode, HoldAnalysed};
@@ -66,11 +66,11 @@ fn analyse_component(
     room: &mut AnalysisWorkspace,
     bands: &mut NarrowBands,
 )
-    requires room { ArePadded params.now.layout
+    requires room { HaveAnalysisRows params.now.layout
         (pictures.size_of (frame_of picture.now.shape) c) room.old.plane room.old.scratch }
     requires bands { HaveBandSizes params.now.layout
         (pictures.size_of (frame_of picture.now.shape) c) bands.old }
-    ensures room { ArePadded params.now.layout (pictures.size_of (frame_of picture.now.shape) c)
+    ensures room { HaveAnalysisRows params.now.layout (pictures.size_of (frame_of picture.now.shape) c)
         room.new.plane room.new.scratch }
     ensures bands { HoldAnalysed (params_of params.now)
         (pictures.size_of (frame_of picture.now.shape) c)
@@ -138,8 +138,8 @@ fn encode_slices(
 
 /// Writes pictures of one shape with one set of parameters. Contracts see these two.
 ///
-/// All memory is taken in `new`: about 4 bytes a sample for the subbands, 8 for two planes of each size, and little for
-/// the lowest subbands as a decoder restores them.
+/// All memory is taken in `new`: about 4 bytes a sample for the subbands, 4 for a plane of each size, and little for four of its
+/// rows and for the lowest subbands as a decoder restores them.
 #[derive(Drop)]
 pub struct PictureEncoder {
     params: TransformParams,
@@ -190,8 +190,8 @@ fn workspaces(
     layout: &Layout,
     shape: &PictureShape,
 ) -> Result<(AnalysisWorkspace, AnalysisWorkspace), NoMemory>
-    ensures { IfOk result (λ rooms. ArePadded layout.now shape.now.luma rooms.0.plane
-        rooms.0.scratch × ArePadded layout.now shape.now.colour rooms.1.plane rooms.1.scratch) }
+    ensures { IfOk result (λ rooms. HaveAnalysisRows layout.now shape.now.luma rooms.0.plane
+        rooms.0.scratch × HaveAnalysisRows layout.now shape.now.colour rooms.1.plane rooms.1.scratch) }
 {
     Ok((
         AnalysisWorkspace::new(alloc, layout, shape.luma)?,

@@ -4,7 +4,7 @@ ghost use Rattle.std.specs.Prelude.{◌≡◌, ◌≤◌, true, IfOk};
 ghost use Rattle.slice_geometry.specs.Shape.{IsSize, IsDepth};
 ghost use Rattle.picture_codec.specs.Pictures as pictures;
 ghost use Rattle.slice_geometry.specs.Frames.{frame_of};
-ghost use Rattle.picture_codec.specs.Decoding.{ArePadded, HaveHalfRoom, AreNewBands, AreNewBandsOf, IsRowless, HasLateRoom, HasGatherRoom, IsGatherRowless, HasSynthesisRoom};
+ghost use Rattle.picture_codec.specs.Decoding.{HaveAnalysisRows, HaveHalfRoom, AreNewBands, AreNewBandsOf, IsRowless, HasLateRoom, HasGatherRoom, IsGatherRowless, HasSynthesisRoom};
 ghost use Rattle.planes.specs.Subbands.{AreZeroBands};
 ghost use Rattle.slice_geometry.specs.Slicing.{Slicing};
 ghost use Rattle.slice_geometry.specs.declared.Size.{Size};
@@ -72,7 +72,7 @@ impl<T: Number> LateWorkspace<T> {
     }
 }
 
-/// The room for analysis: the plane that is analysed, and a scratch beside it.
+/// The room for analysis: the plane that is analysed, and four of its rows beside it.
 #[derive(Drop)]
 pub(crate) struct AnalysisWorkspace {
     pub(crate) plane: NarrowPlane,
@@ -86,14 +86,14 @@ impl AnalysisWorkspace {
         size: Size,
     ) -> Result<AnalysisWorkspace, NoMemory>
         requires { IsSize size.w size.h }
-        ensures { IfOk result (λ w. ArePadded layout.now size w.plane w.scratch) }
+        ensures { IfOk result (λ w. HaveAnalysisRows layout.now size w.plane w.scratch) }
     {
         // The rules of a layout.
         let _ = layout.depth();
         let padded = layout.padded_size(size);
         Ok(AnalysisWorkspace {
             plane: NarrowPlane::new(alloc, padded.w, padded.h)?,
-            scratch: NarrowPlane::new(alloc, padded.w, padded.h)?,
+            scratch: NarrowPlane::new(alloc, padded.w, 4)?,
         })
     }
 }

@@ -25,7 +25,7 @@ analyse_narrow-requires-clause-sizes c =
       whole_rows = rw (rows, c.requires.bands.depth) (padded_whole s.depth size.h c.depth.ensures.allowed.depth);
       bands = rw (columns, rows) c.requires.bands.sizes;
       scratch_width = c.requires.room.scratch_columns ∙ sym columns;
-      scratch_height = c.requires.room.scratch_rows ∙ sym rows;
+      scratch_ring = λ j lt. omega (arith, c.requires.room.scratch_rows);
     }
 
 pub analyse_narrow-requires-clause-small : goal.analyse_narrow-requires-clause-small
