@@ -51,21 +51,43 @@ put_more bytes b bytes1 b1 bytes2 b2 vs n k f g =
     subst (λ (t : List Bool). IsPut bytes b bytes2 b2 t) (sym (ap codes_of (take-add n k vs) ∙ flat_map-append signed_code_of (take n vs) (take k (drop n vs))))
     (put_join bytes b bytes1 b1 bytes2 b2 (codes_of (take n vs)) (codes_of (take k (drop n vs))) f g)
 
--- and those of the next two
-pub put_two : (bytes : List ℕ) (b : Block) (bytes1 : List ℕ) (b1 : Block) (bytes2 : List ℕ) (b2 : Block) (vs : List ℤ) (n : ℕ) → n + 1 < length vs → All IsSmall vs → IsPut bytes b bytes1 b1 (codes_of (take n vs))
-    → IsPut bytes1 b1 bytes2 b2 (signed_code_of (to_z w64 (of_z w64 (get_or vs n (pos 0)))) ++ signed_code_of (to_z w64 (of_z w64 (get_or vs (n + 1) (pos 0))))) → IsPut bytes b bytes2 b2 (codes_of (take (n + 2) vs))
-put_two bytes b bytes1 b1 bytes2 b2 vs n inside small f g =
+codes_two : (vs : List ℤ) (n : ℕ) → n + 1 < length vs → All IsSmall vs
+    → codes_of (take (n + 2) vs) ≡ codes_of (take n vs) ++ (signed_code_of (to_z w64 (of_z w64 (get_or vs n (pos 0)))) ++ signed_code_of (to_z w64 (of_z w64 (get_or vs (n + 1) (pos 0)))))
+codes_two vs n inside small =
     let v = get_or vs n (pos 0) in
     let w = get_or vs (n + 1) (pos 0) in
     let two : n + 2 ≡ n + 1 + 1 = omega arith in
-    let codes : codes_of (take (n + 2) vs) ≡ codes_of (take n vs) ++ (signed_code_of v ++ signed_code_of w) =
     ap (λ (k : ℕ). codes_of (take k vs)) two
     ∙ codes_of-next vs (n + 1) inside
     ∙ ap (λ (t : List Bool). t ++ signed_code_of w) (codes_of-next vs n (omega (arith, inside)))
     ∙ append_assoc (codes_of (take n vs)) (signed_code_of v) (signed_code_of w)
+    ∙ sym
+    (ap (λ (z : ℤ). codes_of (take n vs) ++ (signed_code_of z ++ signed_code_of (to_z w64 (of_z w64 w)))) (told v (All-get_or IsSmall vs n (pos 0) (omega (arith, inside)) small))
+    ∙ ap (λ (z : ℤ). codes_of (take n vs) ++ (signed_code_of v ++ signed_code_of z)) (told w (All-get_or IsSmall vs (n + 1) (pos 0) inside small)))
+
+-- and those of the next two
+pub put_two : (bytes : List ℕ) (b : Block) (bytes1 : List ℕ) (b1 : Block) (bytes2 : List ℕ) (b2 : Block) (vs : List ℤ) (n : ℕ) → n + 1 < length vs → All IsSmall vs → IsPut bytes b bytes1 b1 (codes_of (take n vs))
+    → IsPut bytes1 b1 bytes2 b2 (signed_code_of (to_z w64 (of_z w64 (get_or vs n (pos 0)))) ++ signed_code_of (to_z w64 (of_z w64 (get_or vs (n + 1) (pos 0))))) → IsPut bytes b bytes2 b2 (codes_of (take (n + 2) vs))
+put_two bytes b bytes1 b1 bytes2 b2 vs n inside small f g =
+    let two = signed_code_of (to_z w64 (of_z w64 (get_or vs n (pos 0)))) ++ signed_code_of (to_z w64 (of_z w64 (get_or vs (n + 1) (pos 0)))) in
+    subst (λ (t : List Bool). IsPut bytes b bytes2 b2 t) (sym (codes_two vs n inside small)) (put_join bytes b bytes1 b1 bytes2 b2 (codes_of (take n vs)) two f g)
+
+-- of the next four, by the texts of their pairs
+pub put_fours : (bytes : List ℕ) (b : Block) (bytes1 : List ℕ) (b1 : Block) (bytes2 : List ℕ) (b2 : Block) (vs : List ℤ) (n : ℕ) (front back : List Bool) → n + 3 < length vs → All IsSmall vs → IsPut bytes b bytes1 b1 (codes_of (take n vs))
+    → front ≡ signed_code_of (to_z w64 (of_z w64 (get_or vs n (pos 0)))) ++ signed_code_of (to_z w64 (of_z w64 (get_or vs (n + 1) (pos 0))))
+    → back ≡ signed_code_of (to_z w64 (of_z w64 (get_or vs (n + 2) (pos 0)))) ++ signed_code_of (to_z w64 (of_z w64 (get_or vs (n + 3) (pos 0))))
+    → IsPut bytes1 b1 bytes2 b2 (front ++ back) → IsPut bytes b bytes2 b2 (codes_of (take (n + 4) vs))
+put_fours bytes b bytes1 b1 bytes2 b2 vs n front back inside small f front_is back_is g =
+    let four : n + 4 ≡ n + 2 + 2 = omega arith in
+    let three : n + 3 ≡ n + 2 + 1 = omega arith in
+    let back_as : back ≡ signed_code_of (to_z w64 (of_z w64 (get_or vs (n + 2) (pos 0)))) ++ signed_code_of (to_z w64 (of_z w64 (get_or vs (n + 2 + 1) (pos 0)))) =
+    back_is ∙ ap (λ (k : ℕ). signed_code_of (to_z w64 (of_z w64 (get_or vs (n + 2) (pos 0)))) ++ signed_code_of (to_z w64 (of_z w64 (get_or vs k (pos 0))))) three
     in
-    let put : IsPut bytes1 b1 bytes2 b2 (signed_code_of v ++ signed_code_of w) =
-    subst (λ (z : ℤ). IsPut bytes1 b1 bytes2 b2 (signed_code_of z ++ signed_code_of w)) (told v (All-get_or IsSmall vs n (pos 0) (omega (arith, inside)) small))
-    (subst (λ (z : ℤ). IsPut bytes1 b1 bytes2 b2 (signed_code_of (to_z w64 (of_z w64 v)) ++ signed_code_of z)) (told w (All-get_or IsSmall vs (n + 1) (pos 0) inside small)) g)
+    let codes : codes_of (take (n + 4) vs) ≡ codes_of (take n vs) ++ (front ++ back) =
+    ap (λ (k : ℕ). codes_of (take k vs)) four
+    ∙ codes_two vs (n + 2) (omega (arith, inside)) small
+    ∙ ap (λ (t : List Bool). codes_of (take (n + 2) vs) ++ t) (sym back_as)
+    ∙ ap (λ (t : List Bool). t ++ back) (codes_two vs n (omega (arith, inside)) small ∙ ap (λ (t : List Bool). codes_of (take n vs) ++ t) (sym front_is))
+    ∙ append_assoc (codes_of (take n vs)) front back
     in
-    subst (λ (t : List Bool). IsPut bytes b bytes2 b2 t) (sym codes) (put_join bytes b bytes1 b1 bytes2 b2 (codes_of (take n vs)) (signed_code_of v ++ signed_code_of w) f put)
+    subst (λ (t : List Bool). IsPut bytes b bytes2 b2 t) (sym codes) (put_join bytes b bytes1 b1 bytes2 b2 (codes_of (take n vs)) (front ++ back) f g)

@@ -7,6 +7,7 @@ pub mod BlockTexts
 pub mod LastValues
 pub mod Signs
 pub mod ShortTexts
+pub mod PairTexts
 pub mod Near
 pub mod Holders
 pub mod Coarsest

@@ -5,11 +5,11 @@ use Rattle.std.specs.Prelude.{◌==◌}
 use Rattle.std.proofs.lemmas.Bool.{cases_lt}
 use Rattle.std.proofs.lemmas.Nat.{pow-add, pow_pos, shr_split, div_below, mul-add-lt}
 use Rattle.std.proofs.lemmas.Nat.Bits.{bit_at_cat_low, bit_at_cat_high, bit_at_ones, bit_at-lt, shr_and_one}
-use Rattle.std.proofs.lemmas.List.{take_all, take_more_set, take_at, drop_at, length-take-le}
+use Rattle.std.proofs.lemmas.List.{take_all, take_more_set, take_at, take-append-le, drop_at, length-take-le}
 use Rattle.std.proofs.Math.Seq.{take-append_seam, take-add}
-use Rattle.std.proofs.Math.Nat.{pow-le-pow_right}
+use Rattle.std.proofs.Math.Nat.{pow-le-pow_right, mul_assoc, mul_comm}
 use Rattle.bit_codes.specs.Bits.{bit, bits_of, digits_below}
-use Rattle.bit_codes.proofs.Numbers.{bits_of-append}
+use Rattle.bit_codes.proofs.Numbers.{bits_of-append, bits_of-take}
 use Rattle.bit_codes.proofs.CodeOf.{length-digits_below}
 use Rattle.slice_encoder.specs.BitQueues.{bits_so_far}
 
@@ -155,3 +155,69 @@ four_stored bytes unit rest whole count number inside many is =
     ∙ append_assoc (bits_of (take whole bytes)) (bits_of (bytes_high_first 4 q)) low
     ∙ ap (λ (t : List Bool). bits_of (take whole bytes) ++ (t ++ low)) (word_bits 4 q)
     ∙ ap (λ (t : List Bool). bits_of (take whole bytes) ++ t) (sym (ap (λ (n : ℕ). digits_below n number) all ∙ digits_split 32 k number))
+
+-- ---- as many bytes of eight as are whole
+
+-- the bits that wait, with zeros up to 64 of them
+pub word_is : (count number : ℕ) → count < 64 → 2 * number * 2 ^ (63 - count) ≡ number * 2 ^ (64 - count) + 0
+word_is count number lt =
+    let up : 64 - count ≡ 1 + (63 - count) = omega (arith, lt) in
+    let u : ℕ = 2 ^ (63 - count) in
+    let twice : 2 ^ (64 - count) ≡ 2 * u = ap (λ (n : ℕ). 2 ^ n) up ∙ pow-add 2 1 (63 - count) in
+    let turned : number * (2 * u) ≡ 2 * number * u = sym (mul_assoc number 2 u) ∙ ap (λ (n : ℕ). n * u) (mul_comm number 2) in
+    omega (arith, turned, ap (λ (n : ℕ). number * n) twice)
+
+pub word_fits : (count number : ℕ) → count < 64 → number < 2 ^ count → 2 * number * 2 ^ (63 - count) < 2 ^ 64
+word_fits count number lt small =
+    let all : count + (64 - count) ≡ 64 = omega (arith, lt) in
+    let some = pow_pos (64 - count) in
+    omega (arith, word_is count number lt, subst (λ (n : ℕ). number * 2 ^ (64 - count) + 0 < 2 ^ n) all (joined_fits count (64 - count) number 0 small some))
+
+-- the first of its bits
+word_front : (count number : ℕ) → count < 64 → take (8 * (count / 8)) (digits_below 64 (2 * number * 2 ^ (63 - count))) ≡ digits_below (8 * (count / 8)) (number / 2 ^ (count % 8))
+word_front count number lt =
+    let k : ℕ = 8 * (count / 8) in
+    let r : ℕ = count % 8 in
+    let all : 64 ≡ count + (64 - count) = omega (arith, lt) in
+    let parts : count ≡ k + r = omega arith in
+    let high = digits_below k (number / 2 ^ r) in
+    let low = digits_below r (number % 2 ^ r) in
+    let rest = digits_below (64 - count) 0 in
+    let is : digits_below 64 (2 * number * 2 ^ (63 - count)) ≡ high ++ (low ++ rest) =
+    ap (digits_below 64) (word_is count number lt)
+    ∙ ap (λ (n : ℕ). digits_below n (number * 2 ^ (64 - count) + 0)) all
+    ∙ digits_join count (64 - count) number 0 (pow_pos (64 - count))
+    ∙ ap (λ (n : ℕ). digits_below n number ++ rest) parts
+    ∙ ap (λ (t : List Bool). t ++ rest) (digits_split k r number)
+    ∙ append_assoc high low rest
+    in
+    ap (take k) is ∙ take_at high (low ++ rest) k (length-digits_below k (number / 2 ^ r))
+
+pub whole_stored : (bytes unit rest : List ℕ) (whole count number : ℕ) → whole ≤ length bytes → count < 64
+    → unit ≡ bytes_high_first 8 (2 * number * 2 ^ (63 - count))
+    → bits_so_far (take whole bytes ++ (unit ++ rest)) (record { whole = whole + count / 8; count = count % 8; number = number % 2 ^ (count % 8) })
+    ≡ bits_so_far bytes (record { whole = whole; count = count; number = number })
+whole_stored bytes unit rest whole count number inside lt is =
+    let n : ℕ = count / 8 in
+    let r : ℕ = count % 8 in
+    let word : ℕ = 2 * number * 2 ^ (63 - count) in
+    let low = digits_below r (number % 2 ^ r) in
+    let parts : count ≡ 8 * n + r = omega arith in
+    let eight : length unit ≡ 8 = ap (λ (t : List ℕ). length t) is in
+    let front : take (whole + n) (take whole bytes ++ (unit ++ rest)) ≡ take whole bytes ++ take n unit =
+    take-add whole n (take whole bytes ++ (unit ++ rest))
+    ∙ ap (λ (t : List ℕ). t ++ take n (drop whole (take whole bytes ++ (unit ++ rest)))) (take_at (take whole bytes) (unit ++ rest) whole (length-take-le whole bytes inside))
+    ∙ ap (λ (t : List ℕ). take whole bytes ++ take n t) (drop_at (take whole bytes) (unit ++ rest) whole (length-take-le whole bytes inside))
+    ∙ ap (λ (t : List ℕ). take whole bytes ++ t) (take-append-le n unit rest (omega (arith, eight, lt)))
+    in
+    let stored : bits_of (take n unit) ≡ digits_below (8 * n) (number / 2 ^ r) =
+    bits_of-take n unit
+    ∙ ap (λ (t : List ℕ). take (8 * n) (bits_of t)) is
+    ∙ ap (take (8 * n)) (word_bits 8 word)
+    ∙ word_front count number lt
+    in
+    ap (λ (t : List ℕ). bits_of t ++ low) front
+    ∙ ap (λ (t : List Bool). t ++ low) (bits_of-append (take whole bytes) (take n unit))
+    ∙ append_assoc (bits_of (take whole bytes)) (bits_of (take n unit)) low
+    ∙ ap (λ (t : List Bool). bits_of (take whole bytes) ++ (t ++ low)) stored
+    ∙ ap (λ (t : List Bool). bits_of (take whole bytes) ++ t) (sym (ap (λ (m : ℕ). digits_below m number) parts ∙ digits_split (8 * n) r number))

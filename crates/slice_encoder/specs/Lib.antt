@@ -1,4 +1,5 @@
 pub mod BitQueues
+pub mod PairTexts
 pub mod Loop
 pub mod Order
 pub mod Trials

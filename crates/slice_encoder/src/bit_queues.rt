@@ -54,9 +54,29 @@ fn store_four(bytes: &mut [u8], queue: BitQueue) -> BitQueue
     }
 }
 
-// Puts the last `n` binary digits of a number behind those that wait.
+/// Stores the whole bytes of those that wait, by a word of eight bytes: what it leaves behind them is stored over later.
 #[inline(always)]
-fn waiting(queue: BitQueue, number: u64, n: u32) -> BitQueue
+pub fn store_whole(bytes: &mut [u8], queue: BitQueue) -> BitQueue
+    requires room { queue.whole + 8 ≤ length bytes.old }
+    requires queue { IsQueue (length bytes.old) queue }
+    ensures queue { IsQueue (length bytes.old) result }
+    ensures waits { result.count < 8 }
+    ensures place { 8 * result.whole + result.count ≡ 8 * queue.whole + queue.count }
+    ensures text { bits_so_far bytes.new result ≡ bits_so_far bytes.old queue }
+{
+    let word = 2 * queue.number * (1 << (63 - queue.count));
+    bytes[queue.whole..queue.whole + 8].copy_from_slice(&word.to_be_bytes());
+    let count = queue.count % 8;
+    BitQueue {
+        whole: queue.whole + (queue.count / 8) as usize,
+        count,
+        number: queue.number % (1 << count),
+    }
+}
+
+/// Puts the last `n` binary digits of a number behind those that wait.
+#[inline(always)]
+pub fn waiting(queue: BitQueue, number: u64, n: u32) -> BitQueue
     requires few { queue.count + n < 64 }
     requires small { number < 2 ^ n }
     requires waits { queue.number < 2 ^ queue.count }

@@ -8,9 +8,10 @@ ghost use Rattle.bit_codes.specs.Codes.{code_of, signed_code_of};
 ghost use Rattle.bounded_blocks.specs.Parts.{IsSmall};
 ghost use Rattle.bounded_blocks.specs.Writing.{codes_of};
 ghost use Rattle.slice_encoder.specs.BitQueues.{bits_so_far, IsBlock, IsPut};
+ghost use Rattle.slice_encoder.specs.PairTexts.{ArePairTexts};
 
-use crate::bit_queues::{BitQueue, put_bits};
-use crate::short_texts::{pair_text, short_text};
+use crate::bit_queues::{BitQueue, put_bits, store_whole, waiting};
+use crate::short_texts::{PairText, pair_text, short_text};
 
 /// A block that is filled through a queue, and how many of its bits are left.
 #[derive(Clone, Copy)]
@@ -130,9 +131,83 @@ struct Run {
     block: Block,
 }
 
+// Puts the texts of two pairs, which fit, where eight bytes are left for the word that is stored.
+#[inline(always)]
+fn put_four(bytes: &mut [u8], block: Block, front: PairText, back: PairText) -> Block
+    requires front { front.length ≤ 24 }
+    requires back { back.length ≤ 24 }
+    requires front_number { front.number < 2 ^ front.length }
+    requires back_number { back.number < 2 ^ back.length }
+    requires block { IsBlock (length bytes.old) block }
+    requires waits { block.queue.count < 8 }
+    requires fit { front.length + back.length ≤ block.left }
+    requires room { block.queue.whole + 8 ≤ length bytes.old }
+    ensures waits { result.queue.count < 8 }
+    ensures puts { IsPut bytes.old block bytes.new result
+        (digits_below front.length front.number ++ digits_below back.length back.number) }
+{
+    let queue = waiting(block.queue, u64::from(front.number), front.length);
+    let queue = waiting(queue, u64::from(back.number), back.length);
+    Block {
+        queue: store_whole(bytes, queue),
+        left: block.left - u64::from(front.length + back.length),
+    }
+}
+
+// Whether two values are small.
+#[inline(always)]
+fn are_small(first: i64, second: i64) -> bool
+    ensures first { result ≡ true → unsigned_abs first < 32 }
+    ensures second { result ≡ true → unsigned_abs second < 32 }
+{
+    -32 < first && first < 32 && -32 < second && second < 32
+}
+
+// Puts the codes of values four by four, up to the first four of which one isn't small, whose codes don't fit, or for which
+// there is no room to store a word. There is no branch but on these.
+fn put_small_fours(bytes: &mut [u8], block: Block, values: &[i64], texts: &[PairText]) -> Run
+    requires texts { ArePairTexts texts.now }
+    requires small { All IsSmall values.now }
+    requires block { IsBlock (length bytes.old) block }
+    ensures most { result.count ≤ length values.now }
+    ensures even { result.count % 2 ≡ 0 }
+    ensures puts { IsPut bytes.old block bytes.new result.block
+        (codes_of (take result.count values.now)) }
+{
+    if bytes.len() - block.queue.whole < 8 {
+        return Run { count: 0, block };
+    }
+    let last = bytes.len() - 8;
+    let mut block = Block {
+        queue: store_whole(bytes, block.queue),
+        left: block.left,
+    };
+    for four in 0..values.len() / 4 {
+        let count = 4 * four;
+        let first = values[count];
+        let second = values[count + 1];
+        let third = values[count + 2];
+        let fourth = values[count + 3];
+        if !are_small(first, second) || !are_small(third, fourth) {
+            return Run { count, block };
+        }
+        let front = pair_text(texts, first, second);
+        let back = pair_text(texts, third, fourth);
+        if u64::from(front.length + back.length) > block.left || last < block.queue.whole {
+            return Run { count, block };
+        }
+        block = put_four(bytes, block, front, back);
+    }
+    Run {
+        count: values.len() / 4 * 4,
+        block,
+    }
+}
+
 // Puts the codes of values two by two, up to the first two of which one isn't small or whose codes don't fit. With a call in
 // this loop the block would leave the registers.
-fn put_small_pairs(bytes: &mut [u8], block: Block, values: &[i64]) -> Run
+fn put_small_pairs(bytes: &mut [u8], block: Block, values: &[i64], texts: &[PairText]) -> Run
+    requires texts { ArePairTexts texts.now }
     requires small { All IsSmall values.now }
     requires block { IsBlock (length bytes.old) block }
     ensures most { result.count ≤ 2 * (length values.now / 2) }
@@ -148,11 +223,11 @@ fn put_small_pairs(bytes: &mut [u8], block: Block, values: &[i64]) -> Run
         if first <= -32 || 32 <= first || second <= -32 || 32 <= second {
             return Run { count, block };
         }
-        let text = pair_text(first, second);
+        let text = pair_text(texts, first, second);
         if u64::from(text.length) > block.left {
             return Run { count, block };
         }
-        block = put_whole(bytes, block, text.number, text.length);
+        block = put_whole(bytes, block, u64::from(text.number), text.length);
     }
     Run {
         count: values.len() / 2 * 2,
@@ -160,8 +235,31 @@ fn put_small_pairs(bytes: &mut [u8], block: Block, values: &[i64]) -> Run
     }
 }
 
+// Puts the codes of small values: four by four where there is room to store words, and else two by two.
+fn put_small(bytes: &mut [u8], block: Block, values: &[i64], texts: &[PairText]) -> Run
+    requires texts { ArePairTexts texts.now }
+    requires small { All IsSmall values.now }
+    requires block { IsBlock (length bytes.old) block }
+    ensures most { result.count ≤ 2 * (length values.now / 2) }
+    ensures even { result.count % 2 ≡ 0 }
+    ensures puts { IsPut bytes.old block bytes.new result.block
+        (codes_of (take result.count values.now)) }
+{
+    let fours = put_small_fours(bytes, block, values, texts);
+    let rest = &values[fours.count..];
+    let has_room = bytes.len() - fours.block.queue.whole >= 8;
+    let most = if has_room { 4 } else { rest.len() };
+    let next = &rest[..most.min(rest.len())];
+    let pairs = put_small_pairs(bytes, fours.block, next, texts);
+    Run {
+        count: fours.count + pairs.count,
+        block: pairs.block,
+    }
+}
+
 // Puts the codes of values two by two, but for the last one of an odd number of them.
-fn put_pairs(bytes: &mut [u8], block: Block, values: &[i64]) -> Block
+fn put_pairs(bytes: &mut [u8], block: Block, values: &[i64], texts: &[PairText]) -> Block
+    requires texts { ArePairTexts texts.now }
     requires small { All IsSmall values.now }
     requires block { IsBlock (length bytes.old) block }
     ensures { IsPut bytes.old block bytes.new result
@@ -171,7 +269,7 @@ fn put_pairs(bytes: &mut [u8], block: Block, values: &[i64]) -> Block
     let mut done = 0;
     let end = values.len() / 2 * 2;
     while done < end {
-        let run = put_small_pairs(bytes, block, &values[done..]);
+        let run = put_small(bytes, block, &values[done..], texts);
         block = run.block;
         done += run.count;
         if done < end {
@@ -183,12 +281,13 @@ fn put_pairs(bytes: &mut [u8], block: Block, values: &[i64]) -> Block
 }
 
 /// Puts the codes of values.
-pub fn put_values(bytes: &mut [u8], block: Block, values: &[i64]) -> Block
+pub fn put_values(bytes: &mut [u8], block: Block, values: &[i64], texts: &[PairText]) -> Block
+    requires texts { ArePairTexts texts.now }
     requires small { All IsSmall values.now }
     requires block { IsBlock (length bytes.old) block }
     ensures { IsPut bytes.old block bytes.new result (codes_of values.now) }
 {
-    let block = put_pairs(bytes, block, values);
+    let block = put_pairs(bytes, block, values, texts);
     if values.len() % 2 == 0 {
         return block;
     }

@@ -17,6 +17,7 @@ use crate::jobs::SliceJob;
 use crate::packing::put_slice;
 use crate::room::most_places;
 use crate::search::{find_least, share_of, try_at};
+use crate::short_texts::PairTexts;
 use crate::sources::TrioSource;
 use planes::{NarrowTrio, NoMemory, ThreePlanes, Trio};
 use quant_factors::Matrix;
@@ -45,6 +46,7 @@ pub struct SliceEncoder {
     near: u32,
     luma: Vec<i64>,
     colour: Vec<i64>,
+    texts: PairTexts,
 }
 
 impl Model for SliceEncoder {
@@ -67,6 +69,7 @@ impl SliceEncoder {
     ) -> Result<SliceEncoder, NoMemory>
         ensures { IfOk result (λ e. e ≡ record { slicing = layout.now; shape = shape.now }) }
     {
+        let texts = PairTexts::new(alloc)?;
         let gathered = GatheredSlice::new(alloc, layout, shape)?;
         let luma = Vec::from_elem(alloc, 0i64, most_places(layout, shape.luma))?;
         let colour = Vec::from_elem(alloc, 0i64, 2 * most_places(layout, shape.colour))?;
@@ -77,6 +80,7 @@ impl SliceEncoder {
             near: 0,
             luma,
             colour,
+            texts,
         })
     }
 
@@ -313,6 +317,7 @@ impl SliceEncoder {
             found.trying.luma_need,
             &self.luma[..found.trying.luma],
             &self.colour[..found.trying.colour],
+            self.texts.all(),
         );
         SliceHead {
             qindex: found.index,

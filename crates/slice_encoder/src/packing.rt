@@ -7,10 +7,12 @@ ghost use Rattle.bit_codes.specs.Bits.{bits_of, digits_below};
 ghost use Rattle.bounded_blocks.specs.Writing.{codes_of, need, filled};
 ghost use Rattle.slice_encoder.specs.Choice.{fits, slice_bits};
 ghost use Rattle.slice_encoder.specs.BitQueues.{bits_so_far, IsBlock};
+ghost use Rattle.slice_encoder.specs.PairTexts.{ArePairTexts};
 
 use crate::bit_queues::{BitQueue, put_bits, store_rest};
 use crate::block_texts::{Block, put_ones, put_values};
 use crate::needs::count_to_last;
+use crate::short_texts::PairText;
 use slice_geometry::length_bits;
 
 // The index, and the length of the luma block in so many bits.
@@ -34,7 +36,14 @@ fn put_head(bytes: &mut [u8], index: u32, m: u32, luma_need: u64) -> BitQueue
 }
 
 // Values into a block of so many bits, which is filled with ones: these are the codes of the zeros at their end, too.
-fn put_block(bytes: &mut [u8], queue: BitQueue, bits: u64, values: &[i64]) -> BitQueue
+fn put_block(
+    bytes: &mut [u8],
+    queue: BitQueue,
+    bits: u64,
+    values: &[i64],
+    texts: &[PairText],
+) -> BitQueue
+    requires texts { ArePairTexts texts.now }
     requires inside { IsBlock (length bytes.old) (record { queue = queue; left = bits }) }
     requires small { All (λ v. unsigned_abs v ≤ MAX_MAGNITUDE) values.now }
     ensures block { IsBlock (length bytes.old) (record { queue = result; left = 0 }) }
@@ -43,12 +52,20 @@ fn put_block(bytes: &mut [u8], queue: BitQueue, bits: u64, values: &[i64]) -> Bi
         ≡ bits_so_far bytes.old queue ++ filled bits (codes_of values.now) }
 {
     let count = count_to_last(values);
-    let block = put_values(bytes, Block { queue, left: bits }, &values[..count]);
+    let block = put_values(bytes, Block { queue, left: bits }, &values[..count], texts);
     put_ones(bytes, block)
 }
 
 // A slice of values that fit, by the need of its luma values.
-pub fn put_slice(bytes: &mut [u8], index: u32, luma_need: u64, luma: &[i64], colour: &[i64])
+pub fn put_slice(
+    bytes: &mut [u8],
+    index: u32,
+    luma_need: u64,
+    luma: &[i64],
+    colour: &[i64],
+    texts: &[PairText],
+)
+    requires texts { ArePairTexts texts.now }
     requires some { 1 ≤ length bytes.old }
     requires most { length bytes.old ≤ 2 ^ 28 }
     requires index { index ≤ 127 }
@@ -64,7 +81,7 @@ pub fn put_slice(bytes: &mut [u8], index: u32, luma_need: u64, luma: &[i64], col
     let middle = 7 + u64::from(m) + luma_need;
     let end = 8 * bytes.len() as u64;
     let head = put_head(bytes, index, m, luma_need);
-    let queue = put_block(bytes, head, luma_need, luma);
-    let queue = put_block(bytes, queue, end - middle, colour);
+    let queue = put_block(bytes, head, luma_need, luma, texts);
+    let queue = put_block(bytes, queue, end - middle, colour, texts);
     store_rest(bytes, queue);
 }

@@ -1,9 +1,12 @@
 // The codes of small values, by a look-up.
 
-ghost use Rattle.std.specs.Prelude.{◌≡◌, ◌^◌, ◌<◌, ◌≤◌, ◌++◌, ◌-ℤ◌, pos, unsigned_abs};
-ghost use Rattle.bit_codes.specs.Bits.{digits_below};
-ghost use Rattle.bit_codes.specs.Codes.{signed_code_of};
+ghost use Rattle.std.specs.Prelude.{◌≡◌, ◌/◌, ◌%◌, ◌<◌, ◌≤◌, ◌-ℤ◌, pos, unsigned_abs};
 ghost use Rattle.slice_encoder.specs.BitQueues.{IsTextOf};
+ghost use Rattle.slice_encoder.specs.PairTexts.{IsPairText, ArePairTexts};
+
+use planes::NoMemory;
+use std::alloc::Global;
+use std::marker::Model;
 
 /// The last `length` binary digits of a number are a text.
 #[derive(Clone, Copy)]
@@ -42,36 +45,94 @@ fn text_at(place: usize) -> ShortText
     SHORT_TEXTS[place]
 }
 
+// The place of a value from -31 to 31 in a row of the tables.
+#[inline(always)]
+fn place_of(v: i64) -> usize
+    requires { unsigned_abs v < 32 }
+    ensures value { pos result -ℤ pos 32 ≡ v }
+    ensures inside { result < 64 }
+{
+    (v + 32) as usize
+}
+
 /// The code of a value from -31 to 31.
 #[inline(always)]
 pub fn short_text(v: i64) -> ShortText
     requires { unsigned_abs v < 32 }
     ensures { IsTextOf result v }
 {
-    text_at((v + 32) as usize)
+    text_at(place_of(v))
 }
 
 /// The last `length` binary digits of a number are the texts of two values.
 #[derive(Clone, Copy)]
 pub struct PairText {
-    pub number: u64,
+    pub number: u32,
     pub length: u32,
+}
+
+const NO_TEXT: PairText = PairText {
+    number: 0,
+    length: 0,
+};
+
+/// How many pairs of small values there are: 64 by 64.
+const PAIRS: usize = 4096;
+
+/// The codes of all pairs of values from -32 to 31, row by row of the first one.
+#[derive(Drop)]
+pub struct PairTexts {
+    texts: Vec<PairText>,
+}
+
+impl Model for PairTexts {
+    ghost use Rattle.slice_encoder.specs.PairTexts.{ArePairTexts};
+
+    ghost Value = { Unit {0} };
+
+    ghost view = { λ _. tt };
+
+    ghost invariant = { λ t. ArePairTexts t.texts.items };
+}
+
+// The codes of the pair that stands in a place of the table.
+fn texts_of(place: usize) -> PairText
+    requires inside { place < 4096 }
+    ensures { IsPairText result (pos (place / 64) -ℤ pos 32) (pos (place % 64) -ℤ pos 32) }
+{
+    let front = text_at(place / 64);
+    let back = text_at(place % 64);
+    PairText {
+        number: (front.number * (1 << back.length) + back.number) as u32,
+        length: front.length + back.length,
+    }
+}
+
+impl PairTexts {
+    /// The whole table, of 32 KB.
+    pub fn new(alloc: Global) -> Result<PairTexts, NoMemory> {
+        let mut texts = Vec::from_elem(alloc, NO_TEXT, PAIRS)?;
+        for place in 0..PAIRS {
+            texts[place] = texts_of(place);
+        }
+        Ok(PairTexts { texts })
+    }
+
+    /// All codes of pairs.
+    pub fn all(&self) -> &[PairText]
+        ensures { ArePairTexts result.now }
+    {
+        &self.texts
+    }
 }
 
 /// The code of a value from -31 to 31, and behind it that of another.
 #[inline(always)]
-pub fn pair_text(first: i64, second: i64) -> PairText
+pub fn pair_text(texts: &[PairText], first: i64, second: i64) -> PairText
+    requires texts { ArePairTexts texts.now }
     requires first_small { unsigned_abs first < 32 }
     requires second_small { unsigned_abs second < 32 }
-    ensures text { digits_below result.length result.number
-        ≡ signed_code_of first ++ signed_code_of second }
-    ensures few { result.length ≤ 24 }
-    ensures number { result.number < 2 ^ result.length }
+    ensures { IsPairText result first second }
 {
-    let front = short_text(first);
-    let back = short_text(second);
-    PairText {
-        number: front.number * (1 << back.length) + back.number,
-        length: front.length + back.length,
-    }
+    texts[64 * place_of(first) + place_of(second)]
 }

@@ -13,7 +13,7 @@ pub loop-done-preserved-then-done-end : goal.loop-done-preserved-then-done-end
 loop-done-preserved-then-done-end c =
     let a = c.args in
     let l = c.loop-done in
-    let run = c.put_small_pairs-run in
+    let run = c.put_small-run in
     let put = c.put_apart-block in
     let vs = a.values.now in
     let n : ℕ = l.done + run.result.count in
@@ -32,7 +32,7 @@ pub loop-done-preserved : goal.loop-done-preserved
 loop-done-preserved c =
     let a = c.args in
     let l = c.loop-done in
-    let run = c.put_small_pairs-run in
+    let run = c.put_small-run in
     let vs = a.values.now in
     let so_far = subst (λ (us : List ℤ). IsPut l.bytes l.block run.new.bytes run.result.block (codes_of (take run.result.count us))) (rest l.done vs) run.ensures.puts in
     record {

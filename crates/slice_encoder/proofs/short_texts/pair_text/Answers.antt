@@ -1,31 +1,19 @@
-use Rattle.std.proofs.Common.{◌∙◌, ℕ, Bool, List, ◌+◌, ◌*◌, ◌++◌, ap, arith, ℤ, of_z, to_z, w64}
-use Rattle.bit_codes.specs.Bits.{digits_below}
-use Rattle.bit_codes.specs.Codes.{signed_code_of}
-use Rattle.slice_encoder.proofs.QueueBits.{unit_is, joined_fits, digits_join}
+use Rattle.std.proofs.Common.{◌≡◌, ◌∙◌, ℕ, ◌+◌, ◌*◌, ◌/◌, ◌%◌, get_or, ap, subst, arith, ℤ, pos}
+use Rattle.std.specs.Prelude.{◌-ℤ◌}
+use Rattle.slice_encoder.specs.PairTexts.{IsPairText, no_text}
 use Rattle.slice_encoder.proofs.BlockTexts.{told}
 use Rattle.slice_encoder.proofs.short_texts.pair_text.Goals as goal
 
-pub returns-clause-text : goal.returns-clause-text
-returns-clause-text c =
-    let one = c.short_text-front in
-    let two = c.short_text-back in
-    let m = one.result.length in
-    let n = two.result.length in
-    let x = one.result.number in
-    let y = two.result.number in
-    ap (λ (u : ℕ). digits_below (m + n) (x * u + y)) (unit_is n (omega (arith, two.ensures.few)))
-    ∙ digits_join m n x y two.ensures.number
-    ∙ ap (λ (t : List Bool). t ++ digits_below n y) one.ensures.text
-    ∙ ap (λ (t : List Bool). signed_code_of (to_z w64 (of_z w64 c.args.first)) ++ t) two.ensures.text
-    ∙ ap (λ (z : ℤ). signed_code_of z ++ signed_code_of (to_z w64 (of_z w64 c.args.second))) (told c.args.first (omega (arith, c.requires.first_small)))
-    ∙ ap (λ (z : ℤ). signed_code_of c.args.first ++ signed_code_of z) (told c.args.second (omega (arith, c.requires.second_small)))
-
-pub returns-clause-number : goal.returns-clause-number
-returns-clause-number c =
-    let one = c.short_text-front in
-    let two = c.short_text-back in
-    let m = one.result.length in
-    let n = two.result.length in
-    let x = one.result.number in
-    let y = two.result.number in
-    omega (arith, ap (λ (u : ℕ). x * u) (unit_is n (omega (arith, two.ensures.few))), joined_fits m n x y one.ensures.number two.ensures.number)
+pub returns : goal.returns
+returns c =
+    let one = c.place_of in
+    let two = c.place_of-2 in
+    let p : ℕ = 64 * one.result + two.result in
+    let row : p / 64 ≡ one.result = omega (arith, two.ensures.inside) in
+    let column : p % 64 ≡ two.result = omega (arith, two.ensures.inside) in
+    let first : pos (p / 64) -ℤ pos 32 ≡ c.args.first = ap (λ (n : ℕ). pos n -ℤ pos 32) row ∙ one.ensures.value ∙ told c.args.first (omega (arith, c.requires.first_small)) in
+    let second : pos (p % 64) -ℤ pos 32 ≡ c.args.second = ap (λ (n : ℕ). pos n -ℤ pos 32) column ∙ two.ensures.value ∙ told c.args.second (omega (arith, c.requires.second_small)) in
+    let text = get_or c.args.texts.now p no_text in
+    subst (λ (z : ℤ). IsPairText text z c.args.second) first
+    (subst (λ (z : ℤ). IsPairText text (pos (p / 64) -ℤ pos 32) z) second
+    (c.requires.texts.each p (omega (arith, one.ensures.inside, two.ensures.inside))))
