@@ -1,5 +1,6 @@
 pub mod BitQueues
 pub mod PairTexts
+pub mod Scales
 pub mod Loop
 pub mod Order
 pub mod Trials

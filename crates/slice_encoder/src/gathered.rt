@@ -11,6 +11,7 @@ ghost use Rattle.slice_encoder.specs.Listing.{rect_values};
 ghost use Rattle.slice_encoder.specs.Gathering.{raw_before, piece_of, quantised, quantised_piece, in_turn, CanGather, CanGatherAll, AreGathered, gathered_values, gathered_pairs, gathered_reach, gathered_pairs_reach, behind_lowest};
 ghost use Rattle.slice_encoder.specs.GatheredSlices.{AreAllGathered, HasKeys, HasRoomFor, gathered_reaches, low_by, CanHoldAll};
 ghost use Rattle.slice_encoder.specs.Keys.{AreKeys};
+ghost use Rattle.slice_encoder.specs.Scales.{IsScaleOf};
 ghost use Rattle.slice_encoder.specs.Jobs.{picture_of};
 ghost use Rattle.slice_encoder.specs.Ready.{AreGiven};
 ghost use Rattle.slice_encoder.specs.Sources.{band_seen, stack_seen};
@@ -21,10 +22,11 @@ use crate::jobs::SliceJob;
 use crate::keys::{ENTRIES, Keyed, Keys, put_band_at, put_bands_at};
 use crate::needs::reach_of_values;
 use crate::room::most_places;
+use crate::scales::{Scale, quantised_magnitude, scale_of};
 use crate::sources::{BandSource, StackSource};
 use crate::trying::{entry_of, quantiser_at};
 use planes::{NarrowPlane, NoMemory, Plane, Rect};
-use quant_factors::{Matrix, forward};
+use quant_factors::Matrix;
 use slice_geometry::{Layout, PictureShape, Size, band_numbered};
 use std::alloc::Global;
 use std::marker::Model;
@@ -184,25 +186,16 @@ fn sign_of(v: i32) -> i64
     if v < 0 { -1 } else { 1 }
 }
 
-// The magnitude of a coefficient. That it is below 2^28 is said for the compiler: so quantising it has no branch.
-#[inline(always)]
-fn magnitude_of(v: i32) -> i64
-    requires { Within (2 ^ 27) v }
-    ensures { result ≡ pos (unsigned_abs v) }
-{
-    i64::from(v.unsigned_abs() % (1 << 28))
-}
-
 // A coefficient, quantised. Its sign is put on by a product, since a branch on it is guessed wrong half of the time.
 #[inline(always)]
-fn quantised_value(coefficient: i32, index: u32) -> i64
+fn quantised_value(coefficient: i32, scale: Scale, index: u32) -> i64
     requires index { index ≤ 127 }
     requires small { Within (2 ^ 27) coefficient }
+    requires scale { IsScaleOf scale index }
     ensures { result ≡ forward_of coefficient index }
 {
     let sign = sign_of(coefficient);
-    let size = magnitude_of(coefficient);
-    let magnitude = forward(size, index);
+    let magnitude = quantised_magnitude(coefficient, scale, index);
     sign * magnitude
 }
 
@@ -213,8 +206,9 @@ fn quantise(coefficients: &[i32], index: u32, out: &mut [i64])
     requires small { All (Within (2 ^ 27)) coefficients.now }
     ensures { out.new ≡ quantised index coefficients.now }
 {
+    let scale = scale_of(index);
     for place in 0..coefficients.len() {
-        out[place] = quantised_value(coefficients[place], index);
+        out[place] = quantised_value(coefficients[place], scale, index);
     }
 }
 
@@ -227,9 +221,10 @@ fn quantise_pair(first: &[i32], second: &[i32], index: u32, out: &mut [i64])
     requires second_small { All (Within (2 ^ 27)) second.now }
     ensures { out.new ≡ in_turn (quantised index first.now) (quantised index second.now) }
 {
+    let scale = scale_of(index);
     for place in 0..first.len() {
-        out[2 * place] = quantised_value(first[place], index);
-        out[2 * place + 1] = quantised_value(second[place], index);
+        out[2 * place] = quantised_value(first[place], scale, index);
+        out[2 * place + 1] = quantised_value(second[place], scale, index);
     }
 }
 

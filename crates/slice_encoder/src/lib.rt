@@ -21,6 +21,7 @@ mod needs;
 mod packing;
 mod rect_trials;
 mod room;
+mod scales;
 mod search;
 mod short_texts;
 mod sources;
