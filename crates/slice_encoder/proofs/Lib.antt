@@ -8,6 +8,7 @@ pub mod LastValues
 pub mod Signs
 pub mod ShortTexts
 pub mod PairTexts
+pub mod MiddleTexts
 pub mod ScaleLaws
 pub mod Near
 pub mod Holders

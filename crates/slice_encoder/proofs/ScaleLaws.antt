@@ -34,10 +34,10 @@ number_is i le = record { shift = refl; least = number_least i (omega (arith, le
 shifted : (m n k : ℕ) → m * n / 2 ^ k ≡ 4 * m * n / 2 ^ (2 + k)
 shifted m n k =
     sym
-        (ap (λ (d : ℕ). 4 * m * n / d) (pow-add 2 2 k)
-        ∙ ap (λ (a : ℕ). a / (4 * 2 ^ k)) (mul_assoc 4 m n)
-        ∙ sym (div-div-eq-div-mul (4 * (m * n)) 4 (2 ^ k))
-        ∙ ap (λ (a : ℕ). a / 2 ^ k) (mul-div_cancel_left (m * n) {n = 4} (omega arith)))
+    (ap (λ (d : ℕ). 4 * m * n / d) (pow-add 2 2 k)
+    ∙ ap (λ (a : ℕ). a / (4 * 2 ^ k)) (mul_assoc 4 m n)
+    ∙ sym (div-div-eq-div-mul (4 * (m * n)) 4 (2 ^ k))
+    ∙ ap (λ (a : ℕ). a / 2 ^ k) (mul-div_cancel_left (m * n) {n = 4} (omega arith)))
 
 pub scaled_is : (m i : ℕ) (s : Scale) → i ≤ 127 → m < 2 ^ 28 → IsScaleOf s i → m * s.number / 2 ^ s.shift ≡ 4 * m / factor_of i
 scaled_is m i s le small is =

@@ -11,7 +11,7 @@ ghost use Rattle.slice_encoder.specs.BitQueues.{bits_so_far, IsBlock, IsPut};
 ghost use Rattle.slice_encoder.specs.PairTexts.{ArePairTexts};
 
 use crate::bit_queues::{BitQueue, put_bits, store_whole, waiting};
-use crate::short_texts::{PairText, pair_text, short_text};
+use crate::short_texts::{PairText, middle_text, pair_text, short_text};
 
 /// A block that is filled through a queue, and how many of its bits are left.
 #[derive(Clone, Copy)]
@@ -97,7 +97,29 @@ fn put_long(bytes: &mut [u8], block: Block, v: i64) -> Block
     put_digits(bytes, block, u64::from(v < 0), 1)
 }
 
-// The same, by a look-up for small ones.
+// The last digit of the code of a value that isn't 0.
+#[inline(always)]
+fn sign_digit(v: i64) -> u64
+    requires { 1 ≤ unsigned_abs v }
+    ensures small { result < 2 }
+    ensures digit { code_of (unsigned_abs v) ++ digits_below 1 result ≡ signed_code_of v }
+{
+    if v < 0 { 1 } else { 0 }
+}
+
+// The same of a magnitude below 2^14: its code is put at once.
+fn put_middle(bytes: &mut [u8], block: Block, v: i64) -> Block
+    requires some { 1 ≤ unsigned_abs v }
+    requires small { unsigned_abs v < 2 ^ 14 }
+    requires block { IsBlock (length bytes.old) block }
+    ensures { IsPut bytes.old block bytes.new result (signed_code_of v) }
+{
+    let text = middle_text(v.unsigned_abs());
+    let number = 2 * text.number + sign_digit(v);
+    put_digits(bytes, block, number, text.length + 1)
+}
+
+// The same of any magnitude, by a look-up for small ones.
 #[inline(always)]
 fn put_value(bytes: &mut [u8], block: Block, v: i64) -> Block
     requires small { unsigned_abs v ≤ MAX_MAGNITUDE }
@@ -107,6 +129,9 @@ fn put_value(bytes: &mut [u8], block: Block, v: i64) -> Block
     if v.unsigned_abs() < 32 {
         let text = short_text(v);
         return put_digits(bytes, block, text.number, text.length);
+    }
+    if v.unsigned_abs() < 1 << 14 {
+        return put_middle(bytes, block, v);
     }
     put_long(bytes, block, v)
 }

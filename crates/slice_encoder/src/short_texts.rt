@@ -1,6 +1,8 @@
 // The codes of small values, by a look-up.
 
-ghost use Rattle.std.specs.Prelude.{◌≡◌, ◌/◌, ◌%◌, ◌<◌, ◌≤◌, ◌-ℤ◌, pos, unsigned_abs};
+ghost use Rattle.std.specs.Prelude.{◌≡◌, ◌/◌, ◌%◌, ◌^◌, ◌<◌, ◌≤◌, ◌-ℤ◌, pos, unsigned_abs};
+ghost use Rattle.bit_codes.specs.Bits.{digits_below};
+ghost use Rattle.bit_codes.specs.Codes.{code_of};
 ghost use Rattle.slice_encoder.specs.BitQueues.{IsTextOf};
 ghost use Rattle.slice_encoder.specs.PairTexts.{IsPairText, ArePairTexts};
 
@@ -62,6 +64,27 @@ pub fn short_text(v: i64) -> ShortText
     ensures { IsTextOf result v }
 {
     text_at(place_of(v))
+}
+
+/// The code of a number below 2^14, digit by digit.
+pub fn middle_text(v: u64) -> ShortText
+    requires { v < 2 ^ 14 }
+    ensures text { digits_below result.length result.number ≡ code_of v }
+    ensures few { result.length ≤ 29 }
+    ensures number { result.number < 2 ^ result.length }
+{
+    let number = v + 1;
+    let digits = number.ilog2();
+    let mut left = digits;
+    let mut text = 0;
+    while left > 0 {
+        left -= 1;
+        text = 4 * text + (number >> left & 1);
+    }
+    ShortText {
+        number: 2 * text + 1,
+        length: 2 * digits + 1,
+    }
 }
 
 /// The last `length` binary digits of a number are the texts of two values.

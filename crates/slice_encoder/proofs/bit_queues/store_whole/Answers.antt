@@ -1,4 +1,4 @@
-use Rattle.std.proofs.Common.{◌≡◌, ◌∙◌, ◌-◌, ◌+◌, ◌<◌, ◌≤◌, ◌*◌, ◌%◌, length, ◌^◌, ◌/◌, ℕ, List, drop, ap, subst, arith}
+use Rattle.std.proofs.Common.{◌≡◌, ◌∙◌, ◌-◌, ◌+◌, ◌≤◌, ◌*◌, ◌%◌, length, ◌^◌, ℕ, List, drop, ap, arith}
 use Rattle.std.specs.Int.{bytes_high_first}
 use Rattle.slice_encoder.proofs.QueueBits.{unit_is, word_fits, whole_stored}
 use Rattle.slice_encoder.proofs.bit_queues.store_whole.Goals as goal

@@ -1,4 +1,4 @@
-use Rattle.std.proofs.Common.{◌≡◌, ◌∙◌, ℕ, Bool, List, ◌++◌, take, sym, ap, append_assoc, arith}
+use Rattle.std.proofs.Common.{◌∙◌, ℕ, Bool, List, ◌++◌, take, sym, ap, append_assoc, arith}
 use Rattle.std.proofs.lemmas.List.{take_all, length-append}
 use Rattle.bit_codes.specs.Bits.{bits_of, digits_below}
 use Rattle.bit_codes.proofs.CodeOf.{length-digits_below}

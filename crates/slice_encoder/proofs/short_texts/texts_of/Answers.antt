@@ -1,4 +1,4 @@
-use Rattle.std.proofs.Common.{◌≡◌, ◌∙◌, ℕ, Bool, List, ◌+◌, ◌*◌, ◌/◌, ◌%◌, ◌++◌, ap, arith, pos}
+use Rattle.std.proofs.Common.{◌∙◌, ℕ, Bool, List, ◌+◌, ◌*◌, ◌/◌, ◌++◌, ap, arith, pos}
 use Rattle.std.specs.Prelude.{◌-ℤ◌}
 use Rattle.bit_codes.specs.Bits.{digits_below}
 use Rattle.bit_codes.specs.Codes.{signed_code_of}
