@@ -7,25 +7,25 @@ use Rattle.quant_factors.specs.Factors.{factor_of}
 use Rattle.quant_factors.proofs.Tables.{passed, factor_least}
 use Rattle.quant_factors.proofs.Reciprocals.{product_divides}
 use Rattle.slice_encoder.specs.declared.scales.Scale.{Scale}
-use Rattle.slice_encoder.specs.declared.scales.TheConstants.{NUMBERS}
+use Rattle.slice_encoder.specs.declared.scales.TheConstants.{SCALES}
 use Rattle.slice_encoder.specs.Scales.{IsScaleOf}
 use Rattle.slice_encoder.proofs.QueueBits.{joined_fits}
 
 -- ---- the table, by evaluation
 
-number_least : (i : ℕ) → i < 128 → 2 ^ (33 + i / 4) ≤ factor_of i * get_or NUMBERS i 0
+number_least : (i : ℕ) → i < 128 → 2 ^ (33 + i / 4) ≤ factor_of i * get_or SCALES i 0
 unfolding factor_of
-number_least i lt = leb→le _ _ (passed (λ k. leb (2 ^ (33 + k / 4)) (factor_of k * get_or NUMBERS k 0)) 128 tt i lt)
+number_least i lt = leb→le _ _ (passed (λ k. leb (2 ^ (33 + k / 4)) (factor_of k * get_or SCALES k 0)) 128 tt i lt)
 
-number_most : (i : ℕ) → i < 128 → factor_of i * get_or NUMBERS i 0 ≤ 2 ^ (33 + i / 4) + factor_of i
+number_most : (i : ℕ) → i < 128 → factor_of i * get_or SCALES i 0 ≤ 2 ^ (33 + i / 4) + factor_of i
 unfolding factor_of
-number_most i lt = leb→le _ _ (passed (λ k. leb (factor_of k * get_or NUMBERS k 0) (2 ^ (33 + k / 4) + factor_of k)) 128 tt i lt)
+number_most i lt = leb→le _ _ (passed (λ k. leb (factor_of k * get_or SCALES k 0) (2 ^ (33 + k / 4) + factor_of k)) 128 tt i lt)
 
 factor_below : (i : ℕ) → i < 128 → factor_of i ≤ 2 ^ (3 + i / 4)
 unfolding factor_of
 factor_below i lt = leb→le _ _ (passed (λ k. leb (factor_of k) (2 ^ (3 + k / 4))) 128 tt i lt)
 
-pub number_is : (i : ℕ) → i ≤ 127 → IsScaleOf (record { number = get_or NUMBERS i 0; shift = 31 + i / 4 }) i
+pub number_is : (i : ℕ) → i ≤ 127 → IsScaleOf (record { number = get_or SCALES i 0; shift = 31 + i / 4 }) i
 number_is i le = record { shift = refl; least = number_least i (omega (arith, le)); most = number_most i (omega (arith, le)) }
 
 -- ---- what it computes

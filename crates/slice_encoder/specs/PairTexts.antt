@@ -10,6 +10,7 @@ pub record IsPairText (t : PairText) (first second : ℤ) : Type 0 where
   pub few : t.length ≤ 24
   pub number : t.number < 2 ^ t.length
 
+-- what stands in the table until it is made
 abbrev pub no_text : PairText
 no_text = record { number = 0; length = 0 }
 

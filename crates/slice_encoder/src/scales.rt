@@ -6,16 +6,16 @@ ghost use Rattle.planes.specs.Numbers.{Within};
 ghost use Rattle.quant_factors.specs.Factors.{factor_of, forward_of};
 ghost use Rattle.slice_encoder.specs.Scales.{IsScaleOf};
 
-/// A number over a power of two, as one over a factor.
+/// A number over a power of two, for four over a factor.
 #[derive(Clone, Copy)]
 pub struct Scale {
     pub number: u32,
     pub shift: u32,
 }
 
-// The numbers of the indices 0 to 127, four a row: those with one shift.
+// The numbers of the scales of the indices 0 to 127, four a row: those with one shift.
 #[rattlefmt::skip]
-static NUMBERS: [u32; 128] = [
+static SCALES: [u32; 128] = [
     2147483648, 1717986919, 1431655766, 1227133514,
     2147483648, 1717986919, 1561806290, 1321528399,
     2147483648, 1808407283, 1493901669, 1272582903,
@@ -57,7 +57,7 @@ pub fn scale_of(index: u32) -> Scale
     ensures { IsScaleOf result index }
 {
     Scale {
-        number: NUMBERS[index as usize],
+        number: SCALES[index as usize],
         shift: 31 + index / 4,
     }
 }

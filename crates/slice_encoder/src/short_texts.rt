@@ -1,4 +1,4 @@
-// The codes of small values, by a look-up.
+// The codes of small values and of pairs of them, by a look-up, and those of greater ones, digit by digit.
 
 ghost use Rattle.std.specs.Prelude.{◌≡◌, ◌/◌, ◌%◌, ◌^◌, ◌<◌, ◌≤◌, ◌-ℤ◌, pos, unsigned_abs};
 ghost use Rattle.bit_codes.specs.Bits.{digits_below};
