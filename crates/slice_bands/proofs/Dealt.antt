@@ -1,5 +1,5 @@
 -- A row of a band that is collected from its slices.
-use Rattle.std.proofs.Common.{◌≡◌, subst, ◌∙◌, ℕ, ◌+◌, ◌-◌, ◌*◌, ◌<◌, ◌≤◌, arith, inl, inr, List, get_or, ◌/◌}
+use Rattle.std.proofs.Common.{◌≡◌, subst, ◌∙◌, ℕ, ◌+◌, ◌*◌, ◌<◌, ◌≤◌, arith, inl, inr, List, get_or, ◌/◌}
 use Rattle.std.proofs.lemmas.Bool.{cases_lt}
 use Rattle.std.proofs.lemmas.Nat.{mul-le}
 use Rattle.slice_bands.proofs.Parts.{strip_inside}

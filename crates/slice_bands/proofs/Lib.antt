@@ -1,4 +1,5 @@
 pub mod Parts
+pub mod Runs
 pub mod Stacked
 pub mod Dealt
 pub mod Every

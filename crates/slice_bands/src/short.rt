@@ -15,15 +15,17 @@ use planes::NarrowBands;
 /// The greatest magnitude for which bands of 16 bits serve: the sum of two such numbers fits in 16 bits.
 pub const MAX_SHORT: i32 = 16383;
 
-// Gives a run those numbers of a list that are counted by `from`, where the list has EACH numbers a place.
+// Deals a list out to two runs, which take its numbers in turn.
 #[inline(always)]
-fn take_every<const EACH: usize>(run: &mut [i16], values: &[i16], from: usize)
-    requires few { from < EACH }
-    requires whole { length values.now ≡ EACH * length run.old }
-    ensures { run.new ≡ every EACH from (length run.old) values.now }
+fn take_in_turn(first: &mut [i16], second: &mut [i16], values: &[i16])
+    requires alike { length second.old ≡ length first.old }
+    requires whole { length values.now ≡ 2 * length first.old }
+    ensures first { first.new ≡ every 2 0 (length first.old) values.now }
+    ensures second { second.new ≡ every 2 1 (length first.old) values.now }
 {
-    for k in 0..run.len() {
-        run[k] = values[EACH * k + from];
+    for k in 0..first.len() {
+        first[k] = values[2 * k];
+        second[k] = values[2 * k + 1];
     }
 }
 
@@ -38,13 +40,11 @@ pub(crate) fn band_at(k: u32) -> (u32, u32)
 }
 
 impl SliceBands<i16> {
-    /// Puts the numbers of slice n: those of a list that are counted by `from`, where the list has EACH numbers a place.
-    pub fn put_every<const EACH: usize>(&mut self, n: usize, values: &[i16], from: usize)
+    /// Puts the numbers of slice n.
+    pub fn put_all(&mut self, n: usize, values: &[i16])
         requires inside { n < self.old.across * self.old.down }
-        requires few { from < EACH }
-        requires whole { length values.now ≡ EACH * slice_size self.old }
-        ensures value { self.new ≡ with_run self.old n
-            (every EACH from (slice_size self.old) values.now) }
+        requires whole { length values.now ≡ slice_size self.old }
+        ensures value { self.new ≡ with_run self.old n values.now }
         ensures there { n * slice_size self.old + slice_size self.old ≤ length self.old.numbers }
         ensures sound { AreSlicesSound self.old }
     {
@@ -52,7 +52,35 @@ impl SliceBands<i16> {
         let _ = self.numbers();
         let start = self.start_of(n);
         let end = start + self.size();
-        take_every::<EACH>(&mut self.numbers_mut()[start..end], values, from);
+        self.numbers_mut()[start..end].copy_from_slice(values);
+    }
+
+    /// Puts the numbers of slice n of two components, which take those of a list in turn.
+    pub fn put_in_turn(&mut self, second: &mut SliceBands<i16>, n: usize, values: &[i16])
+        requires inside { n < self.old.across * self.old.down }
+        requires second_inside { n < second.old.across * second.old.down }
+        requires whole { length values.now ≡ 2 * slice_size self.old }
+        requires second_whole { length values.now ≡ 2 * slice_size second.old }
+        ensures value { self.new ≡ with_run self.old n
+            (every 2 0 (slice_size self.old) values.now) }
+        ensures second_value { second.new ≡ with_run second.old n
+            (every 2 1 (slice_size second.old) values.now) }
+        ensures there { n * slice_size self.old + slice_size self.old ≤ length self.old.numbers }
+        ensures second_there { n * slice_size second.old + slice_size second.old
+            ≤ length second.old.numbers }
+        ensures sound { AreSlicesSound self.old }
+        ensures second_sound { AreSlicesSound second.old }
+    {
+        // The rules of the slices.
+        let _ = self.numbers();
+        let _ = second.numbers();
+        let size = self.size();
+        let (start, second_start) = (self.start_of(n), second.start_of(n));
+        take_in_turn(
+            &mut self.numbers_mut()[start..start + size],
+            &mut second.numbers_mut()[second_start..second_start + size],
+            values,
+        );
     }
 
     /// Gives bands of 32 bits the numbers of these, by a row of 16 bits.

@@ -1,14 +1,16 @@
 //! The bands of a component in 16 bits: slice by slice, but for the lowest one.
 
-ghost use Rattle.std.specs.Prelude.{◌≡◌, ◌*◌, ◌%◌, ◌^◌, ◌<◌, ◌≤◌, length, replicate, pos, IfOk};
+ghost use Rattle.std.specs.Prelude.{◌≡◌, ◌+◌, ◌*◌, ◌%◌, ◌^◌, ◌<◌, ◌≤◌, length, replicate, pos, IfOk};
 ghost use Rattle.planes.specs.Bounded.{AreBandsWithin};
 ghost use Rattle.planes.specs.Raster.{height};
 ghost use Rattle.planes.specs.Subbands.{AgreeInSizes, AreZeroBands};
+ghost use Rattle.slice_bands.specs.Places.{part_w, part_h};
 ghost use Rattle.slice_bands.specs.Short.{ShowTheSame};
 ghost use Rattle.slice_bands.specs.ShortBands.{short_stack, IsShortSound};
+ghost use Rattle.slice_bands.specs.Stack.{AreSlicesSound};
 
 use crate::SliceBands;
-use planes::{NarrowBands, NarrowPlane, NoMemory};
+use planes::{NarrowBands, NarrowPlane, NoMemory, Rect};
 use std::alloc::Global;
 
 /// The lowest band is a plane of 32 bits, since a slice's numbers there are predicted from those of its neighbours. All
@@ -73,6 +75,29 @@ impl ShortBands {
         let slices = SliceBands::new(alloc, depth, across, down, sw, sh)?;
         let lowest = NarrowPlane::new(alloc, (across * sw) >> depth, (down * sh) >> depth)?;
         Ok(ShortBands { lowest, slices })
+    }
+
+    /// The rectangle of a slice in the lowest band.
+    pub fn lowest_rect(&self, sx: u32, sy: u32) -> Rect
+        requires across { sx < self.now.slices.across }
+        requires down { sy < self.now.slices.down }
+        ensures value { result ≡ record {
+          x0 = sx * part_w self.now.slices 0;
+          x1 = (sx + 1) * part_w self.now.slices 0;
+          y0 = sy * part_h self.now.slices 0;
+          y1 = (sy + 1) * part_h self.now.slices 0;
+        } }
+        ensures sound { AreSlicesSound self.now.slices }
+    {
+        // The rules of the slices.
+        self.slices.shows();
+        let (w, h) = (self.slices.part_w(0) as u32, self.slices.part_h(0) as u32);
+        Rect {
+            x0: sx * w,
+            x1: (sx + 1) * w,
+            y0: sy * h,
+            y1: (sy + 1) * h,
+        }
     }
 
     /// Gives bands of 32 bits the numbers of these, by a row of 16 bits.

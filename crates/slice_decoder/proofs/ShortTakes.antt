@@ -4,7 +4,7 @@ use Rattle.std.proofs.lemmas.Bool.{cases_lt, cases_eq}
 use Rattle.std.proofs.lemmas.Int.{ints}
 use Rattle.std.proofs.lemmas.Nat.{mul-le}
 use Rattle.std.proofs.lemmas.Bool.Decides.{nat_tests}
-use Rattle.std.proofs.lemmas.List.{get_or-drop, get_or_past, get_or-set_other}
+use Rattle.std.proofs.lemmas.List.{get_or-drop, get_or_past, get_or-set_other, ext_get_or}
 use Rattle.planes.specs.declared.Rect.{Rect}
 use Rattle.planes.specs.Rect.{IsInRect}
 use Rattle.planes.specs.Raster.{Raster, height, at}
@@ -23,6 +23,7 @@ use Rattle.slice_bands.proofs.Every.{length-every, every_at}
 use Rattle.slice_bands.proofs.Past.{below_rows, right_of_row, whole_rows, width_shown, height_shown}
 use Rattle.slice_bands.proofs.Lowest.{short_lowest, short_upper, stack_count, each_band}
 use Rattle.slice_geometry.specs.declared.Size.{Size}
+use Rattle.slice_geometry.specs.Shape.{IsSize}
 use Rattle.slice_geometry.specs.Slicing.{Slicing}
 use Rattle.slice_geometry.specs.Geometry.{padded_length}
 use Rattle.slice_geometry.specs.SliceOrder.{level_rect, level_of, orient_of, number_in, numbered, area, place_count}
@@ -30,7 +31,7 @@ use Rattle.slice_geometry.proofs.RectsInBands.{FitsIn, fits}
 use Rattle.slice_geometry.proofs.NumberedBands.{index-numbered, band-exists}
 use Rattle.dc_prediction.specs.Restoring.{RestoresRect, IsStopped}
 use Rattle.slice_decoder.specs.Dealing.{HoldsRect, KeepsOutside}
-use Rattle.slice_decoder.specs.Levels.{places_in, BandsTake, AreRects, IsLowRect}
+use Rattle.slice_decoder.specs.Levels.{places_in, BandsTake, IsLowRect}
 use Rattle.slice_decoder.specs.Components.{Part}
 use Rattle.slice_decoder.specs.Jobs.{places_of}
 use Rattle.slice_decoder.specs.Short.{IsCut}
@@ -38,7 +39,7 @@ use Rattle.slice_decoder.specs.StepRows.{AreasGrow}
 use Rattle.slice_decoder.specs.Narrow.{NeedMore, LowestKeeps}
 use Rattle.slice_decoder.specs.Restored.{StayWithin}
 use Rattle.slice_decoder.proofs.NarrowBands.{zero_narrow, rect_narrow}
-use Rattle.slice_decoder.proofs.LevelLemmas.{places_inside}
+use Rattle.slice_decoder.proofs.LevelLemmas.{places_inside, rect_low}
 use Rattle.slice_decoder.proofs.ShortPlaces.{IsLaid, cut_rect, rect_is, area_grows, places_are, slice_here, number_here, in_slice, count_is_size}
 
 module _ (each from : ℕ) (s : Slicing) (size : Size) (b : Slices ℤ) (laid : IsLaid s size b) (sx sy : ℕ) (across : sx < s.slices_x) (values : List ℤ)
@@ -198,10 +199,6 @@ pub lowest-fits : (s : Slicing) (size : Size) (b : ShortBands) (sx sy : ℕ) (re
 lowest-fits s size b sx sy rect cut is across down =
     fits s size sx sy 0 rect (short_stack b) b.lowest is (sym (short_lowest b)) (omega arith) cut.depth across down (cut_sizes s size b cut)
 
-pub lowest-low : (s : Slicing) (size : Size) (sx sy : ℕ) (rects : List Rect) (rect : Rect) → AreRects s size sx sy rects → rect ≡ level_rect s size sx sy 0 → IsLowRect rect
-lowest-low s size sx sy rects rect are is =
-    subst IsLowRect (are.same 0 (omega arith) ∙ sym is) (are.all_low 0 (omega arith))
-
 -- bands past the last are none
 pub rest-same : (s : Slicing) (old new : ShortBands) → old.slices.depth ≡ s.depth → new.slices.depth ≡ s.depth → (k : ℕ) → 3 * s.depth + 1 ≤ k → numbered (short_stack new) k ≡ numbered (short_stack old) k
 rest-same s old new old_depth new_depth k past =
@@ -241,6 +238,52 @@ cut-after each from s size old sx sy rect values lowest slices cut takes low nar
         narrow = rect_narrow each from rect values 0 old.lowest lowest low narrow cut.sound.narrow;
       };
     }
+
+-- each number of a list, where a place has one
+pub every-one : (values : List ℤ) (n : ℕ) → length values ≡ n → every 1 0 n values ≡ values
+every-one values n long =
+    ext_get_or (pos 0) (every 1 0 n values) values (length-every 1 0 n values ∙ sym long)
+    (λ k lt.
+    let one : 1 * k + 0 ≡ k = omega arith in
+    every_at 1 0 n values k (omega (arith, lt, length-every 1 0 n values)) ∙ ap (λ (j : ℕ). get_or values j (pos 0)) one)
+
+-- a slice is small
+pub size-few : (b : Slices ℤ) → AreSlicesSound b → slice_size b ≤ 2 ^ 27
+size-few b sound =
+    let wide : 1 * b.sw ≤ b.across * b.sw = mul-le 1 b.sw b.across b.sw sound.across (omega arith) in
+    let tall : 1 * b.sh ≤ b.down * b.sh = mul-le 1 b.sh b.down b.sh sound.down (omega arith) in
+    let all : b.sw * b.sh ≤ 8208 * 8208 = mul-le b.sw b.sh 8208 8208 (omega (arith, wide, sound.short_w)) (omega (arith, tall, sound.short_h)) in
+    omega (arith, all)
+
+-- where a slice's rectangle lies in the lowest band
+module _ (s : Slicing) (size : Size) (b : ShortBands) (sx sy : ℕ) (rect : Rect) (cut : IsCut s size b) (sound : AreSlicesSound b.slices)
+    (is : rect ≡ record { x0 = sx * part_w b.slices 0; x1 = (sx + 1) * part_w b.slices 0; y0 = sy * part_h b.slices 0; y1 = (sy + 1) * part_h b.slices 0 }) where
+  pub lowest-is : rect ≡ level_rect s size sx sy 0
+  lowest-is = is ∙ sym (rect_is s size b.slices (laid-of s size b cut sound) sx sy 0 0 (inl (refl, refl)))
+
+  pub lowest-low : IsSize size.w size.h → sx < s.slices_x → sy < s.slices_y → IsLowRect rect
+  lowest-low sized across down =
+      subst (λ (r : Rect). IsLowRect r) (sym lowest-is) (rect_low s size sx sy 0 (omega (arith, sound.depth, cut.depth)) sized across down)
+
+-- the lowest band takes its values, and the slices theirs
+module _ (each from : ℕ) (s : Slicing) (size : Size) (old : ShortBands) (sx sy n : ℕ) (values : List ℤ) (rect : Rect) (lowest : Raster ℤ) (slices : Slices ℤ) (across : sx < s.slices_x) (down : sy < s.slices_y)
+    (cut : IsCut s size old) (sound : AreSlicesSound old.slices) (number : n ≡ sy * s.slices_x + sx) (there : n * slice_size old.slices + slice_size old.slices ≤ length old.slices.numbers)
+    (put : slices ≡ with_run old.slices n (every each from (slice_size old.slices) values)) (rect_is : rect ≡ level_rect s size sx sy 0) (low : HoldsRect each from rect (drop 0 values) old.lowest lowest) where
+  pub put-takes : BandsTake each from s size sx sy (3 * s.depth + 1) values (short_stack old) (short_stack (record { lowest = lowest; slices = slices }))
+  put-takes =
+      let k : ℕ = slice_size old.slices in
+      bands_take each from s size old sx sy values lowest slices across down (laid-of s size old cut sound)
+      (subst (λ (n : ℕ). n * k + k ≤ length old.slices.numbers) number there)
+      (subst (λ (r : Rect). HoldsRect each from r (drop 0 values) old.lowest lowest) rect_is low)
+      (put ∙ ap (λ (n : ℕ). with_run old.slices n (every each from k values)) number)
+
+  pub put-rest : (k : ℕ) → 3 * s.depth + 1 ≤ k → numbered (short_stack (record { lowest = lowest; slices = slices })) k ≡ numbered (short_stack old) k
+  put-rest = rest-same s old (record { lowest = lowest; slices = slices }) cut.depth (ap (λ (t : Slices ℤ). t.depth) put ∙ cut.depth)
+
+  pub put-cut : ((k : ℕ) → k < length values → IsWithin MAX_SHORT (get_or values k (pos 0))) → IsCut s size (record { lowest = lowest; slices = slices })
+  put-cut short =
+      cut-after each from s size old sx sy rect values lowest slices cut put-takes low (short-narrow values short)
+      (put ∙ ap (λ (ns : List ℤ). record old.slices { numbers = ns }) (sym (ap (λ (t : Slices ℤ). t.numbers) put)))
 
 -- ---- what answers say
 

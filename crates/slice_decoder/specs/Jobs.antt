@@ -3,10 +3,11 @@ use Rattle.std.specs.Prelude.{◌≡◌, ℕ, ◌+◌, ◌*◌, ◌<◌, ◌≤�
 use Rattle.planes.specs.Subbands.{BandStack, HaveSizes}
 use Rattle.slice_geometry.specs.Geometry.{padded_length}
 use Rattle.slice_decoder.specs.declared.jobs.PartJob.{PartJob}
+use Rattle.slice_decoder.specs.declared.jobs.ShortJob.{ShortJob}
 use Rattle.slice_decoder.specs.declared.jobs.SliceJob.{SliceJob}
-use Rattle.slice_geometry.specs.SliceOrder.{place_count, numbered}
+use Rattle.slice_geometry.specs.SliceOrder.{level_rect, place_count, numbered}
 use Rattle.slice_decoder.specs.Components.{Part, part_of, BandsHold}
-use Rattle.slice_decoder.specs.Levels.{AreRects, BandsTake}
+use Rattle.slice_decoder.specs.Levels.{AreRects, IsLowRect, BandsTake}
 
 -- the part that is read
 abbrev pub part_in : PartJob → Part
@@ -15,6 +16,19 @@ part_in job = part_of job.layout.now job.size job.place.sx job.place.sy job.matr
 -- what is asked of it
 pub record IsPartJob (job : PartJob) : Type 0 where
   pub rects : AreRects job.layout.now job.size job.place.sx job.place.sy job.rects.now
+  pub across : job.place.sx < job.layout.now.slices_x
+  pub down : job.place.sy < job.layout.now.slices_y
+  pub qindex : job.place.qindex ≤ 127
+  pub entries : job.matrix.now.depth ≡ job.layout.now.depth
+
+-- the part that is read where slices lie as the layout cuts the component
+abbrev pub short_part : ShortJob → Part
+short_part job = part_of job.layout.now job.size job.place.sx job.place.sy job.matrix.now job.place.qindex
+
+-- what is asked of it
+pub record IsShortJob (job : ShortJob) : Type 0 where
+  pub lowest : job.lowest ≡ level_rect job.layout.now job.size job.place.sx job.place.sy 0
+  pub low : IsLowRect job.lowest
   pub across : job.place.sx < job.layout.now.slices_x
   pub down : job.place.sy < job.layout.now.slices_y
   pub qindex : job.place.qindex ≤ 127

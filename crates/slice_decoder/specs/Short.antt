@@ -4,6 +4,7 @@ use Rattle.planes.specs.declared.Trio.{Trio}
 use Rattle.slice_bands.specs.declared.short_bands.ShortBands.{ShortBands}
 use Rattle.slice_bands.specs.declared.short_bands.ShortTrio.{ShortTrio}
 use Rattle.slice_bands.specs.ShortBands.{short_stack, IsShortSound}
+use Rattle.slice_decoder.specs.declared.jobs.ShortJob.{ShortJob}
 use Rattle.slice_geometry.specs.declared.Size.{Size}
 use Rattle.slice_geometry.specs.declared.PictureShape.{PictureShape}
 use Rattle.slice_geometry.specs.Slicing.{Slicing}
@@ -27,3 +28,9 @@ pub record AreCut (s : Slicing) (shape : PictureShape) (b : ShortTrio) : Type 0 
   pub luma : IsCut s shape.luma b.luma
   pub c1 : IsCut s shape.colour b.c1
   pub c2 : IsCut s shape.colour b.c2
+
+-- the slices of luma lie as the layout of one job cuts its component, and those of both colour components as that of another
+pub record AreCutFor (luma_job colour_job : ShortJob) (b : ShortTrio) : Type 0 where
+  pub luma : IsCut luma_job.layout.now luma_job.size b.luma
+  pub c1 : IsCut colour_job.layout.now colour_job.size b.c1
+  pub c2 : IsCut colour_job.layout.now colour_job.size b.c2

@@ -36,6 +36,17 @@ pub struct SliceJob<'a> {
     pub colour_rects: &'a [Rect; 5],
 }
 
+/// The same with its rectangle in the lowest band alone: all that bands ask for whose slices lie as the layout cuts the
+/// component.
+#[derive(Clone, Copy)]
+pub struct ShortJob<'a> {
+    pub layout: &'a Layout,
+    pub size: Size,
+    pub matrix: &'a Matrix,
+    pub place: Place,
+    pub lowest: Rect,
+}
+
 impl<'a> SliceJob<'a> {
     // The slice's part of luma.
     pub fn luma(self) -> PartJob<'a>

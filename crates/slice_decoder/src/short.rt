@@ -10,15 +10,14 @@ ghost use Rattle.slice_bands.specs.ShortBands.{short_stack};
 ghost use Rattle.slice_geometry.specs.SliceOrder.{area};
 ghost use Rattle.slice_decoder.specs.Components.{BandsKeep};
 ghost use Rattle.slice_decoder.specs.Dealing.{dealt, StaysBeside, HoldsRect};
-ghost use Rattle.slice_decoder.specs.Jobs.{part_in, IsPartJob, AllHold, AllTake, RestStays, places_of};
+ghost use Rattle.slice_decoder.specs.Jobs.{short_part, IsShortJob, AllHold, AllTake, RestStays, places_of};
 ghost use Rattle.slice_decoder.specs.Narrow.{block_values, Answers};
 ghost use Rattle.slice_decoder.specs.Restored.{StayWithin};
 ghost use Rattle.slice_decoder.specs.RestoredBands.{all_quantisers};
 ghost use Rattle.slice_decoder.specs.Short.{IsCut};
 ghost use Rattle.slice_decoder.specs.StepRows.{AreasGrow};
 
-use crate::jobs::{PartJob, Place};
-use crate::levels::lowest_of;
+use crate::jobs::{Place, ShortJob};
 use crate::step_rows::{StepRows, key_of};
 use bounded_blocks::{Block, CodeTable, SPARE};
 use planes::{NarrowPlane, Rect};
@@ -78,30 +77,51 @@ fn put_lowest<const EACH: usize>(values: &[i16], from: usize, plane: &mut Narrow
     }
 }
 
-// Puts the values of a slice at its places in a component's subbands: of EACH that a place has, the one that is counted by
-// `from`.
+// Puts the values of a slice at its places in a component's subbands.
 #[inline(always)]
-fn put_values<const EACH: usize>(
-    values: &[i16],
-    from: usize,
-    bands: &mut ShortBands,
-    job: PartJob<'_>,
-)
-    requires few { from < EACH }
-    requires job { IsPartJob job }
+fn put_values(values: &[i16], bands: &mut ShortBands, job: ShortJob<'_>)
+    requires job { IsShortJob job }
     requires cut { IsCut job.layout.now job.size bands.old }
-    requires count { length values.now ≡ EACH * places_of (part_in job) }
+    requires count { length values.now ≡ 1 * places_of (short_part job) }
     requires short { (k : ℕ) → k < length values.now
         → IsWithin MAX_SHORT (slice_index_or values.now k (pos 0)) }
-    ensures takes { AllTake EACH from (part_in job.entry) values.now (short_stack bands.old)
+    ensures takes { AllTake 1 0 (short_part job.entry) values.now (short_stack bands.old)
         (short_stack bands.new) }
-    ensures rest { RestStays (part_in job.entry) (short_stack bands.old) (short_stack bands.new) }
+    ensures rest { RestStays (short_part job.entry) (short_stack bands.old)
+        (short_stack bands.new) }
     ensures cut { IsCut job.entry.layout.now job.entry.size bands.new }
 {
     bands.slices.shows();
     let n = number_of(job.layout, job.place);
-    put_lowest::<EACH>(values, from, &mut bands.lowest, lowest_of(job.rects));
-    bands.slices.put_every::<EACH>(n, values, from);
+    put_lowest::<1>(values, 0, &mut bands.lowest, job.lowest);
+    bands.slices.put_all(n, values);
+}
+
+// Puts the values of a slice at its places in two components, which take them in turn.
+fn put_in_turn(values: &[i16], first: &mut ShortBands, second: &mut ShortBands, job: ShortJob<'_>)
+    requires job { IsShortJob job }
+    requires first_cut { IsCut job.layout.now job.size first.old }
+    requires second_cut { IsCut job.layout.now job.size second.old }
+    requires count { length values.now ≡ 2 * places_of (short_part job) }
+    requires short { (k : ℕ) → k < length values.now
+        → IsWithin MAX_SHORT (slice_index_or values.now k (pos 0)) }
+    ensures first_takes { AllTake 2 0 (short_part job.entry) values.now (short_stack first.old)
+        (short_stack first.new) }
+    ensures second_takes { AllTake 2 1 (short_part job.entry) values.now (short_stack second.old)
+        (short_stack second.new) }
+    ensures first_rest { RestStays (short_part job.entry) (short_stack first.old)
+        (short_stack first.new) }
+    ensures second_rest { RestStays (short_part job.entry) (short_stack second.old)
+        (short_stack second.new) }
+    ensures first_cut { IsCut job.entry.layout.now job.entry.size first.new }
+    ensures second_cut { IsCut job.entry.layout.now job.entry.size second.new }
+{
+    first.slices.shows();
+    second.slices.shows();
+    let n = number_of(job.layout, job.place);
+    put_lowest::<2>(values, 0, &mut first.lowest, job.lowest);
+    put_lowest::<2>(values, 1, &mut second.lowest, job.lowest);
+    first.slices.put_in_turn(&mut second.slices, n, values);
 }
 
 // Reads the values of a slice in one component, or of two that take them in turn, dequantised, into the front of a
@@ -113,17 +133,17 @@ fn read_values(
     count: usize,
     each: usize,
     steps: &mut StepRows,
-    job: PartJob<'_>,
+    job: ShortJob<'_>,
 ) -> bool
-    requires job { IsPartJob job }
-    requires areas { AreasGrow (part_in job) }
-    requires count { count ≡ each * places_of (part_in job) }
+    requires job { IsShortJob job }
+    requires areas { AreasGrow (short_part job) }
+    requires count { count ≡ each * places_of (short_part job) }
     requires room { count + SPARE ≤ length buffer.old }
     requires places { count ≤ steps.old }
     ensures within { StayWithin blocks.MAX_SHORT result (λ k. slice_index_or
-        (dealt block.now (all_quantisers each (part_in job.entry))) k (pos 0)) 0 count }
+        (dealt block.now (all_quantisers each (short_part job.entry))) k (pos 0)) 0 count }
     ensures values { result ≡ true → (k : ℕ) → k < count → slice_index_or buffer.new k (pos 0)
-        ≡ slice_index_or (dealt block.now (all_quantisers each (part_in job.entry))) k (pos 0) }
+        ≡ slice_index_or (dealt block.now (all_quantisers each (short_part job.entry))) k (pos 0) }
     ensures places { steps.new ≡ steps.old }
 {
     if !block.short_values(codes, count, buffer) {
@@ -138,18 +158,20 @@ pub fn read_luma(
     block: &Block<'_>,
     codes: &CodeTable,
     bands: &mut ShortBands,
-    job: PartJob<'_>,
+    job: ShortJob<'_>,
     steps: &mut StepRows,
     buffer: &mut [i16],
 ) -> bool
-    requires job { IsPartJob job }
+    requires job { IsShortJob job }
     requires cut { IsCut job.layout.now job.size bands.old }
     requires places { length buffer.old ≤ steps.old + SPARE }
     ensures answer { Answers MAX_SHORT (length buffer.old)
-        (block_values 1 (part_in job.entry) block.now)
-        (AllHold 1 0 (part_in job.entry) block.now (short_stack bands.old) (short_stack bands.new))
+        (block_values 1 (short_part job.entry) block.now)
+        (AllHold 1 0 (short_part job.entry) block.now (short_stack bands.old)
+        (short_stack bands.new))
         result }
-    ensures keeps { BandsKeep (part_in job.entry) (short_stack bands.old) (short_stack bands.new) }
+    ensures keeps { BandsKeep (short_part job.entry) (short_stack bands.old)
+        (short_stack bands.new) }
     ensures cut { IsCut job.entry.layout.now job.entry.size bands.new }
     ensures places { steps.new ≡ steps.old }
 {
@@ -161,7 +183,7 @@ pub fn read_luma(
     if !read_values(block, codes, buffer, count, 1, steps, job) {
         return false;
     }
-    put_values::<1>(&buffer[..count], 0, bands, job);
+    put_values(&buffer[..count], bands, job);
     true
 }
 
@@ -172,22 +194,23 @@ pub fn read_colour(
     codes: &CodeTable,
     first: &mut ShortBands,
     second: &mut ShortBands,
-    job: PartJob<'_>,
+    job: ShortJob<'_>,
     steps: &mut StepRows,
     buffer: &mut [i16],
 ) -> bool
-    requires job { IsPartJob job }
+    requires job { IsShortJob job }
     requires first_cut { IsCut job.layout.now job.size first.old }
     requires second_cut { IsCut job.layout.now job.size second.old }
     requires places { length buffer.old ≤ steps.old + SPARE }
     ensures answer { Answers MAX_SHORT (length buffer.old)
-        (block_values 2 (part_in job.entry) block.now)
-        (AllHold 2 0 (part_in job.entry) block.now (short_stack first.old) (short_stack first.new)
-        × AllHold 2 1 (part_in job.entry) block.now (short_stack second.old)
+        (block_values 2 (short_part job.entry) block.now)
+        (AllHold 2 0 (short_part job.entry) block.now (short_stack first.old)
+        (short_stack first.new)
+        × AllHold 2 1 (short_part job.entry) block.now (short_stack second.old)
         (short_stack second.new)) result }
-    ensures first_keeps { BandsKeep (part_in job.entry) (short_stack first.old)
+    ensures first_keeps { BandsKeep (short_part job.entry) (short_stack first.old)
         (short_stack first.new) }
-    ensures second_keeps { BandsKeep (part_in job.entry) (short_stack second.old)
+    ensures second_keeps { BandsKeep (short_part job.entry) (short_stack second.old)
         (short_stack second.new) }
     ensures first_cut { IsCut job.entry.layout.now job.entry.size first.new }
     ensures second_cut { IsCut job.entry.layout.now job.entry.size second.new }
@@ -201,8 +224,6 @@ pub fn read_colour(
     if !read_values(block, codes, buffer, count, 2, steps, job) {
         return false;
     }
-    let values = &buffer[..count];
-    put_values::<2>(values, 0, first, job);
-    put_values::<2>(values, 1, second, job);
+    put_in_turn(&buffer[..count], first, second, job);
     true
 }

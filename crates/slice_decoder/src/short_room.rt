@@ -5,11 +5,11 @@ ghost use Rattle.bounded_blocks.specs.declared.TheConstants.{SPARE};
 ghost use Rattle.slice_bands.specs.declared.short.TheConstants.{MAX_SHORT};
 ghost use Rattle.slice_bands.specs.ShortBands.{short_stack};
 ghost use Rattle.slice_decoder.specs.Components.{BandsKeep};
-ghost use Rattle.slice_decoder.specs.Jobs.{part_in, IsPartJob, AllHold};
+ghost use Rattle.slice_decoder.specs.Jobs.{short_part, IsShortJob, AllHold};
 ghost use Rattle.slice_decoder.specs.Narrow.{block_values, Answers};
 ghost use Rattle.slice_decoder.specs.Short.{IsCut};
 
-use crate::jobs::PartJob;
+use crate::jobs::ShortJob;
 use crate::short::{read_colour, read_luma};
 use crate::step_rows::StepRows;
 use bounded_blocks::{Block, CodeTable, SPARE};
@@ -56,15 +56,15 @@ impl ShortRoom {
         block: &Block<'_>,
         codes: &CodeTable,
         bands: &mut ShortBands,
-        job: PartJob<'_>,
+        job: ShortJob<'_>,
     ) -> bool
-        requires job { IsPartJob job }
+        requires job { IsShortJob job }
         requires cut { IsCut job.layout.now job.size bands.old }
         ensures answer { Answers MAX_SHORT self.old
-            (block_values 1 (part_in job.entry) block.now)
-            (AllHold 1 0 (part_in job.entry) block.now (short_stack bands.old)
+            (block_values 1 (short_part job.entry) block.now)
+            (AllHold 1 0 (short_part job.entry) block.now (short_stack bands.old)
             (short_stack bands.new)) result }
-        ensures keeps { BandsKeep (part_in job.entry) (short_stack bands.old)
+        ensures keeps { BandsKeep (short_part job.entry) (short_stack bands.old)
             (short_stack bands.new) }
         ensures cut { IsCut job.entry.layout.now job.entry.size bands.new }
         ensures room { self.new ≡ self.old }
@@ -79,20 +79,20 @@ impl ShortRoom {
         codes: &CodeTable,
         first: &mut ShortBands,
         second: &mut ShortBands,
-        job: PartJob<'_>,
+        job: ShortJob<'_>,
     ) -> bool
-        requires job { IsPartJob job }
+        requires job { IsShortJob job }
         requires first_cut { IsCut job.layout.now job.size first.old }
         requires second_cut { IsCut job.layout.now job.size second.old }
         ensures answer { Answers MAX_SHORT self.old
-            (block_values 2 (part_in job.entry) block.now)
-            (AllHold 2 0 (part_in job.entry) block.now (short_stack first.old)
+            (block_values 2 (short_part job.entry) block.now)
+            (AllHold 2 0 (short_part job.entry) block.now (short_stack first.old)
             (short_stack first.new)
-            × AllHold 2 1 (part_in job.entry) block.now (short_stack second.old)
+            × AllHold 2 1 (short_part job.entry) block.now (short_stack second.old)
             (short_stack second.new)) result }
-        ensures first_keeps { BandsKeep (part_in job.entry) (short_stack first.old)
+        ensures first_keeps { BandsKeep (short_part job.entry) (short_stack first.old)
             (short_stack first.new) }
-        ensures second_keeps { BandsKeep (part_in job.entry) (short_stack second.old)
+        ensures second_keeps { BandsKeep (short_part job.entry) (short_stack second.old)
             (short_stack second.new) }
         ensures first_cut { IsCut job.entry.layout.now job.entry.size first.new }
         ensures second_cut { IsCut job.entry.layout.now job.entry.size second.new }

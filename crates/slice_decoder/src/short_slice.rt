@@ -12,13 +12,12 @@ ghost use Rattle.slice_geometry.specs.Slicing as slicing;
 ghost use Rattle.slice_geometry.specs.Slicing.{Slicing};
 ghost use Rattle.slice_geometry.specs.SliceOrder.{numbered};
 ghost use Rattle.slice_decoder.specs.Slice.{slice_at};
-ghost use Rattle.slice_decoder.specs.Jobs.{luma_part, colour_part, IsSliceJob};
+ghost use Rattle.slice_decoder.specs.Jobs.{short_part, IsShortJob};
 ghost use Rattle.slice_decoder.specs.Decoded.{AllKeepOthers, IsDecoded, IsRefused};
 ghost use Rattle.slice_decoder.specs.Narrow.{NeedsWide, AreRead, LowestKeeps, AreRestored, OneStops, AllKeepLowest, LieInLowest};
-ghost use Rattle.slice_decoder.specs.Short.{shown_trio, IsCut, AreCut};
+ghost use Rattle.slice_decoder.specs.Short.{shown_trio, IsCut, AreCut, AreCutFor};
 
-use crate::jobs::{Place, SliceJob};
-use crate::levels::{level_rects, lowest_of};
+use crate::jobs::{Place, ShortJob};
 use crate::short_room::ShortRoom;
 use crate::{SliceFault, head_of};
 use bounded_blocks::{Block, CodeTable};
@@ -30,7 +29,8 @@ use slice_geometry::{Layout, PictureShape, SliceHead, length_bits};
 
 // Reads the values of both blocks into the subbands. It answers false where these don't serve.
 fn read_blocks(
-    job: SliceJob<'_>,
+    luma_job: ShortJob<'_>,
+    colour_job: ShortJob<'_>,
     bytes: &[u8],
     codes: &CodeTable,
     luma_bits: u32,
@@ -40,25 +40,24 @@ fn read_blocks(
     requires some { 1 ≤ length bytes.now }
     requires most { length bytes.now ≤ 2 ^ 28 }
     requires fits { luma_bits + 7 + slicing.length_bits (length bytes.now) ≤ 8 * length bytes.now }
-    requires job { IsSliceJob job }
-    requires cut { AreCut job.layout.now job.shape.now bands.old }
+    requires luma_job { IsShortJob luma_job }
+    requires colour_job { IsShortJob colour_job }
+    requires cut { AreCutFor luma_job colour_job bands.old }
     ensures read { let start = 7 + slicing.length_bits (length bytes.now) in
-        AreRead MAX_SHORT room.old (luma_part job.entry) (colour_part job.entry)
+        AreRead MAX_SHORT room.old (short_part luma_job.entry) (short_part colour_job.entry)
         (block_of bytes.now start (start + luma_bits))
         (block_of bytes.now (start + luma_bits) (8 * length bytes.now))
         (shown_trio bands.old) (shown_trio bands.new) result }
-    ensures cut { AreCut job.entry.layout.now job.entry.shape.now bands.new }
+    ensures cut { AreCutFor luma_job.entry colour_job.entry bands.new }
 {
     let start = 7 + u64::from(length_bits(bytes.len() as u32));
     let middle = start + u64::from(luma_bits);
     let luma = Block::new(bytes, start, u64::from(luma_bits));
     let colour = Block::new(bytes, middle, 8 * bytes.len() as u64 - middle);
-    let luma_job = job.luma();
     if !room.read_luma(&luma, codes, &mut bands.luma, luma_job) {
         return false;
     }
     let (c1, c2) = (&mut bands.c1, &mut bands.c2);
-    let colour_job = job.colour();
     room.read_colour(&colour, codes, c1, c2, colour_job)
 }
 
@@ -147,22 +146,24 @@ pub fn decode_short(
         sy,
         qindex: head.qindex,
     };
-    let luma_rects = level_rects(layout, shape.luma, place);
-    let colour_rects = level_rects(layout, shape.colour, place);
-    let job = SliceJob {
+    let luma = ShortJob {
         layout,
-        shape,
+        size: shape.luma,
         matrix,
         place,
-        luma_rects: &luma_rects,
-        colour_rects: &colour_rects,
+        lowest: bands.luma.lowest_rect(sx, sy),
     };
-    if !read_blocks(job, bytes, codes, head.luma_bits, bands, room) {
+    let colour = ShortJob {
+        layout,
+        size: shape.colour,
+        matrix,
+        place,
+        lowest: bands.c1.lowest_rect(sx, sy),
+    };
+    if !read_blocks(luma, colour, bytes, codes, head.luma_bits, bands, room) {
         return Ok(None);
     }
-    let luma = lowest_of(&luma_rects);
-    let colour = lowest_of(&colour_rects);
-    if !restore_all(bands, luma, colour) {
+    if !restore_all(bands, luma.lowest, colour.lowest) {
         return Ok(None);
     }
     Ok(Some(head))

@@ -5,12 +5,12 @@
 
 ghost use Rattle.std.specs.Prelude.{◌≡◌, ℕ, ◌+◌, ◌^◌, ◌<◌, ◌≤◌, length, slice_index_or, pos, true, IfOk};
 ghost use Rattle.bounded_blocks.specs.declared.TheConstants.{MAX_SHORT};
-ghost use Rattle.slice_decoder.specs.Jobs.{part_in, IsPartJob};
+ghost use Rattle.slice_decoder.specs.Jobs.{short_part, IsShortJob};
 ghost use Rattle.slice_decoder.specs.Restored.{restored_at, StayWithin};
 ghost use Rattle.slice_decoder.specs.RestoredBands.{all_quantisers};
 ghost use Rattle.slice_decoder.specs.StepRows.{area_above, quantisers_by, AreasGrow};
 
-use crate::jobs::PartJob;
+use crate::jobs::ShortJob;
 use crate::levels::area_of;
 use crate::narrow_restoring::index_of_band;
 use crate::short_restoring::{Step, is_low, restore_one, step_of};
@@ -38,17 +38,17 @@ pub(crate) struct StepKey {
 }
 
 /// The key of a part of a slice, of whose values each place has so many.
-pub(crate) fn key_of(each: usize, job: PartJob<'_>) -> StepKey
-    requires job { IsPartJob job }
-    requires areas { AreasGrow (part_in job) }
-    ensures quantisers { quantisers_by result ≡ all_quantisers each (part_in job.entry) }
+pub(crate) fn key_of(each: usize, job: ShortJob<'_>) -> StepKey
+    requires job { IsShortJob job }
+    requires areas { AreasGrow (short_part job) }
+    ensures quantisers { quantisers_by result ≡ all_quantisers each (short_part job.entry) }
     ensures index { result.qindex ≤ 127 }
     ensures few { result.lowest ≤ 2 ^ 26 }
 {
     StepKey {
         each,
         qindex: job.place.qindex,
-        lowest: area_of(job.rects[0]),
+        lowest: area_of(job.lowest),
         matrix: *job.matrix,
     }
 }

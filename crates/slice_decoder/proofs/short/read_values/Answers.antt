@@ -1,7 +1,7 @@
 use Rattle.std.proofs.Common.{◌≡◌, ℕ, ◌+◌, ◌-◌, ◌*◌, ◌^◌, ◌<◌, List, length, take, get_or, ℤ, pos, sym, ap, subst, ◌∙◌, arith}
 use Rattle.std.proofs.lemmas.List.{length-take-le, get_or_append_left}
 use Rattle.slice_decoder.specs.Dealing.{dealt}
-use Rattle.slice_decoder.specs.Jobs.{part_in}
+use Rattle.slice_decoder.specs.Jobs.{short_part}
 use Rattle.slice_decoder.specs.Components.{Part, quantisers_before}
 use Rattle.slice_decoder.specs.Restored.{restored_at, StayWithin}
 use Rattle.slice_decoder.proofs.Restores.{count_is, dealt-at, stay-same, wide-dealt}
@@ -9,7 +9,7 @@ use Rattle.slice_decoder.proofs.short.read_values.Goals as goal
 
 pub returns-then-not-short_values-clause-within : goal.returns-then-not-short_values-clause-within
 returns-then-not-short_values-clause-within c =
-    let part : Part = part_in c.args.job in
+    let part : Part = short_part c.args.job in
     wide-dealt (2 ^ 14 - 1) c.args.each part c.args.count (3 * c.args.job.layout.now.depth + 1) c.args.block.now c.requires.job.qindex
     (count_is c.args.each part c.args.count c.requires.count)
     (λ all. absurd (let yes = c.short_values.ensures.within.1 all in cc))
@@ -18,7 +18,7 @@ pub restore-requires-clause-count : goal.restore-requires-clause-count
 restore-requires-clause-count c =
     let n = c.args.count in
     let out = c.short_values.new.out in
-    length-take-le n out (omega (arith, c.short_values.auto.out, c.requires.room)) ∙ count_is c.args.each (part_in c.args.job) n c.requires.count
+    length-take-le n out (omega (arith, c.short_values.auto.out, c.requires.room)) ∙ count_is c.args.each (short_part c.args.job) n c.requires.count
     ∙ ap length (sym c.key_of.ensures.quantisers)
 
 pub restore-requires-clause-room : goal.restore-requires-clause-room
@@ -29,7 +29,7 @@ restore-requires-clause-room c =
 
 pub returns-clause-within : goal.returns-clause-within
 returns-clause-within c =
-    let part : Part = part_in c.args.job in
+    let part : Part = short_part c.args.job in
     let qs = quantisers_before c.args.each part (3 * c.args.job.layout.now.depth + 1) in
     let n = c.args.count in
     let out = c.short_values.new.out in
@@ -43,7 +43,7 @@ returns-clause-within c =
 
 pub returns-clause-values : goal.returns-clause-values
 returns-clause-values c good k lt =
-    let part : Part = part_in c.args.job in
+    let part : Part = short_part c.args.job in
     let qs = quantisers_before c.args.each part (3 * c.args.job.layout.now.depth + 1) in
     let n = c.args.count in
     let out = c.short_values.new.out in

@@ -5,7 +5,7 @@ use Rattle.slice_geometry.specs.Slicing.{length_bits}
 use Rattle.slice_geometry.proofs.LengthBits.{length_bits-fit}
 use Rattle.slice_decoder.specs.Short.{shown_trio}
 use Rattle.slice_decoder.proofs.Decodes.{lt_tests}
-use Rattle.slice_decoder.proofs.ShortTakes.{cut_sizes}
+use Rattle.slice_decoder.proofs.ShortTakes.{cut_sizes, lowest-is, lowest-low}
 use Rattle.slice_decoder.proofs.SliceSteps.{SliceRead, IsHeaded, AreLowest, headed, wide-after-reading, others-after-reading, lie-in-lowest, wide-where-stopped, others-after-restoring, decoded-slice}
 use Rattle.slice_decoder.proofs.short_slice.decode_short.Goals as goal
 
@@ -21,10 +21,23 @@ pub read_blocks-requires-clause-fits : goal.read_blocks-requires-clause-fits
 read_blocks-requires-clause-fits c =
     omega (arith, c.if-head-left.false, c.length_bits.ensures, length_bits-fit (length c.args.bytes.now) c.requires.some)
 
-pub read_blocks-requires-clause-job : goal.read_blocks-requires-clause-job
-read_blocks-requires-clause-job c = record {
-  luma_rects = c.level_rects-luma_rects.ensures;
-  colour_rects = c.level_rects-colour_rects.ensures;
+pub read_blocks-requires-clause-cut : goal.read_blocks-requires-clause-cut
+read_blocks-requires-clause-cut c = record { luma = c.requires.cut.luma; c1 = c.requires.cut.c1; c2 = c.requires.cut.c2 }
+
+pub read_blocks-requires-clause-luma_job : goal.read_blocks-requires-clause-luma_job
+read_blocks-requires-clause-luma_job c = record {
+  lowest = lowest-is c.args.layout.now c.args.shape.now.luma c.args.bands.now.luma c.args.sx c.args.sy c.lowest_rect.result c.requires.cut.luma c.lowest_rect.ensures.sound c.lowest_rect.ensures.value;
+  low = lowest-low c.args.layout.now c.args.shape.now.luma c.args.bands.now.luma c.args.sx c.args.sy c.lowest_rect.result c.requires.cut.luma c.lowest_rect.ensures.sound c.lowest_rect.ensures.value c.args.shape.now.luma_fits c.requires.across c.requires.down;
+  across = c.requires.across;
+  down = c.requires.down;
+  qindex = c.head_of-head.ensures.small;
+  entries = c.requires.entries;
+}
+
+pub read_blocks-requires-clause-colour_job : goal.read_blocks-requires-clause-colour_job
+read_blocks-requires-clause-colour_job c = record {
+  lowest = lowest-is c.args.layout.now c.args.shape.now.colour c.args.bands.now.c1 c.args.sx c.args.sy c.lowest_rect-2.result c.requires.cut.c1 c.lowest_rect-2.ensures.sound c.lowest_rect-2.ensures.value;
+  low = lowest-low c.args.layout.now c.args.shape.now.colour c.args.bands.now.c1 c.args.sx c.args.sy c.lowest_rect-2.result c.requires.cut.c1 c.lowest_rect-2.ensures.sound c.lowest_rect-2.ensures.value c.args.shape.now.colour_fits c.requires.across c.requires.down;
   across = c.requires.across;
   down = c.requires.down;
   qindex = c.head_of-head.ensures.small;
@@ -45,8 +58,8 @@ returns-then-not-read_blocks-clause-others c =
 pub restore_all-requires-clause-inside : goal.restore_all-requires-clause-inside
 restore_all-requires-clause-inside c =
     let r : SliceRead = record { slicing = c.args.layout.now; shape = c.args.shape.now; sx = c.args.sx; sy = c.args.sy; matrix = c.args.matrix.now; bytes = c.args.bytes.now; head = c.head_of-head.result } in
-    let lowest : AreLowest r c.lowest_of-luma.result c.lowest_of-colour.result = record { luma_is = c.lowest_of-luma.ensures _ _ _ _ c.level_rects-luma_rects.ensures; colour_is = c.lowest_of-colour.ensures _ _ _ _ c.level_rects-colour_rects.ensures } in
-    lie-in-lowest MAX_SHORT c.args.room.now r (shown_trio c.args.bands.now) (shown_trio c.read_blocks.new.bands) c.lowest_of-luma.result c.lowest_of-colour.result lowest c.requires.across c.requires.down
+    let lowest : AreLowest r c.lowest_rect.result c.lowest_rect-2.result = record { luma_is = lowest-is c.args.layout.now c.args.shape.now.luma c.args.bands.now.luma c.args.sx c.args.sy c.lowest_rect.result c.requires.cut.luma c.lowest_rect.ensures.sound c.lowest_rect.ensures.value; colour_is = lowest-is c.args.layout.now c.args.shape.now.colour c.args.bands.now.c1 c.args.sx c.args.sy c.lowest_rect-2.result c.requires.cut.c1 c.lowest_rect-2.ensures.sound c.lowest_rect-2.ensures.value } in
+    lie-in-lowest MAX_SHORT c.args.room.now r (shown_trio c.args.bands.now) (shown_trio c.read_blocks.new.bands) c.lowest_rect.result c.lowest_rect-2.result lowest c.requires.across c.requires.down
     (record { depth = c.requires.cut.luma.depth; sizes = cut_sizes _ _ _ c.requires.cut.luma }) (record { depth = c.requires.cut.c1.depth; sizes = cut_sizes _ _ _ c.requires.cut.c1 }) (record { depth = c.requires.cut.c2.depth; sizes = cut_sizes _ _ _ c.requires.cut.c2 })
     c.if-not-read_blocks.ensures.read
 
@@ -54,30 +67,30 @@ pub returns-then-not-restore_all-clause-decoded : goal.returns-then-not-restore_
 returns-then-not-restore_all-clause-decoded c =
     let r : SliceRead = record { slicing = c.args.layout.now; shape = c.args.shape.now; sx = c.args.sx; sy = c.args.sy; matrix = c.args.matrix.now; bytes = c.args.bytes.now; head = c.head_of-head.result } in
     let head : IsHeaded r = headed r (omega (arith, c.if-head-left.false, c.length_bits.ensures, length_bits-fit (length c.args.bytes.now) c.requires.some)) c.head_of-head.ensures.qindex c.head_of-head.ensures.luma_bits in
-    let lowest : AreLowest r c.lowest_of-luma.result c.lowest_of-colour.result = record { luma_is = c.lowest_of-luma.ensures _ _ _ _ c.level_rects-luma_rects.ensures; colour_is = c.lowest_of-colour.ensures _ _ _ _ c.level_rects-colour_rects.ensures } in
-    wide-where-stopped MAX_SHORT c.args.room.now r (shown_trio c.args.bands.now) (shown_trio c.read_blocks.new.bands) (shown_trio c.restore_all.new.bands) c.lowest_of-luma.result c.lowest_of-colour.result lowest c.if-not-read_blocks.ensures.read
+    let lowest : AreLowest r c.lowest_rect.result c.lowest_rect-2.result = record { luma_is = lowest-is c.args.layout.now c.args.shape.now.luma c.args.bands.now.luma c.args.sx c.args.sy c.lowest_rect.result c.requires.cut.luma c.lowest_rect.ensures.sound c.lowest_rect.ensures.value; colour_is = lowest-is c.args.layout.now c.args.shape.now.colour c.args.bands.now.c1 c.args.sx c.args.sy c.lowest_rect-2.result c.requires.cut.c1 c.lowest_rect-2.ensures.sound c.lowest_rect-2.ensures.value } in
+    wide-where-stopped MAX_SHORT c.args.room.now r (shown_trio c.args.bands.now) (shown_trio c.read_blocks.new.bands) (shown_trio c.restore_all.new.bands) c.lowest_rect.result c.lowest_rect-2.result lowest c.if-not-read_blocks.ensures.read
     c.args.room.now head (c.restore_all.ensures.stopped c.if-not-restore_all.true)
 
 pub returns-then-not-restore_all-clause-others : goal.returns-then-not-restore_all-clause-others
 returns-then-not-restore_all-clause-others c =
     let r : SliceRead = record { slicing = c.args.layout.now; shape = c.args.shape.now; sx = c.args.sx; sy = c.args.sy; matrix = c.args.matrix.now; bytes = c.args.bytes.now; head = c.head_of-head.result } in
-    let lowest : AreLowest r c.lowest_of-luma.result c.lowest_of-colour.result = record { luma_is = c.lowest_of-luma.ensures _ _ _ _ c.level_rects-luma_rects.ensures; colour_is = c.lowest_of-colour.ensures _ _ _ _ c.level_rects-colour_rects.ensures } in
-    others-after-restoring MAX_SHORT c.args.room.now r (shown_trio c.args.bands.now) (shown_trio c.read_blocks.new.bands) (shown_trio c.restore_all.new.bands) c.lowest_of-luma.result c.lowest_of-colour.result lowest c.if-not-read_blocks.ensures.read
+    let lowest : AreLowest r c.lowest_rect.result c.lowest_rect-2.result = record { luma_is = lowest-is c.args.layout.now c.args.shape.now.luma c.args.bands.now.luma c.args.sx c.args.sy c.lowest_rect.result c.requires.cut.luma c.lowest_rect.ensures.sound c.lowest_rect.ensures.value; colour_is = lowest-is c.args.layout.now c.args.shape.now.colour c.args.bands.now.c1 c.args.sx c.args.sy c.lowest_rect-2.result c.requires.cut.c1 c.lowest_rect-2.ensures.sound c.lowest_rect-2.ensures.value } in
+    others-after-restoring MAX_SHORT c.args.room.now r (shown_trio c.args.bands.now) (shown_trio c.read_blocks.new.bands) (shown_trio c.restore_all.new.bands) c.lowest_rect.result c.lowest_rect-2.result lowest c.if-not-read_blocks.ensures.read
     c.restore_all.ensures.keeps
 
 pub returns-clause-decoded : goal.returns-clause-decoded
 returns-clause-decoded c =
     let r : SliceRead = record { slicing = c.args.layout.now; shape = c.args.shape.now; sx = c.args.sx; sy = c.args.sy; matrix = c.args.matrix.now; bytes = c.args.bytes.now; head = c.head_of-head.result } in
     let head : IsHeaded r = headed r (omega (arith, c.if-head-left.false, c.length_bits.ensures, length_bits-fit (length c.args.bytes.now) c.requires.some)) c.head_of-head.ensures.qindex c.head_of-head.ensures.luma_bits in
-    let lowest : AreLowest r c.lowest_of-luma.result c.lowest_of-colour.result = record { luma_is = c.lowest_of-luma.ensures _ _ _ _ c.level_rects-luma_rects.ensures; colour_is = c.lowest_of-colour.ensures _ _ _ _ c.level_rects-colour_rects.ensures } in
-    decoded-slice MAX_SHORT c.args.room.now r (shown_trio c.args.bands.now) (shown_trio c.read_blocks.new.bands) (shown_trio c.restore_all.new.bands) c.lowest_of-luma.result c.lowest_of-colour.result lowest c.if-not-read_blocks.ensures.read
+    let lowest : AreLowest r c.lowest_rect.result c.lowest_rect-2.result = record { luma_is = lowest-is c.args.layout.now c.args.shape.now.luma c.args.bands.now.luma c.args.sx c.args.sy c.lowest_rect.result c.requires.cut.luma c.lowest_rect.ensures.sound c.lowest_rect.ensures.value; colour_is = lowest-is c.args.layout.now c.args.shape.now.colour c.args.bands.now.c1 c.args.sx c.args.sy c.lowest_rect-2.result c.requires.cut.c1 c.lowest_rect-2.ensures.sound c.lowest_rect-2.ensures.value } in
+    decoded-slice MAX_SHORT c.args.room.now r (shown_trio c.args.bands.now) (shown_trio c.read_blocks.new.bands) (shown_trio c.restore_all.new.bands) c.lowest_rect.result c.lowest_rect-2.result lowest c.if-not-read_blocks.ensures.read
     head (c.restore_all.ensures.restored c.if-not-restore_all.false) c.restore_all.ensures.keeps
 
 pub returns-clause-others : goal.returns-clause-others
 returns-clause-others c =
     let r : SliceRead = record { slicing = c.args.layout.now; shape = c.args.shape.now; sx = c.args.sx; sy = c.args.sy; matrix = c.args.matrix.now; bytes = c.args.bytes.now; head = c.head_of-head.result } in
-    let lowest : AreLowest r c.lowest_of-luma.result c.lowest_of-colour.result = record { luma_is = c.lowest_of-luma.ensures _ _ _ _ c.level_rects-luma_rects.ensures; colour_is = c.lowest_of-colour.ensures _ _ _ _ c.level_rects-colour_rects.ensures } in
-    others-after-restoring MAX_SHORT c.args.room.now r (shown_trio c.args.bands.now) (shown_trio c.read_blocks.new.bands) (shown_trio c.restore_all.new.bands) c.lowest_of-luma.result c.lowest_of-colour.result lowest c.if-not-read_blocks.ensures.read
+    let lowest : AreLowest r c.lowest_rect.result c.lowest_rect-2.result = record { luma_is = lowest-is c.args.layout.now c.args.shape.now.luma c.args.bands.now.luma c.args.sx c.args.sy c.lowest_rect.result c.requires.cut.luma c.lowest_rect.ensures.sound c.lowest_rect.ensures.value; colour_is = lowest-is c.args.layout.now c.args.shape.now.colour c.args.bands.now.c1 c.args.sx c.args.sy c.lowest_rect-2.result c.requires.cut.c1 c.lowest_rect-2.ensures.sound c.lowest_rect-2.ensures.value } in
+    others-after-restoring MAX_SHORT c.args.room.now r (shown_trio c.args.bands.now) (shown_trio c.read_blocks.new.bands) (shown_trio c.restore_all.new.bands) c.lowest_rect.result c.lowest_rect-2.result lowest c.if-not-read_blocks.ensures.read
     c.restore_all.ensures.keeps
 
 pub restore_all-requires-clause-luma_sound : goal.restore_all-requires-clause-luma_sound
@@ -90,7 +103,7 @@ pub restore_all-requires-clause-c2_sound : goal.restore_all-requires-clause-c2_s
 restore_all-requires-clause-c2_sound c = c.read_blocks.ensures.cut.c2.sound
 
 pub returns-then-not-restore_all-clause-cut : goal.returns-then-not-restore_all-clause-cut
-returns-then-not-restore_all-clause-cut c = c.restore_all.ensures.cut c.args.layout.now c.args.shape.now c.read_blocks.ensures.cut
+returns-then-not-restore_all-clause-cut c = c.restore_all.ensures.cut c.args.layout.now c.args.shape.now (record { luma = c.read_blocks.ensures.cut.luma; c1 = c.read_blocks.ensures.cut.c1; c2 = c.read_blocks.ensures.cut.c2 })
 
 pub returns-clause-cut : goal.returns-clause-cut
-returns-clause-cut c = c.restore_all.ensures.cut c.args.layout.now c.args.shape.now c.read_blocks.ensures.cut
+returns-clause-cut c = c.restore_all.ensures.cut c.args.layout.now c.args.shape.now (record { luma = c.read_blocks.ensures.cut.luma; c1 = c.read_blocks.ensures.cut.c1; c2 = c.read_blocks.ensures.cut.c2 })

@@ -1,12 +1,12 @@
-use Rattle.std.proofs.Common.{◌≡◌, ℕ, ◌+◌, ◌*◌, List, Bool, length, refl, sym, subst, arith}
+use Rattle.std.proofs.Common.{◌≡◌, ℕ, ◌+◌, ◌*◌, List, Bool, length, refl, arith}
 use Rattle.planes.specs.declared.Trio.{Trio}
 use Rattle.bounded_blocks.specs.Parts.{block_of}
 use Rattle.slice_bands.specs.declared.short.TheConstants.{MAX_SHORT}
 use Rattle.slice_bands.specs.ShortBands.{short_stack}
 use Rattle.slice_geometry.specs.Slicing.{length_bits}
 use Rattle.slice_decoder.specs.Components.{Part}
-use Rattle.slice_decoder.specs.Jobs.{part_in, luma_part, colour_part}
-use Rattle.slice_decoder.specs.Short.{shown_trio, IsCut}
+use Rattle.slice_decoder.specs.Jobs.{short_part}
+use Rattle.slice_decoder.specs.Short.{shown_trio}
 use Rattle.slice_decoder.proofs.NarrowBands.{nothing-read}
 use Rattle.slice_decoder.proofs.SliceSteps.{same_block, both-read, luma-not-read}
 use Rattle.slice_decoder.proofs.short_slice.read_blocks.Goals as goal
@@ -20,8 +20,8 @@ returns-clause-read c =
     let luma_is : c.new-luma.result ≡ luma_block = same_block c.args.bytes.now c.new-luma.result _ _ start middle c.new-luma.ensures (omega (arith, c.length_bits.ensures, c.from-start.ensures)) (omega (arith, c.length_bits.ensures, c.from-start.ensures, c.from.ensures, c.from-2.ensures)) in
     let colour_is : c.new-colour.result ≡ colour_block = same_block c.args.bytes.now c.new-colour.result _ _ middle (8 * length c.args.bytes.now) c.new-colour.ensures (omega (arith, c.length_bits.ensures, c.from-start.ensures, c.from.ensures, c.from-2.ensures)) (omega (arith, c.length_bits.ensures, c.from-start.ensures, c.from.ensures, c.from-2.ensures, c.requires.fits)) in
     let new : Trio = record { luma = short_stack c.read_luma.new.bands; c1 = short_stack c.read_colour.new.first; c2 = short_stack c.read_colour.new.second } in
-    both-read MAX_SHORT c.args.room.now (part_in c.luma-luma_job.result) (luma_part c.args.job) (part_in c.colour-colour_job.result) (colour_part c.args.job) c.new-luma.result luma_block c.new-colour.result colour_block
-    c.luma-luma_job.ensures.part c.colour-colour_job.ensures.part luma_is colour_is (shown_trio c.args.bands.now) new
+    both-read MAX_SHORT c.args.room.now (short_part c.args.luma_job) (short_part c.args.luma_job) (short_part c.args.colour_job) (short_part c.args.colour_job) c.new-luma.result luma_block c.new-colour.result colour_block
+    refl refl luma_is colour_is (shown_trio c.args.bands.now) new
     c.read_luma.new.self c.read_colour.result c.if-not-read_luma.ensures.room c.if-not-read_luma.ensures.answer c.if-not-read_luma.ensures.keeps c.read_colour.ensures.answer c.read_colour.ensures.first_keeps c.read_colour.ensures.second_keeps
 
 pub returns-then-not-read_luma-clause-read : goal.returns-then-not-read_luma-clause-read
@@ -32,30 +32,21 @@ returns-then-not-read_luma-clause-read c =
     let colour_block : List Bool = block_of c.args.bytes.now middle (8 * length c.args.bytes.now) in
     let luma_is : c.new-luma.result ≡ luma_block = same_block c.args.bytes.now c.new-luma.result _ _ start middle c.new-luma.ensures (omega (arith, c.length_bits.ensures, c.from-start.ensures)) (omega (arith, c.length_bits.ensures, c.from-start.ensures, c.from.ensures, c.from-2.ensures)) in
     let new : Trio = record { luma = short_stack c.read_luma.new.bands; c1 = short_stack c.args.bands.now.c1; c2 = short_stack c.args.bands.now.c2 } in
-    let colour : Part = colour_part c.args.job in
-    luma-not-read MAX_SHORT c.args.room.now (part_in c.luma-luma_job.result) (luma_part c.args.job) colour colour c.new-luma.result luma_block colour_block colour_block
-    c.luma-luma_job.ensures.part refl luma_is refl (shown_trio c.args.bands.now) new
+    let colour : Part = short_part c.args.colour_job in
+    luma-not-read MAX_SHORT c.args.room.now (short_part c.args.luma_job) (short_part c.args.luma_job) colour colour c.new-luma.result luma_block colour_block colour_block
+    refl refl luma_is refl (shown_trio c.args.bands.now) new
     c.if-not-read_luma.ensures.answer c.if-not-read_luma.ensures.keeps (nothing-read colour (short_stack c.args.bands.now.c1)) (nothing-read colour (short_stack c.args.bands.now.c2))
-
-pub read_luma-requires-clause-cut : goal.read_luma-requires-clause-cut
-read_luma-requires-clause-cut c = subst (λ (p : Part). IsCut p.slicing p.size c.args.bands.now.luma) (sym c.luma-luma_job.ensures.part) c.requires.cut.luma
-
-pub read_colour-requires-clause-first_cut : goal.read_colour-requires-clause-first_cut
-read_colour-requires-clause-first_cut c = subst (λ (p : Part). IsCut p.slicing p.size c.args.bands.now.c1) (sym c.colour-colour_job.ensures.part) c.requires.cut.c1
-
-pub read_colour-requires-clause-second_cut : goal.read_colour-requires-clause-second_cut
-read_colour-requires-clause-second_cut c = subst (λ (p : Part). IsCut p.slicing p.size c.args.bands.now.c2) (sym c.colour-colour_job.ensures.part) c.requires.cut.c2
 
 pub returns-clause-cut : goal.returns-clause-cut
 returns-clause-cut c = record {
-  luma = subst (λ (p : Part). IsCut p.slicing p.size c.read_luma.new.bands) c.luma-luma_job.ensures.part c.if-not-read_luma.ensures.cut;
-  c1 = subst (λ (p : Part). IsCut p.slicing p.size c.read_colour.new.first) c.colour-colour_job.ensures.part c.read_colour.ensures.first_cut;
-  c2 = subst (λ (p : Part). IsCut p.slicing p.size c.read_colour.new.second) c.colour-colour_job.ensures.part c.read_colour.ensures.second_cut;
+  luma = c.if-not-read_luma.ensures.cut;
+  c1 = c.read_colour.ensures.first_cut;
+  c2 = c.read_colour.ensures.second_cut;
 }
 
 pub returns-then-not-read_luma-clause-cut : goal.returns-then-not-read_luma-clause-cut
 returns-then-not-read_luma-clause-cut c = record {
-  luma = subst (λ (p : Part). IsCut p.slicing p.size c.read_luma.new.bands) c.luma-luma_job.ensures.part c.if-not-read_luma.ensures.cut;
+  luma = c.if-not-read_luma.ensures.cut;
   c1 = c.requires.cut.c1;
   c2 = c.requires.cut.c2;
 }
