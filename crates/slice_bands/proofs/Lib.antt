@@ -6,3 +6,5 @@ pub mod Every
 pub mod Past
 pub mod Strips
 pub mod Lowest
+pub mod Apart
+pub mod Deals

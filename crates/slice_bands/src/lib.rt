@@ -10,6 +10,7 @@ ghost use Rattle.slice_bands.specs.Places.{place_in, part_w, part_h};
 ghost use Rattle.slice_bands.specs.Stack.{number_at, stack_of, AreSlicesSound};
 ghost use Rattle.slice_bands.specs.Lending.{LendsNumbers};
 
+mod dealing;
 mod gathered;
 mod short;
 mod short_bands;
@@ -157,16 +158,16 @@ impl<T: Number> SliceBands<T> {
         self.across as usize
     }
 
-    // The width of a slice's part of a level's bands.
-    fn part_w(&self, level: u32) -> usize
+    /// The width of a slice's part of a level's bands.
+    pub fn part_w(&self, level: u32) -> usize
         requires { level ≤ self.now.depth }
         ensures { result ≡ part_w self.now level }
     {
         part_length(self.depth, level, self.sw)
     }
 
-    // And its height.
-    fn part_h(&self, level: u32) -> usize
+    /// And its height.
+    pub fn part_h(&self, level: u32) -> usize
         requires { level ≤ self.now.depth }
         ensures { result ≡ part_h self.now level }
     {

@@ -29,6 +29,18 @@ fn take_in_turn(first: &mut [i16], second: &mut [i16], values: &[i16])
     }
 }
 
+// Copies the numbers of a run to the front of a list.
+#[inline(always)]
+fn widen_run(run: &[i16], out: &mut [i32])
+    requires { length run.now ≤ length out.old }
+    ensures { (k : ℕ) → k < length run.now
+        → slice_index_or out.new k (pos 0) ≡ slice_index_or run.now k (pos 0) }
+{
+    for k in 0..run.len() {
+        out[k] = i32::from(run[k]);
+    }
+}
+
 // The level and the orientation of the band at place k among all.
 pub(crate) fn band_at(k: u32) -> (u32, u32)
     requires { k ≤ 12 }
@@ -100,5 +112,19 @@ impl SliceBands<i16> {
         ensures most { result ≤ self.now.across * self.now.sw }
     {
         self.across as usize * self.part_w(level)
+    }
+
+    /// Copies the numbers of slice n to the front of a list.
+    pub fn copy_slice(&self, n: usize, out: &mut [i32])
+        requires inside { n < self.now.across * self.now.down }
+        requires room { slice_size self.now ≤ length out.old }
+        ensures value { (k : ℕ) → k < slice_size self.now
+            → slice_index_or out.new k (pos 0)
+            ≡ slice_index_or self.now.numbers (n * slice_size self.now + k) (pos 0) }
+        ensures same { length out.new ≡ length out.old }
+    {
+        let start = self.start_of(n);
+        let end = start + self.size();
+        widen_run(&self.numbers()[start..end], out);
     }
 }
