@@ -143,6 +143,13 @@ impl<T: Number> SliceBands<T> {
             && self.down * self.sh == h
     }
 
+    /// The depth of the transform.
+    pub fn depth(&self) -> u32
+        ensures { result ≡ self.now.depth }
+    {
+        self.depth
+    }
+
     /// How many numbers a slice has.
     pub fn size(&self) -> usize
         ensures value { result ≡ slice_size self.now }

@@ -1,7 +1,7 @@
 //! Slices of 16 bits: numbers come to them from lists, and go from them into bands of 32 bits.
 
 ghost use Rattle.std.specs.Prelude.{◌≡◌, ℕ, ◌+◌, ◌*◌, ◌^◌, ◌<◌, ◌≤◌, length, slice_index_or, pos};
-ghost use Rattle.planes.specs.Bounded.{AreBandsWithin};
+ghost use Rattle.planes.specs.Bounded.{IsWithin, AreBandsWithin};
 ghost use Rattle.planes.specs.Subbands.{AgreeInSizes};
 ghost use Rattle.slice_bands.specs.Slices.{slice_size};
 ghost use Rattle.slice_bands.specs.Places.{part_w};
@@ -10,6 +10,7 @@ ghost use Rattle.slice_bands.specs.Lending.{with_run};
 ghost use Rattle.slice_bands.specs.Short.{every, shorts_of, ShowTheSame};
 
 use crate::SliceBands;
+use crate::gathered::Gathered;
 use planes::NarrowBands;
 
 /// The greatest magnitude for which bands of 16 bits serve: the sum of two such numbers fits in 16 bits.
@@ -33,11 +34,15 @@ fn take_in_turn(first: &mut [i16], second: &mut [i16], values: &[i16])
 #[inline(always)]
 fn widen_run(run: &[i16], out: &mut [i32])
     requires { length run.now ≤ length out.old }
-    ensures { (k : ℕ) → k < length run.now
+    ensures value { (k : ℕ) → k < length run.now
         → slice_index_or out.new k (pos 0) ≡ slice_index_or run.now k (pos 0) }
+    ensures within { (k : ℕ) → k < length run.now
+        → IsWithin (pos (2 ^ 18)) (slice_index_or out.new k (pos 0)) }
+    ensures rest { (k : ℕ) → length run.now ≤ k
+        → slice_index_or out.new k (pos 0) ≡ slice_index_or out.old k (pos 0) }
 {
     for k in 0..run.len() {
-        out[k] = i32::from(run[k]);
+        out[k] = i32::of(run[k]);
     }
 }
 
@@ -121,10 +126,13 @@ impl SliceBands<i16> {
         ensures value { (k : ℕ) → k < slice_size self.now
             → slice_index_or out.new k (pos 0)
             ≡ slice_index_or self.now.numbers (n * slice_size self.now + k) (pos 0) }
-        ensures same { length out.new ≡ length out.old }
+        ensures within { (k : ℕ) → k < slice_size self.now
+            → IsWithin (pos (2 ^ 18)) (slice_index_or out.new k (pos 0)) }
+        ensures rest { (k : ℕ) → slice_size self.now ≤ k
+            → slice_index_or out.new k (pos 0) ≡ slice_index_or out.old k (pos 0) }
     {
-        let start = self.start_of(n);
-        let end = start + self.size();
-        widen_run(&self.numbers()[start..end], out);
+        let first = self.start_of(n);
+        let end = first + self.size();
+        widen_run(&self.numbers()[first..end], out);
     }
 }

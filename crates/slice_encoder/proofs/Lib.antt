@@ -45,3 +45,4 @@ pub mod KeySums
 pub mod WorkedLowNeeds
 pub mod Counting
 pub mod FirstCandidates
+pub mod ShortParts

@@ -7,6 +7,8 @@ use Rattle.planes.specs.Subbands.{HaveSizes}
 use Rattle.planes.specs.declared.ThreePlanes.{ThreePlanes}
 use Rattle.planes.specs.declared.Trio.{Trio}
 use Rattle.planes.specs.declared.NarrowTrio.{NarrowTrio}
+use Rattle.slice_bands.specs.declared.short_bands.ShortTrio.{ShortTrio}
+use Rattle.slice_bands.specs.ShortBands.{short_stack}
 use Rattle.quant_factors.specs.Weights.{Weights}
 use Rattle.slice_geometry.specs.declared.PictureShape.{PictureShape}
 use Rattle.slice_geometry.specs.Frames.{frame_of}
@@ -61,6 +63,10 @@ coded_picture s shape matrix coefficients =
 -- the same of coefficients in 32 bits
 abbrev pub narrow_picture : Slicing → PictureShape → Weights → NarrowTrio → CodedPicture
 narrow_picture s shape matrix c = coded_picture s shape matrix (record { luma = c.luma; c1 = c.c1; c2 = c.c2 })
+
+-- the same of coefficients in 16 bits
+abbrev pub short_picture : Slicing → PictureShape → Weights → ShortTrio → CodedPicture
+short_picture s shape matrix c = coded_picture s shape matrix (record { luma = short_stack c.luma; c1 = short_stack c.c1; c2 = short_stack c.c2 })
 
 -- ---- from slice to slice
 

@@ -5,8 +5,10 @@ ghost use Rattle.std.specs.List.{All, flat_map, range_with_len};
 ghost use Rattle.planes.specs.Numbers.{Within};
 ghost use Rattle.quant_factors.specs.Factors.{forward_of, signed};
 ghost use Rattle.planes.specs.Raster.{at};
+ghost use Rattle.planes.specs.Subbands.{BandStack};
 ghost use Rattle.slice_geometry.specs.Shape.{IsSize};
 ghost use Rattle.slice_geometry.specs.SliceOrder.{level_rect, level_of, area, place_count};
+ghost use Rattle.slice_bands.specs.ShortBands.{short_stack};
 ghost use Rattle.slice_encoder.specs.Listing.{rect_values};
 ghost use Rattle.slice_encoder.specs.Gathering.{raw_before, piece_of, quantised, quantised_piece, in_turn, CanGather, CanGatherAll, AreGathered, gathered_values, gathered_pairs, gathered_reach, gathered_pairs_reach, behind_lowest};
 ghost use Rattle.slice_encoder.specs.GatheredSlices.{AreAllGathered, HasKeys, HasRoomFor, gathered_reaches, low_by, CanHoldAll};
@@ -14,7 +16,7 @@ ghost use Rattle.slice_encoder.specs.Keys.{AreKeys};
 ghost use Rattle.slice_encoder.specs.Scales.{IsScaleOf};
 ghost use Rattle.slice_encoder.specs.Jobs.{picture_of};
 ghost use Rattle.slice_encoder.specs.Ready.{AreGiven};
-ghost use Rattle.slice_encoder.specs.Sources.{band_seen, stack_seen};
+ghost use Rattle.slice_encoder.specs.Sources.{band_seen, stack_seen, HasBand, IsCut, IsStackCut, IsTrioCut};
 
 use crate::bounding::Lower;
 use crate::code_lengths::CodeLengths;
@@ -27,6 +29,7 @@ use crate::sources::{BandSource, StackSource};
 use crate::trying::{entry_of, quantiser_at};
 use planes::{NarrowPlane, NoMemory, Plane, Rect};
 use quant_factors::Matrix;
+use slice_bands::ShortBands;
 use slice_geometry::{Layout, PictureShape, Size, band_numbered};
 use std::alloc::Global;
 use std::marker::Model;
@@ -155,6 +158,7 @@ fn gather_bands(
     requires across { sx < layout.now.slices_x }
     requires down { sy < layout.now.slices_y }
     requires can { CanGatherAll layout.now size (stack_seen bands) }
+    requires rows { (level : ℕ) → HasBand bands level }
     requires room { place_count layout.now size sx sy ≤ length out.old }
     requires small { All (Within (2 ^ 27)) out.old }
     ensures ends { (k : ℕ) → k < 3 * layout.now.depth + 1
@@ -173,6 +177,35 @@ fn gather_bands(
         rect = next_rect(layout, size, sx, sy, k, rect);
         gather_band(bands.band(level, orient), rect, out, place);
         place += (rect.x1 - rect.x0) as usize * (rect.y1 - rect.y0) as usize;
+        ends[k as usize] = place;
+    }
+    ends
+}
+
+// The number of a slice.
+fn number_of(layout: &Layout, sx: u32, sy: u32) -> usize
+    requires across { sx < layout.now.slices_x }
+    requires down { sy < layout.now.slices_y }
+    ensures value { result ≡ sy * layout.now.slices_x + sx }
+    ensures inside { result < layout.now.slices_x * layout.now.slices_y }
+{
+    sy as usize * layout.slices_x() as usize + sx as usize
+}
+
+// Where the values of each band end in a slice whose numbers stand together.
+fn part_ends(layout: &Layout, size: Size, sx: u32, sy: u32, bands: &ShortBands) -> [usize; 13]
+    requires cut { IsCut layout.now size bands.now }
+    ensures { (stack : BandStack) (k : ℕ) → k < 3 * layout.now.depth + 1
+        → slice_index result k ≡ length (raw_before layout.now size stack sx sy (k + 1)) }
+{
+    // The contract alone names these.
+    let _ = (size, sx, sy);
+    bands.slices.shows();
+    let mut ends = [0; 13];
+    let mut place = 0;
+    for k in 0..3 * layout.depth() + 1 {
+        let (level, _) = band_numbered(k);
+        place += bands.slices.part_w(level) * bands.slices.part_h(level);
         ends[k as usize] = place;
     }
     ends
@@ -280,18 +313,53 @@ impl Gathered {
         })
     }
 
-    /// Gathers the coefficients of a slice.
-    pub fn gather(&mut self, layout: &Layout, size: Size, sx: u32, sy: u32, bands: StackSource<'_>)
+    // Takes the numbers of a slice that stand together in memory.
+    fn take_slice(&mut self, layout: &Layout, size: Size, sx: u32, sy: u32, bands: &ShortBands)
+        requires across { sx < layout.now.slices_x }
+        requires down { sy < layout.now.slices_y }
+        requires cut { IsCut layout.now size bands.now }
+        requires room { place_count layout.now size sx sy ≤ length self.old.values }
+        ensures room { length self.new.values ≡ length self.old.values }
+        ensures gathered { AreGathered layout.now size (short_stack bands.now) sx sy self.new }
+    {
+        bands.slices.shows();
+        let n = number_of(layout, sx, sy);
+        bands.slices.copy_slice(n, &mut self.values);
+        self.ends = part_ends(layout, size, sx, sy, bands);
+        self.depth = layout.depth();
+    }
+
+    // Gathers the coefficients of a slice from rows.
+    fn take_rects(&mut self, layout: &Layout, size: Size, sx: u32, sy: u32, bands: StackSource<'_>)
         requires size { IsSize size.w size.h }
         requires across { sx < layout.now.slices_x }
         requires down { sy < layout.now.slices_y }
         requires can { CanGatherAll layout.now size (stack_seen bands) }
+        requires rows { (level : ℕ) → HasBand bands level }
         requires room { place_count layout.now size sx sy ≤ length self.old.values }
         ensures room { length self.new.values ≡ length self.old.values }
         ensures gathered { AreGathered layout.now size (stack_seen bands.entry) sx sy self.new }
     {
         self.ends = gather_bands(layout, size, sx, sy, bands, &mut self.values);
         self.depth = layout.depth();
+    }
+
+    /// Gathers the coefficients of a slice.
+    pub fn gather(&mut self, layout: &Layout, size: Size, sx: u32, sy: u32, bands: StackSource<'_>)
+        requires size { IsSize size.w size.h }
+        requires across { sx < layout.now.slices_x }
+        requires down { sy < layout.now.slices_y }
+        requires cut { IsStackCut layout.now size bands }
+        requires can { CanGatherAll layout.now size (stack_seen bands) }
+        requires room { place_count layout.now size sx sy ≤ length self.old.values }
+        ensures room { length self.new.values ≡ length self.old.values }
+        ensures gathered { AreGathered layout.now size (stack_seen bands.entry) sx sy self.new }
+    {
+        match bands {
+            StackSource::Short(short) => self.take_slice(layout, size, sx, sy, short),
+            StackSource::Wide(_) => self.take_rects(layout, size, sx, sy, bands),
+            StackSource::Narrow(_) => self.take_rects(layout, size, sx, sy, bands),
+        }
     }
 
     /// How many values the lowest subband has.
@@ -512,6 +580,7 @@ impl GatheredSlice {
     pub fn gather(&mut self, job: SliceJob<'_>)
         requires across { job.sx < job.layout.now.slices_x }
         requires down { job.sy < job.layout.now.slices_y }
+        requires cut { IsTrioCut job.layout.now job.shape.now job.coefficients }
         requires given { AreGiven (picture_of job) }
         requires room { CanHoldAll job.layout.now job.shape.now self.old }
         ensures room { CanHoldAll job.entry.layout.now job.entry.shape.now self.new }

@@ -1,11 +1,14 @@
-// The coefficients of a picture, in 64 or in 32 bits. Contracts see of both the same.
+// The coefficients of a picture, in 64 or in 32 bits, or in 16 bits slice by slice. Contracts see of all the same.
 
 ghost use Rattle.std.specs.Prelude.{◌≡◌, ◌<◌};
 ghost use Rattle.planes.specs.Raster.{height, at};
 ghost use Rattle.planes.specs.Subbands.{BandExists, band_of};
-ghost use Rattle.slice_encoder.specs.Sources.{band_seen, stack_seen, trio_seen};
+ghost use Rattle.slice_geometry.specs.declared.PictureShape.{PictureShape};
+ghost use Rattle.slice_geometry.specs.Slicing.{Slicing};
+ghost use Rattle.slice_encoder.specs.Sources.{band_seen, stack_seen, trio_seen, HasBand, IsStackCut, IsTrioCut};
 
 use planes::{Bands, NarrowBands, NarrowPlane, NarrowTrio, Plane, Trio};
+use slice_bands::{ShortBands, ShortTrio};
 
 /// A subband.
 #[derive(Clone, Copy)]
@@ -19,6 +22,7 @@ pub enum BandSource<'a> {
 pub enum StackSource<'a> {
     Wide(&'a Bands),
     Narrow(&'a NarrowBands),
+    Short(&'a ShortBands),
 }
 
 /// Those of all three.
@@ -26,6 +30,7 @@ pub enum StackSource<'a> {
 pub enum TrioSource<'a> {
     Wide(&'a Trio),
     Narrow(&'a NarrowTrio),
+    Short(&'a ShortTrio),
 }
 
 impl<'a> BandSource<'a> {
@@ -44,15 +49,17 @@ impl<'a> BandSource<'a> {
 }
 
 impl<'a> StackSource<'a> {
-    /// The band of this level and orientation.
+    /// The band of this level and orientation. Of bands slice by slice the lowest alone stands in rows.
     #[inline(always)]
     pub fn band(self, level: u32, orient: u32) -> BandSource<'a>
-        requires { BandExists (stack_seen self).depth level orient }
+        requires exists { BandExists (stack_seen self).depth level orient }
+        requires rows { HasBand self level }
         ensures { band_seen result ≡ band_of (stack_seen self.entry) level orient }
     {
         match self {
             StackSource::Wide(bands) => BandSource::Wide(bands.band(level, orient)),
             StackSource::Narrow(bands) => BandSource::Narrow(bands.band(level, orient)),
+            StackSource::Short(bands) => BandSource::Narrow(&bands.lowest),
         }
     }
 }
@@ -60,31 +67,40 @@ impl<'a> StackSource<'a> {
 impl<'a> TrioSource<'a> {
     #[inline(always)]
     pub fn luma(self) -> StackSource<'a>
-        ensures { stack_seen result ≡ (trio_seen self.entry).luma }
+        ensures seen { stack_seen result ≡ (trio_seen self.entry).luma }
+        ensures cut { (s : Slicing) (shape : PictureShape) → IsTrioCut s shape self.entry
+            → IsStackCut s shape.luma result }
     {
         match self {
             TrioSource::Wide(bands) => StackSource::Wide(&bands.luma),
             TrioSource::Narrow(bands) => StackSource::Narrow(&bands.luma),
+            TrioSource::Short(bands) => StackSource::Short(&bands.luma),
         }
     }
 
     #[inline(always)]
     pub fn c1(self) -> StackSource<'a>
-        ensures { stack_seen result ≡ (trio_seen self.entry).c1 }
+        ensures seen { stack_seen result ≡ (trio_seen self.entry).c1 }
+        ensures cut { (s : Slicing) (shape : PictureShape) → IsTrioCut s shape self.entry
+            → IsStackCut s shape.colour result }
     {
         match self {
             TrioSource::Wide(bands) => StackSource::Wide(&bands.c1),
             TrioSource::Narrow(bands) => StackSource::Narrow(&bands.c1),
+            TrioSource::Short(bands) => StackSource::Short(&bands.c1),
         }
     }
 
     #[inline(always)]
     pub fn c2(self) -> StackSource<'a>
-        ensures { stack_seen result ≡ (trio_seen self.entry).c2 }
+        ensures seen { stack_seen result ≡ (trio_seen self.entry).c2 }
+        ensures cut { (s : Slicing) (shape : PictureShape) → IsTrioCut s shape self.entry
+            → IsStackCut s shape.colour result }
     {
         match self {
             TrioSource::Wide(bands) => StackSource::Wide(&bands.c2),
             TrioSource::Narrow(bands) => StackSource::Narrow(&bands.c2),
+            TrioSource::Short(bands) => StackSource::Short(&bands.c2),
         }
     }
 }

@@ -12,6 +12,7 @@ use Rattle.slice_encoder.specs.Jobs.{picture_of}
 use Rattle.slice_encoder.proofs.BandParts.{pair_part_here}
 use Rattle.slice_encoder.proofs.WholeTrial.{length_colour}
 use Rattle.slice_encoder.proofs.GatheredLists.{first_end, last_end, first_within, ends_same, colour_listed}
+use Rattle.slice_encoder.proofs.ShortParts.{has_lowest}
 use Rattle.slice_encoder.proofs.trying.list_colour.Goals as goal
 
 pub list_pair-requires-clause-first_can : goal.list_pair-requires-clause-first_can
@@ -19,14 +20,14 @@ list_pair-requires-clause-first_can c =
     let a = c.args in
     let can = c.requires.first_can 0 (omega arith) in
     let one = subst (λ (r : Rect). CanList r 0 (numbered (trio_seen a.job.coefficients).c1 0) a.kept.now.c1) (sym c.band_rect-rect.ensures) can in
-    subst (λ (b : Raster ℤ). CanList c.band_rect-rect.result 0 b a.kept.now.c1) (sym (c.band-first.ensures ∙ ap (λ (b : BandStack). numbered b 0) c.c1.ensures)) one
+    subst (λ (b : Raster ℤ). CanList c.band_rect-rect.result 0 b a.kept.now.c1) (sym (c.band-first.ensures ∙ ap (λ (b : BandStack). numbered b 0) c.c1.ensures.seen)) one
 
 pub list_pair-requires-clause-second_can : goal.list_pair-requires-clause-second_can
 list_pair-requires-clause-second_can c =
     let a = c.args in
     let can = c.requires.second_can 0 (omega arith) in
     let one = subst (λ (r : Rect). CanList r 0 (numbered (trio_seen a.job.coefficients).c2 0) a.kept.now.c2) (sym c.band_rect-rect.ensures) can in
-    subst (λ (b : Raster ℤ). CanList c.band_rect-rect.result 0 b a.kept.now.c2) (sym (c.band-second.ensures ∙ ap (λ (b : BandStack). numbered b 0) c.c2.ensures)) one
+    subst (λ (b : Raster ℤ). CanList c.band_rect-rect.result 0 b a.kept.now.c2) (sym (c.band-second.ensures ∙ ap (λ (b : BandStack). numbered b 0) c.c2.ensures.seen)) one
 
 pub list_pair-requires-clause-room : goal.list_pair-requires-clause-room
 list_pair-requires-clause-room c =
@@ -65,4 +66,10 @@ returns-clause-listed c =
     let count : 2 * area c.band_rect-rect.result ≡ 2 * slice_index a.gathered.now.c1.ends 0 = omega (arith, first, ap area c.band_rect-rect.ensures) in
     colour_listed j a.index a.job.sx a.job.sy a.gathered.now.c1 a.gathered.now.c2 c.requires.gathered.c1 c.requires.gathered.c2 a.kept.now.c1 a.kept.now.c2 (take c.list_pair-2.result c.list_pair-2.new.out)
     (pair_values (band_value (band_seen c.band-first.result) a.kept.now.c1 0 c.quantiser-quantiser.result) (band_value (band_seen c.band-second.result) a.kept.now.c2 0 c.quantiser-quantiser.result) c.band_rect-rect.result) c.list_pair.new.out (2 * area c.band_rect-rect.result) c.list_pair-2.ensures.listed count c.list_pair.ensures.listed
-    (pair_part_here c1 c2 a.kept.now.c1 a.kept.now.c2 a.index a.job.sx a.job.sy 0 0 c.quantiser-quantiser.result c.band_rect-rect.result (band_seen c.band-first.result) (band_seen c.band-second.result) refl refl c.band_rect-rect.ensures (c.band-first.ensures ∙ ap (λ (b : BandStack). numbered b 0) c.c1.ensures) (c.band-second.ensures ∙ ap (λ (b : BandStack). numbered b 0) c.c2.ensures) c.quantiser-quantiser.ensures)
+    (pair_part_here c1 c2 a.kept.now.c1 a.kept.now.c2 a.index a.job.sx a.job.sy 0 0 c.quantiser-quantiser.result c.band_rect-rect.result (band_seen c.band-first.result) (band_seen c.band-second.result) refl refl c.band_rect-rect.ensures (c.band-first.ensures ∙ ap (λ (b : BandStack). numbered b 0) c.c1.ensures.seen) (c.band-second.ensures ∙ ap (λ (b : BandStack). numbered b 0) c.c2.ensures.seen) c.quantiser-quantiser.ensures)
+
+pub band-first-requires-clause-rows : goal.band-first-requires-clause-rows
+band-first-requires-clause-rows c = has_lowest c.c1.result
+
+pub band-second-requires-clause-rows : goal.band-second-requires-clause-rows
+band-second-requires-clause-rows c = has_lowest c.c2.result

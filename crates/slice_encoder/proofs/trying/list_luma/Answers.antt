@@ -10,6 +10,7 @@ use Rattle.slice_encoder.specs.Buffers.{coded_component}
 use Rattle.slice_encoder.proofs.BandParts.{part_here}
 use Rattle.slice_encoder.proofs.WholeTrial.{length_luma}
 use Rattle.slice_encoder.proofs.GatheredLists.{first_end, last_end, first_within, luma_listed}
+use Rattle.slice_encoder.proofs.ShortParts.{has_lowest}
 use Rattle.slice_encoder.proofs.trying.list_luma.Goals as goal
 
 pub list_rect-requires-clause-room : goal.list_rect-requires-clause-room
@@ -37,7 +38,10 @@ returns-clause-listed c =
     let first = first_end coded a.index a.job.sx a.job.sy a.gathered.now c.requires.gathered in
     let count : area c.band_rect-rect.result ≡ slice_index a.gathered.now.ends 0 = omega (arith, first, ap area c.band_rect-rect.ensures) in
     luma_listed coded a.index a.job.sx a.job.sy a.gathered.now a.kept.now (take c.list.result c.list.new.out) (rect_values (band_value (band_seen c.band-lowest.result) a.kept.now 0 c.quantiser-quantiser.result) c.band_rect-rect.result) c.list_rect.new.out (area c.band_rect-rect.result)
-    c.requires.gathered c.list.ensures.listed count c.list_rect.ensures.listed (part_here coded a.kept.now a.index a.job.sx a.job.sy 0 0 c.quantiser-quantiser.result c.band_rect-rect.result (band_seen c.band-lowest.result) refl c.band_rect-rect.ensures (c.band-lowest.ensures ∙ ap (λ (b : BandStack). numbered b 0) c.luma.ensures) c.quantiser-quantiser.ensures)
+    c.requires.gathered c.list.ensures.listed count c.list_rect.ensures.listed (part_here coded a.kept.now a.index a.job.sx a.job.sy 0 0 c.quantiser-quantiser.result c.band_rect-rect.result (band_seen c.band-lowest.result) refl c.band_rect-rect.ensures (c.band-lowest.ensures ∙ ap (λ (b : BandStack). numbered b 0) c.luma.ensures.seen) c.quantiser-quantiser.ensures)
 
 pub list_rect-requires-clause-can : goal.list_rect-requires-clause-can
-list_rect-requires-clause-can c = rw (c.band_rect-rect.ensures, c.band-lowest.ensures, c.luma.ensures) (c.requires.can 0 (omega arith))
+list_rect-requires-clause-can c = rw (c.band_rect-rect.ensures, c.band-lowest.ensures, c.luma.ensures.seen) (c.requires.can 0 (omega arith))
+
+pub band-lowest-requires-clause-rows : goal.band-lowest-requires-clause-rows
+band-lowest-requires-clause-rows c = has_lowest c.luma.result

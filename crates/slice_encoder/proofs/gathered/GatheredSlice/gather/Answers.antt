@@ -12,21 +12,21 @@ pub gather-requires-clause-can : goal.gather-requires-clause-can
 gather-requires-clause-can c =
     let a = c.args in
     let given = c.requires.given in
-    subst (λ (b : BandStack). CanGatherAll a.job.layout.now a.job.shape.now.luma b) (sym c.luma.ensures)
+    subst (λ (b : BandStack). CanGatherAll a.job.layout.now a.job.shape.now.luma b) (sym c.luma.ensures.seen)
     (given_gathers (coded_component a.job.layout.now a.job.shape.now.luma a.job.matrix.now (trio_seen a.job.coefficients).luma) a.job.shape.now.luma_depth c.depth-depth.ensures.allowed.depth given.luma_bits.most given.luma)
 
 pub gather-requires-2-clause-can : goal.gather-requires-2-clause-can
 gather-requires-2-clause-can c =
     let a = c.args in
     let given = c.requires.given in
-    subst (λ (b : BandStack). CanGatherAll a.job.layout.now a.job.shape.now.colour b) (sym c.c1.ensures)
+    subst (λ (b : BandStack). CanGatherAll a.job.layout.now a.job.shape.now.colour b) (sym c.c1.ensures.seen)
     (given_gathers (coded_component a.job.layout.now a.job.shape.now.colour a.job.matrix.now (trio_seen a.job.coefficients).c1) a.job.shape.now.colour_depth c.depth-depth.ensures.allowed.depth given.colour_bits.most given.c1)
 
 pub gather-requires-3-clause-can : goal.gather-requires-3-clause-can
 gather-requires-3-clause-can c =
     let a = c.args in
     let given = c.requires.given in
-    subst (λ (b : BandStack). CanGatherAll a.job.layout.now a.job.shape.now.colour b) (sym c.c2.ensures)
+    subst (λ (b : BandStack). CanGatherAll a.job.layout.now a.job.shape.now.colour b) (sym c.c2.ensures.seen)
     (given_gathers (coded_component a.job.layout.now a.job.shape.now.colour a.job.matrix.now (trio_seen a.job.coefficients).c2) a.job.shape.now.colour_depth c.depth-depth.ensures.allowed.depth given.colour_bits.most given.c2)
 
 pub take_keys-requires-clause-ends : goal.take_keys-requires-clause-ends
@@ -34,6 +34,15 @@ take_keys-requires-clause-ends c =
     let a = c.args in
     let s = a.job.layout.now in
     let size = a.job.shape.now.colour in
-    let first = subst (λ (b : BandStack). AreGathered s size b a.job.sx a.job.sy c.gather-2.new.self) c.c1.ensures c.gather-2.ensures.gathered in
-    let second = subst (λ (b : BandStack). AreGathered s size b a.job.sx a.job.sy c.gather-3.new.self) c.c2.ensures c.gather-3.ensures.gathered in
+    let first = subst (λ (b : BandStack). AreGathered s size b a.job.sx a.job.sy c.gather-2.new.self) c.c1.ensures.seen c.gather-2.ensures.gathered in
+    let second = subst (λ (b : BandStack). AreGathered s size b a.job.sx a.job.sy c.gather-3.new.self) c.c2.ensures.seen c.gather-3.ensures.gathered in
     λ k le. ends_same (picture_of a.job) 0 a.job.sx a.job.sy c.gather-2.new.self c.gather-3.new.self first second k le
+
+pub gather-requires-clause-cut : goal.gather-requires-clause-cut
+gather-requires-clause-cut c = c.luma.ensures.cut c.args.job.layout.now c.args.job.shape.now c.requires.cut
+
+pub gather-requires-2-clause-cut : goal.gather-requires-2-clause-cut
+gather-requires-2-clause-cut c = c.c1.ensures.cut c.args.job.layout.now c.args.job.shape.now c.requires.cut
+
+pub gather-requires-3-clause-cut : goal.gather-requires-3-clause-cut
+gather-requires-3-clause-cut c = c.c2.ensures.cut c.args.job.layout.now c.args.job.shape.now c.requires.cut

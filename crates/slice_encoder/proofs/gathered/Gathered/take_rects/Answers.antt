@@ -5,7 +5,7 @@ use Rattle.planes.specs.Numbers.{Within}
 use Rattle.slice_encoder.specs.Sources.{stack_seen}
 use Rattle.slice_encoder.specs.Gathering.{raw_before, GatheredSeen}
 use Rattle.slice_encoder.proofs.Gathers.{raw_count, filled_sound, filled_gathers, written_over}
-use Rattle.slice_encoder.proofs.gathered.Gathered.gather.Goals as goal
+use Rattle.slice_encoder.proofs.gathered.Gathered.take_rects.Goals as goal
 
 pub invariant_of-self : goal.invariant_of-self
 invariant_of-self c =
