@@ -23,3 +23,4 @@ pub mod Gathered
 pub mod SameShown
 pub mod TakenRows
 pub mod ShortShown
+pub mod Dealt

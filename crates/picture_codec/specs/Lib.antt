@@ -9,3 +9,4 @@ pub mod EncoderInside
 pub mod Lossless
 pub mod LeastIndices
 pub mod ShortSlices
+pub mod DealtBands

@@ -5,7 +5,8 @@ ghost use Rattle.std.specs.List.{concat};
 ghost use Rattle.std.specs.Int.{w32, to_be_bytes};
 ghost use Rattle.slice_geometry.specs.Shape.{IsSize};
 ghost use Rattle.slice_geometry.specs.Slicing.{total_bytes};
-ghost use Rattle.slice_encoder.specs.Ready.{narrow_picture, AreGiven};
+ghost use Rattle.slice_encoder.specs.Ready.{narrow_picture, short_picture, AreGiven};
+ghost use Rattle.slice_encoder.specs.Sources.{AreCut};
 ghost use Rattle.slice_encoder.specs.Tries.{KeptHaveSizes};
 ghost use Rattle.slice_encoder.specs.Chosen.{written_slices};
 ghost use Rattle.transform_params.specs.Views.{params_of};
@@ -18,11 +19,13 @@ ghost use Rattle.picture_codec.specs.Encoding.{slices_of, picture_bytes, IsSteep
 ghost use Rattle.picture_codec.specs.EncoderInside.{AreRowsWhole, AreWhole, HaveBandSizes, IsLowest, IsReadyToEncode, HoldAnalysed};
 
 use crate::centring::centre;
+use crate::dealt_bands::DealtBands;
 use crate::picture::Picture;
 use crate::workspace::{AnalysisWorkspace, depth_of, narrow_zero_trio, size_of};
 use lifting::analyse_narrow;
 use planes::{NarrowBands, NarrowPlane, NarrowTrio, NoMemory, Plane, ThreePlanes};
 use quant_factors::Matrix;
+use slice_bands::ShortTrio;
 use slice_decoder::read_ahead;
 use slice_encoder::{SliceEncoder, steep_ok};
 use slice_geometry::{Component, Layout, PictureShape, Size};
@@ -136,16 +139,82 @@ fn encode_slices(
     }
 }
 
+// The same of coefficients in 16 bits, whose slices lie as the layout cuts the picture.
+fn encode_short_slices(
+    params: &TransformParams,
+    slices: &mut SliceEncoder,
+    bands: &ShortTrio,
+    kept: &mut ThreePlanes,
+    bytes: &mut [u8],
+)
+    requires layout { slices.old.slicing ≡ params.now.layout }
+    requires steep { IsSteepOkFor slices.old.shape (params_of params.now) }
+    requires cut { AreCut params.now.layout slices.old.shape bands.now }
+    requires given { AreGiven (short_picture params.now.layout slices.old.shape params.now.matrix
+        bands.now) }
+    requires kept { KeptHaveSizes (short_picture params.now.layout slices.old.shape
+        params.now.matrix bands.now) kept.old }
+    requires room { length bytes.old ≡ total_bytes params.now.layout }
+    ensures same { slices.new ≡ slices.old }
+    ensures kept { KeptHaveSizes (short_picture params.now.layout slices.old.shape
+        params.now.matrix bands.now) kept.new }
+    ensures slices { bytes.new ≡ concat (written_slices
+        (short_picture params.now.layout slices.old.shape params.now.matrix bands.now)) }
+{
+    let layout = &params.layout;
+    let across = layout.slices_x();
+    let mut place = 0usize;
+    for n in 0..layout.count() {
+        let end = place + layout.share(n) as usize;
+        let sx = n % across;
+        let sy = n / across;
+        slices.encode_slice_short(&params.matrix, sx, sy, bands, kept, &mut bytes[place..end]);
+        place = end;
+    }
+}
+
+// Writes the slices as `encode_slices` does, from 16 bits where these serve.
+fn encode_dealt(
+    params: &TransformParams,
+    slices: &mut SliceEncoder,
+    bands: &NarrowTrio,
+    dealt: &mut DealtBands,
+    kept: &mut ThreePlanes,
+    ahead: &mut [i32],
+    bytes: &mut [u8],
+)
+    requires layout { slices.old.slicing ≡ params.now.layout }
+    requires steep { IsSteepOkFor slices.old.shape (params_of params.now) }
+    requires given { AreGiven (narrow_picture params.now.layout slices.old.shape params.now.matrix
+        bands.now) }
+    requires kept { KeptHaveSizes (narrow_picture params.now.layout slices.old.shape
+        params.now.matrix bands.now) kept.old }
+    requires room { length bytes.old ≡ total_bytes params.now.layout }
+    ensures same { slices.new ≡ slices.old }
+    ensures kept { KeptHaveSizes (narrow_picture params.now.layout slices.old.shape
+        params.now.matrix bands.now) kept.new }
+    ensures slices { bytes.new ≡ concat (written_slices
+        (narrow_picture params.now.layout slices.old.shape params.now.matrix bands.now)) }
+{
+    let shape = slices.shape();
+    if dealt.deal(&params.layout, &shape, bands) {
+        encode_short_slices(params, slices, dealt.bands(), kept, bytes);
+    } else {
+        encode_slices(params, &shape, slices, bands, kept, ahead, bytes);
+    }
+}
+
 /// Writes pictures of one shape with one set of parameters. Contracts see these two.
 ///
-/// All memory is taken in `new`: about 4 bytes a sample for the subbands, 4 for a plane of each size, and little for four of its
-/// rows and for the lowest subbands as a decoder restores them.
+/// All memory is taken in `new`: about 4 bytes a sample for the subbands, 2 more where the slices divide them, 4 for a plane of
+/// each size, and little for four of its rows and for the lowest subbands as a decoder restores them.
 #[derive(Drop)]
 pub struct PictureEncoder {
     params: TransformParams,
     shape: PictureShape,
     slices: SliceEncoder,
     bands: NarrowTrio,
+    dealt: DealtBands,
     kept: ThreePlanes,
     luma_room: AnalysisWorkspace,
     colour_room: AnalysisWorkspace,
@@ -237,6 +306,7 @@ impl PictureEncoder {
             colour_room,
             kept: kept_planes(alloc, layout, shape)?,
             bands: narrow_zero_trio(alloc, layout, shape)?,
+            dealt: DealtBands::new(alloc, layout, shape)?,
             ahead: [0],
             slices: SliceEncoder::new(alloc, layout, shape)?,
         })
@@ -299,11 +369,11 @@ impl PictureEncoder {
         );
         let (front, slices) = bytes.split_at_mut(4 + params.byte_len());
         put_front(&params, number, front);
-        encode_slices(
+        encode_dealt(
             &params,
-            &self.shape,
             &mut self.slices,
             &self.bands,
+            &mut self.dealt,
             &mut self.kept,
             &mut self.ahead,
             slices,

@@ -3,6 +3,7 @@
 
 mod centring;
 pub mod closed_loop;
+mod dealt_bands;
 mod decoded_bands;
 mod decoder;
 mod encoder;

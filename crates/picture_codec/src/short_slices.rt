@@ -48,7 +48,7 @@ pub(crate) fn are_short(layout: &Layout, shape: &PictureShape) -> bool
 }
 
 // The bands of a component in 16 bits, all zero. Where its slices have other sizes they are those of one number.
-fn short_zero_bands(
+pub(crate) fn short_zero_bands(
     alloc: Global,
     layout: &Layout,
     size: Size,

@@ -35,17 +35,17 @@ returns-clause-payload c =
     let here : written_slices (coded_picture p.slicing inside.shape p.matrix bands) ≡ slices_of (frame_of inside.shape) p samples =
     subst (λ (sh : PictureShape). written_slices (coded_picture p.slicing sh p.matrix bands) ≡ slices_of (frame_of sh) p samples) shape there in
     let encoder_shape : inside.slices.shape ≡ inside.shape = ap (λ (e : SliceEncoderSeen). e.shape) c.self.invariant.1 in
-    let slices : c.encode_slices.new.bytes ≡ concat (slices_of (frame_of inside.shape) p samples) =
-    c.encode_slices.ensures.slices ∙ ap (λ (sh : PictureShape). concat (written_slices (coded_picture p.slicing sh p.matrix bands))) encoder_shape ∙ ap concat here in
-    ap (λ (l : List ℕ). l ++ c.encode_slices.new.bytes) c.put_front.ensures
+    let slices : c.encode_dealt.new.bytes ≡ concat (slices_of (frame_of inside.shape) p samples) =
+    c.encode_dealt.ensures.slices ∙ ap (λ (sh : PictureShape). concat (written_slices (coded_picture p.slicing sh p.matrix bands))) encoder_shape ∙ ap concat here in
+    ap (λ (l : List ℕ). l ++ c.encode_dealt.new.bytes) c.put_front.ensures
     ∙ ap (λ (l : List ℕ). (to_be_bytes w32 c.args.number ++ params_bytes p) ++ l) slices
     ∙ ap (λ (v : PictureEncoderSeen). picture_bytes v.params c.args.number (slices_of (frame_of v.shape) v.params samples)) c.self.view_is
 
-pub encode_slices-requires-clause-kept : goal.encode_slices-requires-clause-kept
-encode_slices-requires-clause-kept c = grind (arith, common_steps)
+pub encode_dealt-requires-clause-kept : goal.encode_dealt-requires-clause-kept
+encode_dealt-requires-clause-kept c = grind (arith, common_steps)
 
-pub encode_slices-requires-clause-room : goal.encode_slices-requires-clause-room
-encode_slices-requires-clause-room c = grind (arith, common_steps)
+pub encode_dealt-requires-clause-room : goal.encode_dealt-requires-clause-room
+encode_dealt-requires-clause-room c = grind (arith, common_steps)
 
 pub analyse_component-requires-2-clause-room : goal.analyse_component-requires-2-clause-room
 analyse_component-requires-2-clause-room c = grind (arith, common_steps)
@@ -59,8 +59,8 @@ analyse_component-requires-clause-room c = grind (arith, common_steps)
 pub analyse_component-requires-2-clause-bands : goal.analyse_component-requires-2-clause-bands
 analyse_component-requires-2-clause-bands c = grind (arith, common_steps)
 
-pub encode_slices-requires-clause-given : goal.encode_slices-requires-clause-given
-encode_slices-requires-clause-given c =
+pub encode_dealt-requires-clause-given : goal.encode_dealt-requires-clause-given
+encode_dealt-requires-clause-given c =
     let inside = c.self.inside in
     let same : c.args.picture.now.shape ≡ inside.slices.shape =
     c.requires.shape ∙ sym (ap (λ (v : PictureEncoderSeen). v.shape) c.self.view_is) ∙ sym (ap (λ (e : SliceEncoderSeen). e.shape) c.self.invariant.1) in

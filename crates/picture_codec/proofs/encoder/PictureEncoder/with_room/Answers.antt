@@ -25,6 +25,6 @@ invariant_of-result c =
         luma_room = c.in_ok-luma_room.ensures.0;
         colour_room = c.in_ok-luma_room.ensures.1;
       },
-      c.in_ok-new.ensures,
+      c.in_ok-new-2.ensures,
       c.requires,
     )

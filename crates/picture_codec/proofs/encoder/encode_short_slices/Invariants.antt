@@ -1,0 +1,18 @@
+use Rattle.std.proofs.Common.{◌≡◌, take, length, map}
+use Rattle.std.specs.List.{concat, range_with_len}
+use Rattle.slice_geometry.specs.Slicing.{bytes_before, total_bytes}
+use Rattle.slice_encoder.specs.Chosen.{chosen, written_slice}
+use Rattle.slice_encoder.specs.Ready.{short_picture}
+use Rattle.slice_encoder.specs.Trials.{AreKept}
+use Rattle.slice_encoder.specs.Tries.{KeptHaveSizes}
+use Rattle.picture_codec.proofs.encoder.encode_short_slices.Given as goal
+
+abbrev pub invariant-loop-n : goal.invariant-loop-n
+invariant-loop-n l = record {
+  same : l.slices ≡ l.fn.slices;
+  place_is : l.place ≡ bytes_before l.layout.a l.layout.b l.n;
+  room : length l.bytes ≡ total_bytes l.layout;
+  sizes : KeptHaveSizes (short_picture l.params.layout l.fn.slices.shape l.params.matrix l.bands) l.kept;
+  kept : AreKept (short_picture l.params.layout l.fn.slices.shape l.params.matrix l.bands) (chosen (short_picture l.params.layout l.fn.slices.shape l.params.matrix l.bands) l.n) l.kept;
+  done : take l.place l.bytes ≡ concat (map (written_slice (short_picture l.params.layout l.fn.slices.shape l.params.matrix l.bands)) (range_with_len 0 l.n));
+}
