@@ -65,9 +65,6 @@ module _ (k : Wavelet) (n e o : ℕ) (a : Line) (even : n % 2 ≡ 0) (two : Line
 
 -- ---- a level, from LL within `low` and the others within `high`
 
-entered_columns : (low high m : ℕ) → level_entered low high ≤ m → (high ≤ m) × (even_carried low high ≤ m) × (even_carried high high ≤ m) × (line_carried high high ≤ m)
-entered_columns low high m le = (omega (arith, le), omega (arith, le), omega (arith, le), omega (arith, le))
-
 module _ (k : Wavelet) (h w H W : ℕ) (eh : H ≡ 2 * h) (ew : W ≡ 2 * w) (low high : ℕ) (ll hl lh hh : Grid)
     (pl : GridWithin h w low ll) (ph : GridWithin h w high hl) (pv : GridWithin h w high lh) (pd : GridWithin h w high hh) where
   abbrev level : Grid
@@ -107,7 +104,8 @@ module _ (k : Wavelet) (h w H W : ℕ) (eh : H ≡ 2 * h) (ew : W ≡ 2 * w) (lo
 
   pub level_fits : (m : ℕ) → level_entered low high ≤ m → LevelFits k H W m level
   level_fits m enough =
-      let columns = entered_columns low high m enough in
+      let columns : (high ≤ m) × (even_carried low high ≤ m) × (even_carried high high ≤ m) × (line_carried high high ≤ m) =
+      (omega (arith, enough), omega (arith, enough), omega (arith, enough), omega (arith, enough)) in
       record {
         columns = λ x lx. elim (cases_eq (x % 2) 0) [
           | inl p ↦ line_fits k H low high (λ j. level j x) even_height (even_column x lx p) m columns.0 columns.1
@@ -162,59 +160,42 @@ synthesis_stays k h w depth m others c few small =
     synthesis_within k h w depth c (reach m) (λ _. others) small.ll small.hl small.lh small.hh
     (λ n lt. carried_least k (reach m n) others (let least = reach_least m n in omega (arith, few, least)))
 
+reach_more : (m a b : ℕ) → a ≤ b → reach m a ≤ reach m b
+reach_more m a zero le = let is : a ≡ 0 = omega arith in rw is (omega arith)
+reach_more m a (suc b) le = elim (cases_eq a (suc b)) [
+  | inl is ↦ rw is (omega arith)
+  | inr ne ↦ let below = reach_more m a b (omega arith) in omega (arith, below)
+]
+
 entered_least : (m others start : ℕ) → m ≤ start → others ≤ start → level_entered m others ≤ level_entered start start
 entered_least m others start le few = omega (arith, le, few)
 
-module _ (k : Wavelet) (h w depth : ℕ) (c : Coefficients) (four : depth ≤ 4) (m others start room : ℕ) (few : others ≤ m) (small : BandsWithin h w depth m others c)
-    (levels : (n : ℕ) → n ≤ 3 → reach m n ≤ start) (enough : level_entered start start ≤ room) where
-  bands_fit : SynthesisFits k h w depth room c
-  bands_fit =
+module _ (k : Wavelet) (h w depth : ℕ) (c : Coefficients) (four : depth ≤ 4) (m others start room : ℕ) (few : others ≤ m) (small : BandsWithin h w depth m others c) where
+  bands_fit : reach m 3 ≤ start → level_entered start start ≤ room → SynthesisFits k h w depth room c
+  bands_fit third enough =
+      let first : m ≤ start = (let less = reach_more m 0 3 (omega arith) in omega (arith, less, third)) in
       synthesis_fits k h w depth c (reach m) (λ _. others) small.ll small.hl small.lh small.hh
       (λ n lt. carried_least k (reach m n) others (let least = reach_least m n in omega (arith, few, least))) room
-      (let first = levels 0 (omega arith) in omega (arith, first, enough))
+      (omega (arith, first, enough))
       (λ n lt.
-      let most : reach m n ≤ start = levels n (omega (arith, lt, four)) in
-      let first : m ≤ start = levels 0 (omega arith) in
-      let inside : level_entered (reach m n) others ≤ level_entered start start = entered_least (reach m n) others start most (omega (arith, few, first)) in
+      let most = reach_more m n 3 (omega (arith, lt, four)) in
+      let inside = entered_least (reach m n) others start (omega (arith, most, third)) (omega (arith, few, first)) in
       omega (arith, inside, enough))
 
--- and each level that they make is within that room
-module _ (k : Wavelet) (h w depth : ℕ) (c : Coefficients) (four : depth ≤ 4) (m others room : ℕ) (few : others ≤ m) (small : BandsWithin h w depth m others c)
-    (last : reach m 4 ≤ room) where
-  reach_more : (a b : ℕ) → a ≤ b → reach m a ≤ reach m b
-  reach_more a zero le = let is : a ≡ 0 = omega arith in rw is (omega arith)
-  reach_more a (suc b) le = elim (cases_eq a (suc b)) [
-    | inl is ↦ rw is (omega arith)
-    | inr ne ↦ let below = reach_more a b (omega arith) in omega (arith, below)
-  ]
-
-  levels_made : (n : ℕ) → n ≤ depth → GridWithin (h * 2 ^ n) (w * 2 ^ n) room (synthesis k h w c n)
-  levels_made n le y x ly lx =
-      let most = reach_more n 4 (omega (arith, le, four)) in
+  -- and each level that they make is within that room
+  levels_made : reach m 4 ≤ room → (n : ℕ) → n ≤ depth → GridWithin (h * 2 ^ n) (w * 2 ^ n) room (synthesis k h w c n)
+  levels_made last n le y x ly lx =
+      let most = reach_more m n 4 (omega (arith, le, four)) in
       wider (reach m n) room _ (omega (arith, most, last)) (synthesis_stays k h w depth m others c few small n le y x ly lx)
 
 pub wide_made : (k : Wavelet) (h w depth : ℕ) (c : Coefficients) → depth ≤ 4 → BandsWithin h w depth (2 ^ 50) MAX_MAGNITUDE c → (n : ℕ) → n ≤ depth → GridWithin (h * 2 ^ n) (w * 2 ^ n) (2 ^ 61) (synthesis k h w c n)
-wide_made k h w depth c four small = levels_made k h w depth c four (2 ^ 50) (2 ^ 36) (2 ^ 61) (lit≤ tt) small (lit≤ tt)
+wide_made k h w depth c four small = levels_made k h w depth c four (2 ^ 50) (2 ^ 36) (2 ^ 58) (2 ^ 61) (lit≤ tt) small (lit≤ tt)
 
 pub narrow_made : (k : Wavelet) (h w depth : ℕ) (c : Coefficients) → depth ≤ 4 → BandsWithin h w depth (2 ^ 18) (2 ^ 18) c → (n : ℕ) → n ≤ depth → GridWithin (h * 2 ^ n) (w * 2 ^ n) (2 ^ 29) (synthesis k h w c n)
-narrow_made k h w depth c four small = levels_made k h w depth c four (2 ^ 18) (2 ^ 18) (2 ^ 29) (lit≤ tt) small (lit≤ tt)
-
-pub reach_wide : (n : ℕ) → n ≤ 3 → reach (2 ^ 50) n ≤ 2 ^ 58
-reach_wide zero le = lit≤ tt
-reach_wide (suc zero) le = lit≤ tt
-reach_wide (suc (suc zero)) le = lit≤ tt
-reach_wide (suc (suc (suc zero))) le = lit≤ tt
-reach_wide (suc (suc (suc (suc n)))) le = absurd (omega arith)
-
-pub reach_narrow : (n : ℕ) → n ≤ 3 → reach (2 ^ 18) n ≤ 2 ^ 26
-reach_narrow zero le = lit≤ tt
-reach_narrow (suc zero) le = lit≤ tt
-reach_narrow (suc (suc zero)) le = lit≤ tt
-reach_narrow (suc (suc (suc zero))) le = lit≤ tt
-reach_narrow (suc (suc (suc (suc n)))) le = absurd (omega arith)
+narrow_made k h w depth c four small = levels_made k h w depth c four (2 ^ 18) (2 ^ 18) (2 ^ 26) (2 ^ 29) (lit≤ tt) small (lit≤ tt)
 
 pub wide_fits : (k : Wavelet) (h w depth : ℕ) (c : Coefficients) → depth ≤ 4 → BandsWithin h w depth (2 ^ 50) MAX_MAGNITUDE c → SynthesisFits k h w depth (2 ^ 61) c
-wide_fits k h w depth c four small = bands_fit k h w depth c four (2 ^ 50) (2 ^ 36) (2 ^ 58) (2 ^ 61) (lit≤ tt) small reach_wide (lit≤ tt)
+wide_fits k h w depth c four small = bands_fit k h w depth c four (2 ^ 50) (2 ^ 36) (2 ^ 58) (2 ^ 61) (lit≤ tt) small (lit≤ tt) (lit≤ tt)
 
 pub narrow_fits : (k : Wavelet) (h w depth : ℕ) (c : Coefficients) → depth ≤ 4 → BandsWithin h w depth (2 ^ 18) (2 ^ 18) c → SynthesisFits k h w depth (2 ^ 29) c
-narrow_fits k h w depth c four small = bands_fit k h w depth c four (2 ^ 18) (2 ^ 18) (2 ^ 26) (2 ^ 29) (lit≤ tt) small reach_narrow (lit≤ tt)
+narrow_fits k h w depth c four small = bands_fit k h w depth c four (2 ^ 18) (2 ^ 18) (2 ^ 26) (2 ^ 29) (lit≤ tt) small (lit≤ tt) (lit≤ tt)

@@ -13,8 +13,7 @@ use Rattle.lifting.specs.declared.passes.Pass.TheVariants.{Down, Along, Shift, D
 use Rattle.lifting.specs.Steps.{step, halved, doubled}
 use Rattle.lifting.specs.Lines.{before, after}
 use Rattle.lifting.specs.Ranges.{GridWithin, SameInside, even_reach}
-use Rattle.lifting.specs.Passes.{parity_of, pass_of, room_of, IsSmallAround, HasCorner, IsUnderWay}
-use Rattle.lifting.specs.Turns.{SameSize}
+use Rattle.lifting.specs.Passes.{parity_of, pass_of, room_of, IsSmallAround, IsUnderWay}
 use Rattle.lifting.proofs.Undone.{before_parity, after_parity, lift_at, lift_other}
 use Rattle.lifting.proofs.Inside.{before_inside, after_inside, lift_same}
 use Rattle.lifting.proofs.Growth.{even_grows, odd_grows, odd_doubles, even_doubles, doubled_small, halved_small, lift_grows}
@@ -118,9 +117,6 @@ module _ (k : Wavelet) (h w : ℕ) (eh : h % 2 ≡ 0) (ew : w % 2 ≡ 0) where
       subst (Within (2 * m)) (sym (is y x ly lx)) (grown (omega arith) (λ i li _. small y i ly li) (λ i li _. small y i ly li) x lx)
   doubles Shift m two f g small is y x ly lx = subst (Within (2 * m)) (sym (is y x ly lx)) (wider m (2 * m) _ (omega arith) (halved_small k m (f y x) (small y x ly lx)))
   doubles Double m two f g small is y x ly lx = subst (Within (2 * m)) (sym (is y x ly lx)) (doubled_small k m (f y x) (small y x ly lx))
-
-pub corner_kept : (h w : ℕ) (p q : Raster ℤ) → HasCorner h w p → SameSize p q → HasCorner h w q
-corner_kept h w p q c same = (c.0, c.1, omega (arith, c.2, same.1), omega (arith, c.3, same.0), c.4, c.5)
 
 -- what a level takes is small
 pub fits : (h w m n : ℕ) (g : Grid) → m ≤ n → GridWithin h w m g → GridWithin h w n g

@@ -1,6 +1,6 @@
 -- Samples, row by row.
-use Rattle.std.proofs.Common.{◌≡◌, ◌≢◌, ◌∙◌, sym, ap, subst, ℕ, suc, ◌+◌, ◌-◌, ◌*◌, ◌%◌, ◌^◌, ◌<◌, ◌≤◌, arith, inl, inr, List, ◌++◌, length, take, get_or, set, ℤ, pos}
-use Rattle.std.specs.Prelude.{if◌then◌else◌, ◌==◌, neg_ℤ, ◌+ℤ◌, ◌-ℤ◌, ◌≤ℤ◌, unsigned_abs}
+use Rattle.std.proofs.Common.{◌≡◌, ◌≢◌, ◌∙◌, sym, ap, subst, ℕ, suc, ◌+◌, ◌-◌, ◌*◌, ◌^◌, ◌<◌, ◌≤◌, arith, inl, inr, List, ◌++◌, length, take, get_or, set, ℤ, pos}
+use Rattle.std.specs.Prelude.{if◌then◌else◌, ◌==◌, neg_ℤ, ◌+ℤ◌, ◌-ℤ◌, unsigned_abs}
 use Rattle.std.specs.Int.{int_min, int_max}
 use Rattle.std.proofs.Math.Nat.{pow-le-pow_right, mul-le-mul_right, suc-mul}
 use Rattle.std.proofs.lemmas.Bool.{cases_lt, cases_eq}
@@ -12,12 +12,12 @@ use Rattle.planes.specs.Valued.{valued, EachValued}
 use Rattle.lifting.specs.Lines.{Line}
 use Rattle.lifting.specs.Places.{woven, odd_stepped}
 use Rattle.lifting.specs.Clipping.{clipped_up, sample_of}
-use Rattle.lifting.proofs.WovenLines.{at_even, at_odd}
+use Rattle.lifting.proofs.WovenLines.{woven_even, woven_odd, woven_by}
 
 pub half_some : (depth : ℕ) → 1 ≤ 2 ^ (depth - 1)
 half_some depth = pow-le-pow_right {n = 2} (omega arith) {i = 0} {j = depth - 1} (omega arith)
 
-half_most : (depth most : ℕ) → depth ≤ most → 2 ^ (depth - 1) ≤ 2 ^ (most - 1)
+pub half_most : (depth most : ℕ) → depth ≤ most → 2 ^ (depth - 1) ≤ 2 ^ (most - 1)
 half_most depth most le = pow-le-pow_right {n = 2} (omega arith) {i = depth - 1} {j = most - 1} (omega arith)
 
 -- what stands in the rows before and behind row y stands in each other row
@@ -37,28 +37,24 @@ sample_is depth half v n e is =
     let by : ℤ → ℤ → ℤ = λ h top. int_max (neg_ℤ h) (int_min top v) +ℤ h in
     ap unsigned_abs (is ∙ ap (λ h. by h (h -ℤ pos 1)) e ∙ ap (by (pos (2 ^ (depth - 1)))) less)
 
--- two more places of a row
+-- one more place of a row
+pub put_one : {X : Type 0} (P : ℕ → X → Type 0) (d x : X) (out : List X) (k : ℕ) → k < length out → ((i : ℕ) → i < k → P i (get_or out i d)) → P k x
+    → (i : ℕ) → i < k + 1 → P i (get_or (set out k x) i d)
+put_one P d x out k room first last i lt = elim (cases_eq i k) [
+  | inl e ↦ rw (e, get_or-set_same out k x d room) last
+  | inr ne ↦ rw (get_or-set_other out k i x d ne) (first i (omega arith))
+]
+
+-- and two
 pub put_two : {X : Type 0} (P : ℕ → X → Type 0) (d x y : X) (out : List X) (k : ℕ) → 2 * k + 1 < length out → ((i : ℕ) → i < 2 * k → P i (get_or out i d)) → P (2 * k) x → P (2 * k + 1) y
     → (i : ℕ) → i < 2 * (k + 1) → P i (get_or (set (set out (2 * k) x) (2 * k + 1) y) i d)
-put_two P d x y out k room first even odd i lt = elim (cases_eq i (2 * k + 1)) [
-  | inl e ↦
-      let long : 2 * k + 1 < length (set out (2 * k) x) = rw length-set room in
-      rw (e, get_or-set_same (set out (2 * k) x) (2 * k + 1) y d long) odd
-  | inr ne ↦ elim (cases_eq i (2 * k)) [
-    | inl e ↦
-        let apart : 2 * k ≢ 2 * k + 1 = omega arith in
-        let inside : 2 * k < length out = omega arith in
-        rw (e, get_or-set_other (set out (2 * k) x) (2 * k + 1) (2 * k) y d apart, get_or-set_same out (2 * k) x d inside) even
-    | inr ne2 ↦ rw (get_or-set_other (set out (2 * k) x) (2 * k + 1) i y d ne, get_or-set_other out (2 * k) i x d ne2) (first i (omega arith))
-  ]
-]
+put_two P d x y out k room first even odd i lt =
+    put_one P d y (set out (2 * k) x) (2 * k + 1) (rw length-set room) (put_one P d x out (2 * k) (omega arith) first even) odd i (omega arith)
 
 -- a step on each place of a line is one on each place of its halves
 pub woven_each : (f : ℤ → ℤ) (e o : Line) (i : ℕ) → woven (λ j. f (e j)) (λ j. f (o j)) i ≡ f (woven e o i)
-woven_each f e o i = elim (cases_eq (i % 2) 0) [
-  | inl h ↦ at_even (λ j. f (e j)) (λ j. f (o j)) i h ∙ ap f (sym (at_even e o i h))
-  | inr ne ↦ let h : i % 2 ≡ 1 = omega arith in at_odd (λ j. f (e j)) (λ j. f (o j)) i h ∙ ap f (sym (at_odd e o i h))
-]
+woven_each f e o i =
+    woven_by (λ j v. v ≡ f (woven e o j)) (i + 1) (λ j. f (e j)) (λ j. f (o j)) (λ j _. ap f (sym (woven_even e o j))) (λ j _. ap f (sym (woven_odd e o j))) i (omega arith)
 
 -- a place of a part that was written
 pub part_row : (a k : ℕ) (xs ys : List ℕ) (i : ℕ) → a ≤ length xs → i < length ys → get_or (put_mid a k xs ys) (a + i) 0 ≡ get_or ys i 0
@@ -69,14 +65,6 @@ part_row a k xs ys i low here =
 -- row y of h rows of w lies inside
 pub row_inside : (y h w n : ℕ) → y < h → n ≡ h * w → y * w + w ≤ n
 row_inside y h w n lt e = omega (arith, e, suc-mul y w, mul-le-mul_right {m = suc y} {n = h} w (omega arith))
-
--- one more place of a row
-pub put_one : {X : Type 0} (P : ℕ → X → Type 0) (d x : X) (out : List X) (k : ℕ) → k < length out → ((i : ℕ) → i < k → P i (get_or out i d)) → P k x
-    → (i : ℕ) → i < k + 1 → P i (get_or (set out k x) i d)
-put_one P d x out k room first last i lt = elim (cases_eq i k) [
-  | inl e ↦ rw (e, get_or-set_same out k x d room) last
-  | inr ne ↦ rw (get_or-set_other out k i x d ne) (first i (omega arith))
-]
 
 -- a number that was read
 pub read_is : {X : Type 0} (value : X → ℤ) (none : X) (xs : List X) (k : ℕ) (r : X) → k < length xs → r ≡ get_or xs k r → value r ≡ valued value none xs k
@@ -96,10 +84,3 @@ pub last_is : (f : ℤ → ℤ → ℤ → ℤ) (n : ℕ) (e o : Line) (k : ℕ)
 last_is f n e o k is =
     let next : (if k + 1 == n then k else k + 1) ≡ k = grind arith in
     ap (λ (j : ℕ). f (o k) (e k) (e j)) (sym next)
-
--- half of the numbers of a sample
-pub half_some_of : (depth : ℕ) (half : ℤ) → half ≡ pos (2 ^ (depth - 1)) → pos 1 ≤ℤ half
-half_some_of depth half e = rw e (omega (arith, ints, half_some depth))
-
-pub half_most_of : (depth most : ℕ) (half : ℤ) → depth ≤ most → half ≡ pos (2 ^ (depth - 1)) → half ≤ℤ pos (2 ^ (most - 1))
-half_most_of depth most half le e = rw e (omega (arith, ints, half_most depth most le))

@@ -1,21 +1,49 @@
 -- Where 16 bits have room for a level.
-use Rattle.std.proofs.Common.{◌≡◌, sym, subst, ℕ, suc, ◌+◌, ◌-◌, ◌*◌, ◌^◌, ◌≤◌, arith, max, ℤ, pos}
-use Rattle.std.specs.Prelude.{◌↔◌}
+use Rattle.std.proofs.Common.{◌≡◌, sym, subst, ℕ, suc, ◌+◌, ◌-◌, ◌*◌, ◌^◌, ◌<◌, ◌≤◌, arith, max, inl, inr, ℤ, pos, negsuc}
+use Rattle.std.specs.Prelude.{◌↔◌, unsigned_abs}
+use Rattle.std.proofs.lemmas.Int.{ints}
+use Rattle.std.proofs.lemmas.Bool.{cases_eq}
 use Rattle.planes.specs.Numbers.{Within}
 use Rattle.planes.specs.Raster.{Raster, at}
 use Rattle.planes.specs.Subbands.{BandStack, band_of}
 use Rattle.lifting.specs.declared.Wavelet.{Wavelet}
 use Rattle.lifting.specs.declared.roll.Level.{Level}
 use Rattle.lifting.specs.Transform.{Grid, synthesis}
-use Rattle.lifting.specs.Ranges.{GridWithin, SameInside}
+use Rattle.lifting.specs.Ranges.{LineWithin, GridWithin, SameInside}
 use Rattle.lifting.specs.Bands.{coefficients_of}
 use Rattle.lifting.specs.Carried.{level_entered, IsShortLevel}
 use Rattle.lifting.specs.Turns.{IsLevelOf}
 use Rattle.lifting.proofs.Levels.{of_band}
 
--- what enters grows with the bounds
-entered_more : (a b c d : ℕ) → a ≤ c → b ≤ d → level_entered a b ≤ level_entered c d
-entered_more a b c d la lb = omega (arith, la, lb)
+-- ---- the greatest magnitudes of rows and planes, as the least bounds of them
+
+magnitude : (m : ℕ) (v : ℤ) → (unsigned_abs v ≤ m) ↔ Within m v
+magnitude m (pos a) = (λ le. record { low = omega (arith, ints); high = omega (arith, ints) }, λ p. omega (arith, ints, p.high))
+magnitude m (negsuc a) = (λ le. record { low = omega (arith, ints); high = omega (arith, ints) }, λ p. omega (arith, ints, p.low))
+
+pub magnitude_is : (m r : ℕ) (v : ℤ) → r ≡ unsigned_abs v → (r ≤ m) ↔ Within m v
+magnitude_is m r v e = rw e (magnitude m v)
+
+-- one more of what the bounds are of
+pub one_more : (P : ℕ → Type 0) (n most here new m : ℕ) → new ≡ max most here → (most ≤ m) ↔ ((k : ℕ) → k < n → P k) → (here ≤ m) ↔ P n → (new ≤ m) ↔ ((k : ℕ) → k < n + 1 → P k)
+one_more P n most here new m e all one = (
+  λ le k lt. elim (cases_eq k n) [
+    | inl is ↦ rw is (one.0 (grind (arith, e, le)))
+    | inr ne ↦ all.0 (grind (arith, e, le)) k (omega arith)
+  ],
+  λ p.
+      let a : most ≤ m = all.1 (λ k lt. p k (omega arith)) in
+      let b : here ≤ m = one.1 (p n (omega arith)) in
+      grind (arith, e, a, b),
+)
+
+-- the bounds of a grid, row by row
+module _ (h w r m : ℕ) (g : Grid) where
+  pub by_rows : (r ≤ m) ↔ GridWithin h w m g → (r ≤ m) ↔ ((y : ℕ) → y < h → LineWithin w m (g y))
+  by_rows i = (λ le y ly x lx. i.0 le y x ly lx, λ p. i.1 (λ y x ly lx. p y ly x lx))
+
+  pub of_rows : (r ≤ m) ↔ ((y : ℕ) → y < h → LineWithin w m (g y)) → (r ≤ m) ↔ GridWithin h w m g
+  of_rows i = (λ le y x ly lx. i.0 le y ly x lx, λ p. i.1 (λ y ly x lx. p y x ly lx))
 
 -- ---- asked of the least bounds
 
@@ -39,7 +67,7 @@ module _ (h w : ℕ) (ll hl lh hh : Grid) (low a b c : ℕ) (is_low : (m : ℕ) 
       let lb : b ≤ s.high = (is_b s.high).1 s.within_lh in
       let lc : c ≤ s.high = (is_c s.high).1 s.within_hh in
       let high_least : high ≤ s.high = grind (arith, is_high, la, lb, lc) in
-      omega (arith, entered_more low high s.low s.high low_least high_least, s.few)
+      omega (arith, low_least, high_least, s.few)
 
 -- ---- asked of the places where the bands stand
 

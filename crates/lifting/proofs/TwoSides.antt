@@ -1,32 +1,21 @@
 -- A row that is made in two halves, each from parts of rows.
 use Rattle.std.proofs.Common.{◌≡◌, sym, ap, subst, ◌∙◌, ℕ, ◌+◌, ◌-◌, ◌*◌, ◌<◌, ◌≤◌, arith, List, ◌++◌, length, take, drop, ℤ, inl, inr, true, false}
-use Rattle.std.specs.Prelude.{nat_lt, if◌then◌else◌}
+use Rattle.std.specs.Prelude.{nat_lt}
 use Rattle.std.proofs.lemmas.Bool.{cases_lt}
 use Rattle.std.proofs.lemmas.Bool.Decides.{nat_tests}
 use Rattle.std.proofs.lemmas.Grind.{common_steps}
 use Rattle.std.proofs.Math.ListN.{get_or-append}
-use Rattle.std.proofs.lemmas.List.{get_or-append_right, get_or-take, get_or-drop}
+use Rattle.std.proofs.lemmas.List.{get_or-append-add, get_or-take, get_or-drop}
 use Rattle.planes.specs.Raster.{Raster, height, row_of, with_row}
-use Rattle.planes.specs.Valued.{valued, EachValued, grid_of}
+use Rattle.planes.specs.Valued.{valued, grid_of}
 use Rattle.planes.proofs.RasterLemmas.{row_of-with_row_same}
 use Rattle.planes.specs.Numbers.{Within}
 use Rattle.lifting.specs.Lines.{Line}
-use Rattle.lifting.specs.Places.{beside}
+use Rattle.lifting.specs.Places.{beside, side_place}
 use Rattle.lifting.specs.Ranges.{LineWithin}
 
--- the first w places of a row, and those behind them
-pub front_len : {X : Type 0} (w : ℕ) (xs : List X) → w ≤ length xs → length (take w xs) ≡ w
-front_len w xs le = grind (arith, common_steps)
-
+-- the places of a row behind the first w
 module _ {X : Type 0} (value : X → ℤ) (none : X) (w : ℕ) (xs : List X) where
-  pub front_place : (i : ℕ) → i < w → valued value none (take w xs) i ≡ valued value none xs i
-  front_place i lt = ap value (get_or-take w xs i none lt)
-
-  pub front_small : (m : ℕ) → w ≤ length xs → LineWithin w m (valued value none xs) → EachValued value none m (take w xs)
-  front_small m fits small i lt =
-      let short : i < w = subst (λ (l : ℕ). i < l) (front_len w xs fits) lt in
-      subst (Within m) (sym (front_place i short)) (small i short)
-
   pub back_place : (n : ℕ) → w ≤ n → (i : ℕ) → i < w → valued value none (take n (drop w xs)) i ≡ valued value none xs (w + i)
   back_place n le i lt = ap value (get_or-take n (drop w xs) i none (omega arith) ∙ get_or-drop w xs i none)
 
@@ -36,17 +25,22 @@ module _ {X : Type 0} (value : X → ℤ) (none : X) (w : ℕ) (xs : List X) whe
 pub same_step : (f : ℤ → ℤ → ℤ → ℤ) (v v' a a' b b' : ℤ) → v ≡ v' → a ≡ a' → b ≡ b' → f v a b ≡ f v' a' b'
 same_step f v v' a a' b b' ev ea eb = ap (λ (z : ℤ). f z a b) ev ∙ ap (λ (z : ℤ). f v' z b) ea ∙ ap (λ (z : ℤ). f v' a' z) eb
 
+-- what holds of each place of two lines holds of them side by side
+pub beside_by : (P : ℕ → ℤ → Type 0) (w : ℕ) (a b : Line) → ((i : ℕ) → i < w → P i (a i)) → ((i : ℕ) → i < w → P (w + i) (b i)) → (x : ℕ) → x < 2 * w → P x (beside w a b x)
+beside_by P w a b pa pb x lx = elim (cases_lt x w) [
+  | inl early ↦ let is : nat_lt x w ≡ true = grind (arith, nat_tests) in rw is (pa x early)
+  | inr late ↦
+      let is : nat_lt x w ≡ false = grind (arith, nat_tests) in
+      let whole : w + (x - w) ≡ x = omega arith in
+      rw is (subst (λ (i : ℕ). P i (b (x - w))) whole (pb (x - w) (omega arith)))
+]
+
 pub two_sides : {X : Type 0} (value : X → ℤ) (none : X) (w : ℕ) (left right : List X) (a b : Line) → length left ≡ w
     → ((i : ℕ) → i < w → valued value none left i ≡ a i) → ((i : ℕ) → i < w → valued value none right i ≡ b i)
     → (x : ℕ) → x < 2 * w → valued value none (left ++ right) x ≡ beside w a b x
-two_sides value none w left right a b el pa pb x lx = elim (cases_lt x w) [
-  | inl early ↦
-      let is : nat_lt x w ≡ true = grind (arith, nat_tests) in
-      ap value (get_or-append left right none x (omega arith)) ∙ pa x early ∙ ap (λ r. if r then a x else b (x - w)) (sym is)
-  | inr late ↦
-      let is : nat_lt x w ≡ false = grind (arith, nat_tests) in
-      ap value (get_or-append_right left right w x none el late) ∙ pb (x - w) (omega arith) ∙ ap (λ r. if r then a x else b (x - w)) (sym is)
-]
+two_sides value none w left right a b el pa pb =
+    beside_by (λ x v. valued value none (left ++ right) x ≡ v) w a b (λ i lt. ap value (get_or-append left right none i (omega arith)) ∙ pa i lt)
+    (λ i lt. ap (λ (n : ℕ). valued value none (left ++ right) (n + i)) (sym el) ∙ ap value (get_or-append-add left right i none) ∙ pb i lt)
 
 -- a row of a plane, as it is lent, and as it was written over
 pub row_small : {X : Type 0} (value : X → ℤ) (none : X) (m w y : ℕ) (p : Raster X) (row : List X) → row ≡ row_of p y → LineWithin w m (grid_of value none p y) → LineWithin w m (valued value none row)
@@ -58,3 +52,14 @@ row_put value none p y row new lt is same x = ap (λ (r : List _). valued value 
 
 pub back_len : {X : Type 0} (w : ℕ) (xs : List X) → 2 * w ≤ length xs → w ≤ length (take (length xs - w) (drop w xs))
 back_len w xs le = grind (arith, common_steps)
+
+-- ---- where the places of a line lie when the even ones come first and the odd ones behind them
+
+pub side_front : (w x : ℕ) → x < w → side_place w x ≡ 2 * x
+side_front w x lt = grind (arith, nat_tests)
+
+pub side_back : (w x : ℕ) → w ≤ x → side_place w x ≡ 2 * (x - w) + 1
+side_back w x le = grind (arith, nat_tests)
+
+pub side_inside : (w x : ℕ) → x < 2 * w → side_place w x < 2 * w
+side_inside w x lt = grind (arith, nat_tests)

@@ -32,18 +32,10 @@ room_of (Along s) = 2 ^ 61
 room_of Shift = 2 ^ 62
 room_of Double = 2 ^ 25
 
--- the places that a step down a column takes are small
-abbrev pub IsSmallColumn : PairStep → ℕ → Grid → ℕ → ℕ → Type 0
-IsSmallColumn s h g y x = y % 2 ≡ parity_of s → Within (2 ^ 61) (g y x) × Within (2 ^ 61) (g (before y) x) × Within (2 ^ 61) (g (after h y) x)
-
--- and those of a step along a row
-abbrev pub IsSmallRow : PairStep → ℕ → Grid → ℕ → ℕ → Type 0
-IsSmallRow s w g y x = x % 2 ≡ parity_of s → Within (2 ^ 61) (g y x) × Within (2 ^ 61) (g y (before x)) × Within (2 ^ 61) (g y (after w x))
-
--- and those of a pass
+-- the places that a pass takes are small
 abbrev pub IsSmallAround : Pass → ℕ → ℕ → Grid → ℕ → ℕ → Type 0
-IsSmallAround (Down s) h w g y x = IsSmallColumn s h g y x
-IsSmallAround (Along s) h w g y x = IsSmallRow s w g y x
+IsSmallAround (Down s) h w g y x = y % 2 ≡ parity_of s → Within (2 ^ 61) (g y x) × Within (2 ^ 61) (g (before y) x) × Within (2 ^ 61) (g (after h y) x)
+IsSmallAround (Along s) h w g y x = x % 2 ≡ parity_of s → Within (2 ^ 61) (g y x) × Within (2 ^ 61) (g y (before x)) × Within (2 ^ 61) (g y (after w x))
 IsSmallAround Shift h w g y x = Within (2 ^ 62) (g y x)
 IsSmallAround Double h w g y x = Within (2 ^ 25) (g y x)
 

@@ -1,8 +1,8 @@
 -- A level of synthesis row by row. In a row the even places come first, and the odd ones behind them.
-use Rattle.std.specs.Prelude.{◌≡◌, ◌≢◌, ℕ, ℤ, ◌*◌, ◌<◌, ◌≤◌, length}
+use Rattle.std.specs.Prelude.{◌≡◌, ◌≢◌, ℕ, ℤ, ◌*◌, ◌<◌, ◌≤◌, List, length}
 use Rattle.planes.specs.Raster.{Raster, height}
 use Rattle.planes.specs.Subbands.{BandsOf, band_of}
-use Rattle.planes.specs.Valued.{valued, grid_of}
+use Rattle.planes.specs.Valued.{valued, EachValued, grid_of}
 use Rattle.lifting.specs.declared.Wavelet.{Wavelet}
 use Rattle.lifting.specs.declared.PairStep.{PairStep}
 use Rattle.lifting.specs.declared.PairStep.TheVariants.{EvenDown}
@@ -53,6 +53,10 @@ IsLifted l g j row = (x : ℕ) → x < 2 * l.w → row x ≡ synthesis_line l.wa
 -- a row is LL's row y
 abbrev pub IsLowRow : {X : Type 0} → Level X → Grid → ℕ → Line → Type 0
 IsLowRow l g y row = (x : ℕ) → x < l.w → row x ≡ every_other 0 0 g y x
+
+-- three rows of one length, whose numbers a step has room for
+abbrev pub HaveStepRoom : {X : Type 0} → (X → ℤ) → X → ℕ → List X → List X → List X → Type 0
+HaveStepRoom value none m v a b = (length a ≡ length v) × (length b ≡ length v) × EachValued value none m v × EachValued value none m a × EachValued value none m b
 
 -- a step on each place of a row between two others
 abbrev pub between : {X : Type 0} → (X → ℤ) → X → Wavelet → PairStep → Between X → Line

@@ -1,12 +1,12 @@
 //! Lifting of rows and copies of rows, at each width.
 
-ghost use Rattle.std.specs.Prelude.{◌≡◌, ℕ, ◌^◌, ◌<◌, ◌≤◌, length};
+ghost use Rattle.std.specs.Prelude.{◌≡◌, ℕ, ◌+◌, ◌^◌, ◌<◌, ◌≤◌, length};
 ghost use Rattle.std.proofs.Common.{lit≤};
 ghost use Rattle.planes.specs.Raster.{height};
-ghost use Rattle.planes.specs.Valued.{valued, EachValued, grid_of};
+ghost use Rattle.planes.specs.Valued.{valued, grid_of};
 ghost use Rattle.lifting.specs.Ranges.{SameInside};
 ghost use Rattle.lifting.specs.Steps.{step};
-ghost use Rattle.lifting.specs.Turns.{SameSize};
+ghost use Rattle.lifting.specs.Turns.{SameSize, HaveStepRoom};
 
 use crate::kernels::stepped;
 use crate::{PairStep, Wavelet};
@@ -34,11 +34,7 @@ pub(crate) fn lift_each<T: Number>(
     wavelet: Wavelet,
     kind: PairStep,
 )
-    requires a_len { length a.now ≡ length dst.old }
-    requires b_len { length b.now ≡ length dst.old }
-    requires dst_small { EachValued T.value T.none T.reach dst.old }
-    requires a_small { EachValued T.value T.none T.reach a.now }
-    requires b_small { EachValued T.value T.none T.reach b.now }
+    requires { HaveStepRoom T.value T.none T.reach dst.old a.now b.now }
     ensures { let at = valued T.value T.none in
         (i : ℕ) → i < length dst.old
         → at dst.new i ≡ step wavelet kind (at dst.old i) (at a.now i) (at b.now i) }
@@ -57,11 +53,7 @@ pub(crate) fn lift_between<T: Number>(
     wavelet: Wavelet,
     kind: PairStep,
 )
-    requires a_len { length a.now ≡ length dst.old }
-    requires b_len { length b.now ≡ length dst.old }
-    requires dst_small { EachValued T.value T.none T.reach dst.old }
-    requires a_small { EachValued T.value T.none T.reach a.now }
-    requires b_small { EachValued T.value T.none T.reach b.now }
+    requires { HaveStepRoom T.value T.none T.reach dst.old a.now b.now }
     ensures { let at = valued T.value T.none in
         (i : ℕ) → i < length dst.old
         → at dst.new i ≡ step wavelet kind (at dst.old i) (at a.now i) (at b.now i) }
@@ -73,13 +65,16 @@ pub(crate) fn lift_between<T: Number>(
     }
 }
 
-// The first n places of a row over those of another.
-fn copy_front<T: Number>(dst: &mut [T], row: &[T], n: usize)
-    requires room { n ≤ length dst.old }
-    requires inside { n ≤ length row.now }
-    ensures { (i : ℕ) → i < n → valued T.value T.none dst.new i ≡ valued T.value T.none row.now i }
+/// The w places of a row from x0 on, over the first w of another.
+pub(crate) fn copy_from<T: Number>(dst: &mut [T], row: &[T], x0: usize, w: usize)
+    requires short { w ≤ 2 ^ 32 }
+    requires left { x0 ≤ w }
+    requires room { w ≤ length dst.old }
+    requires inside { x0 + w ≤ length row.now }
+    ensures { (x : ℕ) → x < w
+        → valued T.value T.none dst.new x ≡ valued T.value T.none row.now (x0 + x) }
 {
-    dst[..n].copy_from_slice(&row[..n]);
+    dst[..w].copy_from_slice(&row[x0..x0 + w]);
 }
 
 /// The first w columns and h rows of a plane over those of another.
@@ -91,6 +86,6 @@ pub(crate) fn copy_corner<T: Number>(dst: &mut Plane<T>, src: &Plane<T>, w: u32,
         (grid_of T.value T.none src.now) }
 {
     for y in 0..h {
-        copy_front(dst.row_mut(y), src.row(y), w as usize);
+        copy_from(dst.row_mut(y), src.row(y), 0, w as usize);
     }
 }

@@ -6,7 +6,7 @@ ghost use Rattle.lifting.specs.Steps.{step};
 ghost use Rattle.lifting.specs.Lines.{lift};
 ghost use Rattle.lifting.specs.Transform.{Grid, synthesis_level, analysis_level};
 ghost use Rattle.lifting.specs.Ranges.{GridWithin, SameInside};
-ghost use Rattle.lifting.specs.Passes.{parity_of, pass_of, room_of, IsSmallColumn, IsSmallRow, IsSmallAround, HasCorner, IsUnderWay};
+ghost use Rattle.lifting.specs.Passes.{parity_of, pass_of, room_of, IsSmallAround, HasCorner, IsUnderWay};
 ghost use Rattle.lifting.specs.Turns.{SameSize};
 
 use crate::columns::{place_after, place_before};
@@ -39,51 +39,8 @@ fn parity_of(kind: PairStep) -> u32
     }
 }
 
-// A place after a step down its column of h places.
-#[tactic(auto, unfolding(crate::specs::Lines::lift))]
-fn stepped_down(plane: &Plane, y: u32, x: u32, h: u32, wavelet: Wavelet, kind: PairStep) -> i64
-    requires even { h % 2 ≡ 0 }
-    requires y_inside { y < h }
-    requires h_fits { h ≤ height plane.now }
-    requires h_small { h ≤ 8208 }
-    requires x_inside { x < plane.now.w }
-    requires small { IsSmallColumn kind h (at plane.now) y x }
-    ensures { result ≡ lift (parity_of kind) h (step wavelet kind) (λ j. at plane.now j x) y }
-{
-    let place = plane.get(y, x);
-    if y % 2 != parity_of(kind) {
-        return place;
-    }
-    let (above, below) = (
-        plane.get(place_before(y), x),
-        plane.get(place_after(h, y), x),
-    );
-    stepped(wavelet, kind, place, above, below)
-}
-
-// A place after a step along its row of w places.
-#[tactic(auto, unfolding(crate::specs::Lines::lift))]
-fn stepped_along(plane: &Plane, y: u32, x: u32, w: u32, wavelet: Wavelet, kind: PairStep) -> i64
-    requires even { w % 2 ≡ 0 }
-    requires x_inside { x < w }
-    requires w_fits { w ≤ plane.now.w }
-    requires w_small { w ≤ 8208 }
-    requires y_inside { y < height plane.now }
-    requires small { IsSmallRow kind w (at plane.now) y x }
-    ensures { result ≡ lift (parity_of kind) w (step wavelet kind) (at plane.now y) x }
-{
-    let place = plane.get(y, x);
-    if x % 2 != parity_of(kind) {
-        return place;
-    }
-    let (left, right) = (
-        plane.get(y, place_before(x)),
-        plane.get(y, place_after(w, x)),
-    );
-    stepped(wavelet, kind, place, left, right)
-}
-
 // What a pass makes of a place.
+#[tactic(auto, unfolding(crate::specs::Lines::lift))]
 fn passed(plane: &Plane, y: u32, x: u32, size: Size, wavelet: Wavelet, pass: Pass) -> i64
     requires sized { HasCorner size.h size.w plane.now }
     requires y_inside { y < size.h }
@@ -91,11 +48,26 @@ fn passed(plane: &Plane, y: u32, x: u32, size: Size, wavelet: Wavelet, pass: Pas
     requires small { IsSmallAround pass size.h size.w (at plane.now) y x }
     ensures { result ≡ pass_of wavelet pass size.h size.w (at plane.now) y x }
 {
+    let place = plane.get(y, x);
     match pass {
-        Pass::Down(kind) => stepped_down(plane, y, x, size.h, wavelet, kind),
-        Pass::Along(kind) => stepped_along(plane, y, x, size.w, wavelet, kind),
-        Pass::Shift => shifted(plane.get(y, x), wavelet),
-        Pass::Double => unshifted(plane.get(y, x), wavelet),
+        Pass::Down(kind) => {
+            if y % 2 != parity_of(kind) {
+                return place;
+            }
+            let above = plane.get(place_before(y), x);
+            let below = plane.get(place_after(size.h, y), x);
+            stepped(wavelet, kind, place, above, below)
+        }
+        Pass::Along(kind) => {
+            if x % 2 != parity_of(kind) {
+                return place;
+            }
+            let left = plane.get(y, place_before(x));
+            let right = plane.get(y, place_after(size.w, x));
+            stepped(wavelet, kind, place, left, right)
+        }
+        Pass::Shift => shifted(place, wavelet),
+        Pass::Double => unshifted(place, wavelet),
     }
 }
 

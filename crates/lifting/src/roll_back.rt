@@ -16,7 +16,7 @@ ghost use Rattle.lifting.specs.Turns.{SameSize, IsRowPut};
 
 use crate::columns::{lift_row_between, place_after, place_before};
 use crate::halves_back::analyse_sides;
-use crate::lifted::Analysed;
+use crate::lifted::{Analysed, copy_from};
 use crate::{PairStep, Wavelet};
 use planes::{Bands, Plane};
 
@@ -114,18 +114,6 @@ fn finish_two<T: Analysed>(scratch: &mut Plane<T>, y: u32, w: u32, h: u32, wavel
     lift_row_between(scratch, odd, even, below, 2 * w, wavelet, PairStep::OddDown);
     let above = place_before(2 * y) % 4;
     lift_row_between(scratch, even, above, odd, 2 * w, wavelet, PairStep::EvenUp);
-}
-
-// The w places of a row from x0 on.
-fn copy_from<T: Analysed>(dst: &mut [T], row: &[T], x0: usize, w: usize)
-    requires short { w ≤ 8208 }
-    requires left { x0 ≤ w }
-    requires room { w ≤ length dst.old }
-    requires inside { x0 + w ≤ length row.now }
-    ensures { (x : ℕ) → x < w
-        → valued T.value T.none dst.new x ≡ valued T.value T.none row.now (x0 + x) }
-{
-    dst[..w].copy_from_slice(&row[x0..x0 + w]);
 }
 
 // The w places from x0 on of row r.

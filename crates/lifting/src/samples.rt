@@ -60,6 +60,7 @@ impl Sampled for i16 {
     ghost some_depths_law = { lit≤ tt };
 
     #[inline(always)]
+    #[tactic(auto, using(crate::proofs::SampleRows::half_most))]
     fn half_range(depth: u32) -> i16 {
         1 << (depth - 1)
     }
@@ -150,6 +151,7 @@ fn sample<T: Sampled>(v: T, wavelet: Wavelet, half: T) -> u16
 }
 
 /// The samples of the first numbers of a band's row.
+#[tactic(auto, using(crate::proofs::SampleRows::half_some, crate::proofs::SampleRows::half_most))]
 pub(crate) fn sample_band<T: Sampled>(dst: &mut [u16], row: &[T], depth: u32)
     requires some_bits { 1 ≤ depth }
     requires bits { depth ≤ T.depths }
@@ -240,6 +242,7 @@ fn weave_pairs<T: Sampled>(
 
 // The samples of the even and the odd places, as many as there is room for, the odd ones lifted on the way. Behind the last
 // odd place there is no even one, and the even one before it stands for it.
+#[tactic(auto, using(crate::proofs::SampleRows::half_some, crate::proofs::SampleRows::half_most))]
 fn weave_samples<T: Sampled>(dst: &mut [u16], even: &[T], odd: &[T], wavelet: Wavelet, depth: u32)
     requires some_bits { 1 ≤ depth }
     requires bits { depth ≤ T.depths }

@@ -3,7 +3,7 @@ use Rattle.std.specs.Prelude.{◌↔◌, unsigned_abs}
 use Rattle.planes.specs.Numbers.{Within}
 use Rattle.lifting.specs.Places.{place}
 use Rattle.lifting.specs.Ranges.{LineWithin}
-use Rattle.lifting.proofs.Greatest.{magnitude_is, one_more}
+use Rattle.lifting.proofs.Short.{magnitude_is, one_more}
 use Rattle.lifting.proofs.carried.front_greatest.Goals as goal
 
 pub loop-i-preserved : goal.loop-i-preserved

@@ -3,7 +3,7 @@ use Rattle.std.specs.Prelude.{◌↔◌}
 use Rattle.planes.specs.Raster.{at}
 use Rattle.lifting.specs.Places.{place}
 use Rattle.lifting.specs.Ranges.{LineWithin, GridWithin}
-use Rattle.lifting.proofs.Greatest.{one_more, by_rows, of_rows}
+use Rattle.lifting.proofs.Short.{one_more, by_rows, of_rows}
 use Rattle.lifting.proofs.carried.greatest_of.Goals as goal
 
 pub loop-y-preserved : goal.loop-y-preserved

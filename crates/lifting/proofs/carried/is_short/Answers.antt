@@ -4,20 +4,14 @@ use Rattle.lifting.proofs.Levels.{level_columns, level_rows, level_bands}
 use Rattle.lifting.proofs.Short.{stands_made, made_stands}
 use Rattle.lifting.proofs.carried.is_short.Goals as goal
 
-pub has_room-requires-clause-columns : goal.has_room-requires-clause-columns
-has_room-requires-clause-columns c =
+pub has_room-requires : goal.has_room-requires
+has_room-requires c =
     let q = c.requires.room in
-    omega (arith, q.columns, level_columns c.args.bands.now c.args.size.w c.args.size.h q.whole_columns q.whole_rows q.bands c.args.wavelet c.args.n c.requires.some c.level_of.result c.level_of.ensures)
-
-pub has_room-requires-clause-rows : goal.has_room-requires-clause-rows
-has_room-requires-clause-rows c =
-    let q = c.requires.room in
-    omega (arith, q.rows, level_rows c.args.bands.now c.args.size.w c.args.size.h q.whole_columns q.whole_rows q.bands c.args.wavelet c.args.n c.requires.some c.level_of.result c.level_of.ensures)
-
-pub has_room-requires-clause-bands : goal.has_room-requires-clause-bands
-has_room-requires-clause-bands c =
-    let q = c.requires.room in
-    level_bands c.args.bands.now c.args.size.w c.args.size.h q.whole_columns q.whole_rows q.bands c.args.wavelet c.args.n c.requires.some c.level_of.result c.level_of.ensures
+    record {
+      columns = omega (arith, q.columns, level_columns c.args.bands.now c.args.size.w c.args.size.h q.whole_columns q.whole_rows q.bands c.args.wavelet c.args.n c.requires.some c.level_of.result c.level_of.ensures);
+      rows = omega (arith, q.rows, level_rows c.args.bands.now c.args.size.w c.args.size.h q.whole_columns q.whole_rows q.bands c.args.wavelet c.args.n c.requires.some c.level_of.result c.level_of.ensures);
+      bands = level_bands c.args.bands.now c.args.size.w c.args.size.h q.whole_columns q.whole_rows q.bands c.args.wavelet c.args.n c.requires.some c.level_of.result c.level_of.ensures;
+    }
 
 pub returns : goal.returns
 returns c =

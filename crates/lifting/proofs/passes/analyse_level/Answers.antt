@@ -7,10 +7,6 @@ use Rattle.lifting.specs.Transform.{analysis_level}
 use Rattle.lifting.proofs.InPlace.{fits, then}
 use Rattle.lifting.proofs.passes.analyse_level.Goals as goal
 
-pub pass_over-requires-2 : goal.pass_over-requires-2
-pass_over-requires-2 c =
-    (λ y x. refl, (c.pass_over.ensures.sized, fits c.args.h c.args.w (2 * 2 ^ 25) (2 ^ 61) (at c.pass_over.new.plane) (lit≤ tt) (c.pass_over.ensures.grown (2 ^ 25) (lit≤ tt) c.requires.small)))
-
 pub pass_over-requires-3 : goal.pass_over-requires-3
 pass_over-requires-3 c =
     (λ y x. refl, (c.pass_over-2.ensures.sized, fits c.args.h c.args.w (2 * (2 * 2 ^ 25)) (2 ^ 61) (at c.pass_over-2.new.plane) (lit≤ tt) (c.pass_over-2.ensures.grown (2 * 2 ^ 25) (lit≤ tt) (c.pass_over.ensures.grown (2 ^ 25) (lit≤ tt) c.requires.small))))

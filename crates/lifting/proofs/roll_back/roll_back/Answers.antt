@@ -5,7 +5,7 @@ use Rattle.lifting.specs.Lines.{before}
 use Rattle.lifting.specs.Places.{side_place}
 use Rattle.lifting.specs.Transform.{analysis_level, every_other}
 use Rattle.lifting.proofs.LevelsDown.{same_sizes_after, other_levels_after}
-use Rattle.lifting.proofs.RollingBack.{same_row, above_apart, before_next, turn_small, odd_done, even_done, dealt_left, dealt_right, rows_more}
+use Rattle.lifting.proofs.RollingBack.{same_row, above_apart, turn_small, odd_done, even_done, dealt_left, dealt_right, rows_more}
 use Rattle.lifting.proofs.roll_back.roll_back.Goals as goal
 
 pub finish_two-requires-clause-small : goal.finish_two-requires-clause-small
@@ -50,7 +50,7 @@ loop-y-preserved G c =
     let odd_is : (x : ℕ) → x < 2 * w → t ((2 * y + 1) % 4) x ≡ level (2 * y + 1) (side_place w x) = odd_done k h w g y lt s even above odd next t done.odd done.even done.others in
     let even_is : (x : ℕ) → x < 2 * w → t (2 * y % 4) x ≡ level (2 * y) (side_place w x) = even_done k h w g y lt s even above odd next t done.odd done.even done.others in
     let two_more : 2 * (y + 1) ≡ 2 * y + 2 = omega arith in
-    let last_odd : 2 * y + 1 ≡ before (2 * (y + 1)) = before_next y in
+    let last_odd : 2 * y + 1 ≡ before (2 * (y + 1)) = grind arith in
     let whole : 2 * y ≡ 2 * y + 0 = omega arith in
     record {
       same_size = (dealt.same_size.0 ∙ i.same_size.0, dealt.same_size.1 ∙ i.same_size.1);

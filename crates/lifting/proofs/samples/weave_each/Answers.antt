@@ -5,14 +5,9 @@ use Rattle.lifting.specs.Places.{woven, odd_stepped}
 use Rattle.lifting.specs.Steps.{step, halved}
 use Rattle.lifting.specs.Clipping.{clipped_up}
 use Rattle.lifting.proofs.TwoSides.{same_step}
-use Rattle.lifting.proofs.Sums.{twofold}
 use Rattle.lifting.proofs.WovenLines.{woven_even, woven_odd}
 use Rattle.lifting.proofs.SampleRows.{put_two, inner_is, read_is, read_small}
 use Rattle.lifting.proofs.samples.weave_each.Goals as goal
-
-pub sample-requires-clause-small : goal.sample-requires-clause-small
-sample-requires-clause-small G c =
-    twofold G.T.Number.reach _ (read_small G.T.Number.value G.T.Number.none G.T.Number.reach c.args.even.now c.loop-k.k c.index-even-k.result (omega (arith, c.loop-k-test.true, c.requires.inner)) c.index-even-k.is c.requires.even_small)
 
 pub odd_sample-requires-clause-odd_small : goal.odd_sample-requires-clause-odd_small
 odd_sample-requires-clause-odd_small G c =

@@ -1,7 +1,7 @@
-use Rattle.std.proofs.Common.{sym, subst, ℕ, arith, inl, inr}
+use Rattle.std.proofs.Common.{sym, subst, ℕ, ◌+◌, arith, inl, inr}
 use Rattle.std.proofs.lemmas.Bool.{cases_eq}
 use Rattle.lifting.specs.Carried.{IsShortAt}
-use Rattle.lifting.proofs.Levels.{room_alone, room_for_fewer, room_for_next, sizes_after}
+use Rattle.lifting.proofs.Levels.{room_alone, room_for_fewer, sizes_after}
 use Rattle.lifting.proofs.Fitting.{short_fits}
 use Rattle.lifting.proofs.short_samples.synth_short_levels.Goals as goal
 
@@ -14,7 +14,7 @@ is_short-requires-clause-room c =
 pub synth_next-requires-clause-room : goal.synth_next-requires-clause-room
 synth_next-requires-clause-room c =
     let i = c.loop-n.invariant in
-    room_for_next c.args.bands.now c.args.levels c.args.size.w c.args.size.h c.args.plane.now c.args.scratch.now c.requires.room c.loop-n.n (omega (arith, c.loop-n-test.true)) c.loop-n.plane c.loop-n.scratch i.same_size i.same_size_scratch
+    room_for_fewer c.args.bands.now c.args.levels c.args.size.w c.args.size.h c.args.plane.now c.args.scratch.now c.requires.room (c.loop-n.n + 1) (omega (arith, c.loop-n-test.true)) c.loop-n.plane c.loop-n.scratch i.same_size i.same_size_scratch
 
 pub synth_next-requires-clause-has_room : goal.synth_next-requires-clause-has_room
 synth_next-requires-clause-has_room c = short_fits c.args.wavelet c.args.bands.now c.args.size.w c.args.size.h c.loop-n.n (c.is_short.ensures.0 c.if-not-is_short.false)
