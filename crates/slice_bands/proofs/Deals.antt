@@ -14,7 +14,7 @@ use Rattle.slice_bands.specs.Stack.{number_at, level_at, orient_at}
 use Rattle.slice_bands.specs.Short.{ShowTheSame, shorts_of}
 use Rattle.slice_bands.specs.ShortBands.{short_stack}
 use Rattle.slice_bands.specs.declared.short_bands.ShortBands.{ShortBands}
-use Rattle.slice_bands.specs.Dealing.{with_numbers, AgreeAbove, HoldsRows, AreDealt, HasNoMore}
+use Rattle.slice_bands.specs.Dealing.{with_numbers, AgreeAbove, AreRowsDealt, AreDealt, AreShortAbove}
 use Rattle.slice_bands.proofs.Parts.{row_inside, some_rows, strip_inside}
 use Rattle.slice_bands.proofs.Apart.{levels_apart, orients_apart}
 use Rattle.slice_bands.proofs.Stacked.{place_short, place_shown, numbers_inside}
@@ -161,7 +161,7 @@ row_above y sy h lt = strip_inside y sy h lt
 -- what a loop over the rows of a strip keeps
 pub record AreDealtTo (s : Slices ℤ) (b : BandStack) (level orient sy y : ℕ) : Type 0 where
   pub dealt : AreDealt s b sy (band_index level orient)
-  pub rows : HoldsRows s (band_of b level orient) level orient y
+  pub rows : AreRowsDealt s (band_of b level orient) level orient y
 
 module _ (s : Slices ℤ) (b : BandStack) (agree : AgreeAbove s b) (level orient sy : ℕ) (exists : BandExists s.depth level orient) (upper : 1 ≤ level) (strip : sy < s.down) where
   module _ (new : List ℤ) (y : ℕ) (low : sy * part_h s level ≤ y) (high : y < (sy + 1) * part_h s level) (have : AreDealtTo s b level orient sy y)
@@ -265,8 +265,8 @@ module _ (s : Slices ℤ) (b : BandStack) (agree : AgreeAbove s b) (level orient
       | inl less ↦ have.dealt.here l o e one less
       | inr ge ↦
           let same = same_index s.depth l o level orient e exists one upper (omega (arith, lt, ge)) in
-          subst (λ (m : ℕ). HoldsRows s (band_of b m o) m o ((sy + 1) * part_h s m)) (sym same.0)
-          (subst (λ (q : ℕ). HoldsRows s (band_of b level q) level q ((sy + 1) * part_h s level)) (sym same.1) have.rows)
+          subst (λ (m : ℕ). AreRowsDealt s (band_of b m o) m o ((sy + 1) * part_h s m)) (sym same.0)
+          (subst (λ (q : ℕ). AreRowsDealt s (band_of b level q) level q ((sy + 1) * part_h s level)) (sym same.1) have.rows)
     ];
   }
 
@@ -397,8 +397,8 @@ module _ (s : ShortBands) (b : BandStack) (agree : AgreeAbove s.slices b) (lowes
           l o e;
     }
 
-    pub no_more : HasNoMore b
-    no_more l o e one y x ly lx =
+    pub short_above : AreShortAbove b
+    short_above l o e one y x ly lx =
         let there : BandExists s.slices.depth l o = subst (λ (d : ℕ). BandExists d l o) agree.same_depth e in
         (dealt.above l o there one).within y x (omega (arith, ly, agree.heights l o there one)) lx
 

@@ -8,3 +8,4 @@ pub mod Strips
 pub mod Lowest
 pub mod Apart
 pub mod Deals
+pub mod WorkedSlices

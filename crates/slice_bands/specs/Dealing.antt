@@ -19,7 +19,7 @@ pub record AgreeAbove (s : Slices ℤ) (b : BandStack) : Type 0 where
   pub heights : (level orient : ℕ) → BandExists s.depth level orient → 1 ≤ level → height (band_of b level orient) ≡ s.down * part_h s level
 
 -- The first n rows of a band stand in the slices, and no magnitude in them passes `MAX_SHORT`.
-pub record HoldsRows (s : Slices ℤ) (p : Raster ℤ) (level orient n : ℕ) : Type 0 where
+pub record AreRowsDealt (s : Slices ℤ) (p : Raster ℤ) (level orient n : ℕ) : Type 0 where
   pub long : (y : ℕ) → y < n → length (row_of p y) ≡ p.w
   pub same : (y x : ℕ) → y < n → x < p.w → number_at (λ z. z) (pos 0) s level orient y x ≡ at p y x
   pub within : (y x : ℕ) → y < n → x < p.w → IsWithin MAX_SHORT (at p y x)
@@ -28,10 +28,10 @@ pub record HoldsRows (s : Slices ℤ) (p : Raster ℤ) (level orient n : ℕ) : 
 -- k the rows of this strip.
 pub record AreDealt (s : Slices ℤ) (b : BandStack) (sy k : ℕ) : Type 0 where
   pub above : (level orient : ℕ) → BandExists s.depth level orient → 1 ≤ level
-      → HoldsRows s (band_of b level orient) level orient (sy * part_h s level)
+      → AreRowsDealt s (band_of b level orient) level orient (sy * part_h s level)
   pub here : (level orient : ℕ) → BandExists s.depth level orient → 1 ≤ level → band_index level orient < k
-      → HoldsRows s (band_of b level orient) level orient ((sy + 1) * part_h s level)
+      → AreRowsDealt s (band_of b level orient) level orient ((sy + 1) * part_h s level)
 
 -- no magnitude outside the lowest band passes `MAX_SHORT`
-abbrev pub HasNoMore : BandStack → Type 0
-HasNoMore b = (level orient : ℕ) → BandExists b.depth level orient → 1 ≤ level → IsPlaneWithin MAX_SHORT (band_of b level orient)
+abbrev pub AreShortAbove : BandStack → Type 0
+AreShortAbove b = (level orient : ℕ) → BandExists b.depth level orient → 1 ≤ level → IsPlaneWithin MAX_SHORT (band_of b level orient)

@@ -9,7 +9,7 @@ use Rattle.slice_bands.specs.Slices.{Slices}
 use Rattle.slice_bands.specs.Places.{part_h}
 use Rattle.slice_bands.specs.Stack.{stack_of}
 
--- so many numbers of a list that has several for each place, those that are counted by `from`
+-- of a list that has `each` numbers for each place, number `from` of each of the first places
 abbrev pub every : ℕ → ℕ → ℕ → List ℤ → List ℤ
 every each from count values = map (λ k. slice_index_or values (each * k + from) (pos 0)) (range_with_len 0 count)
 

@@ -10,7 +10,7 @@ ghost use Rattle.slice_bands.specs.Places.{place_in, part_w, part_h};
 ghost use Rattle.slice_bands.specs.Stack.{number_at};
 ghost use Rattle.slice_bands.specs.Short.{ShowTheSame};
 ghost use Rattle.slice_bands.specs.ShortBands.{short_stack};
-ghost use Rattle.slice_bands.specs.Dealing.{with_numbers, AgreeAbove, AreDealt, HasNoMore};
+ghost use Rattle.slice_bands.specs.Dealing.{with_numbers, AgreeAbove, AreDealt, AreShortAbove};
 
 use crate::gathered::{are_short, narrow_row};
 use crate::short::band_at;
@@ -160,7 +160,7 @@ impl SliceBands<i16> {
         requires before { AreDealt self.old bands.now sy 1 }
         ensures same { self.new ≡ with_numbers self.old self.new.numbers }
         ensures dealt { result ≡ true → AreDealt self.new bands.now (sy + 1) 1 }
-        ensures passes { result ≡ false → HasNoMore bands.now → ⊥ }
+        ensures passes { result ≡ false → AreShortAbove bands.now → ⊥ }
     {
         for k in 1..3 * self.depth + 1 {
             let (level, orient) = band_at(k);
@@ -178,7 +178,7 @@ impl SliceBands<i16> {
         requires room { self.old.across * self.old.sw ≤ length row.old }
         ensures same { self.new ≡ with_numbers self.old self.new.numbers }
         ensures dealt { result ≡ true → AreDealt self.new bands.now self.old.down 1 }
-        ensures passes { result ≡ false → HasNoMore bands.now → ⊥ }
+        ensures passes { result ≡ false → AreShortAbove bands.now → ⊥ }
     {
         // Strip by strip, so that each line of memory is written once.
         for sy in 0..self.down {
@@ -199,8 +199,8 @@ impl ShortBands {
         ensures kept { AgreeInSizes (short_stack self.new) bands.now }
         ensures slices { self.new.slices ≡ with_numbers self.old.slices self.new.slices.numbers }
         ensures same { result ≡ true → ShowTheSame (short_stack self.new) bands.now }
-        ensures passes { result ≡ false → HasNoMore bands.now → ⊥ }
-        ensures within { result ≡ true → HasNoMore bands.now }
+        ensures passes { result ≡ false → AreShortAbove bands.now → ⊥ }
+        ensures within { result ≡ true → AreShortAbove bands.now }
     {
         copy_plane(bands.band(0, 0), &mut self.lowest);
         self.slices.deal(bands, row)

@@ -2,7 +2,7 @@ use Rattle.std.proofs.Common.{◌∙◌, sym, ap, subst}
 use Rattle.planes.specs.Raster.{Raster, height}
 use Rattle.slice_bands.specs.Dealing.{AreDealt}
 use Rattle.slice_bands.specs.declared.short_bands.ShortBands.{ShortBands}
-use Rattle.slice_bands.proofs.Deals.{lowest_wide, lowest_tall, agree_above, agree_now, agree_all, all_dealt, no_more, down_now}
+use Rattle.slice_bands.proofs.Deals.{lowest_wide, lowest_tall, agree_above, agree_now, agree_all, all_dealt, short_above, down_now}
 use Rattle.slice_bands.proofs.short_bands.ShortBands.deal.Goals as goal
 
 pub copy_plane-requires-clause-same_width : goal.copy_plane-requires-clause-same_width
@@ -34,5 +34,5 @@ returns-clause-within c = λ yes.
     let s = c.args.self.now in
     let b = c.args.bands.now in
     let new : ShortBands = record { lowest = c.copy_plane.new.to; slices = c.deal.new.self } in
-    no_more new b (agree_now s.slices new.slices b c.deal.ensures.same (agree_above s b c.requires.sizes)) (c.copy_plane.ensures ∙ c.band.ensures)
+    short_above new b (agree_now s.slices new.slices b c.deal.ensures.same (agree_above s b c.requires.sizes)) (c.copy_plane.ensures ∙ c.band.ensures)
     (subst (λ n. AreDealt new.slices b n 1) (sym (down_now s.slices new.slices b c.deal.ensures.same)) (c.deal.ensures.dealt yes))
