@@ -16,10 +16,9 @@ use Rattle.raw_video.specs.declared.reader.RawFault.{RawFault}
 use Rattle.raw_video.specs.declared.reader.RawFault.TheVariants as faults
 use Rattle.run_theory.specs.Walk.{Step, Ends, Whole, IsMachine, NoneWhole}
 use Rattle.run_theory.specs.Ran.{Ran, TakesAtMost}
-use Rattle.run_theory.specs.Window.{NoneDue}
 use Rattle.run_theory.specs.declared.Halt.TheVariants as halts
 use Rattle.run_theory.proofs.Walks.{none_if}
-use Rattle.run_theory.proofs.Windows.{holds_opened, holds_more, holds_lost, holds_no_memory, holds_out_fault, holds_ended, holds_last_fault}
+use Rattle.run_theory.proofs.Windows.{NoneDue, holds_opened, holds_more, holds_lost, holds_no_memory, holds_out_fault, holds_ended, holds_last_fault}
 use Rattle.raw_video.specs.PictureRuns.{PictureCommand, BehindPictures, step_shown, step_by, picture_machine, Goes}
 use Rattle.raw_video.proofs.ShownFronts.{shown_length, shown_stays}
 

@@ -11,12 +11,17 @@ use Rattle.bit_codes.proofs.BitLemmas.{length-bits}
 use Rattle.field_rows.specs.Rows.{Fault, done, is_nil}
 use Rattle.field_rows.proofs.Reading.{read-done}
 use Rattle.run_theory.specs.Grammar.{Grammar, Behind, Inner, Final, bytes_at, unit_at, is_settled_by, Waits}
-use Rattle.run_theory.specs.Fronts.{Front, Stands, Finishes, Refuses, nothing, size_to, front_behind, front_by, front_within}
+use Rattle.run_theory.specs.Fronts.{Front, Stands, Finishes, Refuses, size_to, front_behind, front_by, front_within}
 use Rattle.run_theory.specs.Begun.{Partway, Prompt, Begun, Lost, Faults}
 use Rattle.run_theory.specs.Turn.{TakesUnit, MeetsFront}
 use Rattle.run_theory.proofs.GrammarLaws.{IsGrammar, waits_front}
 use Rattle.run_theory.proofs.FrontLaws.{stands_behind, stands_by, nil_by, within_laws}
 use Rattle.run_theory.proofs.Begins.{nothing_more}
+
+-- no byte is left
+abbrev pub nothing : List ℕ → Bool
+nothing [] = true
+nothing (byte ∷ bytes) = false
 
 -- ---- the rows of a unit are read
 

@@ -6,9 +6,9 @@ use Rattle.vc2_io.specs.Outside.{GrewShort}
 use Rattle.field_rows.specs.Rows.{Fault}
 use Rattle.run_theory.specs.Walk.{Ends, Whole}
 use Rattle.run_theory.specs.Ran.{Ran}
-use Rattle.run_theory.specs.Window.{Holds, NoneDue}
+use Rattle.run_theory.specs.Window.{Holds}
 use Rattle.run_theory.specs.declared.Halt.TheVariants.{ReadFault, OutFault, NoMemory}
-use Rattle.run_theory.proofs.Windows.{holds_more, holds_lost, holds_no_memory, holds_out_fault, holds_ended, holds_last_fault}
+use Rattle.run_theory.proofs.Windows.{NoneDue, holds_more, holds_lost, holds_no_memory, holds_out_fault, holds_ended, holds_last_fault}
 use Rattle.run_theory.specs.Grammar.{Grammar}
 use Rattle.run_theory.specs.Fronts.{Close, Front, Stands, front_within, Between, Command, step_by, machine_of}
 use Rattle.run_theory.specs.Begun.{Prompt, Lost, Due}

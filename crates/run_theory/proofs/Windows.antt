@@ -1,14 +1,19 @@
 -- How a run comes out, of a command that holds bytes which it has read and not yet used.
-use Rattle.std.proofs.Common.{◌≡◌, ◌<◌, ℕ, List, [], ◌++◌, length, Option, Some, Ok, Err, refl, sym, ap, ◌∙◌, arith, append_assoc}
+use Rattle.std.proofs.Common.{◌≡◌, ◌<◌, ◌-◌, ℕ, List, [], ◌++◌, length, take, Option, Some, Ok, Err, refl, sym, ap, ◌∙◌, arith, append_assoc}
 use Rattle.std.proofs.lemmas.List.{length-append}
 use Rattle.std.specs.Io.KnownBytes.{Appends, Consumes}
+use Rattle.vc2_io.specs.declared.TheConstants.{READ_SIZE}
 use Rattle.vc2_io.specs.Outside.{GrewShort}
 use Rattle.vc2_io.proofs.Known.{Appends-then, Consumes-then, Consumes-along, Appends-along, Appends-none, Consumes-none}
 use Rattle.run_theory.specs.Walk.{Machine, Ends, Whole, answer_to, answer_from, out_of, before, IsMachine, NoneWhole}
 use Rattle.run_theory.specs.Ran.{Ran}
-use Rattle.run_theory.specs.Window.{Holds, NoneDue}
+use Rattle.run_theory.specs.Window.{Holds}
 use Rattle.run_theory.specs.declared.Halt.TheVariants.{ReadFault, OutFault, NoMemory}
 use Rattle.run_theory.proofs.Walks.{behind_none, prefix_none, prefix_more, behind_more, due_behind, ends_behind, prompt_behind}
+
+-- No unit stands whole in these bytes without their last 4096, so none was due before the last read.
+abbrev pub NoneDue : {Z E : Type 0} → Machine Z E → Z → List ℕ → Type 0
+NoneDue machine z bytes = READ_SIZE < length bytes → NoneWhole (machine.step z (take (length bytes - READ_SIZE) bytes))
 
 -- nothing is taken yet, and the opening was written
 pub holds_opened : {Z E : Type 0} {machine : Machine Z E} (laws : IsMachine machine) (rest out0 out1 : Option (List ℕ)) → Appends out0 out1 machine.opening → Holds machine rest rest out0 out1 [] machine.start

@@ -16,11 +16,6 @@ pub data Front (R U : Type 0) : Type 0 where
   -- the first fault
   Refuses : (fault : Fault R) → Front R U
 
--- no byte is left
-abbrev pub nothing : List ℕ → Bool
-nothing [] = true
-nothing (byte ∷ bytes) = false
-
 -- how many of the bytes lie before a cursor
 abbrev pub size_to : List ℕ → Cursor → ℕ
 size_to bytes behind = length bytes - length behind.rest / 8
