@@ -29,7 +29,7 @@ pub record Passes {T Z R U I : Type 0} (g : Grammar Z R U) (too_long : R) (past_
   pub stands : (g.behind unit ≡ Final) ⊎ ((still : List ℕ)
       × (front_within limit (past_limit g too_long) g (past_of before) (bytes ++ still) ≡ Stands (length bytes) unit))
 
--- a unit's text, and what the unit leaves to the command
+-- A turn wrote the unit's text, and what the unit leaves is the command's; or it halted while it wrote.
 abbrev pub Turns : {Z R U W E X : Type 0} → Command Z R U W E → Z → U → List ℕ → W → W → Option (List ℕ)
     → Option (List ℕ) → Result X Halt → Type 0
 Turns command z unit bytes w w' out0 out1 (Ok x) =
