@@ -23,7 +23,7 @@ use Rattle.raw_video.specs.PictureRuns.{PictureCommand, BehindPictures, picture_
 abbrev pub WeaveEnd : Type 0
 WeaveEnd = Result ℕ WeaveStop
 
--- there is no next picture
+-- why there is no next picture, where the input isn't over
 abbrev pub refused_by : RawFront → WeaveEnd
 refused_by (LargeAt place) = Err (stops.SampleTooLarge place)
 refused_by (CutAt place) = Err (stops.RawTruncated place)
@@ -41,12 +41,12 @@ abbrev pub field_more : FieldsSoFar → PictureSamples → Option PictureSamples
 field_more own field None = record own { first = Some field }
 field_more own field (Some first) = record { frames = own.frames + 1; first = None }
 
--- a second field's text is the frame
+-- a field's text: of a first one nothing, of a second one their frame
 abbrev pub field_text : Order → Frame → PictureSamples → Option PictureSamples → List ℕ
 field_text order f field None = []
 field_text order f field (Some first) = raw_text (frame_of_two f) (woven_frame order f first field)
 
--- half a frame is asked at the input's end
+-- at the input's end a first field without its second is half a frame
 abbrev pub fields_end : (place : ℕ) → FieldsSoFar → Option PictureSamples → WeaveEnd
 fields_end place own None = Ok own.frames
 fields_end place own (Some first) = Err (stops.HalfFrame place)
@@ -102,11 +102,11 @@ weave_result (Err stops.ReadFault) = Err halts.ReadFault
 weave_result (Err stops.OutFault) = Err halts.OutFault
 weave_result other = Ok other
 
--- the first field of a frame that has one
+-- the first field of a frame, where its frame is begun
 abbrev pub first_of : Order → Frame → Bool → PictureSamples → Option PictureSamples
 first_of order f begun frame = if begun then Some (split order f false frame) else None
 
--- the first field that is kept for a frame that has one
+-- the first field that is kept, where its frame is begun
 abbrev pub kept_first : Bool → PictureSamples → Option PictureSamples
 kept_first begun first = if begun then Some first else None
 
