@@ -121,7 +121,8 @@ cut_next frames z w Skipped bytes = w
 abbrev pub empty_cut : List ℕ → List ℕ
 empty_cut payload = cut_header_unit payload ++ end_unit (HEAD_SIZE + length payload)
 
--- what stands behind the stream's last unit, an end of sequence
+-- What the stream's last unit, an end of sequence, has the cut write: the end of a sequence that was begun; or, where nothing
+-- was written, the cut of no frame.
 abbrev pub closing_by : Option ℕ → ℕ → Option First → List ℕ
 closing_by (Some previous) written first = end_unit previous
 closing_by None zero (Some first) = empty_cut first.payload
@@ -160,7 +161,7 @@ cut_of frames pieces = cut_front frames pieces ++ closing (left_from frames noth
 
 -- ---- the run
 
--- the units that a unit gives, by their lengths
+-- the shape of the header's unit, where it stands before a chosen picture
 abbrev pub header_shapes : Past → ℕ → Option ℕ → List UnitShape
 header_shapes z start None = record { start = start; head = HEAD_SIZE + length (payload_of z.first); slices = 0; a = 1; b = 1 } ∷ []
 header_shapes z start (Some previous) = []
@@ -195,7 +196,7 @@ closing_shapes_by None zero (Some first) =
 closing_shapes_by None zero None = []
 closing_shapes_by None (suc n) first = []
 
--- the same of a cut
+-- the same behind what the units so far leave
 abbrev pub closing_shapes : Cutting → List UnitShape
 closing_shapes w = closing_shapes_by w.previous w.written w.first
 
@@ -243,6 +244,6 @@ cutting frames = record {
   endless = Whole [] 0;
 }
 
--- that over the units of a skimmed stream
+-- the same as a machine over the units of a skimmed stream
 abbrev pub cut_machine : Frames → Machine (Between Past CutSoFar) CutEnd
 cut_machine frames = machine_of limit past_limit skim_grammar nothing_yet (cutting frames)

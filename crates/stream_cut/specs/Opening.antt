@@ -36,12 +36,14 @@ pub data Opened : Type 0 where
 
 -- ---- its rows
 
+-- a sequence's first header, whole
 unfoldable pub open_first : Past → ℕ → Rows Reason Opened
 open_first z next = do
   parts ← renamed header_reason header_rows
   length ← next_checked z next
   done (OpensSequence parts)
 
+-- a repeated header, whole
 unfoldable pub open_repeated : Past → ℕ → First → Rows Reason Opened
 open_repeated z next first = do
   payload ← bytes_under (length first.payload) (λ bytes.
@@ -49,12 +51,14 @@ open_repeated z next first = do
   length ← next_checked z next
   done OpensRepeated
 
+-- a picture up to its slices: its number and the transform parameters
 unfoldable pub open_picture : Past → ℕ → HeaderParts → Rows Reason Opened
 open_picture z next parts = do
   number ← word_under (number_rules z)
   params ← renamed transform_reason params_rows
   done (OpensPicture parts number params next)
 
+-- the beginning of the payload of each kind
 unfoldable pub open_payload_of : Past → First → ℕ → Code → Rows Reason Opened
 open_payload_of z first next SequenceHeader = open_repeated z next first
 open_payload_of z first next EndOfSequence = done OpensEnd
@@ -62,10 +66,12 @@ open_payload_of z first next LowDelayPicture = open_picture z next first.parts
 open_payload_of z first next Auxiliary = done (OpensSkipped next)
 open_payload_of z first next Padding = done (OpensSkipped next)
 
+-- the beginning of the payload that a head announces, of a sequence's first unit or a later one
 unfoldable pub open_payload : Past → Option First → ParseInfo → Rows Reason Opened
 open_payload z None head = open_first z head.next
 open_payload z (Some first) head = open_payload_of z first head.next head.code
 
+-- the head, and the beginning of the payload
 unfoldable pub open_rows : Past → Rows Reason Opened
 open_rows z = do
   head ← unit_head z

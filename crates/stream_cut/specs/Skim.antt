@@ -34,6 +34,7 @@ unfoldable pub skim_payload_of : Past → First → ℕ → Code → Rows Reason
 skim_payload_of z first next LowDelayPicture = skim_picture z next first.parts
 skim_payload_of z first next other = payload_of z first next other
 
+-- the payload that a head announces, of a sequence's first unit or a later one
 unfoldable pub skim_payload : Past → Option First → ParseInfo → Rows Reason DataUnit
 skim_payload z None head = payload_rows z None head
 skim_payload z (Some first) head = skim_payload_of z first head.next head.code
