@@ -15,7 +15,7 @@ use Rattle.vc2_words.specs.declared.keys.Key.TheVariants as of_key
 use Rattle.vc2_words.specs.Forms.{greatest_number}
 use Rattle.vc2_words.specs.Operands.{Table, value_of}
 use Rattle.vc2_words.specs.Plain.{IsPlain, IsPlainScan, IsPlainRate, IsPlainSignal}
-use Rattle.vc2_words.specs.Read.{IsTableRead}
+use Rattle.vc2_words.proofs.Given.{IsTableRead}
 use Rattle.vc2_words.specs.Settings.{number_of, signal_of, parts_of, field_parts}
 use Rattle.vc2_words.proofs.Small.{number_small}
 

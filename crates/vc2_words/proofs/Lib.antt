@@ -1,4 +1,5 @@
 pub mod Lists
+pub mod Given
 pub mod Walk
 pub mod Lawful
 pub mod Rules

@@ -25,12 +25,12 @@ use Rattle.vc2_words.specs.declared.keys.WordFault.{WordFault}
 use Rattle.vc2_words.specs.Keys.{name_of, all_keys}
 use Rattle.vc2_words.specs.Commands.{AskedCommand, check, encode, trial, weave, split, cut, unless_broken, schedule_from, schedule_of, command_of, part_of, command_named, asked_by}
 use Rattle.vc2_words.proofs.Plainness.{IsWhole, missing_none, plain_of, whole_of, pair_is, single_is, range_is, none_some, some_same}
-use Rattle.vc2_words.specs.Read.{IsTableRead, IsValue}
+use Rattle.vc2_words.proofs.Given.{IsTableRead, IsValue}
 use Rattle.vc2_words.proofs.Small.{AreSmall, given_small, number_small}
 use Rattle.vc2_words.proofs.HeaderNumbers.{parts_lawful, field_parts_lawful}
 use Rattle.vc2_words.proofs.Trials.{seed_low, pictures_of}
 use Rattle.transform_params.proofs.Bounds.{unit_small}
-use Rattle.vc2_words.specs.Settings.{number_of, given_number, entries_of, parts_of, params_of, slicing_of, are_slices, is_share, trial_number_rules, trial_rules, broken_rule, or_first, is_even_with, are_paired, group_of, asked_of, field_parts, field_rules, video_of, cut_of, cut_rules, rate_or, rate_given, buffer_given}
+use Rattle.vc2_words.specs.Settings.{number_of, given_number, entries_of, parts_of, params_of, slicing_of, are_slices, is_share, trial_number_rules, trial_rules, broken_rule, or_first, is_even_with, are_paired, first_given, asked_of, field_parts, field_rules, video_of, cut_of, cut_rules, rate_or, rate_given, buffer_given}
 use Rattle.vc2_words.proofs.Lawful.{range_of, and_both, passes}
 use Rattle.vc2_words.proofs.Rules.{all_hold, slices_hold, share_holds, count_holds}
 
@@ -61,7 +61,7 @@ share_allowed s good =
 
 -- the pictures of a sequence that these operands ask for
 abbrev group_in : Table → Option ℕ
-group_in given = group_of (value_of given of_key.Group)
+group_in given = first_given (value_of given of_key.Group)
 
 none_before : (a b : Option settings.Rule) → or_first a b ≡ None → a ≡ None
 none_before None b e = refl
@@ -134,7 +134,7 @@ even_with coding n good one =
     let is : (coding == 1) ≡ true = eq-eqb coding 1 one in
     eqb-true (n % 2) 0 (rw is at good)
 
-group_lawful : (coding : ℕ) (v : Option (List ℕ)) → ((ns : List ℕ) → v ≡ Some ns → IsValue of_key.Group ns) → are_paired coding (group_of v) ≡ true → IsAskedGroup coding (group_of v)
+group_lawful : (coding : ℕ) (v : Option (List ℕ)) → ((ns : List ℕ) → v ≡ Some ns → IsValue of_key.Group ns) → are_paired coding (first_given v) ≡ true → IsAskedGroup coding (first_given v)
 group_lawful coding None read even = tt
 group_lawful coding (Some ns) read even =
     let value = read ns refl in

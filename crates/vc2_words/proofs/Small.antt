@@ -8,7 +8,8 @@ use Rattle.vc2_words.specs.declared.keys.Key.{Key}
 use Rattle.vc2_words.specs.declared.keys.Key.TheVariants as of_key
 use Rattle.vc2_words.specs.Forms as Forms
 use Rattle.vc2_words.specs.Forms.{greatest_number, slash, cross, comma, value_in, cut_at, number_of_digits, number_at_least, in_range, single, both_parts, more, exactly, list_in, list_behind, signal_at}
-use Rattle.vc2_words.specs.Read.{IsTableRead, bound_of, IsFit, IsFitValue}
+use Rattle.vc2_words.specs.Fits.{bound_of, IsFit, IsFitValue}
+use Rattle.vc2_words.proofs.Given.{IsTableRead}
 use Rattle.vc2_words.specs.Keys.{place_of}
 use Rattle.std.proofs.lemmas.Bool.{eqb-true, eq-eqb, false≢true}
 use Rattle.std.proofs.lemmas.List.{get_or-set_same, get_or-set_other, length-set, get_or-replicate}

@@ -7,7 +7,7 @@ use Rattle.vc2_words.specs.declared.keys.Name.TheVariants as names
 use Rattle.vc2_words.specs.Keys.{all_keys}
 use Rattle.vc2_words.specs.Forms.{number_of_digits, in_range, value_in}
 use Rattle.vc2_words.specs.Operands.{Table, value_of, has_schedule}
-use Rattle.vc2_words.specs.Read.{IsTableRead}
+use Rattle.vc2_words.proofs.Given.{IsTableRead}
 use Rattle.vc2_words.specs.Settings.{number_of, given_number}
 use Rattle.vc2_words.proofs.Plainness.{IsWhole, missing_none, at_most, single_is, range_is}
 

@@ -1,20 +1,10 @@
--- What is given was read from texts.
+-- How large the numbers are that operands can hold.
 use Rattle.std.specs.Prelude.{◌≡◌, ◌≤◌, ◌^◌, ℕ, List, Some, length, slice_index}
 use Rattle.vc2_words.specs.declared.keys.TheConstants.{KEY_COUNT}
 use Rattle.vc2_words.specs.declared.keys.Key.{Key}
 use Rattle.vc2_words.specs.declared.keys.Key.TheVariants as of_key
-use Rattle.vc2_words.specs.Forms.{value_in, greatest_number}
+use Rattle.vc2_words.specs.Forms.{greatest_number}
 use Rattle.vc2_words.specs.Operands.{Table, value_of}
-
--- these numbers are the value of a text
-pub record IsValue (key : Key) (ns : List ℕ) : Type 0 where
-  pub text : List ℕ
-  pub reads : value_in key text ≡ Some ns
-
--- each key that is given has the value of some text
-pub record IsTableRead (given : Table) : Type 0 where
-  pub read : (key : Key) (ns : List ℕ) → value_of given key ≡ Some ns → IsValue key ns
-  pub many : length given ≡ KEY_COUNT
 
 -- A bound of the numbers that a value of this key can hold: 32 bits, but for a schedule's delay, buffer and idle slots.
 abbrev pub bound_of : Key → ℕ

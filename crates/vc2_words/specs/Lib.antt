@@ -7,5 +7,5 @@ pub mod Settings
 pub mod Shown
 pub mod Commands
 pub mod Lawful
-pub mod Read
+pub mod Fits
 pub mod Order

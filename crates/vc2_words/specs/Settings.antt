@@ -35,6 +35,11 @@ number_of (Some ns) i = slice_index ns i
 abbrev pub given_number : Table → Key → ℕ → ℕ
 given_number given key i = number_of (value_of given key) i
 
+-- the first number of a value, where one is given
+abbrev pub first_given : Option (List ℕ) → Option ℕ
+first_given None = None
+first_given (Some ns) = Some (slice_index ns 0)
+
 -- ---- the header
 
 -- the rate by its index where it is one of the standard's table
@@ -62,12 +67,7 @@ signal_of (Some ns) =
       colour_excursion = slice_index ns 3;
     })
 
--- the scan that is given (11.4.5)
-abbrev pub scan_of : Option (List ℕ) → Option ℕ
-scan_of None = None
-scan_of (Some ns) = Some (slice_index ns 0)
-
--- the header's parts that are asked for (11.1)
+-- the header's parts that are asked for (11.1, the scan 11.4.5)
 abbrev pub parts_of : Table → HeaderParts
 parts_of given = record {
   major = 1;
@@ -76,7 +76,7 @@ parts_of given = record {
   width = given_number given of_key.Size 0;
   height = given_number given of_key.Size 1;
   sampling = given_number given of_key.Sampling 0;
-  scan = scan_of (value_of given of_key.Scan);
+  scan = first_given (value_of given of_key.Scan);
   rate = rate_field (given_number given of_key.Fps 0) (given_number given of_key.Fps 1);
   aspect = aspects.Default;
   clean = None;
@@ -85,7 +85,7 @@ parts_of given = record {
   coding = given_number given of_key.Fields 0;
 }
 
--- sides of 1 to 8192 samples, and at most 2^24 of them
+-- sides of 1 to 8192 samples, and at most 2^24 samples in all
 abbrev pub is_size : HeaderParts → Bool
 is_size p = is_in_range 1 8192 p.width && (is_in_range 1 8192 p.height && nat_le (p.width * p.height) (2 ^ 24))
 
@@ -103,7 +103,7 @@ is_signal (signals.Custom r) = is_in_range 1 65535 r.luma_excursion && is_in_ran
 
 -- ---- fields
 
--- the parts of fields; the rate is nothing of theirs
+-- the parts of raw fields; raw video has no rate, so any stands for it
 abbrev pub of_fields : HeaderParts → HeaderParts
 of_fields p = record p { rate = rates.Index 1; coding = 1 }
 
@@ -127,7 +127,7 @@ video_of given = record { header = field_parts given; top = is_top given }
 
 -- ---- the parameters
 
--- the wavelet of a number
+-- the wavelet by the number of its name
 abbrev pub wavelet_of : ℕ → Wavelet
 wavelet_of n = if n == 0 then LeGall else (if n == 1 then HaarFlat else HaarShift)
 
@@ -189,7 +189,7 @@ abbrev pub is_short : HeaderParts → Params → Option ℕ → Option ℕ → B
 is_short parts params group None = true
 is_short parts params group (Some pictures) = nat_le (asked_length parts params group pictures) (2 ^ 28)
 
--- the rules on the numbers
+-- the rules on the numbers of `encode` and of `trial`, which has a number of pictures
 abbrev pub trial_number_rules : HeaderParts → Params → ℕ → Option ℕ → Option ℕ → List (Rule settings.Rule)
 trial_number_rules parts params first group pictures =
     (is_size parts or_else broken.Size)
@@ -212,15 +212,10 @@ abbrev pub or_first : Option settings.Rule → Option settings.Rule → Option s
 or_first None later = later
 or_first (Some rule) later = Some rule
 
--- the pictures of a sequence, where they are given
-abbrev pub group_of : Option (List ℕ) → Option ℕ
-group_of None = None
-group_of (Some ns) = Some (slice_index ns 0)
-
 -- the first rule that these operands break
 abbrev pub broken_rule : Table → Option ℕ → Option settings.Rule
 broken_rule given pictures =
-    let group = group_of (value_of given of_key.Group) in
+    let group = first_given (value_of given of_key.Group) in
     or_first (first_broken (trial_number_rules (parts_of given) (params_of given) (given_number given of_key.First 0) group pictures))
     (first_broken (trial_rules (parts_of given) (params_of given) group pictures))
 
@@ -240,8 +235,7 @@ rate_given (Some ns) = Some (record { num = slice_index ns 0; den = slice_index 
 
 -- the buffer that is given, in bytes
 abbrev pub buffer_given : Option (List ℕ) → Option ℕ
-buffer_given None = None
-buffer_given (Some ns) = Some (slice_index ns 0)
+buffer_given given = first_given given
 
 -- the rate that is given, else the usual one
 abbrev pub rate_or : Rate → Option Rate → Rate
@@ -260,7 +254,7 @@ asked_of given = record {
   params = params_of given;
   first = given_number given of_key.First 0;
   rate = rate_of (params_of given) (given_number given of_key.Idle 0) (value_of given of_key.Rate);
-  group = group_of (value_of given of_key.Group);
+  group = first_given (value_of given of_key.Group);
   idle = given_number given of_key.Idle 0;
 }
 
@@ -275,6 +269,6 @@ cut_of given = record {
   idle = given_number given of_key.Idle 0;
 }
 
--- the frames from one number on, and before another, are some
+-- there is a frame from the one number on and before the other
 abbrev pub cut_rules : CutSettings → List (Rule settings.Rule)
 cut_rules c = (nat_le (c.from + 1) c.to or_else broken.CutOrder) ∷ []

@@ -7,7 +7,7 @@ ghost use Rattle.vc2_words.specs.declared.keys.Key.TheVariants as of_key;
 ghost use Rattle.vc2_words.specs.Operands.{value_of};
 ghost use Rattle.vc2_words.specs.Plain.{IsPlain};
 ghost use Rattle.vc2_words.specs.Forms.{greatest_number};
-ghost use Rattle.vc2_words.specs.Read.{bound_of};
+ghost use Rattle.vc2_words.specs.Fits.{bound_of};
 ghost use Rattle.vc2_words.specs.Shown.{shown};
 ghost use Rattle.vc2_words.specs.Settings as asked;
 ghost use Rattle.vc2_words.specs.Settings.{given_number, parts_of, slicing_of, params_of, broken_rule, trial_number_rules, entries_of, asked_of};
@@ -343,7 +343,7 @@ fn are_paired(coding: u32, number: Option<u32>) -> bool
 
 /// The pictures of a sequence, where they are given.
 fn group_of(given: &Given) -> Option<u32>
-    ensures { result ≡ asked.group_of (value_of given.now.values of_key.Group) }
+    ensures { result ≡ asked.first_given (value_of given.now.values of_key.Group) }
 {
     match given.get(Key::Group) {
         None => None,
