@@ -28,7 +28,7 @@ use Rattle.run_theory.specs.Grammar.{bytes_at}
 use Rattle.run_theory.specs.Begun.{Moves}
 use Rattle.stream_rows.specs.declared.reason.Reason.TheVariants as reasons
 use Rattle.stream_rows.specs.Units.{First, Past, nothing_yet, DataUnit, Sequence, Repeated, Picture, Skipped, End, reason_of, code_rules, number_rules, unit_rows, after, units}
-use Rattle.stream_rows.specs.Streams.{bytes_between, ends, Entry, Units, IsStreamFrom, limit, frame_under}
+use Rattle.stream_rows.specs.Streams.{bytes_between, ends, Entry, Units, IsStreamFromBy, limit, frame_under}
 use Rattle.stream_writer.specs.StreamPictures.{pictures_of}
 use Rattle.picture_codec.specs.Samples.{picture_of}
 use Rattle.picture_codec.specs.Encoding.{picture_bytes}
@@ -83,7 +83,7 @@ encoded_fits s pictures f = fit_append (header_unit s.parts) (units_behind s 0 (
 record Found (z : Past) (bytes : List ℕ) (found : List DataUnit) : Type 0 where
   entries : List Entry
   last : Entry
-  stream : IsStreamFrom z (bytes_at z.place bytes) entries last
+  stream : IsStreamFromBy unit_rows z (bytes_at z.place bytes) entries last
   units : map (λ (e : Entry). e.unit) entries ≡ found
   ends : last.unit ≡ End
 
