@@ -6,25 +6,39 @@ use Rattle.run_theory.specs.Walk.{Machine, answer_to}
 use Rattle.run_theory.specs.Ran.{Ran}
 use Rattle.run_theory.specs.Window.{Holds}
 use Rattle.run_theory.proofs.Windows.{holds_opened}
-use Rattle.run_theory.specs.Fronts.{Between}
+use Rattle.run_theory.specs.Fronts.{Between, Command}
 use Rattle.run_theory.proofs.FrontLaws.{machine_laws}
 use Rattle.run_theory.proofs.Turning.{turned_more, turned_ended}
 use Rattle.stream_reader.specs.declared.stop.Item.{Item}
 use Rattle.stream_reader.specs.declared.stop.Item.TheVariants as items
 use Rattle.stream_reader.specs.ReadStops.{ReadStop}
 use Rattle.unit_reader.specs.declared.stop.ReadStop.TheVariants as stops
+use Rattle.stream_rows.specs.declared.reason.Reason.{Reason}
 use Rattle.stream_rows.specs.declared.reason.Reason.TheVariants as reasons
 use Rattle.stream_reader.specs.declared.judging.Verdict.{Verdict}
 use Rattle.stream_reader.specs.declared.judging.Verdict.TheVariants as verdicts
-use Rattle.stream_rows.specs.Units.{Past, nothing_yet, unit_rows, units}
+use Rattle.stream_rows.specs.Units.{Past, DataUnit, nothing_yet, unit_rows, units}
 use Rattle.stream_rows.specs.Streams.{limit, past_limit, refusal_of, HasOneAnswer}
 use Rattle.unit_reader.specs.Stops.{LimitStops}
 use Rattle.stream_reader.specs.Reader.{StreamReaderSeen, new_reader, is_end_item, TakesStreamItem, TakesEnd, NextItemOver}
-use Rattle.stream_reader.specs.Judging.{IsVerdict, IsStopVerdict, judging}
+use Rattle.stream_reader.specs.Judging.{IsVerdict, IsStopVerdict}
 use Rattle.stream_rows.proofs.Steady.{units_laws}
 use Rattle.stream_rows.proofs.Tables.{stream_table}
 use Rattle.stream_rows.proofs.OneAnswer.{one_answer}
 use Rattle.stream_rows.proofs.Answering.{machine, IsPlain, answer_stream, answer_refusal, after-place}
+
+-- a judge goes through the units and writes nothing
+abbrev pub judging : Command Past Reason DataUnit Unit Verdict
+judging = record {
+  opening = [];
+  start = tt;
+  next = λ z own unit bytes. tt;
+  text = λ z own unit bytes. [];
+  finished = λ z own unit bytes. record { ending = verdicts.Stream; last = [] };
+  rested = λ z own. record { ending = verdicts.Stream; last = [] };
+  refused = λ z own fault. record { ending = verdicts.Refused (refusal_of fault); last = [] };
+  endless = verdicts.Stream;
+}
 
 abbrev pub judge_machine : Machine (Between Past Unit) Verdict
 judge_machine = machine judging

@@ -7,11 +7,7 @@ use Rattle.parse_info.specs.Head.{head_rows}
 use Rattle.run_theory.specs.GrammarLaws.{IsGrammar}
 use Rattle.stream_reader.specs.HeadUnits.{head_only_head, head_only_payload, head_only_unit, heads}
 
--- More bytes don't change what the head alone came to.
-pub head_only_steady : IsSteady head_only_head
-unfolding head_only_head head_rows
-head_only_steady = search steady depth 20
-
+-- More bytes don't change what a unit came to.
 unit_steady : IsSteady head_only_unit
 unfolding head_only_unit head_only_payload head_only_head head_rows
 unit_steady = search steady depth 20

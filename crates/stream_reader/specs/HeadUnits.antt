@@ -29,6 +29,7 @@ head_only_payload info = do
   payload ← bytes_under (payload_length info) (λ bytes. [])
   done info
 
+-- a unit by its head: the payload is skipped
 unfoldable pub head_only_unit : Rows Reason ParseInfo
 head_only_unit = do
   info ← head_only_head

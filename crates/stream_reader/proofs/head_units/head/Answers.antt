@@ -6,8 +6,8 @@ use Rattle.stream_rows.specs.Units.{is_truncated}
 use Rattle.unit_reader.proofs.Gets.{got_most}
 use Rattle.unit_reader.proofs.Stopping.{stops_told}
 use Rattle.stream_reader.specs.HeadUnits.{head_only_head}
-use Rattle.stream_reader.specs.HeadLaws.{head_only_steady, heads_laws}
-use Rattle.stream_reader.proofs.HeadOnlyRows.{heads_table}
+use Rattle.stream_reader.specs.HeadLaws.{heads_laws}
+use Rattle.stream_reader.proofs.HeadOnlyRows.{heads_table, head_only_steady}
 use Rattle.stream_reader.proofs.HeadTurns.{head_stands, head_fault, head_few}
 use Rattle.stream_reader.proofs.head_units.head.Goals as goal
 
