@@ -1,4 +1,5 @@
 pub mod WorkedSlices
+pub mod WorkedSteps
 pub mod Dealt
 pub mod Rects
 pub mod Stacks
