@@ -43,6 +43,7 @@ pub mod ListedReaches
 pub mod CodeSizes
 pub mod KeySums
 pub mod WorkedLowNeeds
+pub mod WorkedTables
 pub mod Counting
 pub mod FirstCandidates
 pub mod ShortParts

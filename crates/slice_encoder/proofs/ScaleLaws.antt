@@ -17,16 +17,16 @@ number_least : (i : ℕ) → i < 128 → 2 ^ (33 + i / 4) ≤ factor_of i * get_
 unfolding factor_of
 number_least i lt = leb→le _ _ (passed (λ k. leb (2 ^ (33 + k / 4)) (factor_of k * get_or SCALES k 0)) 128 tt i lt)
 
-number_most : (i : ℕ) → i < 128 → factor_of i * get_or SCALES i 0 ≤ 2 ^ (33 + i / 4) + factor_of i
+number_most : (i : ℕ) → i < 128 → factor_of i * get_or SCALES i 0 + 1 ≤ 2 ^ (33 + i / 4) + factor_of i
 unfolding factor_of
-number_most i lt = leb→le _ _ (passed (λ k. leb (factor_of k * get_or SCALES k 0) (2 ^ (33 + k / 4) + factor_of k)) 128 tt i lt)
+number_most i lt = leb→le _ _ (passed (λ k. leb (factor_of k * get_or SCALES k 0 + 1) (2 ^ (33 + k / 4) + factor_of k)) 128 tt i lt)
 
 factor_below : (i : ℕ) → i < 128 → factor_of i ≤ 2 ^ (3 + i / 4)
 unfolding factor_of
 factor_below i lt = leb→le _ _ (passed (λ k. leb (factor_of k) (2 ^ (3 + k / 4))) 128 tt i lt)
 
 pub number_is : (i : ℕ) → i ≤ 127 → IsScaleOf (record { number = get_or SCALES i 0; shift = 31 + i / 4 }) i
-number_is i le = record { shift = refl; least = number_least i (omega (arith, le)); most = number_most i (omega (arith, le)) }
+number_is i le = record { shift = refl; least = number_least i (omega (arith, le)); most = omega (arith, number_most i (omega (arith, le))) }
 
 -- ---- what it computes
 
@@ -52,4 +52,4 @@ scaled_is m i s le small is =
     ap (λ (k : ℕ). m * s.number / 2 ^ k) is.shift
     ∙ shifted m s.number (31 + q)
     ∙ ap (λ (k : ℕ). 4 * m * s.number / 2 ^ k) up
-    ∙ product_divides (2 ^ (33 + q)) (4 * m) f s.number (omega (arith, factor_least i lt)) is.least is.most few
+    ∙ product_divides (2 ^ (33 + q)) (4 * m) f s.number (omega (arith, factor_least i lt)) is.least (omega (arith, is.most)) few

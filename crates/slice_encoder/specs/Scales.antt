@@ -1,5 +1,5 @@
 -- Four over a factor, as a number over a power of two.
-use Rattle.std.specs.Prelude.{◌≡◌, ℕ, ◌+◌, ◌*◌, ◌/◌, ◌^◌, ◌≤◌}
+use Rattle.std.specs.Prelude.{◌≡◌, ℕ, ◌+◌, ◌*◌, ◌/◌, ◌^◌, ◌<◌, ◌≤◌}
 use Rattle.quant_factors.specs.Factors.{factor_of}
 use Rattle.slice_encoder.specs.declared.scales.Scale.{Scale}
 
@@ -7,4 +7,4 @@ use Rattle.slice_encoder.specs.declared.scales.Scale.{Scale}
 pub record IsScaleOf (s : Scale) (index : ℕ) : Type 0 where
   pub shift : s.shift ≡ 31 + index / 4
   pub least : 2 ^ (33 + index / 4) ≤ factor_of index * s.number
-  pub most : factor_of index * s.number ≤ 2 ^ (33 + index / 4) + factor_of index
+  pub most : factor_of index * s.number < 2 ^ (33 + index / 4) + factor_of index
