@@ -6,6 +6,7 @@ pub mod BothWidths
 pub mod Steps
 pub mod Whole
 pub mod WorkedPictures
+pub mod WorkedDealt
 pub mod ReadBack
 pub mod WrittenValues
 pub mod WrittenBands

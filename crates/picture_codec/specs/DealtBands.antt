@@ -10,7 +10,7 @@ use Rattle.slice_geometry.specs.declared.PictureShape.{PictureShape}
 use Rattle.slice_geometry.specs.Slicing.{Slicing}
 use Rattle.slice_encoder.specs.Sources.{AreCut}
 
--- the bands have the sizes of a component's whom the slices cover
+-- the bands have the sizes of those of a component that the slices cover
 abbrev pub HasOwnSizes : ShortBands → Type 0
 HasOwnSizes b = HaveSizes (short_stack b) (b.slices.across * b.slices.sw) (b.slices.down * b.slices.sh)
 
