@@ -15,13 +15,12 @@ use Rattle.field_weave.specs.declared.Order.{Order}
 use Rattle.field_weave.specs.Weaving.{frame_of_two, woven_frame}
 use Rattle.vc2_cli.specs.declared.status.Note.TheVariants.{Framed}
 use Rattle.vc2_cli.specs.declared.status.Ending.TheVariants.{Done, Refused}
-use Rattle.vc2_cli.specs.Telling.{IsUnder}
 use Rattle.vc2_cli.specs.Frames.{FramesSoFar, are_fields, no_frames, frames_more, frame_text, frames_after, frames_text, framing, frames_machine}
 use Rattle.vc2_cli.specs.Reply.{reply_of}
 use Rattle.vc2_cli.specs.StreamReplies.{AreBytes, raw_texts_of, refused_reply}
 use Rattle.vc2_cli.specs.Weave.{order_of}
 use Rattle.vc2_cli.specs.FrameReplies.{sequence_pictures, frames_in, stream_frames, frames_between, framed_reply, IsFramed}
-use Rattle.vc2_cli.proofs.PicturesUnder.{stream_under, refusal_under}
+use Rattle.vc2_cli.proofs.PicturesUnder.{IsUnder, stream_under, refusal_under}
 
 abbrev units_of : List Entry → List DataUnit
 units_of es = map (λ e. e.unit) es

@@ -22,10 +22,10 @@ use Rattle.field_weave.proofs.WeaveLaws.{split_of_placed_table}
 use Rattle.vc2_words.proofs.Plainness.{some_same, none_some}
 use Rattle.unit_reader.proofs.Opens.{IsOpenMachine}
 use Rattle.vc2_cli.specs.Endings.{MayEndOtherwise}
-use Rattle.vc2_cli.specs.Telling.{PassesUnit, IsUnder, begins, tells_sequence, tells_picture}
-use Rattle.vc2_cli.proofs.Decoding.{stream_laws, stream_opens, item_tells}
-use Rattle.vc2_cli.proofs.Passing.{place_is, picture_is, shown_is}
-use Rattle.vc2_cli.proofs.PicturesUnder.{passed_under}
+use Rattle.vc2_cli.specs.Telling.{tells_sequence, tells_picture}
+use Rattle.vc2_cli.proofs.Decoding.{begins, stream_laws, stream_opens, item_tells}
+use Rattle.vc2_cli.proofs.Passing.{PassesUnit, place_is, picture_is, shown_is}
+use Rattle.vc2_cli.proofs.PicturesUnder.{IsUnder, passed_under}
 use Rattle.vc2_cli.specs.Frames.{FramesSoFar, are_fields, frames_more, frame_text, frames_after, frames_text, framing, frames_machine, first_in, IsFrameFor, KeepsFrame}
 
 abbrev some_parts : HeaderParts → Option HeaderParts

@@ -6,17 +6,23 @@ use Rattle.sequence_header.specs.declared.parts.HeaderParts.{HeaderParts}
 use Rattle.transform_params.specs.Params.{Params}
 use Rattle.picture_codec.specs.Samples.{PictureSamples, PictureSeen, picture_of}
 use Rattle.picture_codec.specs.Decoding.{PictureDecoderSeen}
-use Rattle.stream_rows.specs.Units.{Past, DataUnit, Sequence, Repeated, Picture, Skipped, End}
+use Rattle.stream_rows.specs.declared.reason.Reason.TheVariants as reasons
+use Rattle.stream_rows.specs.Units.{Past, units, DataUnit, Sequence, Repeated, Picture, Skipped, End}
 use Rattle.stream_rows.specs.Streams.{frame_under}
 use Rattle.stream_rows.proofs.Answering.{after-place}
+use Rattle.unit_reader.specs.Running.{Passes}
 use Rattle.stream_reader.specs.declared.stop.Item.{Item}
 use Rattle.stream_reader.specs.Reader.{item_of, IsPictureOf, IsTakerOf}
 use Rattle.stream_reader.specs.ReaderInside.{seen_of}
-use Rattle.stream_reader.specs.StreamTable.{StreamTableSeen, IsMaker, DecoderBehind}
+use Rattle.stream_reader.specs.StreamTable.{StreamTableSeen, TellsUnit, IsMaker, DecoderBehind}
 use Rattle.vc2_words.proofs.Plainness.{some_same}
 use Rattle.vc2_cli.specs.Decode.{unit_pictures}
-use Rattle.vc2_cli.specs.Telling.{PassesUnit, tells_picture}
+use Rattle.vc2_cli.specs.Telling.{tells_picture}
 use Rattle.vc2_cli.proofs.Decoding.{pictures_few}
+
+-- a unit of a stream lies between two tables, and the item tells it
+abbrev pub PassesUnit : StreamTableSeen → StreamTableSeen → Item → Type 0
+PassesUnit before behind item = Passes units reasons.StreamTooLong (λ (table : StreamTableSeen). table.past) TellsUnit before behind item
 
 -- a unit whose picture this decoder took
 record Taken (makes : Bool) (unit : DataUnit) (decoder : Option PictureDecoderSeen) : Type 0 where

@@ -7,9 +7,13 @@ use Rattle.run_theory.specs.Grammar.{Final}
 use Rattle.run_theory.specs.Fronts.{Stands, front_within}
 use Rattle.stream_rows.specs.Refusals.{Refusal}
 use Rattle.stream_rows.specs.Streams.{Entry, limit, past_limit, IsStream, IsRefusal}
-use Rattle.stream_rows.specs.Units.{Past, First, DataUnit, nothing_yet, unit_head, first_payload, repeated_payload, picture_payload, skipped_payload, payload_of, payload_rows, unit_behind, unit_rows, units}
+use Rattle.stream_rows.specs.Units.{Past, First, DataUnit, Picture, nothing_yet, unit_head, first_payload, repeated_payload, picture_payload, skipped_payload, payload_of, payload_rows, unit_behind, unit_rows, units}
 use Rattle.stream_rows.proofs.Made.{Make, skip, AreSuch, passed_such, stream_such, refusal_such}
-use Rattle.vc2_cli.specs.Telling.{IsUnder}
+
+-- a picture's header is its sequence's
+abbrev pub IsUnder : Past → DataUnit → Type 0
+IsUnder z (Picture parts number params slices) = (first : First) × (z.first ≡ Some first) × (parts ≡ first.parts)
+IsUnder z other = Unit {0}
 
 -- ---- the rows of a unit
 

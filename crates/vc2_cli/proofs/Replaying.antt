@@ -12,9 +12,8 @@ use Rattle.channel_schedule.specs.Courses.{course_of, count_in, IsOutcome}
 use Rattle.channel_schedule.proofs.Unique.{one_outcome}
 use Rattle.unit_reader.proofs.Opens.{IsOpenMachine}
 use Rattle.vc2_cli.specs.Endings.{MayEndOtherwise, replayed_close}
-use Rattle.vc2_cli.specs.Telling.{PassesUnit}
 use Rattle.vc2_cli.proofs.Decoding.{stream_laws, stream_opens}
-use Rattle.vc2_cli.proofs.Passing.{place_is}
+use Rattle.vc2_cli.proofs.Passing.{PassesUnit, place_is}
 use Rattle.vc2_cli.specs.Scheduled.{outcome_of, replaying, replaying_any, replay_machine}
 
 pub replay_laws : (schedule : Schedule) → IsMachine (replay_machine schedule)
