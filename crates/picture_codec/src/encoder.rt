@@ -5,8 +5,8 @@ ghost use Rattle.std.specs.List.{concat};
 ghost use Rattle.std.specs.Int.{w32, to_be_bytes};
 ghost use Rattle.slice_geometry.specs.Shape.{IsSize};
 ghost use Rattle.slice_geometry.specs.Slicing.{total_bytes};
-ghost use Rattle.slice_encoder.specs.Ready.{narrow_picture, short_picture, AreGiven};
-ghost use Rattle.slice_encoder.specs.Sources.{AreCut};
+ghost use Rattle.slice_encoder.specs.Ready.{coded_picture, narrow_picture, AreGiven};
+ghost use Rattle.slice_encoder.specs.Sources.{trio_seen, IsTrioCut};
 ghost use Rattle.slice_encoder.specs.Tries.{KeptHaveSizes};
 ghost use Rattle.slice_encoder.specs.Chosen.{written_slices};
 ghost use Rattle.transform_params.specs.Views.{params_of};
@@ -25,9 +25,8 @@ use crate::workspace::{AnalysisWorkspace, depth_of, narrow_zero_trio, size_of};
 use lifting::analyse_narrow;
 use planes::{NarrowBands, NarrowPlane, NarrowTrio, NoMemory, Plane, ThreePlanes};
 use quant_factors::Matrix;
-use slice_bands::ShortTrio;
 use slice_decoder::read_ahead;
-use slice_encoder::{SliceEncoder, steep_ok};
+use slice_encoder::{SliceEncoder, TrioSource, steep_ok};
 use slice_geometry::{Component, Layout, PictureShape, Size};
 use std::alloc::Global;
 use std::marker::Model;
@@ -73,8 +72,8 @@ fn analyse_component(
         (pictures.size_of (frame_of picture.now.shape) c) room.old.plane room.old.scratch }
     requires bands { HaveBandSizes params.now.layout
         (pictures.size_of (frame_of picture.now.shape) c) bands.old }
-    ensures room { HaveAnalysisRows params.now.layout (pictures.size_of (frame_of picture.now.shape) c)
-        room.new.plane room.new.scratch }
+    ensures room { HaveAnalysisRows params.now.layout
+        (pictures.size_of (frame_of picture.now.shape) c) room.new.plane room.new.scratch }
     ensures bands { HoldAnalysed (params_of params.now)
         (pictures.size_of (frame_of picture.now.shape) c)
         (pictures.depth_of (frame_of picture.now.shape) c)
@@ -104,28 +103,29 @@ fn kept_plane(alloc: Global, layout: &Layout, size: Size) -> Result<Plane, NoMem
 }
 
 // Writes the slices of a picture whose coefficients these are, each at the least index at which it fits after those
-// before it.
+// before it. Of rows of 32 bits it reads ahead.
 fn encode_slices(
     params: &TransformParams,
     shape: &PictureShape,
     slices: &mut SliceEncoder,
-    bands: &NarrowTrio,
+    bands: TrioSource<'_>,
     kept: &mut ThreePlanes,
     ahead: &mut [i32],
     bytes: &mut [u8],
 )
     requires layout { slices.old.slicing ≡ params.now.layout }
     requires steep { IsSteepOkFor slices.old.shape (params_of params.now) }
-    requires given { AreGiven (narrow_picture params.now.layout slices.old.shape params.now.matrix
-        bands.now) }
-    requires kept { KeptHaveSizes (narrow_picture params.now.layout slices.old.shape
-        params.now.matrix bands.now) kept.old }
+    requires cut { IsTrioCut params.now.layout slices.old.shape bands }
+    requires given { AreGiven (coded_picture params.now.layout slices.old.shape params.now.matrix
+        (trio_seen bands)) }
+    requires kept { KeptHaveSizes (coded_picture params.now.layout slices.old.shape
+        params.now.matrix (trio_seen bands)) kept.old }
     requires room { length bytes.old ≡ total_bytes params.now.layout }
     ensures same { slices.new ≡ slices.old }
-    ensures kept { KeptHaveSizes (narrow_picture params.now.layout slices.old.shape
-        params.now.matrix bands.now) kept.new }
-    ensures slices { bytes.new ≡ concat (written_slices
-        (narrow_picture params.now.layout slices.old.shape params.now.matrix bands.now)) }
+    ensures kept { KeptHaveSizes (coded_picture params.now.layout slices.old.shape
+        params.now.matrix (trio_seen bands.entry)) kept.new }
+    ensures slices { bytes.new ≡ concat (written_slices (coded_picture params.now.layout
+        slices.old.shape params.now.matrix (trio_seen bands.entry))) }
 {
     let layout = &params.layout;
     let across = layout.slices_x();
@@ -133,42 +133,10 @@ fn encode_slices(
     for n in 0..layout.count() {
         let end = place + layout.share(n) as usize;
         let (sx, sy) = (n % across, n / across);
-        read_ahead(bands, layout, shape, sx, sy, ahead);
-        slices.encode_slice_narrow(&params.matrix, sx, sy, bands, kept, &mut bytes[place..end]);
-        place = end;
-    }
-}
-
-// The same of coefficients in 16 bits, whose slices lie as the layout cuts the picture.
-fn encode_short_slices(
-    params: &TransformParams,
-    slices: &mut SliceEncoder,
-    bands: &ShortTrio,
-    kept: &mut ThreePlanes,
-    bytes: &mut [u8],
-)
-    requires layout { slices.old.slicing ≡ params.now.layout }
-    requires steep { IsSteepOkFor slices.old.shape (params_of params.now) }
-    requires cut { AreCut params.now.layout slices.old.shape bands.now }
-    requires given { AreGiven (short_picture params.now.layout slices.old.shape params.now.matrix
-        bands.now) }
-    requires kept { KeptHaveSizes (short_picture params.now.layout slices.old.shape
-        params.now.matrix bands.now) kept.old }
-    requires room { length bytes.old ≡ total_bytes params.now.layout }
-    ensures same { slices.new ≡ slices.old }
-    ensures kept { KeptHaveSizes (short_picture params.now.layout slices.old.shape
-        params.now.matrix bands.now) kept.new }
-    ensures slices { bytes.new ≡ concat (written_slices
-        (short_picture params.now.layout slices.old.shape params.now.matrix bands.now)) }
-{
-    let layout = &params.layout;
-    let across = layout.slices_x();
-    let mut place = 0usize;
-    for n in 0..layout.count() {
-        let end = place + layout.share(n) as usize;
-        let sx = n % across;
-        let sy = n / across;
-        slices.encode_slice_short(&params.matrix, sx, sy, bands, kept, &mut bytes[place..end]);
+        if let TrioSource::Narrow(rows) = bands {
+            read_ahead(rows, layout, shape, sx, sy, ahead);
+        }
+        slices.encode_slice_of(&params.matrix, sx, sy, bands, kept, &mut bytes[place..end]);
         place = end;
     }
 }
@@ -198,8 +166,10 @@ fn encode_dealt(
 {
     let shape = slices.shape();
     if dealt.deal(&params.layout, &shape, bands) {
-        encode_short_slices(params, slices, dealt.bands(), kept, bytes);
+        let bands = TrioSource::Short(dealt.bands());
+        encode_slices(params, &shape, slices, bands, kept, ahead, bytes);
     } else {
+        let bands = TrioSource::Narrow(bands);
         encode_slices(params, &shape, slices, bands, kept, ahead, bytes);
     }
 }
@@ -260,7 +230,8 @@ fn workspaces(
     shape: &PictureShape,
 ) -> Result<(AnalysisWorkspace, AnalysisWorkspace), NoMemory>
     ensures { IfOk result (λ rooms. HaveAnalysisRows layout.now shape.now.luma rooms.0.plane
-        rooms.0.scratch × HaveAnalysisRows layout.now shape.now.colour rooms.1.plane rooms.1.scratch) }
+        rooms.0.scratch × HaveAnalysisRows layout.now shape.now.colour rooms.1.plane
+        rooms.1.scratch) }
 {
     Ok((
         AnalysisWorkspace::new(alloc, layout, shape.luma)?,

@@ -1,5 +1,5 @@
 -- Coefficients that were gathered, and what is made of them place by place.
-use Rattle.std.proofs.Common.{◌≡◌, ◌∙◌, refl, sym, ap, subst, ℕ, zero, suc, ◌+◌, ◌-◌, ◌*◌, ◌^◌, ◌<◌, ◌≤◌, List, [], ◌∷◌, ◌++◌, length, take, drop, set, get_or, append_assoc, append-nil, arith, ℤ}
+use Rattle.std.proofs.Common.{◌≡◌, ◌∙◌, refl, sym, ap, subst, ℕ, zero, suc, ◌+◌, ◌-◌, ◌*◌, ◌^◌, ◌<◌, ◌≤◌, List, [], ◌∷◌, ◌++◌, length, take, drop, set, get_or, append_assoc, append-nil, arith, ℤ, pos}
 use Rattle.std.specs.Prelude.{unsigned_abs, slice_index}
 use Rattle.std.specs.List.{All, flat_map, range_with_len}
 use Rattle.std.proofs.Math.Seq.{take-append_seam, drop-append_seam}
@@ -169,7 +169,7 @@ module _ (s : Slicing) (size : Size) (bands : BandStack) (sx sy : ℕ) where
 
 -- each band can be gathered
 pub can_gather : (s : Slicing) (size : Size) (bands : BandStack) (sx sy k : ℕ) (rect : Rect) (band : Raster ℤ) → rect ≡ level_rect s size sx sy (level_of k) → band ≡ numbered bands k → k < 3 * s.depth + 1 → sx < s.slices_x → sy < s.slices_y
-    → CanGatherAll s size bands → CanGather rect band
+    → CanGatherAll s size bands → CanGather (λ z. z) (pos 0) rect band
 can_gather s size bands sx sy k rect band rect_is band_is lt across down can =
     let inside : FitsIn rect band = fits s size sx sy k rect bands band rect_is band_is lt can.depth across down can.sizes in
     record {

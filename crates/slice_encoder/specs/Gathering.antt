@@ -4,6 +4,7 @@ use Rattle.std.specs.List.{All, flat_map, range_with_len}
 use Rattle.planes.specs.Numbers.{Within}
 use Rattle.planes.specs.Raster.{Raster, height, at}
 use Rattle.planes.specs.Subbands.{BandStack, HaveSizes}
+use Rattle.planes.specs.Valued.{grid_of}
 use Rattle.planes.specs.declared.Rect.{Rect}
 use Rattle.bit_codes.specs.Codes.{signed_code_of}
 use Rattle.quant_factors.specs.Factors.{forward_of}
@@ -51,12 +52,12 @@ pub record AreGathered (s : Slicing) (size : Size) (bands : BandStack) (sx sy : 
   pub pieces : (k : ℕ) → 1 ≤ k → k < 3 * s.depth + 1 → piece_of g k ≡ raw_part s size bands sx sy k
 
 -- what gathering a rectangle asks for
-pub record CanGather (r : Rect) (coefficients : Raster ℤ) : Type 0 where
+pub record CanGather {X : Type 0} (value : X → ℤ) (none : X) (r : Rect) (coefficients : Raster X) : Type 0 where
   pub across : r.x0 ≤ r.x1
   pub down : r.y0 ≤ r.y1
   pub x_inside : r.x1 ≤ coefficients.w
   pub y_inside : r.y1 ≤ height coefficients
-  pub small : (y x : ℕ) → Within (2 ^ 27) (at coefficients y x)
+  pub small : (y x : ℕ) → Within (2 ^ 27) (grid_of value none coefficients y x)
 
 -- and gathering all bands of a slice
 pub record CanGatherAll (s : Slicing) (size : Size) (bands : BandStack) : Type 0 where

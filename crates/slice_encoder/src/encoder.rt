@@ -5,8 +5,8 @@ ghost use Rattle.slice_encoder.specs.TrialLaws.{IsSteepOk};
 ghost use Rattle.slice_encoder.specs.Trials.{AreKept};
 ghost use Rattle.slice_encoder.specs.Tries.{AreTried, IsNext, tried_lists};
 ghost use Rattle.slice_encoder.specs.LowNeeds.{lower_of, IsFirstCandidate};
-ghost use Rattle.slice_encoder.specs.Ready.{coded_picture, narrow_picture, short_picture, AreReadyToWrite, AreGiven};
-ghost use Rattle.slice_encoder.specs.Sources.{trio_seen, AreCut, IsTrioCut};
+ghost use Rattle.slice_encoder.specs.Ready.{coded_picture, narrow_picture, AreReadyToWrite, AreGiven};
+ghost use Rattle.slice_encoder.specs.Sources.{trio_seen, IsTrioCut};
 ghost use Rattle.slice_encoder.specs.Encoded as encoded;
 ghost use Rattle.slice_encoder.specs.Encoded.{IsEncoded, IsEncodedAfter, trial_of, IsTriedAfter};
 
@@ -21,7 +21,6 @@ use crate::short_texts::PairTexts;
 use crate::sources::TrioSource;
 use planes::{NarrowTrio, NoMemory, ThreePlanes, Trio};
 use quant_factors::Matrix;
-use slice_bands::ShortTrio;
 use slice_geometry::{Layout, PictureShape, SliceHead};
 use std::alloc::Global;
 use std::marker::Model;
@@ -229,7 +228,7 @@ impl SliceEncoder {
             → IsEncodedAfter (coded_picture self.old.slicing self.old.shape matrix.now
             coefficients.now) indices sx sy bytes.new result kept.new }
     {
-        self.encode_from(matrix, sx, sy, TrioSource::Wide(coefficients), kept, bytes)
+        self.encode_slice_of(matrix, sx, sy, TrioSource::Wide(coefficients), kept, bytes)
     }
 
     /// Writes a slice as `encode_slice` does, of coefficients in 32 bits.
@@ -261,7 +260,7 @@ impl SliceEncoder {
             → IsEncodedAfter (narrow_picture self.old.slicing self.old.shape matrix.now
             coefficients.now) indices sx sy bytes.new result kept.new }
     {
-        self.encode_from(
+        self.encode_slice_of(
             matrix,
             sx,
             sy,
@@ -271,42 +270,8 @@ impl SliceEncoder {
         )
     }
 
-    /// Writes a slice as `encode_slice` does, of coefficients in 16 bits, whose slices
-    /// lie as the layout cuts each component.
-    pub fn encode_slice_short(
-        &mut self,
-        matrix: &Matrix,
-        sx: u32,
-        sy: u32,
-        coefficients: &ShortTrio,
-        kept: &mut ThreePlanes,
-        bytes: &mut [u8],
-    ) -> SliceHead
-        requires some { 1 ≤ length bytes.old }
-        requires most { length bytes.old ≤ 2 ^ 28 }
-        requires cut { AreCut self.old.slicing self.old.shape coefficients.now }
-        requires ready { AreReadyToWrite (short_picture self.old.slicing self.old.shape matrix.now
-            coefficients.now) sx sy kept.old }
-        requires steep { IsSteepOk self.old.slicing.depth
-            (max self.old.shape.luma_depth self.old.shape.colour_depth) matrix.now }
-        ensures same { self.new ≡ self.old }
-        ensures slice { IsEncoded (tried_lists (short_picture self.old.slicing self.old.shape
-            matrix.now coefficients.now) kept.old sx sy) bytes.new result }
-        ensures kept { AreTried (short_picture self.old.slicing self.old.shape matrix.now
-            coefficients.now) sx sy result.qindex kept.old kept.new }
-        ensures after { (indices : List ℕ)
-            → IsNext (short_picture self.old.slicing self.old.shape matrix.now coefficients.now)
-            indices sx sy
-            → AreKept (short_picture self.old.slicing self.old.shape matrix.now coefficients.now)
-            indices kept.old
-            → IsEncodedAfter (short_picture self.old.slicing self.old.shape matrix.now
-            coefficients.now) indices sx sy bytes.new result kept.new }
-    {
-        self.encode_from(matrix, sx, sy, TrioSource::Short(coefficients), kept, bytes)
-    }
-
-    // The same of coefficients in 64, in 32 or in 16 bits.
-    fn encode_from(
+    /// Writes a slice as `encode_slice` does, of coefficients of any width.
+    pub fn encode_slice_of(
         &mut self,
         matrix: &Matrix,
         sx: u32,

@@ -5,6 +5,7 @@ ghost use Rattle.std.specs.List.{All, flat_map, range_with_len};
 ghost use Rattle.planes.specs.Numbers.{Within};
 ghost use Rattle.quant_factors.specs.Factors.{forward_of, signed};
 ghost use Rattle.planes.specs.Raster.{at};
+ghost use Rattle.planes.specs.Valued.{grid_of};
 ghost use Rattle.planes.specs.Subbands.{BandStack};
 ghost use Rattle.slice_geometry.specs.Shape.{IsSize};
 ghost use Rattle.slice_geometry.specs.SliceOrder.{level_rect, level_of, area, place_count};
@@ -25,9 +26,9 @@ use crate::keys::{ENTRIES, Keyed, Keys, put_band_at, put_bands_at};
 use crate::needs::reach_of_values;
 use crate::room::most_places;
 use crate::scales::{Scale, quantised_magnitude, scale_of};
-use crate::sources::{BandSource, StackSource};
+use crate::sources::{BandSource, Coefficient, StackSource};
 use crate::trying::{entry_of, quantiser_at};
-use planes::{NarrowPlane, NoMemory, Plane, Rect};
+use planes::{NoMemory, Plane, Rect};
 use quant_factors::Matrix;
 use slice_bands::ShortBands;
 use slice_geometry::{Layout, PictureShape, Size, band_numbered};
@@ -75,45 +76,26 @@ pub struct Reaches {
 }
 
 // Copies the coefficients of a rectangle, row by row, from a place on.
-fn gather_rect(coefficients: &Plane, rect: Rect, out: &mut [i32], from: usize)
-    requires can { CanGather rect coefficients.now }
+fn gather_rect<T: Coefficient>(coefficients: &Plane<T>, rect: Rect, out: &mut [i32], from: usize)
+    requires can { CanGather T.value T.none rect coefficients.now }
     requires room { from + area rect ≤ length out.old }
     requires small { All (Within (2 ^ 27)) out.old }
     ensures gathered { take (from + area rect) out.new
-        ≡ take from out.old ++ rect_values (at coefficients.now) rect }
+        ≡ take from out.old ++ rect_values (grid_of T.value T.none coefficients.now) rect }
     ensures small { All (Within (2 ^ 27)) out.new }
 {
     let mut place = from;
     for y in rect.y0..rect.y1 {
         let row = coefficients.row(y);
         for x in rect.x0..rect.x1 {
-            out[place] = row[x as usize] as i32;
-            place += 1;
-        }
-    }
-}
-
-// The same of coefficients in 32 bits.
-fn gather_narrow_rect(coefficients: &NarrowPlane, rect: Rect, out: &mut [i32], from: usize)
-    requires can { CanGather rect coefficients.now }
-    requires room { from + area rect ≤ length out.old }
-    requires small { All (Within (2 ^ 27)) out.old }
-    ensures gathered { take (from + area rect) out.new
-        ≡ take from out.old ++ rect_values (at coefficients.now) rect }
-    ensures small { All (Within (2 ^ 27)) out.new }
-{
-    let mut place = from;
-    for y in rect.y0..rect.y1 {
-        let row = coefficients.row(y);
-        for x in rect.x0..rect.x1 {
-            out[place] = row[x as usize];
+            out[place] = T::narrowed(row[x as usize]);
             place += 1;
         }
     }
 }
 
 fn gather_band(coefficients: BandSource<'_>, rect: Rect, out: &mut [i32], from: usize)
-    requires can { CanGather rect (band_seen coefficients) }
+    requires can { CanGather (λ z. z) (pos 0) rect (band_seen coefficients) }
     requires room { from + area rect ≤ length out.old }
     requires small { All (Within (2 ^ 27)) out.old }
     ensures gathered { take (from + area rect) out.new
@@ -122,7 +104,7 @@ fn gather_band(coefficients: BandSource<'_>, rect: Rect, out: &mut [i32], from: 
 {
     match coefficients {
         BandSource::Wide(band) => gather_rect(band, rect, out, from),
-        BandSource::Narrow(band) => gather_narrow_rect(band, rect, out, from),
+        BandSource::Narrow(band) => gather_rect(band, rect, out, from),
     }
 }
 

@@ -30,4 +30,5 @@ mod trying;
 
 pub use bounding::Lower;
 pub use encoder::{SliceEncoder, Trial};
+pub use sources::TrioSource;
 pub use steep::steep_ok;

@@ -1,14 +1,37 @@
 // The coefficients of a picture, in 64 or in 32 bits, or in 16 bits slice by slice. Contracts see of all the same.
 
-ghost use Rattle.std.specs.Prelude.{◌≡◌, ◌<◌};
+ghost use Rattle.std.specs.Prelude.{◌≡◌, ◌^◌, ◌<◌};
+ghost use Rattle.planes.specs.Numbers.{Within};
 ghost use Rattle.planes.specs.Raster.{height, at};
 ghost use Rattle.planes.specs.Subbands.{BandExists, band_of};
 ghost use Rattle.slice_geometry.specs.declared.PictureShape.{PictureShape};
 ghost use Rattle.slice_geometry.specs.Slicing.{Slicing};
 ghost use Rattle.slice_encoder.specs.Sources.{band_seen, stack_seen, trio_seen, HasBand, IsStackCut, IsTrioCut};
 
-use planes::{Bands, NarrowBands, NarrowPlane, NarrowTrio, Plane, Trio};
+use planes::{Bands, NarrowBands, NarrowPlane, NarrowTrio, Number, Plane, Trio};
 use slice_bands::{ShortBands, ShortTrio};
+
+/// Numbers that coefficients stand in.
+pub trait Coefficient: Number {
+    /// The same number in 32 bits.
+    fn narrowed(v: Self) -> i32
+        requires { Within (2 ^ 27) (Self.value v) }
+        ensures { result ≡ Self.value v };
+}
+
+impl Coefficient for i64 {
+    #[inline(always)]
+    fn narrowed(v: i64) -> i32 {
+        v as i32
+    }
+}
+
+impl Coefficient for i32 {
+    #[inline(always)]
+    fn narrowed(v: i32) -> i32 {
+        v
+    }
+}
 
 /// A subband.
 #[derive(Clone, Copy)]
@@ -25,7 +48,8 @@ pub enum StackSource<'a> {
     Short(&'a ShortBands),
 }
 
-/// Those of all three.
+/// The coefficients of a picture, in 64 or in 32 bits, or in 16 bits slice by slice, which then lie as the layout cuts each
+/// component. Contracts see of all the same.
 #[derive(Clone, Copy)]
 pub enum TrioSource<'a> {
     Wide(&'a Trio),
@@ -66,7 +90,7 @@ impl<'a> StackSource<'a> {
 
 impl<'a> TrioSource<'a> {
     #[inline(always)]
-    pub fn luma(self) -> StackSource<'a>
+    pub(crate) fn luma(self) -> StackSource<'a>
         ensures seen { stack_seen result ≡ (trio_seen self.entry).luma }
         ensures cut { (s : Slicing) (shape : PictureShape) → IsTrioCut s shape self.entry
             → IsStackCut s shape.luma result }
@@ -79,7 +103,7 @@ impl<'a> TrioSource<'a> {
     }
 
     #[inline(always)]
-    pub fn c1(self) -> StackSource<'a>
+    pub(crate) fn c1(self) -> StackSource<'a>
         ensures seen { stack_seen result ≡ (trio_seen self.entry).c1 }
         ensures cut { (s : Slicing) (shape : PictureShape) → IsTrioCut s shape self.entry
             → IsStackCut s shape.colour result }
@@ -92,7 +116,7 @@ impl<'a> TrioSource<'a> {
     }
 
     #[inline(always)]
-    pub fn c2(self) -> StackSource<'a>
+    pub(crate) fn c2(self) -> StackSource<'a>
         ensures seen { stack_seen result ≡ (trio_seen self.entry).c2 }
         ensures cut { (s : Slicing) (shape : PictureShape) → IsTrioCut s shape self.entry
             → IsStackCut s shape.colour result }

@@ -1,4 +1,4 @@
-use Rattle.std.proofs.Common.{◌≡◌, ◌∙◌, sym, ap, subst}
+use Rattle.std.proofs.Common.{◌∙◌, sym, ap, subst}
 use Rattle.std.specs.List.{concat}
 use Rattle.slice_bands.specs.declared.short_bands.ShortTrio.{ShortTrio}
 use Rattle.slice_geometry.specs.declared.PictureShape.{PictureShape}
@@ -6,8 +6,8 @@ use Rattle.picture_codec.specs.DealtBands.{AllDealt}
 use Rattle.picture_codec.proofs.Dealt.{all_given, all_written}
 use Rattle.picture_codec.proofs.encoder.encode_dealt.Goals as goal
 
-pub encode_short_slices-requires-clause-given : goal.encode_short_slices-requires-clause-given
-encode_short_slices-requires-clause-given c =
+pub encode_slices-requires-clause-given : goal.encode_slices-requires-clause-given
+encode_slices-requires-clause-given c =
     let a = c.args in
     let dealt : AllDealt a.params.now.layout a.slices.now.shape a.bands.now c.bands.result.now =
     subst (λ (t : ShortTrio). AllDealt a.params.now.layout a.slices.now.shape a.bands.now t) (sym c.bands.ensures)
@@ -20,4 +20,4 @@ returns-then-deal-clause-slices c =
     let dealt : AllDealt a.params.now.layout a.slices.now.shape a.bands.now c.bands.result.now =
     subst (λ (t : ShortTrio). AllDealt a.params.now.layout a.slices.now.shape a.bands.now t) (sym c.bands.ensures)
     (subst (λ (h : PictureShape). AllDealt a.params.now.layout h a.bands.now c.deal.new.self) c.shape-shape.ensures (c.deal.ensures c.if-deal.true)) in
-    c.encode_short_slices.ensures.slices ∙ ap concat (all_written a.params.now.layout a.slices.now.shape a.params.now.matrix a.bands.now c.bands.result.now dealt)
+    c.encode_slices.ensures.slices ∙ ap concat (all_written a.params.now.layout a.slices.now.shape a.params.now.matrix a.bands.now c.bands.result.now dealt)

@@ -11,7 +11,7 @@ use Rattle.slice_encoder.specs.Ready.{AreReadyToWrite, coded_picture}
 use Rattle.slice_encoder.specs.Sources.{trio_seen}
 use Rattle.slice_encoder.specs.Encoded.{IsEncoded, SliceEncoderSeen}
 use Rattle.slice_encoder.proofs.Encoding.{encoded_after, bits_as}
-use Rattle.slice_encoder.proofs.encoder.SliceEncoder.encode_from.Goals as goal
+use Rattle.slice_encoder.proofs.encoder.SliceEncoder.encode_slice_of.Goals as goal
 
 front : (n : ℕ) (xs ys : List ℤ) → n ≡ length xs → take n (xs ++ ys) ≡ xs
 front n xs ys e = ap (λ (k : ℕ). take k (xs ++ ys)) e ∙ take-append_seam xs ys
