@@ -1,6 +1,7 @@
 pub mod Parts
 pub mod Runs
 pub mod Stacked
+pub mod Shares
 pub mod Dealt
 pub mod Every
 pub mod Past
