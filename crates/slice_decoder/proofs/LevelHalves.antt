@@ -1,42 +1,19 @@
 -- The rectangles of a slice in the bands of a level, from those of the next one.
-use Rattle.std.proofs.Common.{◌≡◌, ℕ, ◌+◌, ◌-◌, ◌*◌, ◌/◌, ◌^◌, ◌<◌, ◌≤◌, Bool, false, refl, sym, ap, ◌∙◌, arith}
-use Rattle.std.specs.Prelude.{◌==◌, if◌then◌else◌}
+use Rattle.std.proofs.Common.{◌≡◌, ℕ, ◌+◌, ◌-◌, ◌*◌, ◌/◌, ◌^◌, ◌<◌, ◌≤◌, refl, sym, ap, ◌∙◌, arith}
 use Rattle.std.proofs.Math.Nat.{div-div-eq-div-mul, mul-div_cancel_left, mul_assoc}
-use Rattle.std.proofs.lemmas.Nat.{pow-add, pow_pos}
-use Rattle.std.proofs.lemmas.Bool.Decides.{nat_tests}
 use Rattle.planes.specs.declared.Rect.{Rect}
+use Rattle.slice_bands.proofs.Shares.{length_doubles}
 use Rattle.slice_geometry.specs.declared.Size.{Size}
 use Rattle.slice_geometry.specs.Slicing.{Slicing}
 use Rattle.slice_geometry.specs.Geometry.{padded_length, band_length, slice_start, slice_rect}
 use Rattle.slice_geometry.specs.SliceOrder.{level_rect}
+use Rattle.slice_geometry.proofs.Lengths.{padded_whole}
 
 abbrev pub halve : Rect → Rect
 halve r = record { x0 = r.x0 / 2; x1 = r.x1 / 2; y0 = r.y0 / 2; y1 = r.y1 / 2 }
 
-if_not : (t : Bool) (a b : ℕ) → t ≡ false → (if t then a else b) ≡ b
-if_not t a b e = ap (λ (u : Bool). if u then a else b) e
-
--- a multiple of a power, over a lower one
-pub over_power : (d e k m : ℕ) → d ≡ e + k → 2 ^ d * m / 2 ^ e ≡ 2 ^ k * m
-over_power d e k m is =
-    let power : 2 ^ d ≡ 2 ^ e * 2 ^ k = ap (λ (n : ℕ). 2 ^ n) is ∙ pow-add 2 e k in
-    ap (λ (n : ℕ). n * m / 2 ^ e) power ∙ ap (λ (n : ℕ). n / 2 ^ e) (mul_assoc (2 ^ e) (2 ^ k) m) ∙ mul-div_cancel_left (2 ^ k * m) (pow_pos e)
-
-band_is : (depth level length : ℕ) → 1 ≤ level → level ≤ depth → band_length depth level length ≡ 2 ^ (level - 1) * ((length + 2 ^ depth - 1) / 2 ^ depth)
-band_is depth level length some le =
-    let above : (level == 0) ≡ false = grind (arith, nat_tests) in
-    if_not (level == 0) (padded_length depth length / 2 ^ depth) (padded_length depth length / 2 ^ (depth - level + 1)) above
-    ∙ over_power depth (depth - level + 1) (level - 1) ((length + 2 ^ depth - 1) / 2 ^ depth) (omega arith)
-
 band_doubles : (depth level length : ℕ) → 1 ≤ level → level < depth → band_length depth (level + 1) length ≡ 2 * band_length depth level length
-band_doubles depth level length some lt =
-    let m : ℕ = (length + 2 ^ depth - 1) / 2 ^ depth in
-    let next : level + 1 - 1 ≡ 1 + (level - 1) = omega arith in
-    band_is depth (level + 1) length (omega arith) (omega arith)
-    ∙ ap (λ (n : ℕ). 2 ^ n * m) next
-    ∙ ap (λ (n : ℕ). n * m) (pow-add 2 1 (level - 1))
-    ∙ mul_assoc 2 (2 ^ (level - 1)) m
-    ∙ ap (λ (n : ℕ). 2 * n) (sym (band_is depth level length some (omega arith)))
+band_doubles depth level length some lt = length_doubles depth level (padded_length depth length) (padded_whole depth length) some lt
 
 start_halves : (w wide n i : ℕ) → wide ≡ 2 * w → slice_start w n i ≡ slice_start wide n i / 2
 start_halves w wide n i is =

@@ -19,6 +19,7 @@ use Rattle.slice_bands.specs.Lending.{with_run}
 use Rattle.slice_bands.specs.Short.{every, shorts_of}
 use Rattle.slice_bands.specs.ShortBands.{short_stack}
 use Rattle.slice_bands.proofs.Stacked.{place_shown, shown_here, shown_else, numbers_inside, place_short}
+use Rattle.slice_bands.proofs.Shares.{cut_rect}
 use Rattle.slice_bands.proofs.Every.{length-every, every_at}
 use Rattle.slice_bands.proofs.Past.{below_rows, right_of_row, whole_rows, width_shown, height_shown}
 use Rattle.slice_bands.proofs.Lowest.{short_lowest, short_upper, stack_count, each_band}
@@ -40,7 +41,7 @@ use Rattle.slice_decoder.specs.Narrow.{NeedMore, LowestKeeps}
 use Rattle.slice_decoder.specs.Restored.{StayWithin}
 use Rattle.slice_decoder.proofs.NarrowBands.{zero_narrow, rect_narrow}
 use Rattle.slice_decoder.proofs.LevelLemmas.{places_inside, rect_low}
-use Rattle.slice_decoder.proofs.ShortPlaces.{IsLaid, cut_rect, rect_is, area_grows, places_are, slice_here, number_here, in_slice, count_is_size}
+use Rattle.slice_decoder.proofs.ShortPlaces.{IsLaid, rect_is, area_grows, places_are, slice_here, number_here, in_slice, count_is_size}
 
 module _ (each from : ℕ) (s : Slicing) (size : Size) (b : Slices ℤ) (laid : IsLaid s size b) (sx sy : ℕ) (across : sx < s.slices_x) (values : List ℤ)
     (there : (sy * s.slices_x + sx) * slice_size b + slice_size b ≤ length b.numbers) where
