@@ -18,7 +18,7 @@ abbrev place : ℕ → ℕ → ℕ → ℕ → Place
 place level orient y x = record { level = level; orient = orient; y = y; x = x }
 
 -- rows of one length
-rows_at : (f : ℕ → List Place) (w a n k i : ℕ) (d : Place) → ((j : ℕ) → length (f j) ≡ w) → k < n → i < w → get_or (flat_map f (range_with_len a n)) (k * w + i) d ≡ get_or (f (a + k)) i d
+pub rows_at : {X : Type 0} (f : ℕ → List X) (w a n k i : ℕ) (d : X) → ((j : ℕ) → length (f j) ≡ w) → k < n → i < w → get_or (flat_map f (range_with_len a n)) (k * w + i) d ≡ get_or (f (a + k)) i d
 rows_at f w a zero k i d long lt inside = absurd (omega arith)
 rows_at f w a (suc n) zero i d long lt inside =
     let index : 0 * w + i ≡ i = omega arith in

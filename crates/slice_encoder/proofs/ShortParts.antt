@@ -1,172 +1,57 @@
 -- A slice of bands of 16 bits, whose slices lie as the layout cuts a component: its numbers are its coefficients, band by band.
-use Rattle.std.proofs.Common.{◌≡◌, refl, sym, ap, subst, ◌∙◌, ℕ, zero, suc, false, ◌+◌, ◌-◌, ◌*◌, ◌/◌, ◌%◌, ◌^◌, ◌<◌, ◌≤◌, arith, inl, inr, mod-lt, ℤ, pos, List, ◌++◌, length, take, drop, get_or, map}
-use Rattle.std.specs.Prelude.{◌==◌, slice_index}
+use Rattle.std.proofs.Common.{◌≡◌, refl, sym, ap, subst, ◌∙◌, ℕ, zero, suc, ◌+◌, ◌-◌, ◌*◌, ◌/◌, ◌%◌, ◌^◌, ◌<◌, ◌≤◌, arith, inl, inr, mod-lt, ℤ, pos, List, length, take, drop, get_or, map}
+use Rattle.std.specs.Prelude.{slice_index}
 use Rattle.std.specs.List.{All, flat_map, range_with_len}
-use Rattle.std.proofs.Math.Nat.{mul-div_cancel_left, mul_assoc}
-use Rattle.std.proofs.lemmas.Nat.{div-mul-add, mod-mul-add, div-add-mod', pow-add, pow_pos, mul-le}
+use Rattle.std.proofs.lemmas.Nat.{div-mul-add, mod-mul-add, div-add-mod', mul-le}
 use Rattle.std.proofs.lemmas.Bool.{cases_lt}
 use Rattle.std.proofs.lemmas.Bool.Decides.{nat_tests}
-use Rattle.std.proofs.lemmas.List.{ext_get_or, get_or_append_left, get_or-append-add, get_or-take, get_or-drop, length-take-le, length-drop, length-append}
+use Rattle.std.proofs.lemmas.List.{ext_get_or, get_or-take, get_or-drop, length-take-le, length-drop, length-append}
 use Rattle.std.proofs.lemmas.List.FromFn.{get_or-map-range_with_len, length-map-range_with_len}
 use Rattle.planes.specs.declared.Rect.{Rect}
 use Rattle.std.proofs.lemmas.List.Elements.{All-get_or, All-from_get_or}
 use Rattle.std.proofs.lemmas.Int.{ints}
 use Rattle.planes.specs.Numbers.{Within}
 use Rattle.planes.specs.Bounded.{IsWithin}
-use Rattle.planes.specs.Raster.{Raster, Grid, at}
-use Rattle.planes.specs.Subbands.{BandStack, BandExists, band_index, band_of, subband_length}
+use Rattle.planes.specs.Raster.{Raster, at}
+use Rattle.planes.specs.Subbands.{BandStack, BandExists, band_index}
 use Rattle.slice_bands.specs.declared.short_bands.ShortBands.{ShortBands}
 use Rattle.slice_bands.specs.Slices.{Slices, slice_size}
-use Rattle.slice_bands.specs.Places.{place_in, slice_at, place_of, part_w, part_h}
-use Rattle.slice_bands.specs.Short.{shorts_of}
+use Rattle.slice_bands.specs.Places.{place_of, part_w, part_h}
 use Rattle.slice_bands.specs.ShortBands.{short_stack}
 use Rattle.slice_bands.specs.Stack.{AreSlicesSound}
-use Rattle.slice_bands.proofs.Parts.{if_not, strip_inside}
-use Rattle.slice_bands.proofs.Stacked.{parts_long, place_shown}
+use Rattle.slice_bands.proofs.Parts.{strip_inside}
+use Rattle.slice_bands.proofs.Shares.{AreLaid, cut_rect, cut_area, part_lies, lower_levels, all_levels}
+use Rattle.slice_bands.proofs.Stacked.{place_shown}
 use Rattle.slice_bands.proofs.Lowest.{short_upper}
 use Rattle.slice_geometry.specs.declared.Size.{Size}
 use Rattle.slice_geometry.specs.Slicing.{Slicing}
-use Rattle.slice_geometry.specs.Geometry.{padded_length, slice_start, band_size}
+use Rattle.slice_geometry.specs.Geometry.{padded_length}
 use Rattle.slice_geometry.specs.SliceOrder.{level_rect, area, places_to, place_count, level_of, orient_of, numbered}
 use Rattle.slice_geometry.proofs.NumberedBands.{index-numbered, band-exists}
-use Rattle.slice_encoder.specs.Listing.{rect_values, row_values}
-use Rattle.slice_encoder.specs.Gathering.{raw_part, raw_before, GatheredSeen, AreGathered, piece_of}
+use Rattle.slice_encoder.specs.Listing.{rect_values}
+use Rattle.slice_encoder.specs.Gathering.{raw_part, raw_before, GatheredSeen, AreGathered}
 use Rattle.slice_encoder.specs.Sources.{IsCut, HasBand}
 use Rattle.slice_encoder.specs.declared.sources.StackSource.{StackSource}
 use Rattle.slice_encoder.specs.declared.sources.StackSource.TheVariants as stack
-use Rattle.slice_encoder.proofs.Listed.{next_row}
+use Rattle.slice_encoder.proofs.Numbered.{rows_at}
 use Rattle.slice_encoder.proofs.BandParts.{length_rect}
-use Rattle.slice_encoder.proofs.Gathers.{raw_more, raw_count, raw_within, raw_grow}
-
--- a multiple of a power, over a lower one
-pub over_power : (d e k m : ℕ) → d ≡ e + k → 2 ^ d * m / 2 ^ e ≡ 2 ^ k * m
-over_power d e k m is =
-    let power : 2 ^ d ≡ 2 ^ e * 2 ^ k = ap (λ (n : ℕ). 2 ^ n) is ∙ pow-add 2 e k in
-    ap (λ (n : ℕ). n * m / 2 ^ e) power ∙ ap (λ (n : ℕ). n / 2 ^ e) (mul_assoc (2 ^ e) (2 ^ k) m) ∙ mul-div_cancel_left (2 ^ k * m) (pow_pos e)
-
--- rows of one length
-rows_at : {X : Type 0} (f : ℕ → List X) (w a n k i : ℕ) (d : X) → ((j : ℕ) → length (f j) ≡ w) → k < n → i < w → get_or (flat_map f (range_with_len a n)) (k * w + i) d ≡ get_or (f (a + k)) i d
-rows_at f w a zero k i d long lt inside = absurd (omega arith)
-rows_at f w a (suc n) zero i d long lt inside =
-    let index : 0 * w + i ≡ i = omega arith in
-    let same : a ≡ a + 0 = omega arith in
-    ap (λ (m : ℕ). get_or (flat_map f (range_with_len a (suc n))) m d) index
-    ∙ get_or_append_left (f a) (flat_map f (range_with_len (a + 1) n)) d i (omega (arith, long a))
-    ∙ ap (λ (m : ℕ). get_or (f m) i d) same
-rows_at f w a (suc n) (suc k) i d long lt inside =
-    let index : suc k * w + i ≡ length (f a) + (k * w + i) = omega (arith, long a, next_row k w) in
-    let same : a + 1 + k ≡ a + suc k = omega arith in
-    ap (λ (m : ℕ). get_or (flat_map f (range_with_len a (suc n))) m d) index
-    ∙ get_or-append-add (f a) (flat_map f (range_with_len (a + 1) n)) (k * w + i) d
-    ∙ rows_at f w (a + 1) n k i d long (omega arith) inside
-    ∙ ap (λ (m : ℕ). get_or (f m) i d) same
-
--- the slice in column sx and row sy, where each has pw by ph places of a band
-abbrev pub cut_rect : ℕ → ℕ → ℕ → ℕ → Rect
-cut_rect pw ph sx sy = record { x0 = sx * pw; x1 = (sx + 1) * pw; y0 = sy * ph; y1 = (sy + 1) * ph }
-
-cut_start : (w across p i : ℕ) → 0 < across → w ≡ across * p → slice_start w across i ≡ i * p
-cut_start w across p i some is =
-    let e : w * i ≡ across * (i * p) = ap (λ (v : ℕ). v * i) is ∙ omega arith in
-    ap (λ (v : ℕ). v / across) e ∙ mul-div_cancel_left (i * p) some
-
--- ---- parts of the bands
-
--- a multiple of 2 ^ depth over the power of a level
-length_is : (depth level p : ℕ) → p % 2 ^ depth ≡ 0 → 1 ≤ level → level ≤ depth → subband_length depth level p ≡ 2 ^ (level - 1) * (p / 2 ^ depth)
-length_is depth level p whole some le =
-    let above : (level == 0) ≡ false = grind (arith, nat_tests) in
-    let e : p / 2 ^ depth * 2 ^ depth + p % 2 ^ depth ≡ p = div-add-mod' p (2 ^ depth) in
-    let is : p ≡ 2 ^ depth * (p / 2 ^ depth) = omega (arith, e, whole) in
-    if_not (level == 0) (p / 2 ^ depth) (p / 2 ^ (depth - level + 1)) above
-    ∙ ap (λ (v : ℕ). v / 2 ^ (depth - level + 1)) is
-    ∙ over_power depth (depth - level + 1) (level - 1) (p / 2 ^ depth) (omega arith)
-
-length_doubles : (depth level p : ℕ) → p % 2 ^ depth ≡ 0 → 1 ≤ level → level < depth → subband_length depth (level + 1) p ≡ 2 * subband_length depth level p
-length_doubles depth level p whole some lt =
-    let m : ℕ = p / 2 ^ depth in
-    let next : level + 1 - 1 ≡ 1 + (level - 1) = omega arith in
-    length_is depth (level + 1) p whole (omega arith) (omega arith)
-    ∙ ap (λ (n : ℕ). 2 ^ n * m) next
-    ∙ ap (λ (n : ℕ). n * m) (pow-add 2 1 (level - 1))
-    ∙ mul_assoc 2 (2 ^ (level - 1)) m
-    ∙ ap (λ (n : ℕ). 2 * n) (sym (length_is depth level p whole some (omega arith)))
-
-length_first : (depth p : ℕ) → 1 ≤ depth → subband_length depth 1 p ≡ subband_length depth 0 p
-length_first depth p some =
-    let same : depth - 1 + 1 ≡ depth = omega arith in
-    ap (λ (n : ℕ). p / 2 ^ n) same
-
-length_last : (depth p : ℕ) → p % 2 ^ depth ≡ 0 → 1 ≤ depth → 2 * subband_length depth depth p ≡ p
-length_last depth p whole some =
-    let m : ℕ = p / 2 ^ depth in
-    let e : m * 2 ^ depth + p % 2 ^ depth ≡ p = div-add-mod' p (2 ^ depth) in
-    let same : 1 + (depth - 1) ≡ depth = omega arith in
-    let power : 2 ^ depth ≡ 2 * 2 ^ (depth - 1) = sym (ap (λ (n : ℕ). 2 ^ n) same) ∙ pow-add 2 1 (depth - 1) in
-    ap (λ (n : ℕ). 2 * n) (length_is depth depth p whole some (omega arith))
-    ∙ sym (mul_assoc 2 (2 ^ (depth - 1)) m)
-    ∙ sym (ap (λ (n : ℕ). n * m) power)
-    ∙ omega (arith, e, whole)
-
-four_times : (w h : ℕ) → (2 * w) * (2 * h) ≡ 4 * (w * h)
-four_times w h = omega arith
+use Rattle.slice_encoder.proofs.Gathers.{raw_more, raw_count, raw_within}
 
 module _ (s : Slicing) (size : Size) (bands : ShortBands) (laid : IsCut s size bands) (sound : AreSlicesSound bands.slices) (sx sy : ℕ) where
   abbrev b : Slices ℤ
   b = bands.slices
 
+  shares : AreLaid b s.depth s.slices_x s.slices_y (padded_length s.depth size.w) (padded_length s.depth size.h)
+  shares = record { depth = laid.depth; across = laid.across; down = laid.down; width = laid.width; height = laid.height; sound = sound }
+
   pub rect_is : (level orient : ℕ) → BandExists b.depth level orient → level_rect s size sx sy level ≡ cut_rect (part_w b level) (part_h b level) sx sy
-  rect_is level orient e =
-      let w : (band_size s.depth level size).w ≡ b.across * part_w b level =
-      ap (λ (p : ℕ). subband_length s.depth level p) (sym laid.width) ∙ ap (λ (d : ℕ). subband_length d level (b.across * b.sw)) (sym laid.depth) ∙ sym (parts_long b.depth level orient b.across b.sw e sound.whole_w) in
-      let h : (band_size s.depth level size).h ≡ b.down * part_h b level =
-      ap (λ (p : ℕ). subband_length s.depth level p) (sym laid.height) ∙ ap (λ (d : ℕ). subband_length d level (b.down * b.sh)) (sym laid.depth) ∙ sym (parts_long b.depth level orient b.down b.sh e sound.whole_h) in
-      rw (← laid.across, ← laid.down) (
-      rw (
-        cut_start _ b.across (part_w b level) sx sound.across w,
-        cut_start _ b.across (part_w b level) (sx + 1) sound.across w,
-        cut_start _ b.down (part_h b level) sy sound.down h,
-        cut_start _ b.down (part_h b level) (sy + 1) sound.down h,
-      ) refl
-      )
+  rect_is level orient e = part_lies b s.depth s.slices_x s.slices_y _ _ shares sx sy level orient e
 
-  pub area_cut : (level orient : ℕ) → BandExists b.depth level orient → area (level_rect s size sx sy level) ≡ part_w b level * part_h b level
-  area_cut level orient e =
-      let w : ℕ = part_w b level in
-      let h : ℕ = part_h b level in
-      let one : (sx + 1) * w - sx * w ≡ w = omega arith in
-      let two : (sy + 1) * h - sy * h ≡ h = omega arith in
-      ap area (rect_is level orient e) ∙ ap (λ (n : ℕ). n * ((sy + 1) * h - sy * h)) one ∙ ap (λ (n : ℕ). w * n) two
+  area_cut : (level orient : ℕ) → BandExists b.depth level orient → area (level_rect s size sx sy level) ≡ part_w b level * part_h b level
+  area_cut level orient e = ap area (rect_is level orient e) ∙ cut_area (part_w b level) (part_h b level) sx sy
 
-  -- all lower levels together are as large as one part of a level
-  pub lower_levels : (level : ℕ) → suc level ≤ b.depth → places_to s size sx sy level ≡ part_w b (suc level) * part_h b (suc level)
-  lower_levels zero le =
-      area_cut 0 0 (inl (refl, refl)) ∙ sym (ap (λ (n : ℕ). n * part_h b 1) (length_first b.depth b.sw le) ∙ ap (λ (n : ℕ). part_w b 0 * n) (length_first b.depth b.sh le))
-  lower_levels (suc level) le =
-      let w : ℕ = part_w b (suc level) in
-      let h : ℕ = part_h b (suc level) in
-      let next : suc level + 1 ≡ suc (suc level) = omega arith in
-      let before : places_to s size sx sy level ≡ w * h = lower_levels level (omega (arith, le)) in
-      let here : area (level_rect s size sx sy (suc level)) ≡ w * h = area_cut (suc level) 1 (inr (omega arith, omega (arith, le), omega arith, omega arith)) in
-      let wide : part_w b (suc (suc level)) ≡ 2 * w = ap (λ (n : ℕ). subband_length b.depth n b.sw) (sym next) ∙ length_doubles b.depth (suc level) b.sw sound.whole_w (omega arith) (omega (arith, le)) in
-      let tall : part_h b (suc (suc level)) ≡ 2 * h = ap (λ (n : ℕ). subband_length b.depth n b.sh) (sym next) ∙ length_doubles b.depth (suc level) b.sh sound.whole_h (omega arith) (omega (arith, le)) in
-      omega (arith, before, here)
-      ∙ sym (four_times w h)
-      ∙ sym (ap (λ (n : ℕ). n * part_h b (suc (suc level))) wide ∙ ap (λ (n : ℕ). 2 * w * n) tall)
-
-  pub all_places : (d : ℕ) → d ≡ b.depth → places_to s size sx sy d ≡ slice_size b
-  all_places zero e =
-      let w : part_w b 0 ≡ b.sw = ap (λ (n : ℕ). b.sw / 2 ^ n) (sym e) ∙ omega arith in
-      let h : part_h b 0 ≡ b.sh = ap (λ (n : ℕ). b.sh / 2 ^ n) (sym e) ∙ omega arith in
-      area_cut 0 0 (inl (refl, refl)) ∙ ap (λ (n : ℕ). n * part_h b 0) w ∙ ap (λ (n : ℕ). b.sw * n) h
-  all_places (suc d) e =
-      let w : ℕ = part_w b (suc d) in
-      let h : ℕ = part_h b (suc d) in
-      let before : places_to s size sx sy d ≡ w * h = lower_levels d (omega (arith, e)) in
-      let here : area (level_rect s size sx sy (suc d)) ≡ w * h = area_cut (suc d) 1 (inr (omega arith, omega (arith, e), omega arith, omega arith)) in
-      let wide : 2 * w ≡ b.sw = ap (λ (n : ℕ). 2 * subband_length b.depth n b.sw) e ∙ length_last b.depth b.sw sound.whole_w (omega (arith, e)) in
-      let tall : 2 * h ≡ b.sh = ap (λ (n : ℕ). 2 * subband_length b.depth n b.sh) e ∙ length_last b.depth b.sh sound.whole_h (omega (arith, e)) in
-      omega (arith, before, here) ∙ sym (four_times w h) ∙ ap (λ (n : ℕ). n * (2 * h)) wide ∙ ap (λ (n : ℕ). b.sw * n) tall
+  pub count_slice : place_count s size sx sy ≡ slice_size b
+  count_slice = all_levels b sound (λ level. area (level_rect s size sx sy level)) (places_to s size sx sy) area_cut refl (λ level. refl) s.depth (sym laid.depth)
 
   part_area : (stack : BandStack) (k : ℕ) → k < 3 * s.depth + 1 → length (raw_part s size stack sx sy k) ≡ part_w b (level_of k) * part_h b (level_of k)
   part_area stack k lt =
@@ -183,10 +68,7 @@ module _ (s : Slicing) (size : Size) (bands : ShortBands) (laid : IsCut s size b
 
   -- all parts together are the slice
   pub whole_slice : (stack : BandStack) → length (raw_before s size stack sx sy (3 * s.depth + 1)) ≡ slice_size b
-  whole_slice stack = raw_count s size stack sx sy s.depth ∙ all_places s.depth (sym laid.depth)
-
-  pub count_slice : place_count s size sx sy ≡ slice_size b
-  count_slice = all_places s.depth (sym laid.depth)
+  whole_slice stack = raw_count s size stack sx sy s.depth ∙ count_slice
 
   pub part_inside : (stack : BandStack) (k : ℕ) → k < 3 * s.depth + 1 → length (raw_before s size stack sx sy k) + part_w b (level_of k) * part_h b (level_of k) ≤ slice_size b
   part_inside stack k lt = omega (arith, part_more stack k lt, raw_within s size stack sx sy (k + 1) (3 * s.depth + 1) (omega (arith, lt)), whole_slice stack)
@@ -227,7 +109,7 @@ module _ (s : Slicing) (size : Size) (bands : ShortBands) (laid : IsCut s size b
           → length (raw_before s size stack sx sy k) ≡ orient_of k * (part_w b (level_of k) * part_h b (level_of k))
       start_of stack below n k is few le level_is orient_is =
           let a : ℕ = part_w b (suc below) * part_h b (suc below) in
-          let lower : length (raw_before s size stack sx sy (3 * below + 1)) ≡ a = raw_count s size stack sx sy below ∙ lower_levels below (omega (arith, le, laid.depth)) in
+          let lower : length (raw_before s size stack sx sy (3 * below + 1)) ≡ a = raw_count s size stack sx sy below ∙ lower_levels b sound (λ level. area (level_rect s size sx sy level)) (places_to s size sx sy) area_cut refl (λ level. refl) below (omega (arith, le, laid.depth)) in
           let here : length (raw_before s size stack sx sy (3 * below + 1 + n)) ≡ a + n * a = in_level stack below n few le lower in
           let sum : a + n * a ≡ (n + 1) * a = omega arith in
           ap (λ (j : ℕ). length (raw_before s size stack sx sy j)) is ∙ here ∙ sum
