@@ -174,9 +174,6 @@ lowest-keeps rect b before after is there keeps = record {
   others = λ k some. numbered-other b 0 0 0 k after refl (omega arith);
 }
 
-pub nothing-restored : (rect : Rect) (b : BandStack) → LowestKeeps rect b b
-nothing-restored rect b = record { depth = refl; keeps = record { same_width = refl; same_height = refl; outside = λ y x out. refl }; others = λ k some. refl }
-
 -- ---- where restoring stops
 
 pub slice-stops : (each from : ℕ) (p : Part) (block : List Bool) (old b new : BandStack) (rect : Rect) (values : List ℤ) → from < each → rect ≡ level_rect p.slicing p.size p.sx p.sy 0

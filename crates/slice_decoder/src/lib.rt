@@ -19,6 +19,7 @@ mod components;
 mod dealing;
 mod jobs;
 mod levels;
+mod lowest;
 mod narrow;
 mod narrow_placing;
 mod narrow_restoring;

@@ -1,25 +1,21 @@
 //! One slice into bands of 32 bits.
 
-ghost use Rattle.std.specs.Prelude.{◌≡◌, ◌+◌, ◌*◌, ◌^◌, ◌<◌, ◌≤◌, true, false, length, pos, MatchResult, MatchOption};
-ghost use Rattle.planes.specs.Raster.{height};
-ghost use Rattle.planes.specs.Bounded.{AreBandsWithin};
+ghost use Rattle.std.specs.Prelude.{◌≡◌, ◌+◌, ◌*◌, ◌^◌, ◌<◌, ◌≤◌, length, pos, MatchResult, MatchOption};
 ghost use Rattle.bounded_blocks.specs.Parts.{block_of};
-ghost use Rattle.dc_prediction.specs.Restoring.{RestoresRect, IsStopped};
 ghost use Rattle.slice_geometry.specs.Slicing as slicing;
-ghost use Rattle.slice_geometry.specs.SliceOrder.{numbered};
 ghost use Rattle.slice_decoder.specs.Slice.{slice_at};
 ghost use Rattle.slice_decoder.specs.Jobs.{luma_part, colour_part, IsSliceJob, AreSizedBands};
 ghost use Rattle.slice_decoder.specs.Decoded.{AreReady, AllKeepOthers, IsDecoded, IsRefused};
-ghost use Rattle.slice_decoder.specs.Narrow.{trio_of, AreNarrowBands, NeedsWide, AreRead, LowestKeeps, AreRestored, OneStops, AllKeepLowest, LieInLowest};
+ghost use Rattle.slice_decoder.specs.Narrow.{trio_of, AreNarrowBands, NeedsWide, AreRead};
 
 use crate::ahead::read_ahead;
 use crate::jobs::{Place, SliceJob};
 use crate::levels::{level_rects, lowest_of};
+use crate::lowest::restore_all;
 use crate::narrow::{read_colour, read_luma};
 use crate::{SliceFault, head_of};
 use bounded_blocks::{Block, CodeTable};
-use dc_prediction::restore_narrow;
-use planes::{NarrowBands, NarrowTrio, Rect};
+use planes::NarrowTrio;
 use quant_factors::Matrix;
 use slice_geometry::{Layout, PictureShape, SliceHead, length_bits};
 
@@ -59,41 +55,6 @@ fn read_blocks(
     let (c1, c2) = (&mut bands.c1, &mut bands.c2);
     let colour_job = job.colour();
     read_colour(&colour, codes, c1, c2, colour_job, buffer)
-}
-
-// Restores the residuals of a rectangle in the lowest of a component's subbands, up to a value that would pass 2^18.
-fn restore(bands: &mut NarrowBands, rect: Rect) -> bool
-    requires x_inside { rect.x1 ≤ (numbered bands.old 0).w }
-    requires y_inside { rect.y1 ≤ height (numbered bands.old 0) }
-    requires narrow { AreBandsWithin (pos (2 ^ 18)) bands.old }
-    ensures restored { result ≡ true
-        → RestoresRect rect (numbered bands.old 0) (numbered bands.new 0) }
-    ensures stopped { result ≡ false
-        → IsStopped rect (numbered bands.old 0) (numbered bands.new 0) }
-    ensures keeps { LowestKeeps rect bands.old bands.new }
-    ensures narrow { AreBandsWithin (pos (2 ^ 18)) bands.new }
-{
-    restore_narrow(bands.band_mut(0, 0), rect)
-}
-
-// The same of all three components.
-fn restore_all(bands: &mut NarrowTrio, luma: Rect, colour: Rect) -> bool
-    requires inside { LieInLowest luma colour (trio_of bands.old) }
-    requires narrow { AreNarrowBands bands.old }
-    ensures restored { result ≡ true → AreRestored luma colour (trio_of bands.old)
-        (trio_of bands.new) }
-    ensures stopped { result ≡ false
-        → OneStops luma colour (trio_of bands.old) (trio_of bands.new) }
-    ensures keeps { AllKeepLowest luma colour (trio_of bands.old) (trio_of bands.new) }
-    ensures narrow { AreNarrowBands bands.new }
-{
-    if !restore(&mut bands.luma, luma) {
-        return false;
-    }
-    if !restore(&mut bands.c1, colour) {
-        return false;
-    }
-    restore(&mut bands.c2, colour)
 }
 
 /// Decodes a slice as `decode_slice` does, into bands of 32 bits whose magnitudes are at most 2^18 before and after.
@@ -159,7 +120,8 @@ pub fn decode_narrow(
     }
     let luma = lowest_of(&luma_rects);
     let colour = lowest_of(&colour_rects);
-    if !restore_all(bands, luma, colour) {
+    let (c1, c2) = (&mut bands.c1, &mut bands.c2);
+    if !restore_all(&mut bands.luma, c1, c2, luma, colour) {
         return Ok(None);
     }
     Ok(Some(head))

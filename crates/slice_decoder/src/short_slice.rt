@@ -1,30 +1,22 @@
 //! One slice into bands of 16 bits.
 
-ghost use Rattle.std.specs.Prelude.{◌≡◌, ◌+◌, ◌*◌, ◌^◌, ◌<◌, ◌≤◌, true, false, length, MatchResult, MatchOption};
-ghost use Rattle.planes.specs.Raster.{height};
+ghost use Rattle.std.specs.Prelude.{◌≡◌, ◌+◌, ◌*◌, ◌^◌, ◌<◌, ◌≤◌, length, MatchResult, MatchOption};
 ghost use Rattle.bounded_blocks.specs.Parts.{block_of};
-ghost use Rattle.dc_prediction.specs.Restoring.{RestoresRect, IsStopped};
 ghost use Rattle.slice_bands.specs.declared.short.TheConstants.{MAX_SHORT};
-ghost use Rattle.slice_bands.specs.ShortBands.{short_stack, IsShortSound};
-ghost use Rattle.slice_geometry.specs.declared.Size.{Size};
-ghost use Rattle.slice_geometry.specs.declared.PictureShape.{PictureShape};
 ghost use Rattle.slice_geometry.specs.Slicing as slicing;
-ghost use Rattle.slice_geometry.specs.Slicing.{Slicing};
-ghost use Rattle.slice_geometry.specs.SliceOrder.{numbered};
 ghost use Rattle.slice_decoder.specs.Slice.{slice_at};
 ghost use Rattle.slice_decoder.specs.Jobs.{short_part, IsShortJob};
 ghost use Rattle.slice_decoder.specs.Decoded.{AllKeepOthers, IsDecoded, IsRefused};
-ghost use Rattle.slice_decoder.specs.Narrow.{NeedsWide, AreRead, LowestKeeps, AreRestored, OneStops, AllKeepLowest, LieInLowest};
-ghost use Rattle.slice_decoder.specs.Short.{shown_trio, IsCut, AreCut, AreCutFor};
+ghost use Rattle.slice_decoder.specs.Narrow.{NeedsWide, AreRead};
+ghost use Rattle.slice_decoder.specs.Short.{shown_trio, AreCut, AreCutFor};
 
 use crate::jobs::{Place, ShortJob};
+use crate::lowest::restore_all;
 use crate::short_room::ShortRoom;
 use crate::{SliceFault, head_of};
 use bounded_blocks::{Block, CodeTable};
-use dc_prediction::restore_narrow;
-use planes::Rect;
 use quant_factors::Matrix;
-use slice_bands::{ShortBands, ShortTrio};
+use slice_bands::ShortTrio;
 use slice_geometry::{Layout, PictureShape, SliceHead, length_bits};
 
 // Reads the values of both blocks into the subbands. It answers false where these don't serve.
@@ -59,45 +51,6 @@ fn read_blocks(
     }
     let (c1, c2) = (&mut bands.c1, &mut bands.c2);
     room.read_colour(&colour, codes, c1, c2, colour_job)
-}
-
-// Restores the residuals of a rectangle in the lowest of a component's subbands, up to a value that would pass 2^18.
-fn restore(bands: &mut ShortBands, rect: Rect) -> bool
-    requires x_inside { rect.x1 ≤ (numbered (short_stack bands.old) 0).w }
-    requires y_inside { rect.y1 ≤ height (numbered (short_stack bands.old) 0) }
-    requires cut { IsShortSound bands.old }
-    ensures restored { result ≡ true
-        → RestoresRect rect (numbered (short_stack bands.old) 0)
-        (numbered (short_stack bands.new) 0) }
-    ensures stopped { result ≡ false
-        → IsStopped rect (numbered (short_stack bands.old) 0) (numbered (short_stack bands.new) 0) }
-    ensures keeps { LowestKeeps rect (short_stack bands.old) (short_stack bands.new) }
-    ensures cut { (s : Slicing) (size : Size) → IsCut s size bands.old → IsCut s size bands.new }
-{
-    restore_narrow(&mut bands.lowest, rect)
-}
-
-// The same of all three components.
-fn restore_all(bands: &mut ShortTrio, luma: Rect, colour: Rect) -> bool
-    requires inside { LieInLowest luma colour (shown_trio bands.old) }
-    requires luma_sound { IsShortSound bands.old.luma }
-    requires c1_sound { IsShortSound bands.old.c1 }
-    requires c2_sound { IsShortSound bands.old.c2 }
-    ensures restored { result ≡ true
-        → AreRestored luma colour (shown_trio bands.old) (shown_trio bands.new) }
-    ensures stopped { result ≡ false
-        → OneStops luma colour (shown_trio bands.old) (shown_trio bands.new) }
-    ensures keeps { AllKeepLowest luma colour (shown_trio bands.old) (shown_trio bands.new) }
-    ensures cut { (s : Slicing) (shape : PictureShape) → AreCut s shape bands.old
-        → AreCut s shape bands.new }
-{
-    if !restore(&mut bands.luma, luma) {
-        return false;
-    }
-    if !restore(&mut bands.c1, colour) {
-        return false;
-    }
-    restore(&mut bands.c2, colour)
 }
 
 /// Decodes a slice as `decode_slice` does, into bands of 16 bits, whose slices lie as the layout cuts each component.
@@ -163,7 +116,8 @@ pub fn decode_short(
     if !read_blocks(luma, colour, bytes, codes, head.luma_bits, bands, room) {
         return Ok(None);
     }
-    if !restore_all(bands, luma.lowest, colour.lowest) {
+    let (c1, c2) = (&mut bands.c1, &mut bands.c2);
+    if !restore_all(&mut bands.luma, c1, c2, luma.lowest, colour.lowest) {
         return Ok(None);
     }
     Ok(Some(head))
