@@ -3,7 +3,8 @@ use Rattle.std.proofs.Common.{◌≡◌, ℕ, ◌+◌, ◌*◌, ◌<◌, ◌≤�
 use Rattle.std.proofs.lemmas.Bool.{cases_lt, cases_eq}
 use Rattle.std.proofs.lemmas.List.{get_or-drop}
 use Rattle.planes.specs.declared.Rect.{Rect}
-use Rattle.planes.specs.Raster.{Raster, height, row_of, at, with_row}
+use Rattle.planes.specs.Raster.{Raster, height, row_of, with_row}
+use Rattle.planes.specs.Valued.{valued, grid_of}
 use Rattle.planes.specs.Subbands.{BandStack, band_index, with_band}
 use Rattle.planes.proofs.RasterLemmas.{height-with_row}
 use Rattle.slice_geometry.specs.declared.Size.{Size}
@@ -13,31 +14,35 @@ use Rattle.slice_geometry.proofs.NumberedBands.{numbered-same, numbered-other}
 use Rattle.slice_decoder.specs.Dealing.{dealt, HoldsRect, KeepsOutside}
 use Rattle.slice_decoder.specs.Components.{Part, rect_of, quantisers_before, BandsHold, BandsKeep}
 use Rattle.slice_decoder.specs.Levels.{places_in, BandsTake}
-use Rattle.slice_decoder.proofs.Rects.{RowsHold, at_same, at_other, rows-kept}
+use Rattle.slice_decoder.proofs.Rects.{RowsHoldOf, at_same, at_other, rows-kept}
 use Rattle.slice_decoder.proofs.Whole.{number_below, in_all}
 use Rattle.slice_decoder.proofs.LevelLemmas.{length-places, in_total}
 
 -- what one row has after values were put there
-pub record RowTakes (each from y : ℕ) (r : Rect) (values old new : List ℤ) : Type 0 where
+pub record RowTakesOf {X : Type 0} (value : X → ℤ) (none : X) (each from y : ℕ) (r : Rect) (values : ℕ → ℤ) (old new : List X) : Type 0 where
   pub same_length : length new ≡ length old
-  pub inside : (x : ℕ) → r.x0 ≤ x → x < r.x1 → get_or new x (pos 0) ≡ get_or values (each * number_in r y x + from) (pos 0)
-  pub outside : (x : ℕ) → (x < r.x0) ⊎ (r.x1 ≤ x) → get_or new x (pos 0) ≡ get_or old x (pos 0)
+  pub inside : (x : ℕ) → r.x0 ≤ x → x < r.x1 → valued value none new x ≡ values (each * number_in r y x + from)
+  pub outside : (x : ℕ) → (x < r.x0) ⊎ (r.x1 ≤ x) → valued value none new x ≡ valued value none old x
 
-pub rows-take : (each from y : ℕ) (r : Rect) (values : List ℤ) (old plane : Raster ℤ) (before row : List ℤ) → r.y0 ≤ y → y < r.y1 → y < height plane → before ≡ row_of plane y
-    → RowsHold each from r y values old plane
-    → RowTakes each from y r values before row
-    → RowsHold each from r (y + 1) values old (with_row plane y row)
-rows-take each from y r values old plane before row top bottom up is held filled = record {
+-- the same of integers, from a list
+abbrev pub RowTakes : ℕ → ℕ → ℕ → Rect → List ℤ → List ℤ → List ℤ → Type 0
+RowTakes each from y r values old new = RowTakesOf (λ v. v) (pos 0) each from y r (λ k. get_or values k (pos 0)) old new
+
+pub rows-take : {X : Type 0} (value : X → ℤ) (none : X) (each from y : ℕ) (r : Rect) (values : ℕ → ℤ) (old plane : Raster X) (before row : List X) → r.y0 ≤ y → y < r.y1 → y < height plane → before ≡ row_of plane y
+    → RowsHoldOf value none each from r y values old plane
+    → RowTakesOf value none each from y r values before row
+    → RowsHoldOf value none each from r (y + 1) values old (with_row plane y row)
+rows-take value none each from y r values old plane before row top bottom up is held filled = record {
   same_width = held.same_width;
   same_height = height-with_row plane y row ∙ held.same_height;
   inside = λ j x inside below. elim (cases_lt j y) [
-    | inl above ↦ at_other plane y j x row (omega arith) ∙ held.inside j x inside above
+    | inl above ↦ at_other value none plane y j x row (omega arith) ∙ held.inside j x inside above
     | inr reached ↦
         let here : j ≡ y = omega arith in
-        let P : ℕ → Type 0 = λ j. at (with_row plane y row) j x ≡ get_or values (each * number_in r j x + from) (pos 0) in
-        subst P (sym here) (at_same plane y x row before up is filled.same_length ∙ filled.inside x inside.left inside.right)
+        let P : ℕ → Type 0 = λ j. grid_of value none (with_row plane y row) j x ≡ values (each * number_in r j x + from) in
+        subst P (sym here) (at_same value none plane y x row before up is filled.same_length ∙ filled.inside x inside.left inside.right)
   ];
-  outside = rows-kept r y old plane before row top bottom up is filled.same_length filled.outside held.outside;
+  outside = rows-kept value none r y old plane before row top bottom up is filled.same_length filled.outside held.outside;
 }
 
 -- ---- bands

@@ -3,7 +3,8 @@ use Rattle.std.proofs.Common.{◌≡◌, ◌≢◌, ℕ, ◌+◌, ◌-◌, ◌*�
 use Rattle.std.proofs.Math.Nat.{mul-le-mul_left, mul-le-mul_right}
 use Rattle.std.proofs.lemmas.Bool.{cases_lt, cases_eq}
 use Rattle.planes.specs.declared.Rect.{Rect}
-use Rattle.planes.specs.Raster.{Raster, height, row_of, at, with_row}
+use Rattle.planes.specs.Raster.{Raster, height, row_of, with_row}
+use Rattle.planes.specs.Valued.{valued, grid_of}
 use Rattle.planes.specs.Rect.{IsInRect}
 use Rattle.planes.proofs.RasterLemmas.{row_of-with_row_same, row_of-with_row_other, height-with_row}
 use Rattle.slice_geometry.specs.SliceOrder.{number_in}
@@ -11,11 +12,15 @@ use Rattle.slice_decoder.specs.Dealing.{dealt, behind}
 use Rattle.slice_decoder.proofs.Dealt.{grow-old, grow-new}
 
 -- the rows above `end` hold their values
-pub record RowsHold (each from : ℕ) (r : Rect) (end : ℕ) (values : List ℤ) (old new : Raster ℤ) : Type 0 where
+pub record RowsHoldOf {X : Type 0} (value : X → ℤ) (none : X) (each from : ℕ) (r : Rect) (end : ℕ) (values : ℕ → ℤ) (old new : Raster X) : Type 0 where
   pub same_width : new.w ≡ old.w
   pub same_height : height new ≡ height old
-  pub inside : (y x : ℕ) → IsInRect r y x → y < end → at new y x ≡ get_or values (each * number_in r y x + from) (pos 0)
-  pub outside : (y x : ℕ) → (IsInRect r y x → ⊥) → at new y x ≡ at old y x
+  pub inside : (y x : ℕ) → IsInRect r y x → y < end → grid_of value none new y x ≡ values (each * number_in r y x + from)
+  pub outside : (y x : ℕ) → (IsInRect r y x → ⊥) → grid_of value none new y x ≡ grid_of value none old y x
+
+-- the same of integers, from a list
+abbrev pub RowsHold : ℕ → ℕ → Rect → ℕ → List ℤ → Raster ℤ → Raster ℤ → Type 0
+RowsHold each from r end values old new = RowsHoldOf (λ v. v) (pos 0) each from r end (λ k. get_or values k (pos 0)) old new
 
 -- what one row has after it was filled
 pub record RowHolds (each from q : ℕ) (r : Rect) (block : List Bool) (old new : List ℤ) : Type 0 where
@@ -49,24 +54,24 @@ outside_row r y x top bottom out = elim (cases_lt x r.x0) [
   ]
 ]
 
-pub at_same : (p : Raster ℤ) (y x : ℕ) (row old : List ℤ) → y < height p → old ≡ row_of p y → length row ≡ length old → at (with_row p y row) y x ≡ get_or row x (pos 0)
-at_same p y x row old lt is same = ap (λ r. get_or r x (pos 0)) (row_of-with_row_same p y row lt (same ∙ ap length is))
+pub at_same : {X : Type 0} (value : X → ℤ) (none : X) (p : Raster X) (y x : ℕ) (row old : List X) → y < height p → old ≡ row_of p y → length row ≡ length old → grid_of value none (with_row p y row) y x ≡ valued value none row x
+at_same value none p y x row old lt is same = ap (λ r. valued value none r x) (row_of-with_row_same p y row lt (same ∙ ap length is))
 
-pub at_other : (p : Raster ℤ) (y j x : ℕ) (row : List ℤ) → j ≢ y → at (with_row p y row) j x ≡ at p j x
-at_other p y j x row ne = ap (λ r. get_or r x (pos 0)) (row_of-with_row_other p y j row ne)
+pub at_other : {X : Type 0} (value : X → ℤ) (none : X) (p : Raster X) (y j x : ℕ) (row : List X) → j ≢ y → grid_of value none (with_row p y row) j x ≡ grid_of value none p j x
+at_other value none p y j x row ne = ap (λ r. valued value none r x) (row_of-with_row_other p y j row ne)
 
 -- what stands outside stays, whatever the row holds inside
-pub rows-kept : (r : Rect) (y : ℕ) (old plane : Raster ℤ) (before row : List ℤ) → r.y0 ≤ y → y < r.y1 → y < height plane → before ≡ row_of plane y → length row ≡ length before
-    → ((x : ℕ) → (x < r.x0) ⊎ (r.x1 ≤ x) → get_or row x (pos 0) ≡ get_or before x (pos 0))
-    → ((y x : ℕ) → (IsInRect r y x → ⊥) → at plane y x ≡ at old y x)
-    → (j x : ℕ) → (IsInRect r j x → ⊥) → at (with_row plane y row) j x ≡ at old j x
-rows-kept r y old plane before row top bottom up is same beside kept j x out = elim (cases_eq j y) [
+pub rows-kept : {X : Type 0} (value : X → ℤ) (none : X) (r : Rect) (y : ℕ) (old plane : Raster X) (before row : List X) → r.y0 ≤ y → y < r.y1 → y < height plane → before ≡ row_of plane y → length row ≡ length before
+    → ((x : ℕ) → (x < r.x0) ⊎ (r.x1 ≤ x) → valued value none row x ≡ valued value none before x)
+    → ((y x : ℕ) → (IsInRect r y x → ⊥) → grid_of value none plane y x ≡ grid_of value none old y x)
+    → (j x : ℕ) → (IsInRect r j x → ⊥) → grid_of value none (with_row plane y row) j x ≡ grid_of value none old j x
+rows-kept value none r y old plane before row top bottom up is same beside kept j x out = elim (cases_eq j y) [
   | inl here ↦
-      let P : ℕ → Type 0 = λ j. at (with_row plane y row) j x ≡ at plane j x in
+      let P : ℕ → Type 0 = λ j. grid_of value none (with_row plane y row) j x ≡ grid_of value none plane j x in
       subst P (sym here)
-      (at_same plane y x row before up is same ∙ beside x (outside_row r y x top bottom (let Q : ℕ → Type 0 = λ j. IsInRect r j x → ⊥ in subst Q here out)) ∙ ap (λ r. get_or r x (pos 0)) is)
+      (at_same value none plane y x row before up is same ∙ beside x (outside_row r y x top bottom (let Q : ℕ → Type 0 = λ j. IsInRect r j x → ⊥ in subst Q here out)) ∙ ap (λ r. valued value none r x) is)
       ∙ kept j x out
-  | inr ne ↦ at_other plane y j x row ne ∙ kept j x out
+  | inr ne ↦ at_other value none plane y j x row ne ∙ kept j x out
 ]
 
 pub rows-more : (each from q y : ℕ) (r : Rect) (block block' : List Bool) (old plane : Raster ℤ) (before row : List ℤ) → from < each → r.y0 ≤ y → y < r.y1 → y < height plane → before ≡ row_of plane y
@@ -82,18 +87,18 @@ rows-more each from q y r block block' old plane before row lt top bottom up is 
       same_height = height-with_row plane y row ∙ held.same_height;
       inside = λ j x inside below. elim (cases_lt j y) [
         | inl above ↦
-            at_other plane y j x row (omega arith)
+            at_other (λ v. v) (pos 0) plane y j x row (omega arith)
             ∙ held.inside j x inside above
             ∙ grow-old block m (each * w) (each * ((y + 1 - r.y0) * w)) q (each * number_in r j x + from) (rows_sum each y r.y0 w top) (number_above each from y j x r lt inside above)
         | inr reached ↦
             let here : j ≡ y = omega arith in
-            let P : ℕ → Type 0 = λ j. at (with_row plane y row) j x ≡ get_or (dealt block (replicate (each * ((y + 1 - r.y0) * w)) q)) (each * number_in r j x + from) (pos 0) in
+            let P : ℕ → Type 0 = λ j. grid_of (λ v. v) (pos 0) (with_row plane y row) j x ≡ get_or (dealt block (replicate (each * ((y + 1 - r.y0) * w)) q)) (each * number_in r j x + from) (pos 0) in
             subst P (sym here)
-            (at_same plane y x row before up is filled.same_length
+            (at_same (λ v. v) (pos 0) plane y x row before up is filled.same_length
             ∙ filled.inside x inside.left inside.right
             ∙ grow-new block block' m (each * w) (each * ((y + 1 - r.y0) * w)) q (each * (x - r.x0) + from) (each * number_in r y x + from) (rows_sum each y r.y0 w top) (omega arith) left)
       ];
-      outside = rows-kept r y old plane before row top bottom up is filled.same_length filled.outside held.outside;
+      outside = rows-kept (λ v. v) (pos 0) r y old plane before row top bottom up is filled.same_length filled.outside held.outside;
     }
 
 -- ---- a row by parts

@@ -24,8 +24,8 @@ abbrev pub trio_of : NarrowTrio → Trio
 trio_of b = record { luma = b.luma; c1 = b.c1; c2 = b.c2 }
 
 -- three components, each as its bands are seen
-abbrev pub trio_seen : {B : Type 0} → (B → BandStack) → B → B → B → Trio
-trio_seen seen luma c1 c2 = record { luma = seen luma; c1 = seen c1; c2 = seen c2 }
+abbrev pub trio_by : {B : Type 0} → (B → BandStack) → B → B → B → Trio
+trio_by seen luma c1 c2 = record { luma = seen luma; c1 = seen c1; c2 = seen c2 }
 
 -- no magnitude in the bands of any component passes 2 ^ 18
 pub record AreNarrowBands (b : NarrowTrio) : Type 0 where

@@ -9,7 +9,7 @@ ghost use Rattle.slice_bands.specs.ShortBands.{short_stack, IsShortSound};
 ghost use Rattle.slice_geometry.specs.declared.Size.{Size};
 ghost use Rattle.slice_geometry.specs.Slicing.{Slicing};
 ghost use Rattle.slice_geometry.specs.SliceOrder.{numbered};
-ghost use Rattle.slice_decoder.specs.Narrow.{trio_seen, LowestKeeps, AreRestored, OneStops, AllKeepLowest, LieInLowest};
+ghost use Rattle.slice_decoder.specs.Narrow.{trio_by, LowestKeeps, AreRestored, OneStops, AllKeepLowest, LieInLowest};
 ghost use Rattle.slice_decoder.specs.Short.{IsCut};
 
 use dc_prediction::restore_narrow;
@@ -79,18 +79,18 @@ pub fn restore_all<B: LowestRows>(
     luma_rect: Rect,
     colour_rect: Rect,
 ) -> bool
-    requires inside { LieInLowest luma_rect colour_rect (trio_seen B.seen luma.old c1.old c2.old) }
+    requires inside { LieInLowest luma_rect colour_rect (trio_by B.seen luma.old c1.old c2.old) }
     requires luma_sound { B.is_sound luma.old }
     requires c1_sound { B.is_sound c1.old }
     requires c2_sound { B.is_sound c2.old }
     ensures restored { result ≡ true
-        → AreRestored luma_rect colour_rect (trio_seen B.seen luma.old c1.old c2.old)
-        (trio_seen B.seen luma.new c1.new c2.new) }
+        → AreRestored luma_rect colour_rect (trio_by B.seen luma.old c1.old c2.old)
+        (trio_by B.seen luma.new c1.new c2.new) }
     ensures stopped { result ≡ false
-        → OneStops luma_rect colour_rect (trio_seen B.seen luma.old c1.old c2.old)
-        (trio_seen B.seen luma.new c1.new c2.new) }
-    ensures keeps { AllKeepLowest luma_rect colour_rect (trio_seen B.seen luma.old c1.old c2.old)
-        (trio_seen B.seen luma.new c1.new c2.new) }
+        → OneStops luma_rect colour_rect (trio_by B.seen luma.old c1.old c2.old)
+        (trio_by B.seen luma.new c1.new c2.new) }
+    ensures keeps { AllKeepLowest luma_rect colour_rect (trio_by B.seen luma.old c1.old c2.old)
+        (trio_by B.seen luma.new c1.new c2.new) }
     ensures luma_sound { B.stays luma.old luma.new }
     ensures c1_sound { B.stays c1.old c1.new }
     ensures c2_sound { B.stays c2.old c2.new }

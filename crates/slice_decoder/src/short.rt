@@ -1,15 +1,13 @@
 //! A slice into bands of 16 bits, whose slices lie as the layout cuts a component.
 
-ghost use Rattle.std.specs.Prelude.{◌≡◌, ℕ, ◌+◌, ◌-◌, ◌*◌, ◌<◌, ◌≤◌, true, length, drop, slice_index_or, pos};
+ghost use Rattle.std.specs.Prelude.{◌≡◌, ℕ, ◌+◌, ◌-◌, ◌*◌, ◌<◌, ◌≤◌, true, length, slice_index_or, pos};
 ghost use Rattle.bounded_blocks.specs.declared.TheConstants as blocks;
 ghost use Rattle.bounded_blocks.specs.declared.TheConstants.{SPARE};
 ghost use Rattle.planes.specs.Bounded.{IsWithin};
-ghost use Rattle.planes.specs.Raster.{height};
 ghost use Rattle.slice_bands.specs.declared.short.TheConstants.{MAX_SHORT};
 ghost use Rattle.slice_bands.specs.ShortBands.{short_stack};
-ghost use Rattle.slice_geometry.specs.SliceOrder.{area};
 ghost use Rattle.slice_decoder.specs.Components.{BandsKeep};
-ghost use Rattle.slice_decoder.specs.Dealing.{dealt, StaysBeside, HoldsRect};
+ghost use Rattle.slice_decoder.specs.Dealing.{dealt};
 ghost use Rattle.slice_decoder.specs.Jobs.{short_part, IsShortJob, AllHold, AllTake, RestStays, places_of};
 ghost use Rattle.slice_decoder.specs.Narrow.{block_values, Answers};
 ghost use Rattle.slice_decoder.specs.Restored.{StayWithin};
@@ -18,9 +16,9 @@ ghost use Rattle.slice_decoder.specs.Short.{IsCut};
 ghost use Rattle.slice_decoder.specs.StepRows.{AreasGrow};
 
 use crate::jobs::{Place, ShortJob};
+use crate::placing::put_rect;
 use crate::step_rows::{StepRows, key_of};
 use bounded_blocks::{Block, CodeTable, SPARE};
-use planes::{NarrowPlane, Rect};
 use slice_bands::ShortBands;
 use slice_geometry::Layout;
 
@@ -32,49 +30,6 @@ fn number_of(layout: &Layout, place: Place) -> usize
     ensures inside { result < layout.now.slices_x * layout.now.slices_y }
 {
     place.sy as usize * layout.slices_x() as usize + place.sx as usize
-}
-
-// Puts values from one on at the places of a row from `start` to `end`: of EACH that a place has, the one that is counted by
-// `from`.
-#[inline(always)]
-fn put_row<const EACH: usize>(
-    values: &[i16],
-    at: usize,
-    from: usize,
-    row: &mut [i32],
-    start: usize,
-    end: usize,
-)
-    requires few { from < EACH }
-    requires order { start ≤ end }
-    requires inside { end ≤ length row.old }
-    requires room { at + EACH * (end - start) ≤ length values.now }
-    ensures inside { (x : ℕ) → start ≤ x → x < end →
-        slice_index_or row.new x (pos 0)
-        ≡ slice_index_or values.now (at + (EACH * (x - start) + from)) (pos 0) }
-    ensures outside { StaysBeside start end row.old row.new }
-{
-    for x in start..end {
-        row[x] = i32::from(values[at + (EACH * (x - start) + from)]);
-    }
-}
-
-// The same in a rectangle of a lowest band, from the first value on.
-fn put_lowest<const EACH: usize>(values: &[i16], from: usize, plane: &mut NarrowPlane, rect: Rect)
-    requires few { from < EACH }
-    requires across { rect.x0 ≤ rect.x1 }
-    requires down { rect.y0 ≤ rect.y1 }
-    requires x_inside { rect.x1 ≤ plane.old.w }
-    requires y_inside { rect.y1 ≤ height plane.old }
-    requires room { 0 + EACH * area rect ≤ length values.now }
-    ensures { HoldsRect EACH from rect (drop 0 values.now) plane.old plane.new }
-{
-    let (start, end) = (rect.x0 as usize, rect.x1 as usize);
-    let mut place = 0;
-    for y in rect.y0..rect.y1 {
-        put_row::<EACH>(values, place, from, plane.row_mut(y), start, end);
-        place += EACH * (end - start);
-    }
 }
 
 // Puts the values of a slice at its places in a component's subbands.
@@ -93,7 +48,7 @@ fn put_values(values: &[i16], bands: &mut ShortBands, job: ShortJob<'_>)
 {
     bands.slices.shows();
     let n = number_of(job.layout, job.place);
-    put_lowest::<1>(values, 0, &mut bands.lowest, job.lowest);
+    put_rect::<i16, i32, 1>(values, 0, 0, &mut bands.lowest, job.lowest);
     bands.slices.put_all(n, values);
 }
 
@@ -119,8 +74,8 @@ fn put_in_turn(values: &[i16], first: &mut ShortBands, second: &mut ShortBands, 
     first.slices.shows();
     second.slices.shows();
     let n = number_of(job.layout, job.place);
-    put_lowest::<2>(values, 0, &mut first.lowest, job.lowest);
-    put_lowest::<2>(values, 1, &mut second.lowest, job.lowest);
+    put_rect::<i16, i32, 2>(values, 0, 0, &mut first.lowest, job.lowest);
+    put_rect::<i16, i32, 2>(values, 0, 1, &mut second.lowest, job.lowest);
     first.slices.put_in_turn(&mut second.slices, n, values);
 }
 

@@ -36,8 +36,8 @@ loop-y-preserved c =
     record {
       begun = omega (arith, begun);
       place = omega (arith, i.place, sum, c.requires.width);
-      first = rows-take 2 0 l.y r (drop from values) c.args.first.now l.first c.row_mut-one.result.now c.put_pair.new.first begun c.loop-y-test.true
+      first = rows-take (λ v. v) (pos 0) 2 0 l.y r (λ k. get_or (drop from values) k (pos 0)) c.args.first.now l.first c.row_mut-one.result.now c.put_pair.new.first begun c.loop-y-test.true
           (omega (arith, i.first.same_height, c.requires.first_y_inside, c.loop-y-test.true)) c.row_mut-one.ensures.value i.first first;
-      second = rows-take 2 1 l.y r (drop from values) c.args.second.now l.second c.row_mut-two.result.now c.put_pair.new.second begun c.loop-y-test.true
+      second = rows-take (λ v. v) (pos 0) 2 1 l.y r (λ k. get_or (drop from values) k (pos 0)) c.args.second.now l.second c.row_mut-two.result.now c.put_pair.new.second begun c.loop-y-test.true
           (omega (arith, i.second.same_height, c.requires.second_y_inside, c.loop-y-test.true)) c.row_mut-two.ensures.value i.second second;
     }

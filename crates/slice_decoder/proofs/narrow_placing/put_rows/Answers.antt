@@ -28,6 +28,6 @@ loop-y-preserved c =
     record {
       begun = omega (arith, begun);
       place = omega (arith, i.place, sum, c.requires.width);
-      rows = rows-take 1 0 l.y r (drop from values) c.args.plane.now l.plane c.row_mut.result.now c.put_part.new.row begun c.loop-y-test.true
+      rows = rows-take (λ v. v) (pos 0) 1 0 l.y r (λ k. get_or (drop from values) k (pos 0)) c.args.plane.now l.plane c.row_mut.result.now c.put_part.new.row begun c.loop-y-test.true
           (omega (arith, i.rows.same_height, c.requires.y_inside, c.loop-y-test.true)) c.row_mut.ensures.value i.rows taken;
     }

@@ -3,7 +3,7 @@ use Rattle.bit_codes.proofs.BitLemmas.{length-rest}
 use Rattle.planes.specs.Subbands.{BandStack}
 use Rattle.slice_geometry.specs.Slicing.{length_bits}
 use Rattle.slice_geometry.proofs.LengthBits.{length_bits-fit}
-use Rattle.slice_decoder.specs.Narrow.{trio_of, trio_seen}
+use Rattle.slice_decoder.specs.Narrow.{trio_of, trio_by}
 use Rattle.slice_decoder.proofs.Decodes.{lt_tests}
 use Rattle.slice_decoder.proofs.SliceSteps.{SliceRead, IsHeaded, AreLowest, headed, wide-after-reading, others-after-reading, lie-in-lowest, wide-where-stopped, others-after-restoring, decoded-slice}
 use Rattle.slice_decoder.proofs.narrow_slice.decode_narrow.Goals as goal
@@ -63,14 +63,14 @@ returns-then-not-restore_all-clause-decoded c =
     let r : SliceRead = record { slicing = c.args.layout.now; shape = c.args.shape.now; sx = c.args.sx; sy = c.args.sy; matrix = c.args.matrix.now; bytes = c.args.bytes.now; head = c.head_of-head.result } in
     let head : IsHeaded r = headed r (omega (arith, c.if-head-left.false, c.length_bits.ensures, length_bits-fit (length c.args.bytes.now) c.requires.some)) c.head_of-head.ensures.qindex c.head_of-head.ensures.luma_bits in
     let lowest : AreLowest r c.lowest_of-luma.result c.lowest_of-colour.result = record { luma_is = c.lowest_of-luma.ensures _ _ _ _ c.level_rects-luma_rects.ensures; colour_is = c.lowest_of-colour.ensures _ _ _ _ c.level_rects-colour_rects.ensures } in
-    wide-where-stopped (pos (2 ^ 18)) (length c.read_ahead.new.kept) r (trio_of c.args.bands.now) (trio_of c.read_blocks.new.bands) (trio_seen (λ (b : BandStack). b) c.restore_all.new.luma c.restore_all.new.c1 c.restore_all.new.c2) c.lowest_of-luma.result c.lowest_of-colour.result lowest c.if-not-read_blocks.ensures.read
+    wide-where-stopped (pos (2 ^ 18)) (length c.read_ahead.new.kept) r (trio_of c.args.bands.now) (trio_of c.read_blocks.new.bands) (trio_by (λ (b : BandStack). b) c.restore_all.new.luma c.restore_all.new.c1 c.restore_all.new.c2) c.lowest_of-luma.result c.lowest_of-colour.result lowest c.if-not-read_blocks.ensures.read
     (length c.args.buffer.now) head (c.restore_all.ensures.stopped c.if-not-restore_all.true)
 
 pub returns-then-not-restore_all-clause-others : goal.returns-then-not-restore_all-clause-others
 returns-then-not-restore_all-clause-others c =
     let r : SliceRead = record { slicing = c.args.layout.now; shape = c.args.shape.now; sx = c.args.sx; sy = c.args.sy; matrix = c.args.matrix.now; bytes = c.args.bytes.now; head = c.head_of-head.result } in
     let lowest : AreLowest r c.lowest_of-luma.result c.lowest_of-colour.result = record { luma_is = c.lowest_of-luma.ensures _ _ _ _ c.level_rects-luma_rects.ensures; colour_is = c.lowest_of-colour.ensures _ _ _ _ c.level_rects-colour_rects.ensures } in
-    others-after-restoring (pos (2 ^ 18)) (length c.read_ahead.new.kept) r (trio_of c.args.bands.now) (trio_of c.read_blocks.new.bands) (trio_seen (λ (b : BandStack). b) c.restore_all.new.luma c.restore_all.new.c1 c.restore_all.new.c2) c.lowest_of-luma.result c.lowest_of-colour.result lowest c.if-not-read_blocks.ensures.read
+    others-after-restoring (pos (2 ^ 18)) (length c.read_ahead.new.kept) r (trio_of c.args.bands.now) (trio_of c.read_blocks.new.bands) (trio_by (λ (b : BandStack). b) c.restore_all.new.luma c.restore_all.new.c1 c.restore_all.new.c2) c.lowest_of-luma.result c.lowest_of-colour.result lowest c.if-not-read_blocks.ensures.read
     c.restore_all.ensures.keeps
 
 pub returns-clause-decoded : goal.returns-clause-decoded
@@ -78,12 +78,12 @@ returns-clause-decoded c =
     let r : SliceRead = record { slicing = c.args.layout.now; shape = c.args.shape.now; sx = c.args.sx; sy = c.args.sy; matrix = c.args.matrix.now; bytes = c.args.bytes.now; head = c.head_of-head.result } in
     let head : IsHeaded r = headed r (omega (arith, c.if-head-left.false, c.length_bits.ensures, length_bits-fit (length c.args.bytes.now) c.requires.some)) c.head_of-head.ensures.qindex c.head_of-head.ensures.luma_bits in
     let lowest : AreLowest r c.lowest_of-luma.result c.lowest_of-colour.result = record { luma_is = c.lowest_of-luma.ensures _ _ _ _ c.level_rects-luma_rects.ensures; colour_is = c.lowest_of-colour.ensures _ _ _ _ c.level_rects-colour_rects.ensures } in
-    decoded-slice (pos (2 ^ 18)) (length c.read_ahead.new.kept) r (trio_of c.args.bands.now) (trio_of c.read_blocks.new.bands) (trio_seen (λ (b : BandStack). b) c.restore_all.new.luma c.restore_all.new.c1 c.restore_all.new.c2) c.lowest_of-luma.result c.lowest_of-colour.result lowest c.if-not-read_blocks.ensures.read
+    decoded-slice (pos (2 ^ 18)) (length c.read_ahead.new.kept) r (trio_of c.args.bands.now) (trio_of c.read_blocks.new.bands) (trio_by (λ (b : BandStack). b) c.restore_all.new.luma c.restore_all.new.c1 c.restore_all.new.c2) c.lowest_of-luma.result c.lowest_of-colour.result lowest c.if-not-read_blocks.ensures.read
     head (c.restore_all.ensures.restored c.if-not-restore_all.false) c.restore_all.ensures.keeps
 
 pub returns-clause-others : goal.returns-clause-others
 returns-clause-others c =
     let r : SliceRead = record { slicing = c.args.layout.now; shape = c.args.shape.now; sx = c.args.sx; sy = c.args.sy; matrix = c.args.matrix.now; bytes = c.args.bytes.now; head = c.head_of-head.result } in
     let lowest : AreLowest r c.lowest_of-luma.result c.lowest_of-colour.result = record { luma_is = c.lowest_of-luma.ensures _ _ _ _ c.level_rects-luma_rects.ensures; colour_is = c.lowest_of-colour.ensures _ _ _ _ c.level_rects-colour_rects.ensures } in
-    others-after-restoring (pos (2 ^ 18)) (length c.read_ahead.new.kept) r (trio_of c.args.bands.now) (trio_of c.read_blocks.new.bands) (trio_seen (λ (b : BandStack). b) c.restore_all.new.luma c.restore_all.new.c1 c.restore_all.new.c2) c.lowest_of-luma.result c.lowest_of-colour.result lowest c.if-not-read_blocks.ensures.read
+    others-after-restoring (pos (2 ^ 18)) (length c.read_ahead.new.kept) r (trio_of c.args.bands.now) (trio_of c.read_blocks.new.bands) (trio_by (λ (b : BandStack). b) c.restore_all.new.luma c.restore_all.new.c1 c.restore_all.new.c2) c.lowest_of-luma.result c.lowest_of-colour.result lowest c.if-not-read_blocks.ensures.read
     c.restore_all.ensures.keeps

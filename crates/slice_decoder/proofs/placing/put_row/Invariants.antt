@@ -1,10 +1,12 @@
-use Rattle.std.proofs.Common.{◌≡◌, ℕ, ◌+◌, ◌-◌, ◌*◌, ◌<◌, ◌≤◌, get_or, pos}
-use Rattle.slice_decoder.specs.Dealing.{StaysBeside}
+use Rattle.std.proofs.Common.{◌≡◌, ℕ, ◌+◌, ◌-◌, ◌*◌, ◌<◌, ◌≤◌, ◌⊎◌}
+use Rattle.planes.specs.Valued.{valued}
 use Rattle.slice_decoder.proofs.placing.put_row.Given as goal
 
 abbrev pub invariant-loop-x : goal.invariant-loop-x
-invariant-loop-x g l = record {
-  begun : l.start ≤ l.x;
-  inside : (j : ℕ) → l.start ≤ j → j < l.x → get_or l.row j (pos 0) ≡ get_or l.values (l.at + (g.row.EACH * (j - l.start) + l.from)) (pos 0);
-  outside : StaysBeside l.start l.x l.fn.row l.row;
-}
+invariant-loop-x g l =
+    let row = valued g.T.Number.value g.T.Number.none in
+    record {
+      begun : l.start ≤ l.x;
+      inside : (j : ℕ) → l.start ≤ j → j < l.x → row l.row j ≡ valued g.V.Number.value g.V.Number.none l.values (l.at + (g.row.EACH * (j - l.start) + l.from));
+      outside : (j : ℕ) → (j < l.start) ⊎ (l.x ≤ j) → row l.row j ≡ row l.fn.row j;
+    }

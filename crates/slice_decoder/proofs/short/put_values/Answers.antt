@@ -5,18 +5,18 @@ use Rattle.slice_bands.specs.Short.{every}
 use Rattle.slice_decoder.proofs.ShortTakes.{every-one, whole-values, number-inside, lowest-room, lowest-fits, put-takes, put-rest, put-cut}
 use Rattle.slice_decoder.proofs.short.put_values.Goals as goal
 
-pub put_lowest-requires-clause-x_inside : goal.put_lowest-requires-clause-x_inside
-put_lowest-requires-clause-x_inside c =
+pub put_rect-requires-clause-x_inside : goal.put_rect-requires-clause-x_inside
+put_rect-requires-clause-x_inside c =
     let job = c.args.job in
     (lowest-fits job.layout.now job.size c.args.bands.now job.place.sx job.place.sy job.lowest c.requires.cut c.requires.job.lowest c.requires.job.across c.requires.job.down).x_inside
 
-pub put_lowest-requires-clause-y_inside : goal.put_lowest-requires-clause-y_inside
-put_lowest-requires-clause-y_inside c =
+pub put_rect-requires-clause-y_inside : goal.put_rect-requires-clause-y_inside
+put_rect-requires-clause-y_inside c =
     let job = c.args.job in
     (lowest-fits job.layout.now job.size c.args.bands.now job.place.sx job.place.sy job.lowest c.requires.cut c.requires.job.lowest c.requires.job.across c.requires.job.down).y_inside
 
-pub put_lowest-requires-clause-room : goal.put_lowest-requires-clause-room
-put_lowest-requires-clause-room c =
+pub put_rect-requires-clause-room : goal.put_rect-requires-clause-room
+put_rect-requires-clause-room c =
     let job = c.args.job in
     omega (arith, lowest-room 1 job.layout.now job.size job.place.sx job.place.sy (length c.args.values.now) job.lowest c.requires.job.lowest c.requires.count)
 
@@ -37,9 +37,9 @@ returns-clause-takes c =
     let old = c.args.bands.now in
     let values = c.args.values.now in
     let whole = whole-values 1 job.layout.now job.size old job.place.sx job.place.sy (length values) c.requires.cut c.shows.ensures.sound c.requires.count in
-    put-takes 1 0 job.layout.now job.size old job.place.sx job.place.sy c.number_of-n.result values job.lowest c.put_lowest.new.plane c.put_all.new.self c.requires.job.across c.requires.job.down
+    put-takes 1 0 job.layout.now job.size old job.place.sx job.place.sy c.number_of-n.result values job.lowest c.put_rect.new.plane c.put_all.new.self c.requires.job.across c.requires.job.down
     c.requires.cut c.shows.ensures.sound c.number_of-n.ensures.value c.put_all.ensures.there
-    (holds_each old.slices c.put_all.new.self c.number_of-n.result (length values) values whole refl c.put_all.ensures.value) c.requires.job.lowest c.put_lowest.ensures
+    (holds_each old.slices c.put_all.new.self c.number_of-n.result (length values) values whole refl c.put_all.ensures.value) c.requires.job.lowest c.put_rect.ensures
 
 pub returns-clause-rest : goal.returns-clause-rest
 returns-clause-rest c =
@@ -47,9 +47,9 @@ returns-clause-rest c =
     let old = c.args.bands.now in
     let values = c.args.values.now in
     let whole = whole-values 1 job.layout.now job.size old job.place.sx job.place.sy (length values) c.requires.cut c.shows.ensures.sound c.requires.count in
-    put-rest 1 0 job.layout.now job.size old job.place.sx job.place.sy c.number_of-n.result values job.lowest c.put_lowest.new.plane c.put_all.new.self c.requires.job.across c.requires.job.down
+    put-rest 1 0 job.layout.now job.size old job.place.sx job.place.sy c.number_of-n.result values job.lowest c.put_rect.new.plane c.put_all.new.self c.requires.job.across c.requires.job.down
     c.requires.cut c.shows.ensures.sound c.number_of-n.ensures.value c.put_all.ensures.there
-    (holds_each old.slices c.put_all.new.self c.number_of-n.result (length values) values whole refl c.put_all.ensures.value) c.requires.job.lowest c.put_lowest.ensures
+    (holds_each old.slices c.put_all.new.self c.number_of-n.result (length values) values whole refl c.put_all.ensures.value) c.requires.job.lowest c.put_rect.ensures
 
 pub returns-clause-cut : goal.returns-clause-cut
 returns-clause-cut c =
@@ -57,6 +57,6 @@ returns-clause-cut c =
     let old = c.args.bands.now in
     let values = c.args.values.now in
     let whole = whole-values 1 job.layout.now job.size old job.place.sx job.place.sy (length values) c.requires.cut c.shows.ensures.sound c.requires.count in
-    put-cut 1 0 job.layout.now job.size old job.place.sx job.place.sy c.number_of-n.result values job.lowest c.put_lowest.new.plane c.put_all.new.self c.requires.job.across c.requires.job.down
+    put-cut 1 0 job.layout.now job.size old job.place.sx job.place.sy c.number_of-n.result values job.lowest c.put_rect.new.plane c.put_all.new.self c.requires.job.across c.requires.job.down
     c.requires.cut c.shows.ensures.sound c.number_of-n.ensures.value c.put_all.ensures.there
-    (holds_each old.slices c.put_all.new.self c.number_of-n.result (length values) values whole refl c.put_all.ensures.value) c.requires.job.lowest c.put_lowest.ensures c.requires.short
+    (holds_each old.slices c.put_all.new.self c.number_of-n.result (length values) values whole refl c.put_all.ensures.value) c.requires.job.lowest c.put_rect.ensures c.requires.short

@@ -4,7 +4,7 @@ use Rattle.slice_bands.specs.declared.short.TheConstants.{MAX_SHORT}
 use Rattle.slice_bands.specs.ShortBands.{short_stack}
 use Rattle.slice_geometry.specs.Slicing.{length_bits}
 use Rattle.slice_geometry.proofs.LengthBits.{length_bits-fit}
-use Rattle.slice_decoder.specs.Narrow.{trio_seen}
+use Rattle.slice_decoder.specs.Narrow.{trio_by}
 use Rattle.slice_decoder.specs.Short.{shown_trio}
 use Rattle.slice_decoder.proofs.Decodes.{lt_tests}
 use Rattle.slice_decoder.proofs.ShortTakes.{cut_sizes, lowest-is, lowest-low}
@@ -70,14 +70,14 @@ returns-then-not-restore_all-clause-decoded c =
     let r : SliceRead = record { slicing = c.args.layout.now; shape = c.args.shape.now; sx = c.args.sx; sy = c.args.sy; matrix = c.args.matrix.now; bytes = c.args.bytes.now; head = c.head_of-head.result } in
     let head : IsHeaded r = headed r (omega (arith, c.if-head-left.false, c.length_bits.ensures, length_bits-fit (length c.args.bytes.now) c.requires.some)) c.head_of-head.ensures.qindex c.head_of-head.ensures.luma_bits in
     let lowest : AreLowest r c.lowest_rect.result c.lowest_rect-2.result = record { luma_is = lowest-is c.args.layout.now c.args.shape.now.luma c.args.bands.now.luma c.args.sx c.args.sy c.lowest_rect.result c.requires.cut.luma c.lowest_rect.ensures.sound c.lowest_rect.ensures.value; colour_is = lowest-is c.args.layout.now c.args.shape.now.colour c.args.bands.now.c1 c.args.sx c.args.sy c.lowest_rect-2.result c.requires.cut.c1 c.lowest_rect-2.ensures.sound c.lowest_rect-2.ensures.value } in
-    wide-where-stopped MAX_SHORT c.args.room.now r (shown_trio c.args.bands.now) (shown_trio c.read_blocks.new.bands) (trio_seen short_stack c.restore_all.new.luma c.restore_all.new.c1 c.restore_all.new.c2) c.lowest_rect.result c.lowest_rect-2.result lowest c.if-not-read_blocks.ensures.read
+    wide-where-stopped MAX_SHORT c.args.room.now r (shown_trio c.args.bands.now) (shown_trio c.read_blocks.new.bands) (trio_by short_stack c.restore_all.new.luma c.restore_all.new.c1 c.restore_all.new.c2) c.lowest_rect.result c.lowest_rect-2.result lowest c.if-not-read_blocks.ensures.read
     c.args.room.now head (c.restore_all.ensures.stopped c.if-not-restore_all.true)
 
 pub returns-then-not-restore_all-clause-others : goal.returns-then-not-restore_all-clause-others
 returns-then-not-restore_all-clause-others c =
     let r : SliceRead = record { slicing = c.args.layout.now; shape = c.args.shape.now; sx = c.args.sx; sy = c.args.sy; matrix = c.args.matrix.now; bytes = c.args.bytes.now; head = c.head_of-head.result } in
     let lowest : AreLowest r c.lowest_rect.result c.lowest_rect-2.result = record { luma_is = lowest-is c.args.layout.now c.args.shape.now.luma c.args.bands.now.luma c.args.sx c.args.sy c.lowest_rect.result c.requires.cut.luma c.lowest_rect.ensures.sound c.lowest_rect.ensures.value; colour_is = lowest-is c.args.layout.now c.args.shape.now.colour c.args.bands.now.c1 c.args.sx c.args.sy c.lowest_rect-2.result c.requires.cut.c1 c.lowest_rect-2.ensures.sound c.lowest_rect-2.ensures.value } in
-    others-after-restoring MAX_SHORT c.args.room.now r (shown_trio c.args.bands.now) (shown_trio c.read_blocks.new.bands) (trio_seen short_stack c.restore_all.new.luma c.restore_all.new.c1 c.restore_all.new.c2) c.lowest_rect.result c.lowest_rect-2.result lowest c.if-not-read_blocks.ensures.read
+    others-after-restoring MAX_SHORT c.args.room.now r (shown_trio c.args.bands.now) (shown_trio c.read_blocks.new.bands) (trio_by short_stack c.restore_all.new.luma c.restore_all.new.c1 c.restore_all.new.c2) c.lowest_rect.result c.lowest_rect-2.result lowest c.if-not-read_blocks.ensures.read
     c.restore_all.ensures.keeps
 
 pub returns-clause-decoded : goal.returns-clause-decoded
@@ -85,14 +85,14 @@ returns-clause-decoded c =
     let r : SliceRead = record { slicing = c.args.layout.now; shape = c.args.shape.now; sx = c.args.sx; sy = c.args.sy; matrix = c.args.matrix.now; bytes = c.args.bytes.now; head = c.head_of-head.result } in
     let head : IsHeaded r = headed r (omega (arith, c.if-head-left.false, c.length_bits.ensures, length_bits-fit (length c.args.bytes.now) c.requires.some)) c.head_of-head.ensures.qindex c.head_of-head.ensures.luma_bits in
     let lowest : AreLowest r c.lowest_rect.result c.lowest_rect-2.result = record { luma_is = lowest-is c.args.layout.now c.args.shape.now.luma c.args.bands.now.luma c.args.sx c.args.sy c.lowest_rect.result c.requires.cut.luma c.lowest_rect.ensures.sound c.lowest_rect.ensures.value; colour_is = lowest-is c.args.layout.now c.args.shape.now.colour c.args.bands.now.c1 c.args.sx c.args.sy c.lowest_rect-2.result c.requires.cut.c1 c.lowest_rect-2.ensures.sound c.lowest_rect-2.ensures.value } in
-    decoded-slice MAX_SHORT c.args.room.now r (shown_trio c.args.bands.now) (shown_trio c.read_blocks.new.bands) (trio_seen short_stack c.restore_all.new.luma c.restore_all.new.c1 c.restore_all.new.c2) c.lowest_rect.result c.lowest_rect-2.result lowest c.if-not-read_blocks.ensures.read
+    decoded-slice MAX_SHORT c.args.room.now r (shown_trio c.args.bands.now) (shown_trio c.read_blocks.new.bands) (trio_by short_stack c.restore_all.new.luma c.restore_all.new.c1 c.restore_all.new.c2) c.lowest_rect.result c.lowest_rect-2.result lowest c.if-not-read_blocks.ensures.read
     head (c.restore_all.ensures.restored c.if-not-restore_all.false) c.restore_all.ensures.keeps
 
 pub returns-clause-others : goal.returns-clause-others
 returns-clause-others c =
     let r : SliceRead = record { slicing = c.args.layout.now; shape = c.args.shape.now; sx = c.args.sx; sy = c.args.sy; matrix = c.args.matrix.now; bytes = c.args.bytes.now; head = c.head_of-head.result } in
     let lowest : AreLowest r c.lowest_rect.result c.lowest_rect-2.result = record { luma_is = lowest-is c.args.layout.now c.args.shape.now.luma c.args.bands.now.luma c.args.sx c.args.sy c.lowest_rect.result c.requires.cut.luma c.lowest_rect.ensures.sound c.lowest_rect.ensures.value; colour_is = lowest-is c.args.layout.now c.args.shape.now.colour c.args.bands.now.c1 c.args.sx c.args.sy c.lowest_rect-2.result c.requires.cut.c1 c.lowest_rect-2.ensures.sound c.lowest_rect-2.ensures.value } in
-    others-after-restoring MAX_SHORT c.args.room.now r (shown_trio c.args.bands.now) (shown_trio c.read_blocks.new.bands) (trio_seen short_stack c.restore_all.new.luma c.restore_all.new.c1 c.restore_all.new.c2) c.lowest_rect.result c.lowest_rect-2.result lowest c.if-not-read_blocks.ensures.read
+    others-after-restoring MAX_SHORT c.args.room.now r (shown_trio c.args.bands.now) (shown_trio c.read_blocks.new.bands) (trio_by short_stack c.restore_all.new.luma c.restore_all.new.c1 c.restore_all.new.c2) c.lowest_rect.result c.lowest_rect-2.result lowest c.if-not-read_blocks.ensures.read
     c.restore_all.ensures.keeps
 
 pub returns-then-not-restore_all-clause-cut : goal.returns-then-not-restore_all-clause-cut
