@@ -7,7 +7,7 @@ use Rattle.planes.specs.declared.NarrowTrio.{NarrowTrio}
 use Rattle.planes.specs.declared.LateTrio.{LateTrio}
 use Rattle.slice_bands.specs.Short.{ShowTheSame}
 use Rattle.slice_decoder.specs.Narrow.{trio_of, AreNarrowBands}
-use Rattle.picture_codec.specs.DecodedBands.{AllAgree, IsLateNarrow, NarrowSeen, WideSeen, AreRowsKept}
+use Rattle.picture_codec.specs.DecodedBands.{AllAgree, IsLateNarrow, LateSeen, AreRowsKept}
 use Rattle.picture_codec.proofs.Gathered.{all-agree-on}
 
 -- bands that are made need no memory
@@ -39,7 +39,7 @@ sizes-stay short before after wide first second agree =
     }
 
 -- rows that bands of 16 bits stand beside, before and after
-pub beside-kept : (short : NarrowTrio) (before after : NarrowSeen) (wide : WideSeen) → AllAgree short (trio_of before.bands) → AllAgree short (trio_of after.bands) → AllAgree before.bands wide.bands → AreRowsKept after wide false
+pub beside-kept : (short : NarrowTrio) (before after : LateSeen NarrowTrio) (wide : LateSeen Trio) → AllAgree short (trio_of before.bands) → AllAgree short (trio_of after.bands) → AllAgree before.bands wide.bands → AreRowsKept after wide false
 beside-kept short before after wide first second agree = record {
   sizes = record {
     luma = sizes-stay short.luma before.bands.luma after.bands.luma wide.bands.luma first.luma second.luma agree.luma;

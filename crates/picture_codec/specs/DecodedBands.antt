@@ -6,7 +6,7 @@ use Rattle.planes.specs.declared.LateTrio.{LateTrio}
 use Rattle.planes.specs.declared.Trio.{Trio}
 use Rattle.planes.specs.declared.NarrowTrio.{NarrowTrio}
 use Rattle.slice_bands.specs.ShortBands.{short_stack, IsShortSound}
-use Rattle.slice_decoder.specs.Narrow.{AreNarrowBands}
+use Rattle.slice_decoder.specs.Narrow.{trio_of, AreNarrowBands}
 use Rattle.picture_codec.specs.declared.decoded_bands.ShownBands.{ShownBands}
 use Rattle.picture_codec.specs.declared.decoded_bands.ShownBands.TheVariants.{Short, Wide, Narrow}
 
@@ -20,9 +20,9 @@ pub record AllAgree (narrow : NarrowTrio) (wide : Trio) : Type 0 where
 abbrev pub narrow_of : Trio → NarrowTrio
 narrow_of b = record { luma = b.luma; c1 = b.c1; c2 = b.c2 }
 
--- what is seen of those of 64 bits: the bands, and whether they are made
-pub record WideSeen : Type 0 where
-  pub bands : Trio
+-- what is seen of bands that are made once a slice needs them: the bands, and whether they are made
+pub record LateSeen (B : Type 0) : Type 0 where
+  pub bands : B
   pub is_made : Bool
 
 -- the bands that a memory is for
@@ -35,33 +35,13 @@ pub record AreRowless (late : LateTrio ℤ) (made : Trio) : Type 0 where
   pub c1 : AreZeroBands made.c1 late.c1.depth 0 0
   pub c2 : AreZeroBands made.c2 late.c2.depth 0 0
 
--- what is seen of those of 32 bits: the bands, and whether they are made
-pub record NarrowSeen : Type 0 where
-  pub bands : NarrowTrio
-  pub is_made : Bool
-
--- the bands of 32 bits that a memory is for
-abbrev pub late_narrow_of : LateTrio ℤ → NarrowTrio
-late_narrow_of b = record { luma = b.luma; c1 = b.c1; c2 = b.c2 }
-
--- the bands in whose place they are made: as many, of no rows and no columns
-pub record AreNarrowRowless (late : LateTrio ℤ) (made : NarrowTrio) : Type 0 where
-  pub luma : AreZeroBands made.luma late.luma.depth 0 0
-  pub c1 : AreZeroBands made.c1 late.c1.depth 0 0
-  pub c2 : AreZeroBands made.c2 late.c2.depth 0 0
-
--- what they keep: memory and no rows, until they are made, and no magnitude above 2 ^ 18
+-- what those of 32 bits keep: memory and no rows, until they are made, and no magnitude above 2 ^ 18
 pub record IsLateNarrow (late : LateTrio ℤ) (made : NarrowTrio) (is_made : Bool) : Type 0 where
-  pub rowless : is_made ≡ false → AreNarrowRowless late made
-  pub small : AreNarrowBands (if is_made then made else late_narrow_of late)
-
--- what is seen of rows: the bands, and whether they are made
-pub record RowsSeen : Type 0 where
-  pub bands : Trio
-  pub is_made : Bool
+  pub rowless : is_made ≡ false → AreRowless late (trio_of made)
+  pub small : AreNarrowBands (if is_made then made else narrow_of (late_of late))
 
 -- what rows keep: those of 64 bits have the sizes of those of 32, and where they serve, both are made
-pub record AreRowsKept (narrow : NarrowSeen) (wide : WideSeen) (is_wide : Bool) : Type 0 where
+pub record AreRowsKept (narrow : LateSeen NarrowTrio) (wide : LateSeen Trio) (is_wide : Bool) : Type 0 where
   pub sizes : AllAgree narrow.bands wide.bands
   pub made : is_wide ≡ true → wide.is_made ≡ true
   pub both : is_wide ≡ true → narrow.is_made ≡ true

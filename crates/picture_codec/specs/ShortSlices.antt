@@ -8,7 +8,7 @@ use Rattle.slice_bands.specs.declared.short_bands.ShortTrio.{ShortTrio}
 use Rattle.slice_bands.specs.Short.{ShowTheSame}
 use Rattle.slice_bands.specs.ShortBands.{IsShortSound}
 use Rattle.slice_decoder.specs.Short.{shown_trio}
-use Rattle.picture_codec.specs.DecodedBands.{AllAgree, RowsSeen, narrow_of}
+use Rattle.picture_codec.specs.DecodedBands.{AllAgree, LateSeen, narrow_of}
 
 -- All slices of a component have one size, and each level of the transform halves it.
 pub record HasSlicesOfOneSize (s : Slicing) (size : Size) : Type 0 where
@@ -34,7 +34,7 @@ abbrev pub AreBeside : ShortTrio → Trio → Type 0
 AreBeside short rows = AllAgree (narrow_of (shown_trio short)) rows
 
 -- what decoded bands keep, with room for a row: rows stand beside bands of 16 bits that serve, else they are made
-pub record AreBandsKept (short : ShortTrio) (rows : RowsSeen) (row : List ℤ) (is_short : Bool) : Type 0 where
+pub record AreBandsKept (short : ShortTrio) (rows : LateSeen Trio) (row : List ℤ) (is_short : Bool) : Type 0 where
   pub room : length row ≡ 8208
   pub beside : is_short ≡ true → AreBeside short rows.bands
   pub made : is_short ≡ false → rows.is_made ≡ true

@@ -12,9 +12,9 @@ ghost use Rattle.picture_codec.specs.Decoding.{AreNewBands, stack_of};
 ghost use Rattle.picture_codec.specs.ShortSlices.{AllShowTheSame, AreShortSound, AreBeside};
 ghost use Rattle.picture_codec.specs.DecodedBands.{AllAgree, narrow_of};
 
-use crate::workspace::{late_zero_trio, rowless_narrow_trio};
+use crate::workspace::late_zero_trio;
 use bounded_blocks::{CodeTable, SPARE};
-use planes::{LateTrio, NarrowTrio, NoMemory, Trio};
+use planes::{Bands, LateTrio, NarrowTrio, NoMemory, Trio};
 use quant_factors::Matrix;
 use slice_bands::ShortTrio;
 use slice_decoder::{SliceFault, decode_narrow};
@@ -48,12 +48,12 @@ pub struct LateNarrow {
 
 impl Model for LateNarrow {
     ghost use Rattle.std.specs.Prelude.{◌≡◌, false, if◌then◌else◌};
-    ghost use Rattle.slice_decoder.specs.Narrow.{AreNarrowBands};
-    ghost use Rattle.picture_codec.specs.DecodedBands.{NarrowSeen, late_narrow_of, IsLateNarrow};
+    ghost use Rattle.planes.specs.declared.NarrowTrio as trio;
+    ghost use Rattle.picture_codec.specs.DecodedBands.{LateSeen, narrow_of, late_of, IsLateNarrow};
 
-    ghost Value = { NarrowSeen };
+    ghost Value = { LateSeen trio.NarrowTrio };
 
-    ghost view = { λ b. record { bands = if b.is_made then b.made else late_narrow_of b.late; is_made = b.is_made } };
+    ghost view = { λ b. record { bands = if b.is_made then b.made else narrow_of (late_of b.late); is_made = b.is_made } };
 
     ghost invariant = { λ b. IsLateNarrow b.late b.made b.is_made };
 }
@@ -70,9 +70,14 @@ impl LateNarrow {
             × AreNewBands layout.now shape.now.colour b.bands.c2) }
         ensures late { IfOk result (λ b. b.is_made ≡ false) }
     {
+        let depth = layout.depth();
         Ok(LateNarrow {
             late: late_zero_trio(alloc, layout, shape)?,
-            made: rowless_narrow_trio(alloc, layout.depth())?,
+            made: NarrowTrio {
+                luma: Bands::new(alloc, depth, 0, 0)?,
+                c1: Bands::new(alloc, depth, 0, 0)?,
+                c2: Bands::new(alloc, depth, 0, 0)?,
+            },
             is_made: false,
             codes: CodeTable::new(alloc)?,
             buffer: Vec::from_elem(alloc, 0i32, room_of(layout, shape))?,

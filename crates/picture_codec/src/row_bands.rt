@@ -74,10 +74,11 @@ pub struct RowBands {
 
 impl Model for RowBands {
     ghost use Rattle.std.specs.Prelude.{if◌then◌else◌};
+    ghost use Rattle.planes.specs.declared.Trio as trio;
     ghost use Rattle.slice_decoder.specs.Narrow.{trio_of};
-    ghost use Rattle.picture_codec.specs.DecodedBands.{RowsSeen, AreRowsKept};
+    ghost use Rattle.picture_codec.specs.DecodedBands.{LateSeen, AreRowsKept};
 
-    ghost Value = { RowsSeen };
+    ghost Value = { LateSeen trio.Trio };
 
     ghost view = { λ b. record {
       bands = if b.is_wide then b.wide.bands else trio_of b.narrow.bands;

@@ -7,8 +7,8 @@ ghost use Rattle.slice_decoder.specs.Narrow.{trio_of};
 ghost use Rattle.picture_codec.specs.Decoding.{AreNewBands};
 ghost use Rattle.picture_codec.specs.DecodedBands.{AllAgree};
 
-use crate::workspace::{late_zero_trio, rowless_trio};
-use planes::{LateTrio, NarrowTrio, NoMemory, Trio};
+use crate::workspace::late_zero_trio;
+use planes::{Bands, LateTrio, NarrowTrio, NoMemory, Trio};
 use quant_factors::Matrix;
 use slice_decoder::{SliceFault, decode_slice};
 use slice_geometry::{Layout, PictureShape, SliceHead};
@@ -26,9 +26,10 @@ pub struct WideBands {
 
 impl Model for WideBands {
     ghost use Rattle.std.specs.Prelude.{◌≡◌, false, if◌then◌else◌};
-    ghost use Rattle.picture_codec.specs.DecodedBands.{WideSeen, late_of, AreRowless};
+    ghost use Rattle.planes.specs.declared.Trio as trio;
+    ghost use Rattle.picture_codec.specs.DecodedBands.{LateSeen, late_of, AreRowless};
 
-    ghost Value = { WideSeen };
+    ghost Value = { LateSeen trio.Trio };
 
     ghost view = { λ b. record { bands = if b.is_made then b.made else late_of b.late; is_made = b.is_made } };
 
@@ -47,9 +48,14 @@ impl WideBands {
             × AreNewBands layout.now shape.now.colour b.bands.c2) }
         ensures late { IfOk result (λ b. b.is_made ≡ false) }
     {
+        let depth = layout.depth();
         Ok(WideBands {
             late: late_zero_trio(alloc, layout, shape)?,
-            made: rowless_trio(alloc, layout.depth())?,
+            made: Trio {
+                luma: Bands::new(alloc, depth, 0, 0)?,
+                c1: Bands::new(alloc, depth, 0, 0)?,
+                c2: Bands::new(alloc, depth, 0, 0)?,
+            },
             is_made: false,
         })
     }

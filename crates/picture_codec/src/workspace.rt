@@ -5,13 +5,12 @@ ghost use Rattle.slice_geometry.specs.Shape.{IsSize, IsDepth};
 ghost use Rattle.picture_codec.specs.Pictures as pictures;
 ghost use Rattle.slice_geometry.specs.Frames.{frame_of};
 ghost use Rattle.picture_codec.specs.Decoding.{HaveAnalysisRows, HaveHalfRoom, AreNewBands, AreNewBandsOf, IsRowless, HasLateRoom, HasGatherRoom, IsGatherRowless, HasSynthesisRoom};
-ghost use Rattle.planes.specs.Subbands.{AreZeroBands};
 ghost use Rattle.slice_geometry.specs.Slicing.{Slicing};
 ghost use Rattle.slice_geometry.specs.declared.Size.{Size};
 
 use planes::{
     Bands, LateBands, LatePlane, LateTrio, NarrowBands, NarrowPlane, NarrowTrio, NoMemory, Number,
-    Plane, Trio,
+    Plane,
 };
 use slice_geometry::{Component, Layout, PictureShape, Size};
 use std::alloc::Global;
@@ -205,32 +204,6 @@ pub(crate) fn late_zero_trio<T: Number>(
         luma: late_zero_bands(alloc, layout, shape.luma)?,
         c1: late_zero_bands(alloc, layout, shape.colour)?,
         c2: late_zero_bands(alloc, layout, shape.colour)?,
-    })
-}
-
-/// Bands of no rows and no columns, in whose place others are made.
-pub(crate) fn rowless_trio(alloc: Global, depth: u32) -> Result<Trio, NoMemory>
-    requires { depth ≤ 4 }
-    ensures { IfOk result (λ bands. AreZeroBands bands.luma depth 0 0
-        × AreZeroBands bands.c1 depth 0 0 × AreZeroBands bands.c2 depth 0 0) }
-{
-    Ok(Trio {
-        luma: Bands::new(alloc, depth, 0, 0)?,
-        c1: Bands::new(alloc, depth, 0, 0)?,
-        c2: Bands::new(alloc, depth, 0, 0)?,
-    })
-}
-
-/// The same in 32 bits.
-pub(crate) fn rowless_narrow_trio(alloc: Global, depth: u32) -> Result<NarrowTrio, NoMemory>
-    requires { depth ≤ 4 }
-    ensures { IfOk result (λ bands. AreZeroBands bands.luma depth 0 0
-        × AreZeroBands bands.c1 depth 0 0 × AreZeroBands bands.c2 depth 0 0) }
-{
-    Ok(NarrowTrio {
-        luma: NarrowBands::new(alloc, depth, 0, 0)?,
-        c1: NarrowBands::new(alloc, depth, 0, 0)?,
-        c2: NarrowBands::new(alloc, depth, 0, 0)?,
     })
 }
 

@@ -4,7 +4,7 @@ use Rattle.planes.specs.declared.Trio.{Trio}
 use Rattle.slice_geometry.specs.Geometry.{padded_length}
 use Rattle.slice_decoder.specs.Short.{shown_trio}
 use Rattle.picture_codec.specs.Decoding.{AreNewBands}
-use Rattle.picture_codec.specs.DecodedBands.{RowsSeen}
+use Rattle.picture_codec.specs.DecodedBands.{LateSeen}
 use Rattle.picture_codec.specs.ShortSlices.{AreBeside}
 use Rattle.picture_codec.proofs.BothWidths.{zeros_agree}
 use Rattle.picture_codec.proofs.decoded_bands.DecodedBands.new.Goals as goal
@@ -26,8 +26,8 @@ invariant_of-result c =
     let colour_w = padded_length s.depth shape.colour.w in
     let colour_h = padded_length s.depth shape.colour.h in
     let same : c.if-not-is_short.rows.bands ≡ rows = elim c.if-not-is_short.branch [
-      | then-not-is_short w ↦ ap (λ (r : RowsSeen). r.bands) (w.rows-is ∙ w.make.ensures)
-      | else-not-is_short w ↦ ap (λ (r : RowsSeen). r.bands) w.rows-is
+      | then-not-is_short w ↦ ap (λ (r : LateSeen Trio). r.bands) (w.rows-is ∙ w.make.ensures)
+      | else-not-is_short w ↦ ap (λ (r : LateSeen Trio). r.bands) w.rows-is
     ] in
     record {
       room = sym c.in_ok-row.row.ok.0 ∙ c.in_ok-row.ensures.len;
@@ -37,7 +37,7 @@ invariant_of-result c =
         c2 = zeros_agree short.c2 rows.c2 s.depth colour_w colour_h (zero.c2 cut) c.in_ok-rows.ensures.2;
       });
       made = λ none. elim c.if-not-is_short.branch [
-        | then-not-is_short w ↦ ap (λ (r : RowsSeen). r.is_made) (w.rows-is ∙ w.make.ensures)
+        | then-not-is_short w ↦ ap (λ (r : LateSeen Trio). r.is_made) (w.rows-is ∙ w.make.ensures)
         | else-not-is_short w ↦ absurd cc
       ];
     }
@@ -48,8 +48,8 @@ returns c =
     let shape = c.args.shape.now in
     let zero = c.in_ok-short.ensures in
     let same : c.if-not-is_short.rows.bands ≡ c.in_ok-rows.rows.bands = elim c.if-not-is_short.branch [
-      | then-not-is_short w ↦ ap (λ (r : RowsSeen). r.bands) (w.rows-is ∙ w.make.ensures)
-      | else-not-is_short w ↦ ap (λ (r : RowsSeen). r.bands) w.rows-is
+      | then-not-is_short w ↦ ap (λ (r : LateSeen Trio). r.bands) (w.rows-is ∙ w.make.ensures)
+      | else-not-is_short w ↦ ap (λ (r : LateSeen Trio). r.bands) w.rows-is
     ] in
     let AreNew : Trio → Type 0 = λ b. AreNewBands s shape.luma b.luma × AreNewBands s shape.colour b.c1 × AreNewBands s shape.colour b.c2 in
     either c.are_short-is_short.result (shown_trio c.in_ok-short.short) c.if-not-is_short.rows.bands AreNew

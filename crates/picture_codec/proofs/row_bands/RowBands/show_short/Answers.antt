@@ -3,12 +3,13 @@ use Rattle.planes.specs.Subbands.{BandStack}
 use Rattle.planes.specs.declared.NarrowTrio.{NarrowTrio}
 use Rattle.slice_geometry.specs.Slicing.{slice_count}
 use Rattle.slice_geometry.specs.Frames.{frame_of}
+use Rattle.planes.specs.declared.Trio.{Trio}
 use Rattle.slice_decoder.specs.Narrow.{trio_of}
 use Rattle.slice_decoder.specs.Short.{shown_trio}
 use Rattle.picture_codec.specs.Pictures.{size_of}
 use Rattle.picture_codec.specs.Samples.{SamplesSeen, PictureSeen, sample_bits, with_component}
 use Rattle.picture_codec.specs.Decoding.{AreTaken, stack_of, with_synthesised}
-use Rattle.picture_codec.specs.DecodedBands.{AllAgree, narrow_of, RowsSeen}
+use Rattle.picture_codec.specs.DecodedBands.{AllAgree, narrow_of, LateSeen}
 use Rattle.picture_codec.proofs.SameShown.{same_taken, same_synthesised}
 use Rattle.picture_codec.proofs.TakenRows.{narrow-beside, beside-kept}
 use Rattle.picture_codec.proofs.row_bands.RowBands.show_short.Goals as goal
@@ -17,7 +18,7 @@ pub take_component-requires-clause-beside : goal.take_component-requires-clause-
 take_component-requires-clause-beside c =
     let short = narrow_of (shown_trio c.args.short.now) in
     narrow-beside short c.self.inside.narrow.bands c.self.inside.wide.bands c.self.inside.is_wide c.self.invariant.sizes
-    (subst (λ (b : RowsSeen). AllAgree short b.bands) (sym c.self.view_is) c.requires.beside)
+    (subst (λ (b : LateSeen Trio). AllAgree short b.bands) (sym c.self.view_is) c.requires.beside)
 
 pub show_in_32_bits-requires-clause-taken : goal.show_in_32_bits-requires-clause-taken
 show_in_32_bits-requires-clause-taken c =
@@ -35,7 +36,7 @@ invariant_of-self c =
     let short = narrow_of (shown_trio c.args.short.now) in
     let before =
     narrow-beside short c.self.inside.narrow.bands c.self.inside.wide.bands c.self.inside.is_wide c.self.invariant.sizes
-    (subst (λ (b : RowsSeen). AllAgree short b.bands) (sym c.self.view_is) c.requires.beside) in
+    (subst (λ (b : LateSeen Trio). AllAgree short b.bands) (sym c.self.view_is) c.requires.beside) in
     beside-kept short c.self.inside.narrow c.take_component.new.self c.self.inside.wide before c.take_component.ensures.beside c.self.invariant.sizes
 
 pub returns-clause-picture : goal.returns-clause-picture
