@@ -9,16 +9,25 @@ use Rattle.unit_reader.proofs.Opens.{opens_machine}
 use Rattle.unit_reader.proofs.Exits.{goes_first, holds_first, ran_unopened_by, goes_more, place_more, passes_item, passes_last, holds_turn, ran_unwritten, ran_finished, ran_refused, ran_rested, ran_lost, ran_no_memory, takes_at_most, begun_opens, unrefused_begun, unrefused_turn, turned_soon, lost_soon, none_soon}
 use Rattle.unit_reader.proofs.running.run_units.Goals as goal
 
-pub returns-in-Err-clause-runs : goal.returns-in-Err-clause-runs
-returns-in-Err-clause-runs g c =
+pub returns-in-Err : goal.returns-in-Err
+returns-in-Err g c =
     let cmd = command_from g.C.UnitCommand.command (g.C.UnitCommand.start c.args.command.now) in
     let rest = g.S.Source.rest in
     let written = g.K.Sink.written in
+    let G = g.T.Units.grammar in
+    let L = g.T.Units.beyond in
+    let laws = g.met.T.Units.laws in
+    let first = g.C.UnitCommand.first in
+    let opens = begun_opens g.C.UnitCommand.command (g.C.UnitCommand.start c.args.command.now) g.met.C.UnitCommand.opens in
+    let machine = machine_over G L first cmd in
     record {
-      ran = ran_unopened_by (Unit {0}) g.T.Units.grammar g.T.Units.beyond g.C.UnitCommand.first cmd (rest c.args.src.now) (written c.args.out.now) (written c.open.new.out) c.in-Err.halt c.in-Err.ensures.wrote;
-      limit = takes_none (rest c.args.src.now);
-      cause = cause_halt (Unit {0}) g.row.C-Ending.Denot (g.S.Source.faults c.args.src.now) (g.S.Source.faults c.args.src.now) (g.K.Sink.faults c.args.out.now) (g.K.Sink.faults c.args.out.now) (g.K.Sink.faults c.open.new.out) c.in-Err.halt refl refl c.in-Err.ensures.cause;
-      end = λ ending e done. absurd cc;
+      runs = record {
+        ran = ran_unopened_by (Unit {0}) g.T.Units.grammar g.T.Units.beyond g.C.UnitCommand.first cmd (rest c.args.src.now) (written c.args.out.now) (written c.open.new.out) c.in-Err.halt c.in-Err.ensures.wrote;
+        limit = takes_none (rest c.args.src.now);
+        cause = cause_halt (Unit {0}) g.row.C-Ending.Denot (g.S.Source.faults c.args.src.now) (g.S.Source.faults c.args.src.now) (g.K.Sink.faults c.args.out.now) (g.K.Sink.faults c.args.out.now) (g.K.Sink.faults c.open.new.out) c.in-Err.halt refl refl c.in-Err.ensures.cause;
+        end = λ ending e done. absurd cc;
+      };
+      soon = none_soon g.C.UnitCommand.may_go_on machine (machine_laws limit (past_limit G L) G first cmd laws) (opens_machine g.C.UnitCommand.may_go_on G L laws first cmd opens) (g.S.Source.rest c.args.src.now) _;
     }
 
 pub loop-turn-init : goal.loop-turn-init
@@ -43,8 +52,8 @@ loop-turn-init g c =
       steady_out = c.in-Ok.ensures.cause.1;
     }
 
-pub returns-in-ReadFault-clause-runs : goal.returns-in-ReadFault-clause-runs
-returns-in-ReadFault-clause-runs g c =
+pub returns-in-ReadFault : goal.returns-in-ReadFault
+returns-in-ReadFault g c =
     let G = g.T.Units.grammar in
     let L = g.T.Units.beyond in
     let cmd = command_from g.C.UnitCommand.command (g.C.UnitCommand.start c.args.command.now) in
@@ -61,15 +70,19 @@ returns-in-ReadFault-clause-runs g c =
     let k = c.in-Err-next.ensures.cause i.goes.no_stop in
     let at = subst (λ s. LimitStops G L (g.T.Units.past old.table) old.held r1 r2 s) c.in-ReadFault.is n.0 in
     let why = subst (λ s. StopCause {X = Unit {0}} (g.S.Source.faults c.loop-turn.src) (g.S.Source.faults c.next.new.src) (Err s)) c.in-ReadFault.is k in
+    let opens = begun_opens g.C.UnitCommand.command (g.C.UnitCommand.start c.args.command.now) g.met.C.UnitCommand.opens in
     record {
-      ran = ran_lost L g.met.T.Units.laws g.C.UnitCommand.first cmd r0 o0 o1 i.holds at.2;
-      limit = takes_at_most G L g.T.Units.past g.T.Table.tells g.T.Table.stopped old c.next.new.self r0 r1 r2 (Err c.in-Err-next.stop) i.goes n;
-      cause = (subst (λ m. m ≤ (g.S.Source.faults c.next.new.src)) i.steady why.0, subst (λ m. Rose m (g.S.Source.faults c.next.new.src)) i.steady why.1, i.steady_out);
-      end = λ ending e done. absurd cc;
+      runs = record {
+        ran = ran_lost L g.met.T.Units.laws g.C.UnitCommand.first cmd r0 o0 o1 i.holds at.2;
+        limit = takes_at_most G L g.T.Units.past g.T.Table.tells g.T.Table.stopped old c.next.new.self r0 r1 r2 (Err c.in-Err-next.stop) i.goes n;
+        cause = (subst (λ m. m ≤ (g.S.Source.faults c.next.new.src)) i.steady why.0, subst (λ m. Rose m (g.S.Source.faults c.next.new.src)) i.steady why.1, i.steady_out);
+        end = λ ending e done. absurd cc;
+      };
+      soon = lost_soon L r0 r1 r2 g.met.T.Units.laws g.C.UnitCommand.first cmd opens _ i.unrefused at.1 at.2;
     }
 
-pub returns-in-NoMemory-clause-runs : goal.returns-in-NoMemory-clause-runs
-returns-in-NoMemory-clause-runs g c =
+pub returns-in-NoMemory : goal.returns-in-NoMemory
+returns-in-NoMemory g c =
     let G = g.T.Units.grammar in
     let L = g.T.Units.beyond in
     let cmd = command_from g.C.UnitCommand.command (g.C.UnitCommand.start c.args.command.now) in
@@ -86,15 +99,19 @@ returns-in-NoMemory-clause-runs g c =
     let k = c.in-Err-next.ensures.cause i.goes.no_stop in
     let at = subst (λ s. LimitStops G L (g.T.Units.past old.table) old.held r1 r2 s) c.in-NoMemory.is n.0 in
     let why = subst (λ s. StopCause {X = Unit {0}} (g.S.Source.faults c.loop-turn.src) (g.S.Source.faults c.next.new.src) (Err s)) c.in-NoMemory.is k in
+    let opens = begun_opens g.C.UnitCommand.command (g.C.UnitCommand.start c.args.command.now) g.met.C.UnitCommand.opens in
     record {
-      ran = ran_no_memory L g.met.T.Units.laws g.C.UnitCommand.first cmd r0 o0 o1 i.holds at.2;
-      limit = takes_at_most G L g.T.Units.past g.T.Table.tells g.T.Table.stopped old c.next.new.self r0 r1 r2 (Err c.in-Err-next.stop) i.goes n;
-      cause = (why ∙ i.steady, i.steady_out);
-      end = λ ending e done. absurd cc;
+      runs = record {
+        ran = ran_no_memory L g.met.T.Units.laws g.C.UnitCommand.first cmd r0 o0 o1 i.holds at.2;
+        limit = takes_at_most G L g.T.Units.past g.T.Table.tells g.T.Table.stopped old c.next.new.self r0 r1 r2 (Err c.in-Err-next.stop) i.goes n;
+        cause = (why ∙ i.steady, i.steady_out);
+        end = λ ending e done. absurd cc;
+      };
+      soon = turned_soon g.T.Units.beyond g.T.Units.past g.T.Table.tells g.T.Table.stopped c.loop-turn.reader c.next.new.self r0 r1 r2 (Err c.in-Err-next.stop) g.met.T.Units.laws g.C.UnitCommand.first cmd opens _ i.goes.most i.unrefused n (λ e. absurd cc);
     }
 
-pub returns-in-Err-next-clause-runs : goal.returns-in-Err-next-clause-runs
-returns-in-Err-next-clause-runs g c =
+pub returns-in-Err-next : goal.returns-in-Err-next
+returns-in-Err-next g c =
     let G = g.T.Units.grammar in
     let L = g.T.Units.beyond in
     let Stopped = g.T.Table.stopped in
@@ -120,15 +137,19 @@ returns-in-Err-next-clause-runs g c =
     let closes = c.refuse.ensures.wrote old.table old.held new.held r1 at.fault (ap (λ r. r.place) at.there) (ap (λ r. r.reason) at.there) stopped (ap g.T.Units.past is ∙ n.1) i.keeps in
     let o2 = written c.refuse.new.out in
     let steady = why ∙ i.steady in
+    let opens = begun_opens g.C.UnitCommand.command (g.C.UnitCommand.start c.args.command.now) g.met.C.UnitCommand.opens in
     record {
-      ran = ran_refused L g.met.T.Units.laws g.C.UnitCommand.first cmd r0 o0 o1 o2 at.fault c.refuse.result i.holds at.meets closes;
-      limit = takes_at_most G L g.T.Units.past g.T.Table.tells Stopped old new r0 r1 r2 (Err stop) i.goes n;
-      cause = cause_then (g.S.Source.faults c.args.src.now) (g.S.Source.faults c.next.new.src) (g.K.Sink.faults c.args.out.now) (g.K.Sink.faults c.loop-turn.out) (g.K.Sink.faults c.refuse.new.out) c.refuse.result steady i.steady_out c.refuse.ensures.cause;
-      end = λ ending e done. absurd (g.C.UnitCommand.refused_is_no_end (g.T.Units.past old.table) w at.fault (subst g.C.UnitCommand.is_done (closed_is (cmd.refused (g.T.Units.past old.table) w at.fault).ending ending (cmd.refused (g.T.Units.past old.table) w at.fault).last o1 o2 c.refuse.result closes e) done));
+      runs = record {
+        ran = ran_refused L g.met.T.Units.laws g.C.UnitCommand.first cmd r0 o0 o1 o2 at.fault c.refuse.result i.holds at.meets closes;
+        limit = takes_at_most G L g.T.Units.past g.T.Table.tells Stopped old new r0 r1 r2 (Err stop) i.goes n;
+        cause = cause_then (g.S.Source.faults c.args.src.now) (g.S.Source.faults c.next.new.src) (g.K.Sink.faults c.args.out.now) (g.K.Sink.faults c.loop-turn.out) (g.K.Sink.faults c.refuse.new.out) c.refuse.result steady i.steady_out c.refuse.ensures.cause;
+        end = λ ending e done. absurd (g.C.UnitCommand.refused_is_no_end (g.T.Units.past old.table) w at.fault (subst g.C.UnitCommand.is_done (closed_is (cmd.refused (g.T.Units.past old.table) w at.fault).ending ending (cmd.refused (g.T.Units.past old.table) w at.fault).last o1 o2 c.refuse.result closes e) done));
+      };
+      soon = turned_soon L g.T.Units.past g.T.Table.tells Stopped old new r0 r1 r2 (Err stop) g.met.T.Units.laws g.C.UnitCommand.first cmd opens c.refuse.result i.goes.most i.unrefused n (closes_no_read _ _ o1 (written c.refuse.new.out) c.refuse.result closes);
     }
 
-pub returns-in-Last-clause-runs : goal.returns-in-Last-clause-runs
-returns-in-Last-clause-runs g c =
+pub returns-in-Last : goal.returns-in-Last
+returns-in-Last g c =
     let G = g.T.Units.grammar in
     let L = g.T.Units.beyond in
     let Tells = g.T.Table.tells in
@@ -151,15 +172,19 @@ returns-in-Last-clause-runs g c =
     let t = c.table-in-Last in
     let p = passes_last t.result.now t.ensures.table g.met.T.Units.along t.ensures.most n in
     let closes = c.finish.ensures.wrote old.table p i.keeps n.final in
+    let opens = begun_opens g.C.UnitCommand.command (g.C.UnitCommand.start c.args.command.now) g.met.C.UnitCommand.opens in
     record {
-      ran = ran_finished g.met.T.Units.laws g.C.UnitCommand.first cmd r0 o0 o1 (written c.finish.new.out) w c.finish.result i.holds n closes;
-      limit = takes_at_most G L g.T.Units.past Tells Stopped old new r0 r1 r2 (Ok c.in-Ok-next.turn) i.goes a;
-      cause = cause_then (g.S.Source.faults c.args.src.now) (g.S.Source.faults c.next.new.src) (g.K.Sink.faults c.args.out.now) (g.K.Sink.faults c.loop-turn.out) (g.K.Sink.faults c.finish.new.out) c.finish.result steady i.steady_out c.finish.ensures.cause;
-      end = λ ending e done. n.last;
+      runs = record {
+        ran = ran_finished g.met.T.Units.laws g.C.UnitCommand.first cmd r0 o0 o1 (written c.finish.new.out) w c.finish.result i.holds n closes;
+        limit = takes_at_most G L g.T.Units.past Tells Stopped old new r0 r1 r2 (Ok c.in-Ok-next.turn) i.goes a;
+        cause = cause_then (g.S.Source.faults c.args.src.now) (g.S.Source.faults c.next.new.src) (g.K.Sink.faults c.args.out.now) (g.K.Sink.faults c.loop-turn.out) (g.K.Sink.faults c.finish.new.out) c.finish.result steady i.steady_out c.finish.ensures.cause;
+        end = λ ending e done. n.last;
+      };
+      soon = turned_soon L g.T.Units.past Tells Stopped old new r0 r1 r2 (Ok c.in-Ok-next.turn) g.met.T.Units.laws g.C.UnitCommand.first cmd opens c.finish.result i.goes.most i.unrefused a (closes_no_read _ _ o1 (written c.finish.new.out) c.finish.result closes);
     }
 
-pub returns-in-Rest-clause-runs : goal.returns-in-Rest-clause-runs
-returns-in-Rest-clause-runs g c =
+pub returns-in-Rest : goal.returns-in-Rest
+returns-in-Rest g c =
     let G = g.T.Units.grammar in
     let L = g.T.Units.beyond in
     let Tells = g.T.Table.tells in
@@ -179,11 +204,15 @@ returns-in-Rest-clause-runs g c =
     let steady = c.in-Ok-next.ensures.cause i.goes.no_stop ∙ i.steady in
     let n = subst (λ t. NextOver G L g.T.Units.past Tells Stopped old new r1 r2 (Ok t)) c.in-Rest.is a in
     let closes = c.rest.ensures.wrote old.table (ap g.T.Units.past c.table-in-Rest.ensures.table ∙ n.past) n.rests.may i.keeps in
+    let opens = begun_opens g.C.UnitCommand.command (g.C.UnitCommand.start c.args.command.now) g.met.C.UnitCommand.opens in
     record {
-      ran = ran_rested L g.met.T.Units.laws g.C.UnitCommand.first cmd r0 o0 o1 (written c.rest.new.out) c.rest.result i.holds n.rests closes;
-      limit = takes_at_most G L g.T.Units.past Tells Stopped old new r0 r1 r2 (Ok c.in-Ok-next.turn) i.goes a;
-      cause = cause_then (g.S.Source.faults c.args.src.now) (g.S.Source.faults c.next.new.src) (g.K.Sink.faults c.args.out.now) (g.K.Sink.faults c.loop-turn.out) (g.K.Sink.faults c.rest.new.out) c.rest.result steady i.steady_out c.rest.ensures.cause;
-      end = λ ending e done. n.rests.at_end;
+      runs = record {
+        ran = ran_rested L g.met.T.Units.laws g.C.UnitCommand.first cmd r0 o0 o1 (written c.rest.new.out) c.rest.result i.holds n.rests closes;
+        limit = takes_at_most G L g.T.Units.past Tells Stopped old new r0 r1 r2 (Ok c.in-Ok-next.turn) i.goes a;
+        cause = cause_then (g.S.Source.faults c.args.src.now) (g.S.Source.faults c.next.new.src) (g.K.Sink.faults c.args.out.now) (g.K.Sink.faults c.loop-turn.out) (g.K.Sink.faults c.rest.new.out) c.rest.result steady i.steady_out c.rest.ensures.cause;
+        end = λ ending e done. n.rests.at_end;
+      };
+      soon = turned_soon L g.T.Units.past Tells Stopped old new r0 r1 r2 (Ok c.in-Ok-next.turn) g.met.T.Units.laws g.C.UnitCommand.first cmd opens c.rest.result i.goes.most i.unrefused a (closes_no_read _ _ o1 (written c.rest.new.out) c.rest.result closes);
     }
 
 pub finish-requires : goal.finish-requires
@@ -258,8 +287,8 @@ loop-turn-preserved g c =
       steady_out = c.in-Ok-turn.ensures.cause.1 ∙ i.steady_out;
     }
 
-pub returns-in-Err-turn-clause-runs : goal.returns-in-Err-turn-clause-runs
-returns-in-Err-turn-clause-runs g c =
+pub returns-in-Err-turn : goal.returns-in-Err-turn
+returns-in-Err-turn g c =
     let G = g.T.Units.grammar in
     let L = g.T.Units.beyond in
     let Tells = g.T.Table.tells in
@@ -281,138 +310,13 @@ returns-in-Err-turn-clause-runs g c =
     let n = subst (λ t. NextOver G L g.T.Units.past Tells Stopped old new r1 r2 (Ok t)) c.in-Unit.is a in
     let t = c.table-in-loop-turn in
     let p = passes_item t.result.now t.ensures.table n in
+    let opens = begun_opens g.C.UnitCommand.command (g.C.UnitCommand.start c.args.command.now) g.met.C.UnitCommand.opens in
     record {
-      ran = ran_unwritten (Unit {0}) g.met.T.Units.laws g.C.UnitCommand.first cmd r0 o0 o1 (written c.turn.new.out) w c.in-Err-turn.halt i.holds n (c.in-Err-turn.ensures.wrote old.table p i.keeps);
-      limit = takes_at_most G L g.T.Units.past Tells Stopped old new r0 r1 r2 (Ok c.in-Ok-next.turn) i.goes a;
-      cause = cause_halt (Unit {0}) g.row.C-Ending.Denot (g.S.Source.faults c.args.src.now) (g.S.Source.faults c.next.new.src) (g.K.Sink.faults c.args.out.now) (g.K.Sink.faults c.loop-turn.out) (g.K.Sink.faults c.turn.new.out) c.in-Err-turn.halt steady i.steady_out c.in-Err-turn.ensures.cause;
-      end = λ ending e done. absurd cc;
+      runs = record {
+        ran = ran_unwritten (Unit {0}) g.met.T.Units.laws g.C.UnitCommand.first cmd r0 o0 o1 (written c.turn.new.out) w c.in-Err-turn.halt i.holds n (c.in-Err-turn.ensures.wrote old.table p i.keeps);
+        limit = takes_at_most G L g.T.Units.past Tells Stopped old new r0 r1 r2 (Ok c.in-Ok-next.turn) i.goes a;
+        cause = cause_halt (Unit {0}) g.row.C-Ending.Denot (g.S.Source.faults c.args.src.now) (g.S.Source.faults c.next.new.src) (g.K.Sink.faults c.args.out.now) (g.K.Sink.faults c.loop-turn.out) (g.K.Sink.faults c.turn.new.out) c.in-Err-turn.halt steady i.steady_out c.in-Err-turn.ensures.cause;
+        end = λ ending e done. absurd cc;
+      };
+      soon = turned_soon L g.T.Units.past Tells Stopped old new r0 r1 r2 (Ok c.in-Ok-next.turn) g.met.T.Units.laws g.C.UnitCommand.first cmd opens _ i.goes.most i.unrefused a (writes_no_read (Unit {0}) _ _ o1 (written c.turn.new.out) c.in-Err-turn.halt _ refl (c.in-Err-turn.ensures.wrote old.table p i.keeps));
     }
-
--- ---- how soon the run is over
-
-pub returns-in-Err-clause-soon : goal.returns-in-Err-clause-soon
-returns-in-Err-clause-soon g c =
-    let G = g.T.Units.grammar in
-    let L = g.T.Units.beyond in
-    let laws = g.met.T.Units.laws in
-    let first = g.C.UnitCommand.first in
-    let cmd = command_from g.C.UnitCommand.command (g.C.UnitCommand.start c.args.command.now) in
-    let opens = begun_opens g.C.UnitCommand.command (g.C.UnitCommand.start c.args.command.now) g.met.C.UnitCommand.opens in
-    let machine = machine_over G L first cmd in
-    none_soon g.C.UnitCommand.may_go_on machine (machine_laws limit (past_limit G L) G first cmd laws) (opens_machine g.C.UnitCommand.may_go_on G L laws first cmd opens) (g.S.Source.rest c.args.src.now) _
-
-pub returns-in-ReadFault-clause-soon : goal.returns-in-ReadFault-clause-soon
-returns-in-ReadFault-clause-soon g c =
-    let L = g.T.Units.beyond in
-    let cmd = command_from g.C.UnitCommand.command (g.C.UnitCommand.start c.args.command.now) in
-    let opens = begun_opens g.C.UnitCommand.command (g.C.UnitCommand.start c.args.command.now) g.met.C.UnitCommand.opens in
-    let rest = g.S.Source.rest in
-    let i = c.loop-turn.invariant in
-    let old = c.loop-turn.reader in
-    let r0 = rest c.args.src.now in
-    let r1 = rest c.loop-turn.src in
-    let r2 = rest c.next.new.src in
-    let n = c.in-Err-next.ensures.next i.goes.no_stop i.goes.no_end in
-    let at = subst (λ s. LimitStops g.T.Units.grammar L (g.T.Units.past old.table) old.held r1 r2 s) c.in-ReadFault.is n.0 in
-    lost_soon L r0 r1 r2 g.met.T.Units.laws g.C.UnitCommand.first cmd opens _ i.unrefused at.1 at.2
-
-pub returns-in-NoMemory-clause-soon : goal.returns-in-NoMemory-clause-soon
-returns-in-NoMemory-clause-soon g c =
-    let cmd = command_from g.C.UnitCommand.command (g.C.UnitCommand.start c.args.command.now) in
-    let opens = begun_opens g.C.UnitCommand.command (g.C.UnitCommand.start c.args.command.now) g.met.C.UnitCommand.opens in
-    let rest = g.S.Source.rest in
-    let i = c.loop-turn.invariant in
-    let r0 = rest c.args.src.now in
-    let r1 = rest c.loop-turn.src in
-    let r2 = rest c.next.new.src in
-    let n = c.in-Err-next.ensures.next i.goes.no_stop i.goes.no_end in
-    turned_soon g.T.Units.beyond g.T.Units.past g.T.Table.tells g.T.Table.stopped c.loop-turn.reader c.next.new.self r0 r1 r2 (Err c.in-Err-next.stop) g.met.T.Units.laws g.C.UnitCommand.first cmd opens _ i.goes.most i.unrefused n (λ e. absurd cc)
-
-pub returns-in-Err-next-clause-soon : goal.returns-in-Err-next-clause-soon
-returns-in-Err-next-clause-soon g c =
-    let L = g.T.Units.beyond in
-    let Stopped = g.T.Table.stopped in
-    let cmd = command_from g.C.UnitCommand.command (g.C.UnitCommand.start c.args.command.now) in
-    let opens = begun_opens g.C.UnitCommand.command (g.C.UnitCommand.start c.args.command.now) g.met.C.UnitCommand.opens in
-    let rest = g.S.Source.rest in
-    let written = g.K.Sink.written in
-    let i = c.loop-turn.invariant in
-    let old = c.loop-turn.reader in
-    let new = c.next.new.self in
-    let r0 = rest c.args.src.now in
-    let r1 = rest c.loop-turn.src in
-    let r2 = rest c.next.new.src in
-    let o1 = written c.loop-turn.out in
-    let stop = c.in-Err-next.stop in
-    let n = c.in-Err-next.ensures.next i.goes.no_stop i.goes.no_end in
-    let at = subst (λ s. LimitStops g.T.Units.grammar L (g.T.Units.past old.table) old.held r1 r2 s) c.in-Refused.is n.0 in
-    let is = c.table.ensures.table in
-    let stopped = subst (λ s. Stopped old.table c.table.result.now old.held r1 new.held s) c.in-Refused.is (subst (λ t. Stopped old.table t old.held r1 new.held stop) (sym is) n.2) in
-    let closes = c.refuse.ensures.wrote old.table old.held new.held r1 at.fault (ap (λ r. r.place) at.there) (ap (λ r. r.reason) at.there) stopped (ap g.T.Units.past is ∙ n.1) i.keeps in
-    turned_soon L g.T.Units.past g.T.Table.tells Stopped old new r0 r1 r2 (Err stop) g.met.T.Units.laws g.C.UnitCommand.first cmd opens c.refuse.result i.goes.most i.unrefused n (closes_no_read _ _ o1 (written c.refuse.new.out) c.refuse.result closes)
-
-pub returns-in-Last-clause-soon : goal.returns-in-Last-clause-soon
-returns-in-Last-clause-soon g c =
-    let L = g.T.Units.beyond in
-    let Tells = g.T.Table.tells in
-    let Stopped = g.T.Table.stopped in
-    let cmd = command_from g.C.UnitCommand.command (g.C.UnitCommand.start c.args.command.now) in
-    let opens = begun_opens g.C.UnitCommand.command (g.C.UnitCommand.start c.args.command.now) g.met.C.UnitCommand.opens in
-    let rest = g.S.Source.rest in
-    let written = g.K.Sink.written in
-    let i = c.loop-turn.invariant in
-    let old = c.loop-turn.reader in
-    let new = c.next.new.self in
-    let r0 = rest c.args.src.now in
-    let r1 = rest c.loop-turn.src in
-    let r2 = rest c.next.new.src in
-    let o1 = written c.loop-turn.out in
-    let a = c.in-Ok-next.ensures.next i.goes.no_stop i.goes.no_end in
-    let n = subst (λ t. NextOver g.T.Units.grammar L g.T.Units.past Tells Stopped old new r1 r2 (Ok t)) c.in-Last.is a in
-    let t = c.table-in-Last in
-    let p = passes_last t.result.now t.ensures.table g.met.T.Units.along t.ensures.most n in
-    let closes = c.finish.ensures.wrote old.table p i.keeps n.final in
-    turned_soon L g.T.Units.past Tells Stopped old new r0 r1 r2 (Ok c.in-Ok-next.turn) g.met.T.Units.laws g.C.UnitCommand.first cmd opens c.finish.result i.goes.most i.unrefused a (closes_no_read _ _ o1 (written c.finish.new.out) c.finish.result closes)
-
-pub returns-in-Rest-clause-soon : goal.returns-in-Rest-clause-soon
-returns-in-Rest-clause-soon g c =
-    let L = g.T.Units.beyond in
-    let Tells = g.T.Table.tells in
-    let Stopped = g.T.Table.stopped in
-    let cmd = command_from g.C.UnitCommand.command (g.C.UnitCommand.start c.args.command.now) in
-    let opens = begun_opens g.C.UnitCommand.command (g.C.UnitCommand.start c.args.command.now) g.met.C.UnitCommand.opens in
-    let rest = g.S.Source.rest in
-    let written = g.K.Sink.written in
-    let i = c.loop-turn.invariant in
-    let old = c.loop-turn.reader in
-    let new = c.next.new.self in
-    let r0 = rest c.args.src.now in
-    let r1 = rest c.loop-turn.src in
-    let r2 = rest c.next.new.src in
-    let o1 = written c.loop-turn.out in
-    let a = c.in-Ok-next.ensures.next i.goes.no_stop i.goes.no_end in
-    let n = subst (λ t. NextOver g.T.Units.grammar L g.T.Units.past Tells Stopped old new r1 r2 (Ok t)) c.in-Rest.is a in
-    let closes = c.rest.ensures.wrote old.table (ap g.T.Units.past c.table-in-Rest.ensures.table ∙ n.past) n.rests.may i.keeps in
-    turned_soon L g.T.Units.past Tells Stopped old new r0 r1 r2 (Ok c.in-Ok-next.turn) g.met.T.Units.laws g.C.UnitCommand.first cmd opens c.rest.result i.goes.most i.unrefused a (closes_no_read _ _ o1 (written c.rest.new.out) c.rest.result closes)
-
-pub returns-in-Err-turn-clause-soon : goal.returns-in-Err-turn-clause-soon
-returns-in-Err-turn-clause-soon g c =
-    let L = g.T.Units.beyond in
-    let Tells = g.T.Table.tells in
-    let Stopped = g.T.Table.stopped in
-    let cmd = command_from g.C.UnitCommand.command (g.C.UnitCommand.start c.args.command.now) in
-    let opens = begun_opens g.C.UnitCommand.command (g.C.UnitCommand.start c.args.command.now) g.met.C.UnitCommand.opens in
-    let rest = g.S.Source.rest in
-    let written = g.K.Sink.written in
-    let i = c.loop-turn.invariant in
-    let old = c.loop-turn.reader in
-    let new = c.next.new.self in
-    let r0 = rest c.args.src.now in
-    let r1 = rest c.loop-turn.src in
-    let r2 = rest c.next.new.src in
-    let o1 = written c.loop-turn.out in
-    let a = c.in-Ok-next.ensures.next i.goes.no_stop i.goes.no_end in
-    let n = subst (λ t. NextOver g.T.Units.grammar L g.T.Units.past Tells Stopped old new r1 r2 (Ok t)) c.in-Unit.is a in
-    let t = c.table-in-loop-turn in
-    let p = passes_item t.result.now t.ensures.table n in
-    turned_soon L g.T.Units.past Tells Stopped old new r0 r1 r2 (Ok c.in-Ok-next.turn) g.met.T.Units.laws g.C.UnitCommand.first cmd opens _ i.goes.most i.unrefused a (writes_no_read (Unit {0}) _ _ o1 (written c.turn.new.out) c.in-Err-turn.halt _ refl (c.in-Err-turn.ensures.wrote old.table p i.keeps))
