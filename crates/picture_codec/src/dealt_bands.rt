@@ -8,7 +8,7 @@ ghost use Rattle.slice_encoder.specs.Sources as sources;
 ghost use Rattle.picture_codec.specs.EncoderInside.{HaveBandSizes};
 ghost use Rattle.picture_codec.specs.DealtBands.{HasOwnSizes, AreDealtSound, AllDealt};
 
-use crate::short_slices::{are_short, short_zero_bands};
+use crate::short_slices::{are_short, short_zero_trio};
 use planes::{NarrowBands, NarrowTrio, NoMemory};
 use slice_bands::{ShortBands, ShortTrio};
 use slice_geometry::{Layout, PictureShape, Size};
@@ -99,14 +99,9 @@ impl DealtBands {
         shape: &PictureShape,
     ) -> Result<DealtBands, NoMemory> {
         let is_cut = are_short(layout, shape);
-        Ok(DealtBands {
-            bands: ShortTrio {
-                luma: short_zero_bands(alloc, layout, shape.luma, is_cut)?,
-                c1: short_zero_bands(alloc, layout, shape.colour, is_cut)?,
-                c2: short_zero_bands(alloc, layout, shape.colour, is_cut)?,
-            },
-            row: Vec::from_elem(alloc, 0i16, 8208)?,
-        })
+        let row = Vec::from_elem(alloc, 0i16, 8208)?;
+        let bands = short_zero_trio(alloc, layout, shape, is_cut)?;
+        Ok(DealtBands { bands, row })
     }
 
     /// The bands.

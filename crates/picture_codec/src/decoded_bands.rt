@@ -126,7 +126,14 @@ impl DecodedBands {
         let is_short = are_short(layout, shape);
         let row = Vec::from_elem(alloc, 0i16, LONGEST_ROW)?;
         let short = ShortSlices::new(alloc, layout, shape, is_short)?;
-        let mut rows = RowBands::new(alloc, layout, shape)?;
+        let mut rows = match RowBands::new(alloc, layout, shape) {
+            Ok(rows) => rows,
+            Err(NoMemory) => {
+                // By name, since the proof would else take it apart field by field.
+                drop(short);
+                return Err(NoMemory);
+            }
+        };
         if !is_short {
             rows.make();
         }

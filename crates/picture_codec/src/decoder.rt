@@ -67,16 +67,25 @@ impl PictureDecoder {
         ensures { IfOk result (IsNewDecoder shape.now (params_of params.now)) }
     {
         let layout = &params.layout;
-        let rooms = SynthesisRooms::new(alloc, layout, shape)?;
-        Ok(PictureDecoder {
-            params: *params,
-            picture: Picture::new(alloc, shape)?,
-            bands: DecodedBands::new(alloc, layout, shape)?,
-            rooms,
-            next: 0,
-            refused: false,
-            finished: false,
-        })
+        let picture = Picture::new(alloc, shape)?;
+        let bands = DecodedBands::new(alloc, layout, shape)?;
+        match SynthesisRooms::new(alloc, layout, shape) {
+            Ok(rooms) => Ok(PictureDecoder {
+                params: *params,
+                bands,
+                rooms,
+                picture,
+                next: 0,
+                refused: false,
+                finished: false,
+            }),
+            Err(NoMemory) => {
+                // By name, since the proof would else take them apart field by field.
+                drop(bands);
+                drop(picture);
+                Err(NoMemory)
+            }
+        }
     }
 
     /// The shape of its pictures.

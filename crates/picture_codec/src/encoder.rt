@@ -13,7 +13,7 @@ ghost use Rattle.transform_params.specs.Views.{params_of};
 ghost use Rattle.transform_params.specs.ParameterFields.{byte_length, unit_length, params_bytes};
 ghost use Rattle.slice_geometry.specs.Frames.{frame_of};
 ghost use Rattle.picture_codec.specs.Samples.{component_shown};
-ghost use Rattle.picture_codec.specs.Decoding.{HaveAnalysisRows};
+ghost use Rattle.picture_codec.specs.Decoding.{AreNewBands, HaveAnalysisRows};
 ghost use Rattle.picture_codec.specs.Pictures as pictures;
 ghost use Rattle.picture_codec.specs.Encoding.{slices_of, picture_bytes, IsSteepOkFor};
 ghost use Rattle.picture_codec.specs.EncoderInside.{AreRowsWhole, AreWhole, HaveBandSizes, IsLowest, IsReadyToEncode, HoldAnalysed};
@@ -239,6 +239,49 @@ fn workspaces(
     ))
 }
 
+// What is let go by name here and in `with_room`, the proof would else take apart field by field.
+
+// The bands in 16 bits, slice by slice, and the encoder of slices.
+fn dealt_and_slices(
+    alloc: Global,
+    layout: &Layout,
+    shape: &PictureShape,
+) -> Result<(DealtBands, SliceEncoder), NoMemory>
+    ensures { IfOk result (λ made. made.1
+        ≡ record { slicing = layout.now; shape = shape.now }) }
+{
+    let dealt = DealtBands::new(alloc, layout, shape)?;
+    match SliceEncoder::new(alloc, layout, shape) {
+        Ok(slices) => Ok((dealt, slices)),
+        Err(NoMemory) => {
+            drop(dealt);
+            Err(NoMemory)
+        }
+    }
+}
+
+// The same, and the bands in 32 bits.
+fn bands_and_slices(
+    alloc: Global,
+    layout: &Layout,
+    shape: &PictureShape,
+) -> Result<(NarrowTrio, DealtBands, SliceEncoder), NoMemory>
+    ensures luma { IfOk result (λ made. AreNewBands layout.now shape.now.luma made.0.luma) }
+    ensures c1 { IfOk result (λ made. AreNewBands layout.now shape.now.colour made.0.c1) }
+    ensures c2 { IfOk result (λ made. AreNewBands layout.now shape.now.colour made.0.c2) }
+    ensures slices { IfOk result (λ made. made.2
+        ≡ record { slicing = layout.now; shape = shape.now }) }
+{
+    let bands = narrow_zero_trio(alloc, layout, shape)?;
+    match dealt_and_slices(alloc, layout, shape) {
+        Ok((dealt, slices)) => Ok((bands, dealt, slices)),
+        Err(NoMemory) => {
+            drop(bands);
+            Err(NoMemory)
+        }
+    }
+}
+
 // Whether every slice of a picture of this shape can be written by the matrix.
 fn is_steep_ok(shape: &PictureShape, params: &TransformParams) -> bool
     ensures { (result ≡ true) ↔ IsSteepOkFor shape.now (params_of params.now) }
@@ -270,17 +313,26 @@ impl PictureEncoder {
     {
         let layout = &params.layout;
         let (luma_room, colour_room) = workspaces(alloc, layout, shape)?;
-        Ok(PictureEncoder {
-            params: *params,
-            shape: *shape,
-            luma_room,
-            colour_room,
-            kept: kept_planes(alloc, layout, shape)?,
-            bands: narrow_zero_trio(alloc, layout, shape)?,
-            dealt: DealtBands::new(alloc, layout, shape)?,
-            ahead: [0],
-            slices: SliceEncoder::new(alloc, layout, shape)?,
-        })
+        let kept = kept_planes(alloc, layout, shape)?;
+        match bands_and_slices(alloc, layout, shape) {
+            Ok((bands, dealt, slices)) => Ok(PictureEncoder {
+                params: *params,
+                shape: *shape,
+                slices,
+                bands,
+                dealt,
+                kept,
+                luma_room,
+                colour_room,
+                ahead: [0],
+            }),
+            Err(NoMemory) => {
+                drop(kept);
+                drop(luma_room);
+                drop(colour_room);
+                Err(NoMemory)
+            }
+        }
     }
 
     /// An encoder of pictures of this shape. `MatrixTooSteep` comes exactly where an entry of the quantisation matrix is

@@ -12,9 +12,9 @@ ghost use Rattle.picture_codec.specs.Decoding.{AreNewBands, stack_of};
 ghost use Rattle.picture_codec.specs.ShortSlices.{AllShowTheSame, AreShortSound, AreBeside};
 ghost use Rattle.picture_codec.specs.DecodedBands.{AllAgree, narrow_of};
 
-use crate::workspace::late_zero_trio;
+use crate::workspace::{late_zero_trio, rowless_narrow_trio};
 use bounded_blocks::{CodeTable, SPARE};
-use planes::{Bands, LateTrio, NarrowTrio, NoMemory, Trio};
+use planes::{LateTrio, NarrowTrio, NoMemory, Trio};
 use quant_factors::Matrix;
 use slice_bands::ShortTrio;
 use slice_decoder::{SliceFault, decode_narrow};
@@ -70,17 +70,16 @@ impl LateNarrow {
             × AreNewBands layout.now shape.now.colour b.bands.c2) }
         ensures late { IfOk result (λ b. b.is_made ≡ false) }
     {
-        let depth = layout.depth();
+        let buffer = Vec::from_elem(alloc, 0i32, room_of(layout, shape))?;
+        let codes = CodeTable::new(alloc)?;
+        let made = rowless_narrow_trio(alloc, layout.depth())?;
+        let late = late_zero_trio(alloc, layout, shape)?;
         Ok(LateNarrow {
-            late: late_zero_trio(alloc, layout, shape)?,
-            made: NarrowTrio {
-                luma: Bands::new(alloc, depth, 0, 0)?,
-                c1: Bands::new(alloc, depth, 0, 0)?,
-                c2: Bands::new(alloc, depth, 0, 0)?,
-            },
+            late,
+            made,
             is_made: false,
-            codes: CodeTable::new(alloc)?,
-            buffer: Vec::from_elem(alloc, 0i32, room_of(layout, shape))?,
+            codes,
+            buffer,
         })
     }
 

@@ -99,11 +99,19 @@ impl RowBands {
             × AreNewBands layout.now shape.now.colour b.bands.c1
             × AreNewBands layout.now shape.now.colour b.bands.c2) }
     {
-        Ok(RowBands {
-            narrow: LateNarrow::new(alloc, layout, shape)?,
-            wide: WideBands::new(alloc, layout, shape)?,
-            is_wide: false,
-        })
+        let wide = WideBands::new(alloc, layout, shape)?;
+        match LateNarrow::new(alloc, layout, shape) {
+            Ok(narrow) => Ok(RowBands {
+                narrow,
+                wide,
+                is_wide: false,
+            }),
+            Err(NoMemory) => {
+                // By name, since the proof would else take it apart field by field.
+                drop(wide);
+                Err(NoMemory)
+            }
+        }
     }
 
     /// Sees to it that the bands of 32 bits are made.

@@ -48,7 +48,7 @@ pub(crate) fn are_short(layout: &Layout, shape: &PictureShape) -> bool
 }
 
 // The bands of a component in 16 bits, all zero. Where its slices have other sizes they are those of one number.
-pub(crate) fn short_zero_bands(
+fn short_zero_bands(
     alloc: Global,
     layout: &Layout,
     size: Size,
@@ -66,6 +66,30 @@ pub(crate) fn short_zero_bands(
     let (across, down) = (layout.slices_x(), layout.slices_y());
     let (sw, sh) = (padded.w / across, padded.h / down);
     ShortBands::new(alloc, layout.depth(), across, down, sw, sh)
+}
+
+/// The same of all three components.
+pub(crate) fn short_zero_trio(
+    alloc: Global,
+    layout: &Layout,
+    shape: &PictureShape,
+    is_cut: bool,
+) -> Result<ShortTrio, NoMemory>
+    requires luma { is_cut ≡ true → HasSlicesOfOneSize layout.now shape.now.luma }
+    requires colour { is_cut ≡ true → HasSlicesOfOneSize layout.now shape.now.colour }
+    ensures luma { IfOk result (λ b. is_cut ≡ true
+        → AreNewBands layout.now shape.now.luma (short_stack b.luma)) }
+    ensures c1 { IfOk result (λ b. is_cut ≡ true
+        → AreNewBands layout.now shape.now.colour (short_stack b.c1)) }
+    ensures c2 { IfOk result (λ b. is_cut ≡ true
+        → AreNewBands layout.now shape.now.colour (short_stack b.c2)) }
+    ensures sound { IfOk result AreShortSound }
+{
+    Ok(ShortTrio {
+        luma: short_zero_bands(alloc, layout, shape.luma, is_cut)?,
+        c1: short_zero_bands(alloc, layout, shape.colour, is_cut)?,
+        c2: short_zero_bands(alloc, layout, shape.colour, is_cut)?,
+    })
 }
 
 // How many values a slice of a component has, where all have one size.
@@ -137,14 +161,9 @@ impl ShortSlices {
         ensures c2 { IfOk result (λ b. is_cut ≡ true
             → AreNewBands layout.now shape.now.colour (short_stack b.c2)) }
     {
-        Ok(ShortSlices {
-            bands: ShortTrio {
-                luma: short_zero_bands(alloc, layout, shape.luma, is_cut)?,
-                c1: short_zero_bands(alloc, layout, shape.colour, is_cut)?,
-                c2: short_zero_bands(alloc, layout, shape.colour, is_cut)?,
-            },
-            room: ShortRoom::new(alloc, most_values(layout, shape, is_cut))?,
-        })
+        let room = ShortRoom::new(alloc, most_values(layout, shape, is_cut))?;
+        let bands = short_zero_trio(alloc, layout, shape, is_cut)?;
+        Ok(ShortSlices { bands, room })
     }
 
     /// The bands.

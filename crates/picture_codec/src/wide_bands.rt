@@ -49,13 +49,15 @@ impl WideBands {
         ensures late { IfOk result (λ b. b.is_made ≡ false) }
     {
         let depth = layout.depth();
+        let made = Trio {
+            luma: Bands::new(alloc, depth, 0, 0)?,
+            c1: Bands::new(alloc, depth, 0, 0)?,
+            c2: Bands::new(alloc, depth, 0, 0)?,
+        };
+        let late = late_zero_trio(alloc, layout, shape)?;
         Ok(WideBands {
-            late: late_zero_trio(alloc, layout, shape)?,
-            made: Trio {
-                luma: Bands::new(alloc, depth, 0, 0)?,
-                c1: Bands::new(alloc, depth, 0, 0)?,
-                c2: Bands::new(alloc, depth, 0, 0)?,
-            },
+            late,
+            made,
             is_made: false,
         })
     }

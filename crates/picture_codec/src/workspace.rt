@@ -2,6 +2,7 @@
 
 ghost use Rattle.std.specs.Prelude.{◌≡◌, ◌≤◌, true, IfOk};
 ghost use Rattle.slice_geometry.specs.Shape.{IsSize, IsDepth};
+ghost use Rattle.planes.specs.Subbands.{AreZeroBands};
 ghost use Rattle.picture_codec.specs.Pictures as pictures;
 ghost use Rattle.slice_geometry.specs.Frames.{frame_of};
 ghost use Rattle.picture_codec.specs.Decoding.{HaveAnalysisRows, HaveHalfRoom, AreNewBands, AreNewBandsOf, IsRowless, HasLateRoom, HasGatherRoom, IsGatherRowless, HasSynthesisRoom};
@@ -44,13 +45,14 @@ impl<T: Number> LateWorkspace<T> {
         // The rules of a layout.
         let _ = layout.depth();
         let padded = layout.padded_size(size);
+        let late_plane = LatePlane::new(alloc, padded.w / 2, padded.h / 2)?;
+        let late_scratch = LatePlane::new(alloc, padded.w, padded.h / 2 + 3)?;
+        let plane = Plane::new(alloc, 0, 0)?;
+        let scratch = Plane::new(alloc, 0, 0)?;
         Ok(LateWorkspace {
-            room: Workspace {
-                plane: Plane::new(alloc, 0, 0)?,
-                scratch: Plane::new(alloc, 0, 0)?,
-            },
-            late_plane: LatePlane::new(alloc, padded.w / 2, padded.h / 2)?,
-            late_scratch: LatePlane::new(alloc, padded.w, padded.h / 2 + 3)?,
+            room: Workspace { plane, scratch },
+            late_plane,
+            late_scratch,
             is_made: false,
         })
     }
@@ -145,12 +147,60 @@ impl SynthesisRoom {
         requires { IsSize size.w size.h }
         ensures { IfOk result (HasSynthesisRoom layout.now size) }
     {
-        Ok(SynthesisRoom {
-            late: LateWorkspace::new(alloc, layout, size)?,
-            narrow: LateWorkspace::new(alloc, layout, size)?,
-            short: LateWorkspace::new(alloc, layout, size)?,
-            gathered: GatherRoom::new(alloc, layout, size)?,
-        })
+        let (late, narrow) = two_rooms(alloc, layout, size)?;
+        match short_rooms(alloc, layout, size) {
+            Ok((short, gathered)) => Ok(SynthesisRoom {
+                late,
+                narrow,
+                short,
+                gathered,
+            }),
+            Err(NoMemory) => {
+                drop(late);
+                drop(narrow);
+                Err(NoMemory)
+            }
+        }
+    }
+}
+
+// What is let go by name here, the proof would else take apart field by field.
+
+// Rooms of two widths.
+fn two_rooms<T: Number, U: Number>(
+    alloc: Global,
+    layout: &Layout,
+    size: Size,
+) -> Result<(LateWorkspace<T>, LateWorkspace<U>), NoMemory>
+    requires { IsSize size.w size.h }
+    ensures { IfOk result (λ r. HasLateRoom layout.now size r.0 × HasLateRoom layout.now size r.1) }
+{
+    let first = LateWorkspace::new(alloc, layout, size)?;
+    match LateWorkspace::new(alloc, layout, size) {
+        Ok(second) => Ok((first, second)),
+        Err(NoMemory) => {
+            drop(first);
+            Err(NoMemory)
+        }
+    }
+}
+
+// The room in 16 bits, and the rows to gather slices in.
+fn short_rooms(
+    alloc: Global,
+    layout: &Layout,
+    size: Size,
+) -> Result<(LateWorkspace<i16>, GatherRoom), NoMemory>
+    requires { IsSize size.w size.h }
+    ensures { IfOk result (λ r. HasLateRoom layout.now size r.0 × HasGatherRoom layout.now size r.1) }
+{
+    let short = LateWorkspace::new(alloc, layout, size)?;
+    match GatherRoom::new(alloc, layout, size) {
+        Ok(gathered) => Ok((short, gathered)),
+        Err(NoMemory) => {
+            drop(short);
+            Err(NoMemory)
+        }
     }
 }
 
@@ -170,10 +220,14 @@ impl SynthesisRooms {
         ensures { IfOk result (λ r. HasSynthesisRoom layout.now shape.now.luma r.luma
             × HasSynthesisRoom layout.now shape.now.colour r.colour) }
     {
-        Ok(SynthesisRooms {
-            luma: SynthesisRoom::new(alloc, layout, shape.luma)?,
-            colour: SynthesisRoom::new(alloc, layout, shape.colour)?,
-        })
+        let luma = SynthesisRoom::new(alloc, layout, shape.luma)?;
+        match SynthesisRoom::new(alloc, layout, shape.colour) {
+            Ok(colour) => Ok(SynthesisRooms { luma, colour }),
+            Err(NoMemory) => {
+                drop(luma);
+                Err(NoMemory)
+            }
+        }
     }
 }
 
@@ -204,6 +258,20 @@ pub(crate) fn late_zero_trio<T: Number>(
         luma: late_zero_bands(alloc, layout, shape.luma)?,
         c1: late_zero_bands(alloc, layout, shape.colour)?,
         c2: late_zero_bands(alloc, layout, shape.colour)?,
+    })
+}
+
+/// Bands of 32 bits of no rows, in whose place others are made.
+pub(crate) fn rowless_narrow_trio(alloc: Global, depth: u32) -> Result<NarrowTrio, NoMemory>
+    requires { depth ≤ 4 }
+    ensures { IfOk result (λ bands. AreZeroBands bands.luma depth 0 0
+        × AreZeroBands bands.c1 depth 0 0
+        × AreZeroBands bands.c2 depth 0 0) }
+{
+    Ok(NarrowTrio {
+        luma: Bands::new(alloc, depth, 0, 0)?,
+        c1: Bands::new(alloc, depth, 0, 0)?,
+        c2: Bands::new(alloc, depth, 0, 0)?,
     })
 }
 

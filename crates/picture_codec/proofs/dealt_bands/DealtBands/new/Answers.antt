@@ -2,11 +2,8 @@ use Rattle.std.proofs.Common.{◌∙◌, sym}
 use Rattle.picture_codec.proofs.dealt_bands.DealtBands.new.Goals as goal
 
 pub invariant_of-result : goal.invariant_of-result
-invariant_of-result c = (
-  record {
-    luma = c.in_ok-short_zero_bands.ensures.sound.sizes;
-    c1 = c.in_ok-short_zero_bands-2.ensures.sound.sizes;
-    c2 = c.in_ok-short_zero_bands-3.ensures.sound.sizes;
-  },
-  sym c.in_ok-from_elem.field-0.ok.0 ∙ c.in_ok-from_elem.ensures.len,
-)
+invariant_of-result c =
+    let sound = c.in_ok-bands.ensures.sound in (
+      record { luma = sound.luma.sizes; c1 = sound.c1.sizes; c2 = sound.c2.sizes },
+      sym c.in_ok-row.row.ok.0 ∙ c.in_ok-row.ensures.len,
+    )

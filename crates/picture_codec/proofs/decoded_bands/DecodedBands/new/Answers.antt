@@ -19,7 +19,7 @@ invariant_of-result c =
     let s = c.args.layout.now in
     let shape = c.args.shape.now in
     let short = shown_trio c.in_ok-short.short in
-    let rows = c.in_ok-rows.rows.bands in
+    let rows = c.in-Ok.rows.bands in
     let zero = c.in_ok-short.ensures in
     let luma_w = padded_length s.depth shape.luma.w in
     let luma_h = padded_length s.depth shape.luma.h in
@@ -32,9 +32,9 @@ invariant_of-result c =
     record {
       room = sym c.in_ok-row.row.ok.0 ∙ c.in_ok-row.ensures.len;
       beside = λ cut. subst (λ (b : Trio). AreBeside c.in_ok-short.short b) (sym same) (record {
-        luma = zeros_agree short.luma rows.luma s.depth luma_w luma_h (zero.luma cut) c.in_ok-rows.ensures.0;
-        c1 = zeros_agree short.c1 rows.c1 s.depth colour_w colour_h (zero.c1 cut) c.in_ok-rows.ensures.1;
-        c2 = zeros_agree short.c2 rows.c2 s.depth colour_w colour_h (zero.c2 cut) c.in_ok-rows.ensures.2;
+        luma = zeros_agree short.luma rows.luma s.depth luma_w luma_h (zero.luma cut) c.in-Ok.ensures.0;
+        c1 = zeros_agree short.c1 rows.c1 s.depth colour_w colour_h (zero.c1 cut) c.in-Ok.ensures.1;
+        c2 = zeros_agree short.c2 rows.c2 s.depth colour_w colour_h (zero.c2 cut) c.in-Ok.ensures.2;
       });
       made = λ none. elim c.if-not-is_short.branch [
         | then-not-is_short w ↦ ap (λ (r : LateSeen Trio). r.is_made) (w.rows-is ∙ w.make.ensures)
@@ -47,10 +47,10 @@ returns c =
     let s = c.args.layout.now in
     let shape = c.args.shape.now in
     let zero = c.in_ok-short.ensures in
-    let same : c.if-not-is_short.rows.bands ≡ c.in_ok-rows.rows.bands = elim c.if-not-is_short.branch [
+    let same : c.if-not-is_short.rows.bands ≡ c.in-Ok.rows.bands = elim c.if-not-is_short.branch [
       | then-not-is_short w ↦ ap (λ (r : LateSeen Trio). r.bands) (w.rows-is ∙ w.make.ensures)
       | else-not-is_short w ↦ ap (λ (r : LateSeen Trio). r.bands) w.rows-is
     ] in
     let AreNew : Trio → Type 0 = λ b. AreNewBands s shape.luma b.luma × AreNewBands s shape.colour b.c1 × AreNewBands s shape.colour b.c2 in
     either c.are_short-is_short.result (shown_trio c.in_ok-short.short) c.if-not-is_short.rows.bands AreNew
-    (λ cut. (zero.luma cut, zero.c1 cut, zero.c2 cut)) (subst AreNew (sym same) c.in_ok-rows.ensures)
+    (λ cut. (zero.luma cut, zero.c1 cut, zero.c2 cut)) (subst AreNew (sym same) c.in-Ok.ensures)

@@ -14,17 +14,17 @@ pub invariant_of-result : goal.invariant_of-result
 invariant_of-result c =
     let s = c.args.params.now.layout in
     let shape = c.args.shape.now in
-    let bands = c.in_ok-narrow_zero_trio.field-0 in (
+    let bands = c.in-Ok.bands in (
       record {
-        luma = sizes_of_new s shape.luma bands.luma c.in_ok-narrow_zero_trio.ensures.0;
-        c1 = sizes_of_new s shape.colour bands.c1 c.in_ok-narrow_zero_trio.ensures.1;
-        c2 = sizes_of_new s shape.colour bands.c2 c.in_ok-narrow_zero_trio.ensures.2;
-        kept_luma = c.in_ok-kept_planes.ensures.0;
-        kept_c1 = c.in_ok-kept_planes.ensures.1;
-        kept_c2 = c.in_ok-kept_planes.ensures.2;
+        luma = sizes_of_new s shape.luma bands.luma c.in-Ok.ensures.luma;
+        c1 = sizes_of_new s shape.colour bands.c1 c.in-Ok.ensures.c1;
+        c2 = sizes_of_new s shape.colour bands.c2 c.in-Ok.ensures.c2;
+        kept_luma = c.in_ok-kept.ensures.0;
+        kept_c1 = c.in_ok-kept.ensures.1;
+        kept_c2 = c.in_ok-kept.ensures.2;
         luma_room = c.in_ok-luma_room.ensures.0;
         colour_room = c.in_ok-luma_room.ensures.1;
       },
-      c.in_ok-new-2.ensures,
+      c.in-Ok.ensures.slices,
       c.requires,
     )

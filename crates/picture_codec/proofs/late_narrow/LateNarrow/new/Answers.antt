@@ -12,15 +12,16 @@ invariant_of-result c =
     let luma_h = padded_length s.depth shape.luma.h in
     let colour_w = padded_length s.depth shape.colour.w in
     let colour_h = padded_length s.depth shape.colour.h in
-    let late = c.in_ok-late_zero_trio.field-0 in
-    let zero = c.in_ok-late_zero_trio.ensures in
-    let moved : (b : BandStack) (d : ℕ) → d ≡ s.depth → AreZeroBands b c.depth-depth.result 0 0 → AreZeroBands b d 0 0 =
-    λ b d is none. subst (λ (n : ℕ). AreZeroBands b n 0 0) (c.depth-depth.ensures.value ∙ sym is) none in
+    let late = c.in_ok-late.late in
+    let zero = c.in_ok-late.ensures in
+    let rowless = c.in_ok-made.ensures in
+    let moved : (b : BandStack) (d : ℕ) → d ≡ s.depth → AreZeroBands b c.depth.result 0 0 → AreZeroBands b d 0 0 =
+    λ b d is none. subst (λ (n : ℕ). AreZeroBands b n 0 0) (c.depth.ensures.value ∙ sym is) none in
     record {
       rowless = λ none. record {
-        luma = moved _ late.luma.depth zero.0.same_depth c.in_ok-new.ensures;
-        c1 = moved _ late.c1.depth zero.1.same_depth c.in_ok-new-2.ensures;
-        c2 = moved _ late.c2.depth zero.2.same_depth c.in_ok-new-3.ensures;
+        luma = moved _ late.luma.depth zero.0.same_depth rowless.0;
+        c1 = moved _ late.c1.depth zero.1.same_depth rowless.1;
+        c2 = moved _ late.c2.depth zero.2.same_depth rowless.2;
       };
       small = record {
         luma = zeros_within late.luma s.depth luma_w luma_h zero.0;

@@ -10,10 +10,10 @@ invariant_of-result c =
     let luma_h = padded_length s.depth shape.luma.h in
     let colour_w = padded_length s.depth shape.colour.w in
     let colour_h = padded_length s.depth shape.colour.h in
-    let narrow = c.in_ok-new.field-0.bands in
-    let wide = c.in_ok-new-2.field-0.bands in
-    let narrow_zero = c.in_ok-new.ensures.zero in
-    let wide_zero = c.in_ok-new-2.ensures.zero in
+    let narrow = c.in-Ok.narrow.bands in
+    let wide = c.in_ok-wide.wide.bands in
+    let narrow_zero = c.in-Ok.ensures.zero in
+    let wide_zero = c.in_ok-wide.ensures.zero in
     record {
       sizes = record {
         luma = zeros_agree narrow.luma wide.luma s.depth luma_w luma_h narrow_zero.0 wide_zero.0;
