@@ -66,7 +66,11 @@ impl DueUnits {
         let long = front + params.unit_len() as usize;
         let mut buffer = match Vec::from_elem(alloc, 0u8, long) {
             Ok(made) => made,
-            Err(_) => return Err(NoMemory),
+            Err(_) => {
+                // By name, since the proof would else take it apart field by field.
+                drop(encoder);
+                return Err(NoMemory);
+            }
         };
         write_header_unit(header, &mut buffer.as_mut_slice()[13..front]);
         Ok(DueUnits {

@@ -199,6 +199,7 @@ fn lower_proxies<S: Source, K: Sink>(
             };
             let result = run_units(&mut reader, &mut command, src, out);
             drop(reader);
+            drop(command);
             result
         }
         Err(_) => Err(Halt::NoMemory),
