@@ -1,5 +1,5 @@
 //! Lifting steps, and the wavelets of them.
 
-mod lanes;
+mod rows;
 mod short;
 mod wavelets;
