@@ -1,4 +1,5 @@
 use Rattle.std.proofs.Common.{arith}
+use Rattle.std.proofs.lemmas.Grind.{common_steps}
 use Rattle.slice_bands.proofs.Dealt.{piece_fits, piece_there, collect_more}
 use Rattle.slice_bands.proofs.collect.Goals as goal
 
@@ -14,3 +15,9 @@ pub loop-sx-preserved : goal.loop-sx-preserved
 loop-sx-preserved g c =
     collect_more g.T.Number.none c.args.start c.args.size c.args.first c.args.count c.loop-sx.sx c.args.numbers.now c.loop-sx.out c.copy_part.new.out
     c.copy_part.ensures.done c.copy_part.ensures.before c.loop-sx.invariant
+
+pub overflow_mul-sx-in-loop-sx : goal.overflow_mul-sx-in-loop-sx
+overflow_mul-sx-in-loop-sx g c = grind (arith, common_steps)
+
+pub returns-after-loop-sx : goal.returns-after-loop-sx
+returns-after-loop-sx g c = grind (arith, common_steps)

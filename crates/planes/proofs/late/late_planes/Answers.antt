@@ -1,5 +1,6 @@
-use Rattle.std.proofs.Common.{◌≡◌, ℕ, ◌+◌, ◌/◌, ap, ◌∙◌, length, get_or, ◌++◌, ◌∷◌, []}
+use Rattle.std.proofs.Common.{◌≡◌, ℕ, ◌+◌, ◌/◌, ap, ◌∙◌, length, get_or, ◌++◌, ◌∷◌, [], arith}
 use Rattle.std.proofs.lemmas.List.{length_push}
+use Rattle.std.proofs.lemmas.Grind.{common_steps}
 use Rattle.planes.specs.Raster.{Raster, filled_with}
 use Rattle.planes.specs.Subbands.{no_band, subband_length}
 use Rattle.planes.proofs.BandLemmas.{get_or_one_more}
@@ -19,3 +20,12 @@ loop-k-preserved g c =
       count = ap length items ∙ length_push c.loop-k.planes.items c.in_ok-plane.plane ∙ ap (λ n. n + 1) c.loop-k.invariant.count;
       zero = λ k lt. ap (λ planes. get_or planes k no_band) items ∙ get_or_one_more c.loop-k.planes.items c.in_ok-plane.plane no_band zero_band c.loop-k.k c.loop-k.invariant.count c.loop-k.invariant.zero last k lt;
     }
+
+pub returns-in_err-plane-clause-count : goal.returns-in_err-plane-clause-count
+returns-in_err-plane-clause-count c = grind (arith, common_steps)
+
+pub returns-in_err-push-clause-count : goal.returns-in_err-push-clause-count
+returns-in_err-push-clause-count c = grind (arith, common_steps)
+
+pub returns-in_err-push-clause-zero : goal.returns-in_err-push-clause-zero
+returns-in_err-push-clause-zero c = grind (arith, common_steps)

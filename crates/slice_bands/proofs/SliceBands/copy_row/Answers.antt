@@ -1,6 +1,7 @@
 use Rattle.std.proofs.Common.{◌≡◌, ap, sym, ◌∙◌, ℕ, ◌+◌, ◌*◌, ◌/◌, ◌%◌, ◌<◌, ◌≤◌, length, arith, mod-lt}
 use Rattle.std.specs.Prelude.{slice_index_or}
 use Rattle.std.proofs.lemmas.Nat.{div-add-mod'}
+use Rattle.std.proofs.lemmas.Grind.{common_steps}
 use Rattle.slice_bands.specs.Slices.{slice_size}
 use Rattle.slice_bands.specs.Places.{part_w, part_h, place_of}
 use Rattle.slice_bands.proofs.Parts.{parts_inside, row_inside, some_rows, strip_fits, row_end, piece_place, strip_inside}
@@ -66,3 +67,12 @@ returns-clause-value g c x lt =
 pub returns-clause-shown : goal.returns-clause-shown
 returns-clause-shown g c x lt =
     returns-clause-value g c x lt ∙ sym (place_shown g.T.Number.value g.T.Number.none c.args.self.now c.args.level c.args.orient c.args.y x c.requires.exists c.requires.inside lt)
+
+pub nonzero_rem-y : goal.nonzero_rem-y
+nonzero_rem-y g c = grind (arith, common_steps)
+
+pub row_start-first-requires-clause-area : goal.row_start-first-requires-clause-area
+row_start-first-requires-clause-area g c = grind (arith, common_steps)
+
+pub nonzero_div-strip : goal.nonzero_div-strip
+nonzero_div-strip g c = grind (arith, common_steps)

@@ -1,5 +1,6 @@
 use Rattle.std.proofs.Common.{ℕ, ◌+◌, ◌-◌, ◌*◌, ◌≤◌, sym, ◌∙◌, arith}
 use Rattle.std.proofs.Math.Nat.{mul-le-mul_right}
+use Rattle.std.proofs.lemmas.Grind.{common_steps}
 use Rattle.slice_decoder.proofs.Dealt.{grow-small, grow-behind, stopped}
 use Rattle.slice_decoder.proofs.Rects.{RowHolds, rows_sum, rows-more}
 use Rattle.slice_decoder.proofs.bands.fill_rects.Goals as goal
@@ -36,3 +37,9 @@ loop-y-preserved c =
       first = rows-more 2 0 c.args.index c.loop-y.y r c.args.block.now c.loop-y.block c.args.first.now c.loop-y.first c.row_mut.result.now c.fill_parts.new.first (omega arith) i.begun c.loop-y-test.true (omega (arith, i.first.same_height, c.requires.first_y_inside)) c.row_mut.ensures.value i.left i.first first;
       second = rows-more 2 1 c.args.index c.loop-y.y r c.args.block.now c.loop-y.block c.args.second.now c.loop-y.second c.row_mut-in-loop-y.result.now c.fill_parts.new.second (omega arith) i.begun c.loop-y-test.true (omega (arith, i.second.same_height, c.requires.second_y_inside)) c.row_mut-in-loop-y.ensures.value i.left i.second second;
     }
+
+pub returns-then-not-fill_parts-clause-first_keeps : goal.returns-then-not-fill_parts-clause-first_keeps
+returns-then-not-fill_parts-clause-first_keeps c = grind (arith, common_steps)
+
+pub returns-then-not-fill_parts-clause-second_keeps : goal.returns-then-not-fill_parts-clause-second_keeps
+returns-then-not-fill_parts-clause-second_keeps c = grind (arith, common_steps)

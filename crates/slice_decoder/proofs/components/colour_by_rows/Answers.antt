@@ -1,4 +1,5 @@
 use Rattle.std.proofs.Common.{◌≡◌, ◌+◌, ◌*◌, ◌<◌, length, refl, sym, ◌∙◌, arith}
+use Rattle.std.proofs.lemmas.Grind.{common_steps}
 use Rattle.slice_decoder.specs.Jobs.{part_in}
 use Rattle.slice_decoder.specs.Components.{Part, rect_of, index_of}
 use Rattle.quant_factors.proofs.Quantisers.{index_here}
@@ -122,3 +123,6 @@ loop-k-preserved c =
       first_rest = λ j past. numbered-other c.loop-k.first c.band_numbered-level.result.0 c.band_numbered-level.result.1 c.loop-k.k j c.fill_rects.new.first number_is (omega arith) ∙ i.first_rest j (omega arith);
       second_rest = λ j past. numbered-other c.loop-k.second c.band_numbered-level.result.0 c.band_numbered-level.result.1 c.loop-k.k j c.fill_rects.new.second number_is (omega arith) ∙ i.second_rest j (omega arith);
     }
+
+pub fill_rects-requires-clause-across : goal.fill_rects-requires-clause-across
+fill_rects-requires-clause-across c = grind (arith, common_steps)

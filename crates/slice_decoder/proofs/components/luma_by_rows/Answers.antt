@@ -1,4 +1,5 @@
 use Rattle.std.proofs.Common.{◌≡◌, ◌+◌, ◌*◌, ◌<◌, length, refl, sym, ◌∙◌, arith}
+use Rattle.std.proofs.lemmas.Grind.{common_steps}
 use Rattle.slice_decoder.specs.Jobs.{part_in}
 use Rattle.slice_decoder.specs.Components.{Part, rect_of, index_of}
 use Rattle.quant_factors.proofs.Quantisers.{index_here}
@@ -85,3 +86,6 @@ loop-k-preserved c =
       keeps = bands-keep part c.loop-k.k c.args.bands.now c.loop-k.bands c.band_mut.result.now c.fill_rect.new.plane c.band_numbered-level.result.0 c.band_numbered-level.result.1 c.band_rect-rect.result number_is there before_is rect_is i.keeps c.fill_rect.ensures.keeps;
       rest = λ j past. numbered-other c.loop-k.bands c.band_numbered-level.result.0 c.band_numbered-level.result.1 c.loop-k.k j c.fill_rect.new.plane number_is (omega arith) ∙ i.rest j (omega arith);
     }
+
+pub fill_rect-requires-clause-across : goal.fill_rect-requires-clause-across
+fill_rect-requires-clause-across c = grind (arith, common_steps)

@@ -132,3 +132,9 @@ returns-clause-values c good k lt =
     let whole : length c.args.values.now ≡ l.from = all_places c.args.each c.args.job.layout.now c.args.job.size c.args.job.place.sx c.args.job.place.sy (3 * l.level + 1) l.from
     (length c.args.values.now) l.invariant.held.from_is (omega (arith, c.loop-level-test.false, l.auto.level-end, c.depth-level-end.ensures.value)) c.requires.count in
     l.invariant.held.done k (omega (arith, lt, whole))
+
+pub area_of-requires-in-loop-level : goal.area_of-requires-in-loop-level
+area_of-requires-in-loop-level c = grind (arith, common_steps)
+
+pub restore_level-requires-clause-low : goal.restore_level-requires-clause-low
+restore_level-requires-clause-low c = grind (arith, common_steps)

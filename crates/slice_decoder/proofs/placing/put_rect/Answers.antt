@@ -1,5 +1,6 @@
 use Rattle.std.proofs.Common.{◌≡◌, ℕ, ◌+◌, ◌-◌, ◌*◌, List, ℤ, drop, sym, ap, ◌∙◌, arith}
 use Rattle.std.proofs.lemmas.List.{get_or-drop}
+use Rattle.std.proofs.lemmas.Grind.{common_steps}
 use Rattle.planes.specs.Valued.{valued}
 use Rattle.slice_decoder.proofs.Placed.{RowTakesOf, rows-take}
 use Rattle.slice_decoder.proofs.Rects.{rows_sum}
@@ -36,3 +37,6 @@ loop-y-preserved g c =
       rows = rows-take value none each from l.y r values c.args.plane.now l.plane c.row_mut.result.now c.put_row.new.row i.begun c.loop-y-test.true
           (omega (arith, i.rows.same_height, c.requires.y_inside, c.loop-y-test.true)) c.row_mut.ensures.value i.rows taken;
     }
+
+pub returns : goal.returns
+returns g c = grind (arith, common_steps)

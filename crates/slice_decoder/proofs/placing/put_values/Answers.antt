@@ -1,5 +1,6 @@
 use Rattle.std.proofs.Common.{◌≡◌, ◌≤◌, ℕ, ◌+◌, ◌*◌, ◌<◌, length, get_or, refl, ap, ◌∙◌, arith}
 use Rattle.std.proofs.Math.Nat.{mul-le-mul_right}
+use Rattle.std.proofs.lemmas.Grind.{common_steps}
 use Rattle.planes.specs.declared.Rect.{Rect}
 use Rattle.slice_geometry.specs.SliceOrder.{level_rect, area, level_of, place_count}
 use Rattle.slice_geometry.proofs.NumberedBands.{numbered-other, number_here, before_here}
@@ -104,3 +105,12 @@ pub overflow_mul-at : goal.overflow_mul-at
 overflow_mul-at g c =
     let most : g.row.EACH * c.area_of.result ≤ 2 * c.area_of.result = mul-le-mul_right c.area_of.result c.requires.few in
     omega (arith, most, c.area_of.ensures.few)
+
+pub put_rect-requires-clause-across : goal.put_rect-requires-clause-across
+put_rect-requires-clause-across g c = grind (arith, common_steps)
+
+pub put_rect-requires-clause-down : goal.put_rect-requires-clause-down
+put_rect-requires-clause-down g c = grind (arith, common_steps)
+
+pub area_of-requires : goal.area_of-requires
+area_of-requires g c = grind (arith, common_steps)

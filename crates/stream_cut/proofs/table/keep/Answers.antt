@@ -1,5 +1,6 @@
 use Rattle.std.proofs.Common.{◌≡◌, ℕ, List, [], ◌++◌, length, ap, ◌∙◌, arith, append_assoc}
 use Rattle.std.proofs.lemmas.List.{length-append, take_all, drop_all}
+use Rattle.std.proofs.lemmas.Grind.{common_steps}
 use Rattle.unit_reader.proofs.Gets.{got_most}
 use Rattle.stream_cut.proofs.Keeps.{keep_step}
 use Rattle.stream_cut.proofs.table.keep.Goals as goal
@@ -22,3 +23,12 @@ loop-left-preserved g c =
       few = λ few. got_most 8192 c.hold.ensures.got (omega (arith, ap (λ (l : List ℕ). length l) none)) (omega arith);
       steady = cc (c.in-Ok-true.ensures.cause, c.loop-left.invariant.steady);
     }
+
+pub returns-in-Ok-false-clause-moved : goal.returns-in-Ok-false-clause-moved
+returns-in-Ok-false-clause-moved g c = grind (arith, common_steps)
+
+pub returns-in-Err-hold-clause-moved : goal.returns-in-Err-hold-clause-moved
+returns-in-Err-hold-clause-moved g c = grind (arith, common_steps)
+
+pub returns-clause-moved : goal.returns-clause-moved
+returns-clause-moved g c = grind (arith, common_steps)

@@ -1,5 +1,6 @@
 use Rattle.std.proofs.Common.{◌≡◌, ◌∙◌, true, false, sym, ap, arith}
 use Rattle.std.proofs.lemmas.List.{take_all}
+use Rattle.std.proofs.lemmas.Grind.{common_steps}
 use Rattle.stream_rows.specs.Units.{is_truncated}
 use Rattle.unit_reader.proofs.Gets.{got_most}
 use Rattle.unit_reader.proofs.Stopping.{stops_told}
@@ -47,3 +48,9 @@ loop-read-smaller g c =
     let told = f.1 in
     let cut : is_truncated f.0.reason ≡ true = ap (λ r. is_truncated r.reason) (sym told) ∙ sym c.is_truncated.ensures ∙ c.if-not-is_truncated.false in
     omega (arith, short_few f.0.reason c.loop-read.window.held c.front.result.now 620 cut all f.3, c.in-Ok-read_on.ensures.longer)
+
+pub returns-in-Ok-clause-unit : goal.returns-in-Ok-clause-unit
+returns-in-Ok-clause-unit g c = grind (arith, common_steps)
+
+pub returns-in-Ok-clause-opened : goal.returns-in-Ok-clause-opened
+returns-in-Ok-clause-opened g c = grind (arith, common_steps)

@@ -1,5 +1,6 @@
 use Rattle.std.proofs.Common.{◌≡◌, ◌∙◌, ap, length, get_or, ℕ, ◌<◌, arith}
 use Rattle.std.proofs.lemmas.List.{get_or_default}
+use Rattle.std.proofs.lemmas.Grind.{common_steps}
 use Rattle.planes.specs.Raster.{height}
 use Rattle.planes.specs.Subbands.{BandsOf, no_band}
 use Rattle.planes.specs.contracts.band_set.Bands as made
@@ -29,3 +30,18 @@ returns-clause-made g c =
     omega (arith, l.invariant.count, late_count, count, c.bands.invariant.0, c.self.invariant.0, c.requires.same_depth, depth, late_depth) in
     same_stack (made.the_view g.row.T l.bands-inside) c.args.self.now (l.invariant.depth ∙ c.requires.same_depth) same_count
     (λ k lt. l.invariant.done k (omega (arith, lt, same_count, late_count, c.loop-k-test.false, l.auto.k-end, c.len-k-end.ensures)))
+
+pub loop-k-init : goal.loop-k-init
+loop-k-init c = grind (arith, common_steps)
+
+pub invariant_of-self : goal.invariant_of-self
+invariant_of-self c = grind (arith, common_steps)
+
+pub invariant_of-bands : goal.invariant_of-bands
+invariant_of-bands c = grind (arith, common_steps)
+
+pub returns-clause-left : goal.returns-clause-left
+returns-clause-left c = grind (arith, common_steps)
+
+pub index_mut-requires : goal.index_mut-requires
+index_mut-requires g c = grind (arith, common_steps)

@@ -1,5 +1,6 @@
 use Rattle.std.proofs.Common.{◌≡◌, ◌≤◌, ◌<◌, ◌∙◌, ℕ, ◌+◌, ◌*◌, pos, length, sym, ap, arith, subst, get_or, true, false}
 use Rattle.std.proofs.lemmas.Nat.{mul-le}
+use Rattle.std.proofs.lemmas.Grind.{common_steps}
 use Rattle.planes.specs.Bounded.{IsWithin}
 use Rattle.planes.specs.Raster.{height, row_of}
 use Rattle.planes.specs.Subbands.{band_of}
@@ -72,3 +73,12 @@ returns-clause-dealt c = λ _.
     let f : c.loop-y.y ≡ (c.args.sy + 1) * part_h now c.args.level = e ∙ ap (λ (n : ℕ). (c.args.sy + 1) * n) (c.part_h-h.ensures ∙ sym (rows_now s now b same c.args.level)) in
     band_done now b (agree_now s now b same r.sizes) c.args.level c.args.orient c.args.sy (exists_now s now b same c.args.level c.args.orient r.exists) r.upper (rw (down_now s now b same) r.strip)
     (subst (λ (n : ℕ). AreDealtTo now b c.args.level c.args.orient c.args.sy n) f c.loop-y.invariant.dealt)
+
+pub overflow_mul-y-end : goal.overflow_mul-y-end
+overflow_mul-y-end c = grind (arith, common_steps)
+
+pub loop-y-init : goal.loop-y-init
+loop-y-init c = grind (arith, common_steps)
+
+pub row-numbers-requires : goal.row-numbers-requires
+row-numbers-requires c = grind (arith, common_steps)

@@ -1,5 +1,6 @@
 use Rattle.std.proofs.Common.{◌≡◌, ◌≤◌, ◌<◌, ◌∙◌, ℕ, ◌+◌, ◌*◌, pos, length, sym, ap, arith, subst}
 use Rattle.std.proofs.lemmas.Nat.{mul-le}
+use Rattle.std.proofs.lemmas.Grind.{common_steps}
 use Rattle.planes.specs.Raster.{height}
 use Rattle.planes.specs.Subbands.{band_of}
 use Rattle.slice_bands.specs.Places.{part_w, part_h}
@@ -52,3 +53,9 @@ returns g c =
     let e : c.loop-y.y ≡ (c.args.sy + 1) * c.part_h-h.result = omega (arith, c.loop-y-test.false, c.loop-y.auto.y-end, c.loop-y.auto.y) in
     subst (λ (n : ℕ). HaveRows g.T.Number.value g.T.Number.none (band_of (shorts_of s) c.args.level c.args.orient) c.loop-y.plane n)
     (e ∙ ap (λ (n : ℕ). (c.args.sy + 1) * n) c.part_h-h.ensures) c.loop-y.invariant
+
+pub overflow_step-y : goal.overflow_step-y
+overflow_step-y g c = grind (arith, common_steps)
+
+pub overflow_mul-y-end : goal.overflow_mul-y-end
+overflow_mul-y-end g c = grind (arith, common_steps)

@@ -1,6 +1,7 @@
 use Rattle.std.proofs.Common.{◌≡◌, ◌∙◌, ◌+◌, ◌-◌, ◌++◌, ℕ, List, Err, length, take, refl, sym, ap, subst, arith}
 use Rattle.std.proofs.lemmas.List.{length-append, length-take, length-drop}
 use Rattle.std.proofs.lemmas.Result.{err_from_is_err_and}
+use Rattle.std.proofs.lemmas.Grind.{common_steps}
 use Rattle.slice_geometry.specs.Slicing.{total_bytes}
 use Rattle.stream_rows.specs.Units.{Past, Picture}
 use Rattle.transform_params.specs.Views.{params_of}
@@ -121,3 +122,9 @@ returns-clause-unit g c = λ held0 rest0 b.
     picture_found c.args.self.now _ o.first c.args.picture n c.args.size all moved.gone sliced.slices c.keep.new.window _ _ both.0 both.1 o.some (omega (arith, length-take c.args.size c.args.window.now.held, o.inside)) o.least o.most enough (omega (arith, c.from-2.ensures, c.total_bytes-total.ensures))
     (sym c.leads_behind.ensures ∙ c.if-not-leads_behind.false) c.count-slices.ensures.allowed (ap (λ (v : SkimTableSeen). v.past) c.self.view_is ∙ front.past) header (ap (λ (v : SkimTableSeen). v.shape) c.self.view_is ∙ front.shape) (moved.all ∙ ap (λ l. l ++ moved.gone) kept)
     refl refl c.count-slices.ensures.value c.a.ensures.value c.b.ensures.value (omega (arith, moved.room, c.requires.place, front.room, o.inside, less, enough, c.from-2.ensures, c.total_bytes-total.ensures)) refl
+
+pub cut_slice-requires : goal.cut_slice-requires
+cut_slice-requires g c = grind (arith, common_steps)
+
+pub overflow_sub-there : goal.overflow_sub-there
+overflow_sub-there g c = grind (arith, common_steps)
