@@ -84,3 +84,25 @@ pub last_is : (f : ℤ → ℤ → ℤ → ℤ) (n : ℕ) (e o : Line) (k : ℕ)
 last_is f n e o k is =
     let next : (if k + 1 == n then k else k + 1) ≡ k = grind arith in
     ap (λ (j : ℕ). f (o k) (e k) (e j)) (sym next)
+
+-- the last number of a row by itself, behind the others
+pub behind_is : {X : Type 0} (front back : List X) (d : X) → get_or (front ++ back) (length front) d ≡ get_or back 0 d
+behind_is front back d = grind (arith, get_or-append-add front back 0 d)
+
+-- a row of odd places, stepped but for the last one, and the last one between the last even place and itself
+pub odd_half_made : {X : Type 0} (value : X → ℤ) (none : X) (f : ℤ → ℤ → ℤ → ℤ) (odd even front back made : List X) (r : X) → odd ≡ front ++ back → length front + 1 ≡ length odd → 1 ≤ length back → length made ≡ length front
+    → ((k : ℕ) → k < length front → valued value none made k ≡ f (valued value none front k) (valued value none even k) (valued value none even (k + 1)))
+    → value r ≡ f (valued value none odd (length front)) (valued value none even (length front)) (valued value none even (length front))
+    → (k : ℕ) → k < length odd → valued value none (made ++ set back 0 r) k ≡ odd_stepped f (length odd) (valued value none even) (valued value none odd) k
+odd_half_made value none f odd even front back made r is count some same stepped last k lt =
+    let e = valued value none even in
+    let o = valued value none odd in
+    elim (cases_lt k (length front)) [
+      | inl less ↦
+          let own : valued value none front k ≡ o k = ap value (sym (ap (λ l. get_or l k none) is ∙ get_or_append_left front back none k less)) in
+          ap value (get_or_append_left made (set back 0 r) none k (omega arith)) ∙ stepped k less ∙ ap (λ v. f v (e k) (e (k + 1))) own ∙ inner_is f (length odd) e o k (omega arith)
+      | inr not ↦
+          let at_end : k ≡ length front = omega arith in
+          let here : get_or (made ++ set back 0 r) k none ≡ r = ap (λ j. get_or (made ++ set back 0 r) j none) (at_end ∙ sym same) ∙ behind_is made (set back 0 r) none ∙ get_or-set_same back 0 r none some in
+          ap value here ∙ last ∙ ap (λ j. f (o j) (e j) (e j)) (sym at_end) ∙ last_is f (length odd) e o k (omega arith)
+    ]

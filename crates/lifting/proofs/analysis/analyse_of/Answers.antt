@@ -1,4 +1,5 @@
 use Rattle.std.proofs.Common.{◌≡◌, ◌∙◌, refl, sym, subst, ℕ, ◌+◌, ◌-◌, ◌*◌, ◌^◌, ◌<◌, arith}
+use Rattle.std.proofs.lemmas.Grind.{common_steps}
 use Rattle.planes.specs.Valued.{grid_of}
 use Rattle.planes.specs.Raster.{height}
 use Rattle.planes.specs.Subbands.{with_band}
@@ -95,3 +96,18 @@ returns-clause-coefficients G c =
     (λ y x ly lx. c.copy_corner.ensures.copied y x (omega (arith, eh, c.h-down.ensures)) (omega (arith, ew, c.w-across.ensures))) in
     subst (λ (d : ℕ). SameBands (lowest d (height p)) (lowest d p.w) d (coefficients_in G.T.Number.value G.T.Number.none (with_band c.loop-j.bands 0 0 c.copy_corner.new.dst)) (analysis c.args.wavelet (lowest d (height p)) (lowest d p.w) d (grid_of G.T.Number.value G.T.Number.none p)))
     (sym i.same_sizes.depth) dealt
+
+pub overflow_sub-level : goal.overflow_sub-level
+overflow_sub-level c = grind (arith, common_steps)
+
+pub roll_back-requires-clause-fits : goal.roll_back-requires-clause-fits
+roll_back-requires-clause-fits g c = grind (arith, common_steps)
+
+pub roll_back-requires-clause-high : goal.roll_back-requires-clause-high
+roll_back-requires-clause-high g c = grind (arith, common_steps)
+
+pub roll_back-requires-clause-fits_scratch : goal.roll_back-requires-clause-fits_scratch
+roll_back-requires-clause-fits_scratch g c = grind (arith, common_steps)
+
+pub roll_back-requires-clause-ring : goal.roll_back-requires-clause-ring
+roll_back-requires-clause-ring g c = grind (arith, common_steps)

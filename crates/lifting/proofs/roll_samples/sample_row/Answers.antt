@@ -1,4 +1,5 @@
 use Rattle.std.proofs.Common.{◌∙◌, ap, sym, subst, ℕ, ◌+◌, ◌-◌, ◌*◌, ◌≤◌, arith, List, length}
+use Rattle.std.proofs.lemmas.Grind.{common_steps}
 use Rattle.planes.specs.Valued.{valued, grid_of}
 use Rattle.lifting.specs.Places.{woven}
 use Rattle.lifting.specs.Fits.{LineFits}
@@ -23,3 +24,6 @@ returns-then-y-area-clause-row g c lt x lx =
     part_row start (start + c.args.area.w - start) samples c.sample_sides.new.dst x (omega arith) (omega (arith, c.sample_sides.auto.dst))
     ∙ c.sample_sides.ensures x (omega arith)
     ∙ rw c.row_mut.ensures.value (ap (sample_of c.args.area.depth) (row_made l g.g c.args.y (grid_of g.T.Number.value g.T.Number.none c.args.scratch.now c.args.r) c.requires.1.0 x (omega (arith, lx, c.requires.1.1.1.1.1.1.0))))
+
+pub returns-then-y-area-clause-before : goal.returns-then-y-area-clause-before
+returns-then-y-area-clause-before c = grind (arith, common_steps)

@@ -1,4 +1,5 @@
 use Rattle.std.proofs.Common.{◌≡◌, ◌∙◌, sym, ap, ℕ, ◌+◌, ◌*◌, ◌<◌, ◌≤◌, ℤ, pos, length, arith}
+use Rattle.std.proofs.lemmas.Int.{ints}
 use Rattle.planes.specs.Valued.{valued}
 use Rattle.lifting.specs.declared.PairStep.TheVariants.{OddUp}
 use Rattle.lifting.specs.Places.{woven, odd_stepped}
@@ -7,7 +8,7 @@ use Rattle.lifting.specs.Clipping.{clipped_up}
 use Rattle.lifting.proofs.TwoSides.{same_step}
 use Rattle.lifting.proofs.Growth.{twofold}
 use Rattle.lifting.proofs.WovenLines.{woven_even, woven_odd}
-use Rattle.lifting.proofs.SampleRows.{put_one, put_two, last_is, read_is, sample_is, read_small}
+use Rattle.lifting.proofs.SampleRows.{put_one, put_two, last_is, read_is, sample_is, read_small, half_most}
 use Rattle.lifting.proofs.samples.weave_samples.Goals.{then-n-last, else-n-last}
 use Rattle.lifting.proofs.samples.weave_samples.Goals as goal
 
@@ -61,3 +62,39 @@ returns-else-n-count-2 G c i lt =
     (put_one (λ i (v : ℕ). pos v ≡ up (woven e odds i)) 0 c.sample.result pairs (2 * k) (omega (arith, same, inside.1, c.if-n-count.false)) c.weave_pairs.ensures
     (c.sample.ensures ∙ ap up ((read_is G.T.Number.value G.T.Number.none c.args.even.now k c.index-even-count.result inside.0 c.index-even-count.is) ∙ sym (woven_even e odds k)))
     i (omega (arith, lt, c.if-n-count-2.false)))
+
+pub odd_sample-requires-clause-a_small : goal.odd_sample-requires-clause-a_small
+odd_sample-requires-clause-a_small G c =
+    let k : ℕ = c.if-n-last.count in
+    let inside : k < length c.args.even.now = elim c.if-n-last.branch [
+      | then-n-last w ↦ omega (arith, w.count-is, w.if-n-last.true)
+      | else-n-last w ↦ omega (arith, w.count-is, c.requires.some)
+    ] in
+    read_small G.T.Number.value G.T.Number.none G.T.Number.reach c.args.even.now k c.index-even-count-then-n-count-2.result inside c.index-even-count-then-n-count-2.is c.requires.even_small
+
+pub odd_sample-requires-clause-b_small : goal.odd_sample-requires-clause-b_small
+odd_sample-requires-clause-b_small G c =
+    let k : ℕ = c.if-n-last.count in
+    let inside : k < length c.args.even.now = elim c.if-n-last.branch [
+      | then-n-last w ↦ omega (arith, w.count-is, w.if-n-last.true)
+      | else-n-last w ↦ omega (arith, w.count-is, c.requires.some)
+    ] in
+    read_small G.T.Number.value G.T.Number.none G.T.Number.reach c.args.even.now k c.index-even-count-then-n-count-2-2.result inside c.index-even-count-then-n-count-2-2.is c.requires.even_small
+
+pub odd_sample-requires-clause-odd_small : goal.odd_sample-requires-clause-odd_small
+odd_sample-requires-clause-odd_small G c =
+    let k : ℕ = c.if-n-last.count in
+    let inside : k < length c.args.odd.now = elim c.if-n-last.branch [
+      | then-n-last w ↦ omega (arith, w.count-is, w.if-n-last.true, c.requires.same_len)
+      | else-n-last w ↦ omega (arith, w.count-is, c.requires.some, c.requires.same_len)
+    ] in
+    read_small G.T.Number.value G.T.Number.none G.T.Number.reach c.args.odd.now k c.index-odd-count.result inside c.index-odd-count.is c.requires.odd_small
+
+pub odd_sample-requires-clause-most : goal.odd_sample-requires-clause-most
+odd_sample-requires-clause-most G c = omega (arith, ints, c.half_range-half.ensures, half_most c.args.depth G.T.Sampled.depths c.requires.bits)
+
+pub sample-requires-clause-most : goal.sample-requires-clause-most
+sample-requires-clause-most G c = omega (arith, ints, c.half_range-half.ensures, half_most c.args.depth G.T.Sampled.depths c.requires.bits)
+
+pub weave_pairs-requires-clause-most : goal.weave_pairs-requires-clause-most
+weave_pairs-requires-clause-most G c = omega (arith, ints, c.half_range-half.ensures, half_most c.args.depth G.T.Sampled.depths c.requires.bits)

@@ -1,0 +1,6 @@
+use Rattle.std.proofs.Common.{arith}
+use Rattle.std.proofs.lemmas.Grind.{common_steps}
+use Rattle.lifting.proofs.lifted.copy_corner.Goals as goal
+
+pub loop-y-preserved : goal.loop-y-preserved
+loop-y-preserved g c = grind (arith, common_steps)
