@@ -69,10 +69,10 @@ impl SliceEncoder {
     ) -> Result<SliceEncoder, NoMemory>
         ensures { IfOk result (λ e. e ≡ record { slicing = layout.now; shape = shape.now }) }
     {
-        let texts = PairTexts::new(alloc)?;
-        let gathered = GatheredSlice::new(alloc, layout, shape)?;
         let luma = Vec::from_elem(alloc, 0i64, most_places(layout, shape.luma))?;
         let colour = Vec::from_elem(alloc, 0i64, 2 * most_places(layout, shape.colour))?;
+        let texts = PairTexts::new(alloc)?;
+        let gathered = GatheredSlice::new(alloc, layout, shape)?;
         Ok(SliceEncoder {
             layout: *layout,
             shape: *shape,

@@ -1,5 +1,7 @@
 use Rattle.std.proofs.Common.{◌≡◌, ◌∙◌, ◌+◌, ◌-◌, ◌<◌, ℕ, ℤ, List, length, take, drop, ap, subst, arith}
 use Rattle.std.proofs.lemmas.List.{length-drop, take_all}
+use Rattle.std.proofs.lemmas.Grind.{common_steps}
+use Rattle.std.proofs.lemmas.Int.{ints}
 use Rattle.bounded_blocks.specs.Writing.{codes_of}
 use Rattle.slice_encoder.specs.BitQueues.{IsPut}
 use Rattle.slice_encoder.proofs.BlockTexts.{put_more, put_two}
@@ -41,3 +43,12 @@ loop-done-preserved c =
       even = omega (arith, l.invariant.even, run.ensures.even);
       puts = put_more a.bytes.now a.block l.bytes l.block run.new.bytes run.result.block vs l.done run.result.count l.invariant.puts so_far;
     }
+
+pub loop-done-init : goal.loop-done-init
+loop-done-init c = grind (ints, arith, common_steps)
+
+pub put_small-run-requires-clause-small : goal.put_small-run-requires-clause-small
+put_small-run-requires-clause-small c = grind (ints, arith, common_steps)
+
+pub put_apart-block-requires-clause-first_small : goal.put_apart-block-requires-clause-first_small
+put_apart-block-requires-clause-first_small c = grind (ints, arith, common_steps)

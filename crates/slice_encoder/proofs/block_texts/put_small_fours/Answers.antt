@@ -1,4 +1,6 @@
 use Rattle.std.proofs.Common.{◌≡◌, ◌∙◌, ◌+◌, ◌*◌, ◌<◌, ℕ, length, take, subst, arith}
+use Rattle.std.proofs.lemmas.Grind.{common_steps}
+use Rattle.std.proofs.lemmas.Int.{ints}
 use Rattle.bit_codes.specs.Bits.{digits_below}
 use Rattle.bounded_blocks.specs.Writing.{codes_of}
 use Rattle.slice_encoder.specs.BitQueues.{IsPut}
@@ -24,3 +26,9 @@ loop-four-preserved c =
           (put_fours a.bytes.now a.block l.bytes l.block put.new.bytes put.result vs n (digits_below front.result.length front.result.number) (digits_below back.result.length back.result.number) inside c.requires.small l.invariant.puts
           front.ensures.text back.ensures.text put.ensures.puts);
     }
+
+pub returns-then-bytes-block-lt8-clause-puts : goal.returns-then-bytes-block-lt8-clause-puts
+returns-then-bytes-block-lt8-clause-puts c = grind (ints, arith, common_steps)
+
+pub loop-four-init : goal.loop-four-init
+loop-four-init c = grind (ints, arith, common_steps)

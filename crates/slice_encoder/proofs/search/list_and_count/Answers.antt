@@ -1,4 +1,5 @@
 use Rattle.std.proofs.Common.{◌≡◌, ◌∙◌, ℕ, ◌*◌, List, length, take, sym, ap, subst, arith, ℤ}
+use Rattle.std.proofs.lemmas.Grind.{common_steps}
 use Rattle.planes.specs.Raster.{Grid, at}
 use Rattle.bounded_blocks.specs.Writing.{codes_of, need}
 use Rattle.bounded_blocks.proofs.Needs.{need-most}
@@ -208,3 +209,6 @@ returns c = λ old ready was.
       colour_need = colour_need;
       fit = c.do_fit.ensures ∙ ap (λ (n : ℕ). needs_fit a.job.bytes n c.need_behind-colour_need.result) luma_need ∙ ap (λ (n : ℕ). needs_fit a.job.bytes (need lumas) n) colour_need;
     }
+
+pub slice_bounds-need_behind-end-4 : goal.slice_bounds-need_behind-end-4
+slice_bounds-need_behind-end-4 c = grind (arith, common_steps)

@@ -1,4 +1,5 @@
-use Rattle.std.proofs.Common.{◌∙◌, ap}
+use Rattle.std.proofs.Common.{◌∙◌, ap, arith}
+use Rattle.std.proofs.lemmas.Grind.{common_steps}
 use Rattle.slice_encoder.specs.declared.gathered.Reaches.{Reaches}
 use Rattle.slice_encoder.specs.Trials.{CodedPicture, luma_of}
 use Rattle.slice_encoder.specs.Jobs.{picture_of}
@@ -28,3 +29,6 @@ list_and_count-requires-clause-colour_reach c =
     let a = c.args in
     let j : CodedPicture = picture_of a.job in
     ap (λ (r : Reaches). r.colour) c.requires.reaches ∙ pairs_reach_is j a.index a.job.sx a.job.sy a.gathered.now.c1 a.gathered.now.c2 c.requires.gathered.c1 c.requires.gathered.c2
+
+pub returns-clause-holds : goal.returns-clause-holds
+returns-clause-holds c = grind (arith, common_steps)

@@ -1,5 +1,6 @@
 use Rattle.std.proofs.Common.{◌≡◌, ◌∙◌, ◌-◌, ◌*◌, List, length, take, refl, sym, ap, subst, arith, ℕ, ℤ}
 use Rattle.std.proofs.lemmas.List.{length-take}
+use Rattle.std.proofs.lemmas.Grind.{common_steps}
 use Rattle.planes.specs.declared.Rect.{Rect}
 use Rattle.planes.specs.Raster.{Raster}
 use Rattle.planes.specs.Subbands.{BandStack}
@@ -63,3 +64,15 @@ band-first-requires-clause-rows c = has_lowest c.c1.result
 
 pub band-second-requires-clause-rows : goal.band-second-requires-clause-rows
 band-second-requires-clause-rows c = has_lowest c.c2.result
+
+pub overflow_sub-count : goal.overflow_sub-count
+overflow_sub-count c = grind (arith, common_steps)
+
+pub overflow_sub-count-2 : goal.overflow_sub-count-2
+overflow_sub-count-2 c = grind (arith, common_steps)
+
+pub overflow_mul-count-2 : goal.overflow_mul-count-2
+overflow_mul-count-2 c = grind (arith, common_steps)
+
+pub slice_bounds-total_length-end : goal.slice_bounds-total_length-end
+slice_bounds-total_length-end c = grind (arith, common_steps)

@@ -1,5 +1,6 @@
 use Rattle.std.proofs.Common.{◌≡◌, ◌∙◌, ◌-◌, ◌*◌, List, length, take, refl, sym, ap, subst, arith, ℕ, ℤ}
 use Rattle.std.proofs.lemmas.List.{length-take}
+use Rattle.std.proofs.lemmas.Grind.{common_steps}
 use Rattle.planes.specs.Subbands.{BandStack}
 use Rattle.slice_geometry.specs.SliceOrder.{area, numbered}
 use Rattle.bounded_blocks.specs.Writing.{codes_of}
@@ -45,3 +46,15 @@ returns-clause-value c =
 
 pub band-lowest-requires-clause-rows : goal.band-lowest-requires-clause-rows
 band-lowest-requires-clause-rows c = has_lowest c.luma.result
+
+pub overflow_sub-count : goal.overflow_sub-count
+overflow_sub-count c = grind (arith, common_steps)
+
+pub overflow_sub-count-2 : goal.overflow_sub-count-2
+overflow_sub-count-2 c = grind (arith, common_steps)
+
+pub overflow_mul-count : goal.overflow_mul-count
+overflow_mul-count c = grind (arith, common_steps)
+
+pub slice_bounds-total_length-end-2 : goal.slice_bounds-total_length-end-2
+slice_bounds-total_length-end-2 c = grind (arith, common_steps)

@@ -1,4 +1,5 @@
-use Rattle.std.proofs.Common.{sym, subst}
+use Rattle.std.proofs.Common.{sym, subst, arith}
+use Rattle.std.proofs.lemmas.Grind.{common_steps}
 use Rattle.planes.specs.Subbands.{BandStack}
 use Rattle.slice_encoder.specs.Sources.{trio_seen}
 use Rattle.slice_encoder.specs.Buffers.{coded_component}
@@ -46,3 +47,6 @@ gather-requires-2-clause-cut c = c.c1.ensures.cut c.args.job.layout.now c.args.j
 
 pub gather-requires-3-clause-cut : goal.gather-requires-3-clause-cut
 gather-requires-3-clause-cut c = c.c2.ensures.cut c.args.job.layout.now c.args.job.shape.now c.requires.cut
+
+pub returns-clause-room : goal.returns-clause-room
+returns-clause-room c = grind (arith, common_steps)
