@@ -1,6 +1,6 @@
 //! The synthesis of a lower level at each width.
 
-ghost use Rattle.std.specs.Prelude.{◌≡◌, ℕ, ◌*◌, ◌^◌, ◌≤◌, length};
+ghost use Rattle.std.specs.Prelude.{◌≡◌, ℕ, ◌*◌, ◌^◌, ◌≤◌, length, IfOk};
 ghost use Rattle.planes.specs.Raster.{height};
 ghost use Rattle.planes.specs.Subbands.{BandsOf};
 ghost use Rattle.lifting.specs.Bands.{coefficients_in, lowest};
@@ -9,10 +9,12 @@ ghost use Rattle.lifting.specs.LevelRoom.{HaveLevelRoom};
 ghost use Rattle.lifting.specs.LowerSamples.{rounded};
 ghost use Rattle.lifting.specs.SampleRoom.{AreSmallIn, AreNarrowIn, IsShownArea};
 ghost use Rattle.lifting.specs.Transform.{synthesis};
+ghost use Rattle.proxy_picture.specs.Making.{AreOfSize};
 
 use lifting::{LowerLevel, SampleArea, Wavelet, synth_lower_samples, synth_lower_samples_narrow};
-use planes::{Bands, Number, Plane};
+use planes::{Bands, NoMemory, Number, Plane};
 use slice_geometry::Size;
+use std::alloc::Global;
 
 /// A component's lower level: what is made of it, the padded size of the component, and the samples that are kept.
 #[derive(Clone, Copy)]
@@ -27,6 +29,25 @@ pub struct LowerPart {
 pub struct LevelPlanes<T> {
     pub(crate) plane: Plane<T>,
     pub(crate) scratch: Plane<T>,
+}
+
+impl<T: Number> LevelPlanes<T> {
+    /// Both of zeros, w across and h down.
+    pub(crate) fn new(alloc: Global, w: u32, h: u32) -> Result<LevelPlanes<T>, NoMemory>
+        requires w_most { w ≤ 8208 }
+        requires h_most { h ≤ 8208 }
+        ensures { IfOk result (λ p. AreOfSize w h p.plane p.scratch) }
+    {
+        let plane = Plane::new(alloc, w, h)?;
+        match Plane::new(alloc, w, h) {
+            Ok(scratch) => Ok(LevelPlanes { plane, scratch }),
+            Err(NoMemory) => {
+                // By name, since the proof would else take it apart field by field.
+                drop(plane);
+                Err(NoMemory)
+            }
+        }
+    }
 }
 
 /// Numbers of bands that a lower level is synthesised from.

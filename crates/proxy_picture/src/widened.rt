@@ -41,10 +41,13 @@ impl WidenedBands {
     {
         let depth = layout.depth();
         let padded = layout.padded_size(size);
+        let row = zero_row(alloc)?;
+        let late = LateBands::new(alloc, depth, padded.w, padded.h)?;
+        let bands = NarrowBands::new(alloc, depth, 0, 0)?;
         Ok(WidenedBands {
-            bands: NarrowBands::new(alloc, depth, 0, 0)?,
-            late: LateBands::new(alloc, depth, padded.w, padded.h)?,
-            row: zero_row(alloc)?,
+            bands,
+            late,
+            row,
             is_made: false,
         })
     }
