@@ -1,4 +1,5 @@
 use Rattle.std.proofs.Common.{refl, sym, ap, subst, ◌∙◌, arith}
+use Rattle.std.proofs.lemmas.Grind.{common_steps}
 use Rattle.planes.specs.Subbands.{BandStack}
 use Rattle.slice_geometry.specs.declared.Size.{Size}
 use Rattle.slice_geometry.specs.Slicing.{slice_count}
@@ -66,3 +67,6 @@ returns-clause-room c =
       c.show_rows.ensures.room,
       gathered_room s size (slice_count s) rows c.make.new.self _ made.0 taken refl refl made.1,
     )
+
+pub gather-requires-clause-sizes : goal.gather-requires-clause-sizes
+gather-requires-clause-sizes c = grind (arith, common_steps)

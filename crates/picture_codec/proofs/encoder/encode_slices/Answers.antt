@@ -1,5 +1,6 @@
 use Rattle.std.proofs.Common.{ℕ, ◌*◌, subst, ◌≡◌, ◌≤◌, ◌<◌, ◌+◌, ◌-◌, ◌/◌, ◌%◌, refl, sym, ap, ◌∙◌, arith, length, rules}
 use Rattle.std.proofs.lemmas.Slice.{overwrites}
+use Rattle.std.proofs.lemmas.Grind.{common_steps}
 use Rattle.slice_geometry.specs.Slicing.{slice_count}
 use Rattle.slice_geometry.proofs.Shares.{bytes_before-rises, bytes_before-zero, share_most}
 use Rattle.slice_encoder.specs.Chosen.{chosen, written_slice}
@@ -98,3 +99,18 @@ loop-n-preserved c =
       kept = kept_on j n lt c.count-n-end.ensures.allowed.slices c.encode_slice_of.new.bytes c.encode_slice_of.result c.encode_slice_of.new.kept (many ∙ c.share.ensures) fit encoded;
       done = rw (part, whole) (one_slice_more (written_slice j) n c.loop-n.place c.loop-n.bytes c.encode_slice_of.new.bytes inside c.loop-n.invariant.done is);
     }
+
+pub read_ahead-requires-clause-luma_depth : goal.read_ahead-requires-clause-luma_depth
+read_ahead-requires-clause-luma_depth c = grind (arith, common_steps)
+
+pub read_ahead-requires-clause-c1_depth : goal.read_ahead-requires-clause-c1_depth
+read_ahead-requires-clause-c1_depth c = grind (arith, common_steps)
+
+pub read_ahead-requires-clause-c2_depth : goal.read_ahead-requires-clause-c2_depth
+read_ahead-requires-clause-c2_depth c = grind (arith, common_steps)
+
+pub encode_slice_of-requires-clause-most : goal.encode_slice_of-requires-clause-most
+encode_slice_of-requires-clause-most c = grind (arith, common_steps)
+
+pub returns-clause-slices : goal.returns-clause-slices
+returns-clause-slices c = grind (arith, common_steps)

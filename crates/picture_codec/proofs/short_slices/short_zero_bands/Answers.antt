@@ -1,4 +1,5 @@
 use Rattle.std.proofs.Common.{◌≡◌, ◌∙◌, ◌*◌, ◌/◌, ◌≤◌, ap, arith}
+use Rattle.std.proofs.lemmas.Grind.{common_steps}
 use Rattle.slice_geometry.specs.declared.Size.{Size}
 use Rattle.slice_geometry.specs.Geometry.{padded_length}
 use Rattle.picture_codec.proofs.Sizes.{padded_covers}
@@ -27,3 +28,9 @@ returns-clause-zero c =
     let rows : c.slices_y-down.result * (padded.h / c.slices_y-down.result) ≡ padded_length s.depth size.h =
     whole-part padded.h c.slices_y-down.result (rw (h, c.slices_y-down.ensures.value) whole.down) ∙ h in
     zero-moved c.new-2.result c.depth.result s.depth _ (padded_length s.depth size.w) _ (padded_length s.depth size.h) c.depth.ensures.value columns rows c.args.is_cut c.new-2.ensures.zero
+
+pub new-requires-2-clause-whole_w : goal.new-requires-2-clause-whole_w
+new-requires-2-clause-whole_w c = grind (arith, common_steps)
+
+pub new-requires-2-clause-whole_h : goal.new-requires-2-clause-whole_h
+new-requires-2-clause-whole_h c = grind (arith, common_steps)

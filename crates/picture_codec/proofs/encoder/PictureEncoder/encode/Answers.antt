@@ -84,3 +84,6 @@ encode_dealt-requires-clause-given c =
         small = λ level orient y x exists. subst (λ (s : PictureShape). Within (most_coefficient inside.params.layout.depth s.colour_depth) (at (band_of c.analyse_component-3.new.bands level orient) y x)) same (c.analyse_component-3.ensures.bands.small level orient y x exists);
       };
     }
+
+pub analyse_component-requires-clause-bands : goal.analyse_component-requires-clause-bands
+analyse_component-requires-clause-bands c = grind (arith, common_steps)

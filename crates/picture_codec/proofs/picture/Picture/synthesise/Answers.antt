@@ -1,4 +1,5 @@
-use Rattle.std.proofs.Common.{◌≡◌, ◌∙◌, ℕ, ap, sym}
+use Rattle.std.proofs.Common.{◌≡◌, ◌∙◌, ℕ, ap, sym, arith}
+use Rattle.std.proofs.lemmas.Grind.{common_steps}
 use Rattle.slice_geometry.specs.declared.Size.{Size}
 use Rattle.slice_geometry.specs.declared.Component.{Component}
 use Rattle.slice_geometry.specs.declared.Component.TheVariants.{Luma, C1, C2}
@@ -77,3 +78,9 @@ returns-in-C2-clause-samples G c = λ yes.
     ap with_rows (c.synthesise-in-C2.ensures.samples yes ∙ ap (λ (z : Size). samples_by z (λ y x. sample_of shape.colour_depth (g y x))) size)
     ∙ ap (λ (p : PictureSeen). with_shown p C2 g) c.self.view_is
     ∙ ap (λ (k : Component). with_shown c.args.self.now k g) (sym c.in-C2.is)
+
+pub synthesise-requires-in-C1-clause-room : goal.synthesise-requires-in-C1-clause-room
+synthesise-requires-in-C1-clause-room g c = grind (arith, common_steps)
+
+pub synthesise-requires-in-C2-clause-room : goal.synthesise-requires-in-C2-clause-room
+synthesise-requires-in-C2-clause-room g c = grind (arith, common_steps)

@@ -1,4 +1,5 @@
-use Rattle.std.proofs.Common.{◌≡◌, sym, ap, subst, ◌∙◌}
+use Rattle.std.proofs.Common.{◌≡◌, sym, ap, subst, ◌∙◌, arith}
+use Rattle.std.proofs.lemmas.Grind.{common_steps}
 use Rattle.planes.specs.declared.Trio.{Trio}
 use Rattle.planes.specs.declared.NarrowTrio.{NarrowTrio}
 use Rattle.slice_decoder.specs.Decoded.{AreReady, AllKeepOthers}
@@ -121,3 +122,6 @@ returns-in-Ok-None-clause-others c =
     let last = c.decode-in-Ok-None.new.self.bands in
     let keeps = subst (λ (b : Trio). AllKeepOthers s shape sx sy b last) copied c.decode-in-Ok-None.ensures.others in
     subst (λ (b : Trio). AllKeepOthers s shape sx sy b last) (sym seen) (all_keep_both s shape sx sy (trio_of narrow) (trio_of new) last c.in-Ok-None.ensures.others keeps)
+
+pub returns-in-Ok-Some-clause-decoded : goal.returns-in-Ok-Some-clause-decoded
+returns-in-Ok-Some-clause-decoded c = grind (arith, common_steps)

@@ -1,4 +1,5 @@
-use Rattle.std.proofs.Common.{sym, subst}
+use Rattle.std.proofs.Common.{sym, subst, arith}
+use Rattle.std.proofs.lemmas.Grind.{common_steps}
 use Rattle.slice_bands.specs.declared.short_bands.ShortTrio.{ShortTrio}
 use Rattle.slice_decoder.specs.Decoded.{AreReady}
 use Rattle.slice_decoder.specs.Short.{shown_trio}
@@ -15,3 +16,6 @@ returns-clause-beside c = λ rows agree.
     let ready = subst (λ (b : ShortTrio). AreReady s shape c.args.sx c.args.sy (shown_trio b)) (sym c.self.view_is) c.requires.ready in
     beside-after s shape c.args.sx c.args.sy old new rows c.decode_short.ensures.others ready
     (subst (λ (b : ShortTrio). AreBeside b rows) (sym c.self.view_is) agree)
+
+pub decode_short-requires-clause-cut : goal.decode_short-requires-clause-cut
+decode_short-requires-clause-cut c = grind (arith, common_steps)
