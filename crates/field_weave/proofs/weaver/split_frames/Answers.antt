@@ -1,4 +1,5 @@
 use Rattle.std.proofs.Common.{◌≡◌, ℕ, ◌+◌, ◌<◌, Ok, Err, refl, sym, ap, subst, ◌∙◌, arith}
+use Rattle.std.proofs.lemmas.Grind.{common_steps}
 use Rattle.vc2_io.proofs.Known.{Appends-none}
 use Rattle.slice_geometry.specs.declared.PictureShape.{PictureShape}
 use Rattle.slice_geometry.specs.Frames.{Frame, frame_of}
@@ -120,3 +121,6 @@ frames-preserved g c =
       steady = c.in-Ok-Picture.ensures.cause ∙ i.steady;
       steady_out = c.in-Ok.ensures.cause ∙ i.steady_out;
     }
+
+pub frames-smaller : goal.frames-smaller
+frames-smaller g c = grind (arith, common_steps)

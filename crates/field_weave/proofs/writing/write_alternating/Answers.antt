@@ -1,4 +1,5 @@
 use Rattle.std.proofs.Common.{◌≡◌, ℕ, List, ◌+◌, ◌-◌, ◌*◌, ◌<◌, ◌≤◌, length, take, drop, get_or, refl, sym, ap, subst, ◌∙◌, arith}
+use Rattle.std.proofs.lemmas.Grind.{common_steps}
 use Rattle.slice_geometry.specs.declared.Size.{Size}
 use Rattle.slice_geometry.specs.declared.PictureShape.{PictureShape}
 use Rattle.slice_geometry.specs.Frames.{frame_of}
@@ -161,3 +162,15 @@ returns-clause-ok g c =
     let sized : c.size_of-size.result ≡ size = c.size_of-size.ensures.value ∙ ap (λ (s : PictureShape). size_of (frame_of s) k) c.shape.ensures in
     rows_passed c.args.writer.now.wide (twice_high size) (turn_of (component_shown c.args.upper.now k) (component_shown c.args.lower.now k)) (2 * c.loop-y.y) (written c.args.out.now) (written c.loop-y.out) c.args.writer.now.waiting c.loop-y.writer.waiting
     (omega (arith, c.loop-y-test.false, ap (λ (z : Size). z.h) sized)) c.loop-y.invariant.passed
+
+pub overflow_mul-y-in-loop-y-2 : goal.overflow_mul-y-in-loop-y-2
+overflow_mul-y-in-loop-y-2 g c = grind (arith, common_steps)
+
+pub overflow_add-y-in-loop-y : goal.overflow_add-y-in-loop-y
+overflow_add-y-in-loop-y g c = grind (arith, common_steps)
+
+pub offset_bounds-second-y : goal.offset_bounds-second-y
+offset_bounds-second-y g c = grind (arith, common_steps)
+
+pub slice_bounds-put-end-in-loop-y : goal.slice_bounds-put-end-in-loop-y
+slice_bounds-put-end-in-loop-y g c = grind (arith, common_steps)
