@@ -1,4 +1,5 @@
 use Rattle.std.proofs.Common.{◌≡◌, ◌+◌, List, [], ◌∷◌, ◌++◌, ap, subst, ◌∙◌, arith}
+use Rattle.std.proofs.lemmas.Grind.{common_steps}
 use Rattle.slice_geometry.specs.declared.unit_list.UnitShape.{UnitShape}
 use Rattle.slice_geometry.specs.UnitLengths as shapes
 use Rattle.stream_writer.specs.EncodedStream.{header_length}
@@ -46,3 +47,6 @@ returns-clause-after g c =
     ∙ ap (λ u. u ∷ []) (c.plain_shape.ensures ∙ ap (λ n. plain_shape n c.from.result) (c.place.ensures.value ∙ c.self.invariant.place ∙ empty) ∙ ap (plain_shape 0) (c.from.ensures ∙ c.header_len-size.ensures.value)) in
     let left : List UnitShape → StreamWriterSeen = λ l. record { settings = record { parts = i.due.parts; params = i.due.params; first = i.first; group = i.group }; shapes = l; ended = i.ended; stop = i.stop } in
     subst (λ (w : StreamWriterSeen). left c.push.new.self.units ≡ record w { shapes = plain_shape 0 (header_length w.settings.parts) ∷ [] }) c.self.view_is (ap left list)
+
+pub returns-clause-cause : goal.returns-clause-cause
+returns-clause-cause g c = grind (arith, common_steps)

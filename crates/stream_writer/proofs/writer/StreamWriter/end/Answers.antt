@@ -1,5 +1,6 @@
 use Rattle.std.proofs.Common.{◌≡◌, [], ◌∷◌, ◌++◌, true, Some, Ok, Err, ap, subst, ◌∙◌, arith}
 use Rattle.std.specs.Io.KnownBytes.{Appends}
+use Rattle.std.proofs.lemmas.Grind.{common_steps}
 use Rattle.slice_geometry.specs.UnitLengths as shapes
 use Rattle.vc2_io.specs.Outside.{GrewShort}
 use Rattle.stream_writer.specs.declared.write_stop.WriteStop.TheVariants.{OutFault}
@@ -46,3 +47,6 @@ returns-in-Err-clause-end g c no_stop =
       why = tt;
     } in
     subst (λ w. WritesEnd w new out0 out1 (Err OutFault)) c.self.view_is here
+
+pub step-requires : goal.step-requires
+step-requires g c = grind (arith, common_steps)

@@ -91,3 +91,15 @@ returns-clause-cause c = grind (arith, common_steps)
 
 pub step-requires-clause-most : goal.step-requires-clause-most
 step-requires-clause-most c = grind (arith, common_steps)
+
+pub returns-in-Some-clause-picture : goal.returns-in-Some-clause-picture
+returns-in-Some-clause-picture g c = grind (arith, common_steps)
+
+pub invariant_of-self : goal.invariant_of-self
+invariant_of-self g c = grind (arith, common_steps)
+
+pub returns-then-is_err-clause-kept : goal.returns-then-is_err-clause-kept
+returns-then-is_err-clause-kept g c = grind (arith, common_steps)
+
+pub returns-clause-kept : goal.returns-clause-kept
+returns-clause-kept g c = grind (arith, common_steps)
