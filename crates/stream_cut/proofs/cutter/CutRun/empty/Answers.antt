@@ -1,4 +1,5 @@
-use Rattle.std.proofs.Common.{◌∙◌, ◌+◌, length, ap, sym}
+use Rattle.std.proofs.Common.{◌∙◌, ◌+◌, length, ap, sym, arith}
+use Rattle.std.proofs.lemmas.Grind.{common_steps}
 use Rattle.vc2_io.proofs.Known.{Appends-then, Appends-along}
 use Rattle.vc2_io.proofs.Short.{GrewShort-first, GrewShort-second, GrewShort-along}
 use Rattle.stream_writer.specs.EncodedStream.{end_unit}
@@ -28,3 +29,9 @@ returns-clause-wrote g c =
     let size = c.in-Ok.ensures.length ∙ ap (λ l. 13 + length l) c.payload.ensures.value in
     Appends-along _ _ _ _ (sym is) (Appends-then _ _ _ (cut_header_unit first.payload) (end_unit (13 + length first.payload)) (Appends-along _ _ _ _ (ap cut_header_unit c.payload.ensures.value) c.in-Ok.ensures.ok)
     (Appends-along _ _ _ _ (ap end_unit size) c.in-Ok-put_end.ensures.ok))
+
+pub returns-clause-units : goal.returns-clause-units
+returns-clause-units g c = grind (arith, common_steps)
+
+pub returns-clause-total : goal.returns-clause-total
+returns-clause-total g c = grind (arith, common_steps)

@@ -1,6 +1,7 @@
 use Rattle.std.proofs.Common.{◌≡◌, ◌∙◌, ◌++◌, ℕ, length, drop, ap, sym, subst, arith, Err, Option, List}
 use Rattle.std.proofs.lemmas.List.{take_rest}
 use Rattle.std.proofs.lemmas.Result.{err_from_is_err_and}
+use Rattle.std.proofs.lemmas.Grind.{common_steps}
 use Rattle.vc2_io.proofs.Known.{Appends-then, Appends-along}
 use Rattle.vc2_io.proofs.Short.{GrewShort-second, GrewShort-along}
 use Rattle.run_theory.specs.Runs.{WritesText}
@@ -38,3 +39,15 @@ returns-clause-wrote g c =
     let is = picture_is unit _ _ c.in_ok-previous.previous (length_ahead z c.args.self.now.previous) rest (omega (arith, c.requires.short, ap (λ (l : List ℕ). length l) c.unit-unit.ensures)) c.requires.long (c.in_ok-previous.ensures.previous ∙ ap (length_ahead z) same) in
     Appends-then _ _ _ (header_due z c.args.self.now.previous) (cut_picture_unit (length_ahead z c.args.self.now.previous) (drop 13 unit))
     (Appends-along _ _ _ _ (ap (header_due z) same) c.in_ok-previous.ensures.wrote) (Appends-along _ _ _ _ is c.in-Ok.ensures.ok)
+
+pub begin-requires-clause-most : goal.begin-requires-clause-most
+begin-requires-clause-most g c = grind (arith, common_steps)
+
+pub overflow_cast-length : goal.overflow_cast-length
+overflow_cast-length g c = grind (arith, common_steps)
+
+pub returns-clause-units : goal.returns-clause-units
+returns-clause-units g c = grind (arith, common_steps)
+
+pub returns-clause-total : goal.returns-clause-total
+returns-clause-total g c = grind (arith, common_steps)

@@ -1,4 +1,5 @@
-use Rattle.std.proofs.Common.{◌∙◌, sym, ap, refl}
+use Rattle.std.proofs.Common.{◌∙◌, sym, ap, refl, arith}
+use Rattle.std.proofs.lemmas.Grind.{common_steps}
 use Rattle.stream_cut.specs.Cut.{frames_so_far}
 use Rattle.stream_cut.proofs.CutUnits.{sequence_turn, sequence_keeps, picture_turn, picture_passed, stands_under}
 use Rattle.stream_cut.proofs.cutter.CutRunUnitCommandSkimTable.turn.Goals as goal
@@ -24,3 +25,6 @@ pub returns-else-is_chosen-clause-wrote : goal.returns-else-is_chosen-clause-wro
 returns-else-is_chosen-clause-wrote g c = λ before p k.
     let old = record c.args.self.now { so_far = c.frames_so_far-self.result } in
     picture_passed before.past p.unit p.bytes old old c.args.self.now.so_far (g.K.Sink.written c.args.out.now) (sym c.in-Picture.is ∙ p.tells.is_item) k.counted (sym c.is_chosen.ensures ∙ c.if-is_chosen.false) refl
+
+pub overflow_add-frame : goal.overflow_add-frame
+overflow_add-frame g c = grind (arith, common_steps)

@@ -1,6 +1,7 @@
 use Rattle.std.proofs.Common.{◌≡◌, ◌∙◌, ◌+◌, ℕ, List, Ok, Err, length, refl, sym, ap, subst, arith}
 use Rattle.std.proofs.lemmas.List.{length-take, length-drop}
 use Rattle.std.proofs.lemmas.Result.{err_from_is_err_and}
+use Rattle.std.proofs.lemmas.Grind.{common_steps}
 use Rattle.run_theory.specs.Begun.{Begun}
 use Rattle.unit_reader.specs.Stops.{StopsOver}
 use Rattle.stream_rows.specs.Units.{Past, Repeated, End}
@@ -107,3 +108,30 @@ returns-in_ok-keep_front-in-Repeated-clause-unit g c = λ held0 rest0 b.
       };
       total = omega (arith, c.requires.place, c.open.ensures.room, front.room, ap (λ (l : List ℕ). length l) front.ok.1, length-drop c.in_ok-opening.size c.open.new.window.held, o.3, o.4);
     }
+
+pub open-requires-clause-place : goal.open-requires-clause-place
+open-requires-clause-place g c = grind (arith, common_steps)
+
+pub returns-in_err-opening-clause-room : goal.returns-in_err-opening-clause-room
+returns-in_err-opening-clause-room g c = grind (arith, common_steps)
+
+pub first-requires-clause-most : goal.first-requires-clause-most
+first-requires-clause-most g c = grind (arith, common_steps)
+
+pub first-requires-clause-inside : goal.first-requires-clause-inside
+first-requires-clause-inside g c = grind (arith, common_steps)
+
+pub returns-in-Sequence-clause-room : goal.returns-in-Sequence-clause-room
+returns-in-Sequence-clause-room g c = grind (arith, common_steps)
+
+pub returns-in-Picture-clause-room : goal.returns-in-Picture-clause-room
+returns-in-Picture-clause-room g c = grind (arith, common_steps)
+
+pub returns-in-Skipped-clause-room : goal.returns-in-Skipped-clause-room
+returns-in-Skipped-clause-room g c = grind (arith, common_steps)
+
+pub returns-in-Skipped-clause-cause : goal.returns-in-Skipped-clause-cause
+returns-in-Skipped-clause-cause g c = grind (arith, common_steps)
+
+pub returns-in-End-clause-room : goal.returns-in-End-clause-room
+returns-in-End-clause-room g c = grind (arith, common_steps)
