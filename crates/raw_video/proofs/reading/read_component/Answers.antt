@@ -139,3 +139,18 @@ slice_bounds-read_piece-end-in-loop-piece c = grind (arith, common_steps)
 
 pub read_piece-requires-clause-long : goal.read_piece-requires-clause-long
 read_piece-requires-clause-long c = grind (arith, common_steps)
+
+pub overflow_add-piece-end : goal.overflow_add-piece-end
+overflow_add-piece-end g c = grind (arith, common_steps)
+
+pub overflow_sub-piece-end : goal.overflow_sub-piece-end
+overflow_sub-piece-end g c = grind (arith, common_steps)
+
+pub read_piece-requires-clause-some : goal.read_piece-requires-clause-some
+read_piece-requires-clause-some g c = grind (arith, common_steps)
+
+pub read_piece-requires-clause-few : goal.read_piece-requires-clause-few
+read_piece-requires-clause-few g c = grind (arith, common_steps)
+
+pub read_piece-requires-clause-one_read : goal.read_piece-requires-clause-one_read
+read_piece-requires-clause-one_read g c = grind (arith, common_steps)

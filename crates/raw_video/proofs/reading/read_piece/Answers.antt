@@ -1,5 +1,6 @@
 use Rattle.std.proofs.Common.{◌≡◌, ◌≤◌, ◌*◌, ◌++◌, ℕ, length, take, drop, replicate, sym, ap, ◌∙◌, arith}
 use Rattle.std.proofs.lemmas.List.{length-take, length-replicate, take-append-le}
+use Rattle.std.proofs.lemmas.Grind.{common_steps}
 use Rattle.raw_video.specs.RawParse.{sample_size}
 use Rattle.raw_video.proofs.ReadTurns.{soon_at_once}
 use Rattle.raw_video.proofs.PieceTurns.{large_few, piece_large, piece_ended, piece_whole}
@@ -80,3 +81,6 @@ returns-in-Err-clause-piece g c =
       are = omega (arith, lost.1, long, all, c.min-most.ensures, c.bytes_of-want.ensures);
       soon = soon_at_once c.args.form.wide bounds lost.0 (omega (arith, lost.1, long, few));
     }
+
+pub parse-count-requires : goal.parse-count-requires
+parse-count-requires g c = grind (arith, common_steps)

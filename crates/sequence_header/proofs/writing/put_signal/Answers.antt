@@ -13,3 +13,6 @@ put_uint-requires-in-Custom-2 c = grind (arith, common_steps)
 
 pub put_uint-requires-in-Custom-3 : goal.put_uint-requires-in-Custom-3
 put_uint-requires-in-Custom-3 c = grind (arith, common_steps)
+
+pub returns-in-Custom-clause-place : goal.returns-in-Custom-clause-place
+returns-in-Custom-clause-place c = grind (arith, common_steps)
