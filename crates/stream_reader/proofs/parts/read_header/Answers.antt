@@ -1,5 +1,6 @@
 use Rattle.std.proofs.Common.{◌≡◌, ◌∙◌, ℕ, true, List, length, sym, ap, arith, refl}
 use Rattle.std.proofs.lemmas.List.{take_all}
+use Rattle.std.proofs.lemmas.Grind.{common_steps}
 use Rattle.stream_rows.specs.Units.{is_truncated, header_reason, first_payload}
 use Rattle.unit_reader.proofs.Gets.{got_most}
 use Rattle.unit_reader.proofs.Stopping.{told_at}
@@ -52,3 +53,6 @@ returns-in-Err-read_on-clause-few g c =
 
 pub returns-in-Ok-clause-most : goal.returns-in-Ok-clause-most
 returns-in-Ok-clause-most g c = omega (arith, header_most c.front.result.now c.in-Ok.read.0 c.in-Ok.read.1 c.in-Ok.ensures.exact.0 c.in-Ok.ensures.exact.1)
+
+pub loop-read-init : goal.loop-read-init
+loop-read-init g c = grind (arith, common_steps)

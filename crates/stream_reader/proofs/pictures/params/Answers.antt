@@ -1,5 +1,6 @@
 use Rattle.std.proofs.Common.{◌≡◌, ◌+◌, ℕ, List, true, length, arith, sym, ap, subst, refl, ◌∙◌}
 use Rattle.std.proofs.lemmas.List.{take_all}
+use Rattle.std.proofs.lemmas.Grind.{common_steps}
 use Rattle.transform_params.specs.Params as params
 use Rattle.stream_reader.proofs.PictureTurns.{params_then, params_taken, params_short, params_refused}
 use Rattle.unit_reader.proofs.Stopping.{told_at}
@@ -64,3 +65,9 @@ loop-params-smaller g c =
 pub returns-in-Ok-clause-most : goal.returns-in-Ok-clause-most
 returns-in-Ok-clause-most g c =
     omega (arith, params_most c.front.result.now (record { wavelet = c.in-Ok.params.wavelet; slicing = c.in-Ok.params.layout; matrix = c.in-Ok.params.matrix }) c.in-Ok.size c.in-Ok.ensures.exact.0 c.in-Ok.ensures.exact.1)
+
+pub advance-requires : goal.advance-requires
+advance-requires g c = grind (arith, common_steps)
+
+pub returns-in-Ok-clause-place : goal.returns-in-Ok-clause-place
+returns-in-Ok-clause-place g c = grind (arith, common_steps)

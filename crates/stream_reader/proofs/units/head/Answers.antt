@@ -1,5 +1,6 @@
 use Rattle.std.proofs.Common.{◌≡◌, ◌∙◌, ℕ, List, ap, sym, length, take, min, true, arith}
 use Rattle.std.proofs.lemmas.List.{length-drop, length-take}
+use Rattle.std.proofs.lemmas.Grind.{common_steps}
 use Rattle.field_rows.specs.Rows.{◌>>=◌}
 use Rattle.stream_rows.specs.Refusals.{Refusal}
 use Rattle.stream_rows.specs.Units.{is_truncated, unit_head}
@@ -71,3 +72,12 @@ returns-in-Err-read_on-clause-held g c =
     let front : c.front.result.now ≡ take (min (length held) 13) held = c.front.ensures.value ∙ ap (λ n. take n held) (c.min-count.ensures ∙ ap (λ n. min n 13) c.len.ensures) in
     let short = head_few c.args.earlier.now.place held (unit_head c.args.earlier.now) c.front.result.now c.in-Err.refusal front c.in-Err.ensures (sym c.is_truncated.ensures ∙ c.if-not-is_truncated.false) in
     got_most 8192 c.read_on.ensures.got (omega (arith, c.loop-info.invariant.few)) (omega (arith, short))
+
+pub loop-info-init : goal.loop-info-init
+loop-info-init g c = grind (arith, common_steps)
+
+pub advance-requires : goal.advance-requires
+advance-requires g c = grind (arith, common_steps)
+
+pub returns-in-Err-read_on-clause-cause : goal.returns-in-Err-read_on-clause-cause
+returns-in-Err-read_on-clause-cause g c = grind (arith, common_steps)

@@ -1,4 +1,5 @@
 use Rattle.std.proofs.Common.{◌∷◌, ◌++◌, [], Bool, List, sym, ap, subst, ◌∙◌, arith}
+use Rattle.std.proofs.lemmas.Grind.{common_steps}
 use Rattle.slice_geometry.specs.declared.unit_list.UnitShape.{UnitShape}
 use Rattle.stream_rows.specs.Units.{Past}
 use Rattle.stream_reader.specs.Turns.{IsFound}
@@ -29,3 +30,6 @@ returns-clause-tells c = λ before unit bytes long found.
       decoder = subst (λ (b : Bool). DecoderBehind b unit before.decoder c.keep.new.kept) f.makes
           (kept_behind i.makes_pictures before.past c.args.found unit bytes before.decoder i.decoder c.keep.new.kept f.is_read.0 f.kept (decoder_behind i.makes_pictures unit c.step-item.result.1 i.decoder c.keep.new.kept s.decoder c.keep.ensures));
     }
+
+pub overflow_cast-size : goal.overflow_cast-size
+overflow_cast-size c = grind (arith, common_steps)
