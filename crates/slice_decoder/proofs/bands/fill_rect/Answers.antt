@@ -1,5 +1,6 @@
 use Rattle.std.proofs.Common.{◌≡◌, ℕ, ◌+◌, ◌-◌, ◌*◌, ◌≤◌, replicate, get_or, pos, sym, ap, ◌∙◌, arith}
 use Rattle.std.proofs.Math.Nat.{mul-le-mul_right}
+use Rattle.std.proofs.lemmas.Grind.{common_steps}
 use Rattle.slice_decoder.specs.Dealing.{dealt}
 use Rattle.slice_decoder.proofs.Dealt.{grow-small, grow-behind, stopped}
 use Rattle.slice_decoder.proofs.Rects.{RowHolds, RowsHold, rows_sum, rows-more}
@@ -46,3 +47,6 @@ loop-y-preserved c =
       inside = more.inside;
       outside = more.outside;
     }
+
+pub returns-then-not-fill_part-clause-keeps : goal.returns-then-not-fill_part-clause-keeps
+returns-then-not-fill_part-clause-keeps c = grind (arith, common_steps)

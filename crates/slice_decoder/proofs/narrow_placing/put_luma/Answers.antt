@@ -1,4 +1,5 @@
 use Rattle.std.proofs.Common.{◌≡◌, ◌+◌, ◌*◌, ◌<◌, length, get_or, refl, ap, ◌∙◌, arith}
+use Rattle.std.proofs.lemmas.Grind.{common_steps}
 use Rattle.planes.specs.declared.Rect.{Rect}
 use Rattle.slice_geometry.specs.SliceOrder.{level_rect, area, level_of}
 use Rattle.slice_geometry.proofs.NumberedBands.{numbered-other, number_here, before_here}
@@ -93,3 +94,15 @@ loop-k-preserved c =
       takes = bands-take 1 0 s size sx sy l.k c.args.values.now c.args.bands.now l.bands c.band_mut.result.now c.put_rect.new.plane c.band_numbered-level.result.0 c.band_numbered-level.result.1 l.from rect number_is there before_is (i.rest l.k (omega arith)) rect_is i.from i.takes c.put_rect.ensures;
       rest = λ j past. numbered-other l.bands c.band_numbered-level.result.0 c.band_numbered-level.result.1 l.k j c.put_rect.new.plane number_is (omega arith) ∙ i.rest j (omega arith);
     }
+
+pub band_mut-requires : goal.band_mut-requires
+band_mut-requires c = grind (arith, common_steps)
+
+pub put_rect-requires-clause-across : goal.put_rect-requires-clause-across
+put_rect-requires-clause-across c = grind (arith, common_steps)
+
+pub put_rect-requires-clause-down : goal.put_rect-requires-clause-down
+put_rect-requires-clause-down c = grind (arith, common_steps)
+
+pub area_of-from-requires : goal.area_of-from-requires
+area_of-from-requires c = grind (arith, common_steps)

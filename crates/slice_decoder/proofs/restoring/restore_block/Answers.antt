@@ -6,6 +6,7 @@ use Rattle.slice_decoder.specs.Levels.{places_in}
 use Rattle.slice_decoder.proofs.LevelLemmas.{count_few, places_all}
 use Rattle.std.proofs.Math.Nat.{mul-le-mul_right}
 use Rattle.std.proofs.lemmas.Bool.{cases_lt}
+use Rattle.std.proofs.lemmas.Grind.{common_steps}
 use Rattle.quant_factors.specs.Factors.{inverse_of}
 use Rattle.quant_factors.proofs.Quantisers.{index_here}
 use Rattle.slice_decoder.specs.Jobs.{part_in}
@@ -123,3 +124,6 @@ returns-clause-values c good k lt =
     let l = c.loop-k in
     let whole : length c.args.values.now ≡ l.from = all_places c.args.each c.args.job.layout.now c.args.job.size c.args.job.place.sx c.args.job.place.sy l.k l.from (length c.args.values.now) l.invariant.from (omega (arith, c.loop-k-test.false, c.loop-k.auto.k-end, c.depth.ensures.value)) c.requires.count in
     l.invariant.done k (omega (arith, lt, whole))
+
+pub area_of-requires : goal.area_of-requires
+area_of-requires c = grind (arith, common_steps)

@@ -1,5 +1,6 @@
 use Rattle.std.proofs.Common.{◌≡◌, ℕ, ◌+◌, ◌-◌, ◌*◌, ◌^◌, ◌<◌, length, take, get_or, pos, sym, ◌∙◌, inl, arith}
 use Rattle.std.proofs.lemmas.List.{length-take-le, get_or-take}
+use Rattle.std.proofs.lemmas.Grind.{common_steps}
 use Rattle.slice_decoder.specs.Jobs.{short_part}
 use Rattle.slice_decoder.specs.Components.{Part, quantisers_before}
 use Rattle.slice_decoder.specs.Narrow.{block_values}
@@ -86,3 +87,6 @@ put_values-requires-clause-count c =
     let n : ℕ = c.size-count.result in
     let out = c.read_values.new.buffer in
     omega (arith, length-take-le n out (omega (arith, c.read_values.auto.buffer, c.if-count-buffer.false)), c.size-count.ensures.value, places-are-size (short_part c.args.job) c.args.bands.now c.requires.cut c.shows.ensures.sound)
+
+pub slice_bounds-put_values-end-2 : goal.slice_bounds-put_values-end-2
+slice_bounds-put_values-end-2 c = grind (arith, common_steps)
