@@ -1,5 +1,6 @@
 use Rattle.std.proofs.Common.{◌<◌, ◌∙◌, ℕ, ◌+◌, ◌*◌, length, ap, sym, subst, arith}
 use Rattle.std.proofs.lemmas.List.{length-take-le}
+use Rattle.std.proofs.lemmas.Grind.{common_steps}
 use Rattle.slice_bands.proofs.Strips.{index_here, rows_here, width_here, one_here, done_more, rest_more, all_strips}
 use Rattle.slice_bands.proofs.gathered.SliceBands+i16.gather_strip.Goals as goal
 
@@ -47,3 +48,9 @@ returns-clause-strips g c =
     let s = c.args.self.now in
     all_strips g.T.Number.value g.T.Number.none s c.loop-k.bands (c.args.sy + 1)
     (λ j lt. c.loop-k.invariant.done j (omega (arith, lt, c.loop-k-test.false, c.loop-k.auto.k-end, ap (λ s. s.depth) c.self.view_is)))
+
+pub loop-k-init : goal.loop-k-init
+loop-k-init g c = grind (arith, common_steps)
+
+pub slice_bounds-gather_rows-end-in-loop-k : goal.slice_bounds-gather_rows-end-in-loop-k
+slice_bounds-gather_rows-end-in-loop-k g c = grind (arith, common_steps)
