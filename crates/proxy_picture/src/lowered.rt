@@ -32,7 +32,7 @@ pub struct LevelPlanes<T> {
 }
 
 impl<T: Number> LevelPlanes<T> {
-    /// Both of zeros, w across and h down.
+    /// Both w across and h down.
     pub(crate) fn new(alloc: Global, w: u32, h: u32) -> Result<LevelPlanes<T>, NoMemory>
         requires w_most { w ≤ 8208 }
         requires h_most { h ≤ 8208 }
