@@ -17,7 +17,7 @@ use bounded_blocks::{CodeTable, SPARE};
 use planes::{LateTrio, NarrowTrio, NoMemory, Trio};
 use quant_factors::Matrix;
 use slice_bands::ShortTrio;
-use slice_decoder::{SliceFault, decode_narrow};
+use slice_decoder::{CodedSlice, SliceFault, decode_narrow};
 use slice_geometry::{Component, Layout, PictureShape, SliceHead};
 use std::alloc::Global;
 use std::marker::Model;
@@ -194,17 +194,15 @@ impl LateNarrow {
             (trio_of self.new.bands) }
     {
         self.make();
-        match decode_narrow(
+        let coded = CodedSlice {
             layout,
             shape,
             matrix,
             sx,
             sy,
             bytes,
-            &self.codes,
-            &mut self.made,
-            &mut self.buffer,
-        ) {
+        };
+        match decode_narrow(coded, &self.codes, &mut self.made, &mut self.buffer) {
             Ok(answer) => Ok(answer),
             Err(fault) => Err(fault),
         }

@@ -14,7 +14,7 @@ use crate::late_narrow::MOST_VALUES;
 use bounded_blocks::CodeTable;
 use planes::NoMemory;
 use slice_bands::{ShortBands, ShortTrio};
-use slice_decoder::{ShortRoom, SliceFault, decode_short};
+use slice_decoder::{CodedSlice, ShortRoom, SliceFault, decode_short};
 use slice_geometry::{Layout, PictureShape, Size, SliceHead};
 use std::alloc::Global;
 use std::marker::Model;
@@ -219,17 +219,16 @@ impl ShortSlices {
         if !self.are_cut(&params.layout, shape) {
             return Ok(None);
         }
-        match decode_short(
-            &params.layout,
+        let (layout, matrix) = (&params.layout, &params.matrix);
+        let coded = CodedSlice {
+            layout,
             shape,
-            &params.matrix,
+            matrix,
             sx,
             sy,
             bytes,
-            codes,
-            &mut self.bands,
-            &mut self.room,
-        ) {
+        };
+        match decode_short(coded, codes, &mut self.bands, &mut self.room) {
             Ok(answer) => Ok(answer),
             Err(fault) => Err(fault),
         }

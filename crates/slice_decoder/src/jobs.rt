@@ -7,6 +7,23 @@ use planes::Rect;
 use quant_factors::Matrix;
 use slice_geometry::{Layout, PictureShape, Size};
 
+/// A slice that is to be decoded: where it lies in a picture, the matrix that it is dequantised by, and its bytes.
+#[derive(Clone, Copy)]
+pub struct CodedSlice<'a> {
+    /// How the picture is cut into slices.
+    pub layout: &'a Layout,
+    /// The sizes of the picture's components.
+    pub shape: &'a PictureShape,
+    /// The quantisation matrix, of the layout's depth.
+    pub matrix: &'a Matrix,
+    /// The slice's column.
+    pub sx: u32,
+    /// Its row.
+    pub sy: u32,
+    /// Its bytes, 1 to 2^28 of them.
+    pub bytes: &'a [u8],
+}
+
 /// Which slice is read: its column and row, and its quantisation index.
 #[derive(Clone, Copy)]
 pub struct Place {

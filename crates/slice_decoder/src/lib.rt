@@ -37,6 +37,7 @@ use bit_codes::BitReader;
 use bounded_blocks::Block;
 use components::{read_colour, read_luma};
 use dc_prediction::restore_rect;
+pub use jobs::CodedSlice;
 use jobs::{Place, SliceJob};
 use levels::{level_rects, lowest_of};
 pub use narrow_slice::decode_narrow;

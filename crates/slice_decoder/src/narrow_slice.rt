@@ -9,15 +9,14 @@ ghost use Rattle.slice_decoder.specs.Decoded.{AreReady, AllKeepOthers, IsDecoded
 ghost use Rattle.slice_decoder.specs.Narrow.{trio_of, AreNarrowBands, NeedsWide, AreRead};
 
 use crate::ahead::read_ahead;
-use crate::jobs::{Place, SliceJob};
+use crate::jobs::{CodedSlice, Place, SliceJob};
 use crate::levels::{level_rects, lowest_of};
 use crate::lowest::restore_all;
 use crate::narrow::{read_colour, read_luma};
 use crate::{SliceFault, head_of};
 use bounded_blocks::{Block, CodeTable};
 use planes::NarrowTrio;
-use quant_factors::Matrix;
-use slice_geometry::{Layout, PictureShape, SliceHead, length_bits};
+use slice_geometry::{SliceHead, length_bits};
 
 // Reads the values of both blocks into the subbands. It answers false where these don't serve.
 fn read_blocks(
@@ -63,35 +62,35 @@ fn read_blocks(
 /// room for the values of a block and `SPARE` of `bounded_blocks` more. The slice's own places hold any values then, as
 /// after a refusal. All other places stay.
 pub fn decode_narrow(
-    layout: &Layout,
-    shape: &PictureShape,
-    matrix: &Matrix,
-    sx: u32,
-    sy: u32,
-    bytes: &[u8],
+    coded: CodedSlice<'_>,
     codes: &CodeTable,
     bands: &mut NarrowTrio,
     buffer: &mut [i32],
 ) -> Result<Option<SliceHead>, SliceFault>
-    requires across { sx < layout.now.slices_x }
-    requires down { sy < layout.now.slices_y }
-    requires some { 1 ≤ length bytes.now }
-    requires most { length bytes.now ≤ 2 ^ 28 }
-    requires entries { matrix.now.depth ≡ layout.now.depth }
-    requires ready { AreReady layout.now shape.now sx sy (trio_of bands.old) }
+    requires across { coded.sx < coded.layout.now.slices_x }
+    requires down { coded.sy < coded.layout.now.slices_y }
+    requires some { 1 ≤ length coded.bytes.now }
+    requires most { length coded.bytes.now ≤ 2 ^ 28 }
+    requires entries { coded.matrix.now.depth ≡ coded.layout.now.depth }
+    requires ready { AreReady coded.layout.now coded.shape.now coded.sx coded.sy
+        (trio_of bands.old) }
     requires narrow { AreNarrowBands bands.old }
-    ensures decoded { let slice = slice_at layout.now shape.now.luma shape.now.colour sx sy
-        bytes.now in
+    ensures decoded { let c = coded.entry in
+        let slice = slice_at c.layout.now c.shape.now.luma c.shape.now.colour c.sx c.sy c.bytes.now
+        in
         MatchResult result
         (λ answer. MatchOption answer
-        (NeedsWide (pos (2 ^ 18)) (length buffer.old) layout.now shape.now sx sy matrix.now slice
-        (trio_of bands.new))
-        (λ head. IsDecoded layout.now shape.now sx sy matrix.now slice head (trio_of bands.new)))
-        (IsRefused layout.now shape.now sx sy matrix.now slice) }
-    ensures others { AllKeepOthers layout.now shape.now sx sy (trio_of bands.old)
-        (trio_of bands.new) }
+        (NeedsWide (pos (2 ^ 18)) (length buffer.old) c.layout.now c.shape.now c.sx c.sy
+        c.matrix.now slice (trio_of bands.new))
+        (λ head. IsDecoded c.layout.now c.shape.now c.sx c.sy c.matrix.now slice head
+        (trio_of bands.new)))
+        (IsRefused c.layout.now c.shape.now c.sx c.sy c.matrix.now slice) }
+    ensures others { AllKeepOthers coded.entry.layout.now coded.entry.shape.now coded.entry.sx
+        coded.entry.sy (trio_of bands.old) (trio_of bands.new) }
     ensures narrow { AreNarrowBands bands.new }
 {
+    let (layout, shape, matrix) = (coded.layout, coded.shape, coded.matrix);
+    let (sx, sy, bytes) = (coded.sx, coded.sy, coded.bytes);
     let depth = layout.depth();
     prove_eq!(matrix.depth(), depth);
     let head = head_of(bytes);

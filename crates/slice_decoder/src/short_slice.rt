@@ -10,14 +10,13 @@ ghost use Rattle.slice_decoder.specs.Decoded.{AllKeepOthers, IsDecoded, IsRefuse
 ghost use Rattle.slice_decoder.specs.Narrow.{NeedsWide, AreRead};
 ghost use Rattle.slice_decoder.specs.Short.{shown_trio, AreCut, AreCutFor};
 
-use crate::jobs::{Place, ShortJob};
+use crate::jobs::{CodedSlice, Place, ShortJob};
 use crate::lowest::restore_all;
 use crate::short_room::ShortRoom;
 use crate::{SliceFault, head_of};
 use bounded_blocks::{Block, CodeTable};
-use quant_factors::Matrix;
 use slice_bands::ShortTrio;
-use slice_geometry::{Layout, PictureShape, SliceHead, length_bits};
+use slice_geometry::{SliceHead, length_bits};
 
 // Reads the values of both blocks into the subbands. It answers false where these don't serve.
 fn read_blocks(
@@ -59,34 +58,33 @@ fn read_blocks(
 /// there is no room for the values of a block and `SPARE` of `bounded_blocks` more. The slice's own places hold any
 /// values then, as after a refusal. All other places stay.
 pub fn decode_short(
-    layout: &Layout,
-    shape: &PictureShape,
-    matrix: &Matrix,
-    sx: u32,
-    sy: u32,
-    bytes: &[u8],
+    coded: CodedSlice<'_>,
     codes: &CodeTable,
     bands: &mut ShortTrio,
     room: &mut ShortRoom,
 ) -> Result<Option<SliceHead>, SliceFault>
-    requires across { sx < layout.now.slices_x }
-    requires down { sy < layout.now.slices_y }
-    requires some { 1 ≤ length bytes.now }
-    requires most { length bytes.now ≤ 2 ^ 28 }
-    requires entries { matrix.now.depth ≡ layout.now.depth }
-    requires cut { AreCut layout.now shape.now bands.old }
-    ensures decoded { let slice = slice_at layout.now shape.now.luma shape.now.colour sx sy
-        bytes.now in
+    requires across { coded.sx < coded.layout.now.slices_x }
+    requires down { coded.sy < coded.layout.now.slices_y }
+    requires some { 1 ≤ length coded.bytes.now }
+    requires most { length coded.bytes.now ≤ 2 ^ 28 }
+    requires entries { coded.matrix.now.depth ≡ coded.layout.now.depth }
+    requires cut { AreCut coded.layout.now coded.shape.now bands.old }
+    ensures decoded { let c = coded.entry in
+        let slice = slice_at c.layout.now c.shape.now.luma c.shape.now.colour c.sx c.sy c.bytes.now
+        in
         MatchResult result
         (λ answer. MatchOption answer
-        (NeedsWide MAX_SHORT room.old layout.now shape.now sx sy matrix.now slice
+        (NeedsWide MAX_SHORT room.old c.layout.now c.shape.now c.sx c.sy c.matrix.now slice
         (shown_trio bands.new))
-        (λ head. IsDecoded layout.now shape.now sx sy matrix.now slice head (shown_trio bands.new)))
-        (IsRefused layout.now shape.now sx sy matrix.now slice) }
-    ensures others { AllKeepOthers layout.now shape.now sx sy (shown_trio bands.old)
-        (shown_trio bands.new) }
-    ensures cut { AreCut layout.now shape.now bands.new }
+        (λ head. IsDecoded c.layout.now c.shape.now c.sx c.sy c.matrix.now slice head
+        (shown_trio bands.new)))
+        (IsRefused c.layout.now c.shape.now c.sx c.sy c.matrix.now slice) }
+    ensures others { AllKeepOthers coded.entry.layout.now coded.entry.shape.now coded.entry.sx
+        coded.entry.sy (shown_trio bands.old) (shown_trio bands.new) }
+    ensures cut { AreCut coded.entry.layout.now coded.entry.shape.now bands.new }
 {
+    let (layout, shape, matrix) = (coded.layout, coded.shape, coded.matrix);
+    let (sx, sy, bytes) = (coded.sx, coded.sy, coded.bytes);
     let depth = layout.depth();
     prove_eq!(matrix.depth(), depth);
     let head = head_of(bytes);

@@ -12,7 +12,7 @@ use crate::slice_decoder_tests::slices::{layout, shape};
 use bounded_blocks::{CodeTable, SPARE};
 use planes::{NarrowBands, NarrowTrio};
 use quant_factors::Matrix;
-use slice_decoder::{SliceFault, decode_narrow};
+use slice_decoder::{CodedSlice, SliceFault, decode_narrow};
 use slice_geometry::{Layout, PictureShape, Size, SliceHead};
 use std::alloc::Global;
 use std::process::Abort;
@@ -59,7 +59,15 @@ fn decode_only(
     let matrix = Matrix::new(depth, &[0; 4][..(1 + 3 * depth) as usize]);
     let mut buffer = [0; 4 + SPARE];
     let values = &mut buffer[..room + SPARE];
-    decode_narrow(layout, shape, &matrix, 0, 0, bytes, codes, bands, values)
+    let coded = CodedSlice {
+        layout,
+        shape,
+        matrix: &matrix,
+        sx: 0,
+        sy: 0,
+        bytes,
+    };
+    decode_narrow(coded, codes, bands, values)
 }
 
 /// The first two values of the lowest band.

@@ -13,23 +13,23 @@ use Rattle.slice_decoder.proofs.short_slice.decode_short.Goals as goal
 
 pub overflow_sub-left-2 : goal.overflow_sub-left-2
 overflow_sub-left-2 c =
-    omega (arith, c.length_bits.ensures, length_bits-fit (length c.args.bytes.now) c.requires.some)
+    omega (arith, c.length_bits.ensures, length_bits-fit (length c.args.coded.bytes.now) c.requires.some)
 
 pub returns-then-head-left-clause-decoded : goal.returns-then-head-left-clause-decoded
 returns-then-head-left-clause-decoded c =
-    lt_tests _ _ (omega (arith, c.if-head-left.true, c.length_bits.ensures, c.head_of-head.ensures.luma_bits, length-rest c.args.bytes.now (7 + length_bits (length c.args.bytes.now))))
+    lt_tests _ _ (omega (arith, c.if-head-left.true, c.length_bits.ensures, c.head_of-head.ensures.luma_bits, length-rest c.args.coded.bytes.now (7 + length_bits (length c.args.coded.bytes.now))))
 
 pub read_blocks-requires-clause-fits : goal.read_blocks-requires-clause-fits
 read_blocks-requires-clause-fits c =
-    omega (arith, c.if-head-left.false, c.length_bits.ensures, length_bits-fit (length c.args.bytes.now) c.requires.some)
+    omega (arith, c.if-head-left.false, c.length_bits.ensures, length_bits-fit (length c.args.coded.bytes.now) c.requires.some)
 
 pub read_blocks-requires-clause-cut : goal.read_blocks-requires-clause-cut
 read_blocks-requires-clause-cut c = record { luma = c.requires.cut.luma; c1 = c.requires.cut.c1; c2 = c.requires.cut.c2 }
 
 pub read_blocks-requires-clause-luma_job : goal.read_blocks-requires-clause-luma_job
 read_blocks-requires-clause-luma_job c = record {
-  lowest = lowest-is c.args.layout.now c.args.shape.now.luma c.args.bands.now.luma c.args.sx c.args.sy c.lowest_rect.result c.requires.cut.luma c.lowest_rect.ensures.sound c.lowest_rect.ensures.value;
-  low = lowest-low c.args.layout.now c.args.shape.now.luma c.args.bands.now.luma c.args.sx c.args.sy c.lowest_rect.result c.requires.cut.luma c.lowest_rect.ensures.sound c.lowest_rect.ensures.value c.args.shape.now.luma_fits c.requires.across c.requires.down;
+  lowest = lowest-is c.args.coded.layout.now c.args.coded.shape.now.luma c.args.bands.now.luma c.args.coded.sx c.args.coded.sy c.lowest_rect.result c.requires.cut.luma c.lowest_rect.ensures.sound c.lowest_rect.ensures.value;
+  low = lowest-low c.args.coded.layout.now c.args.coded.shape.now.luma c.args.bands.now.luma c.args.coded.sx c.args.coded.sy c.lowest_rect.result c.requires.cut.luma c.lowest_rect.ensures.sound c.lowest_rect.ensures.value c.args.coded.shape.now.luma_fits c.requires.across c.requires.down;
   across = c.requires.across;
   down = c.requires.down;
   qindex = c.head_of-head.ensures.small;
@@ -38,8 +38,8 @@ read_blocks-requires-clause-luma_job c = record {
 
 pub read_blocks-requires-clause-colour_job : goal.read_blocks-requires-clause-colour_job
 read_blocks-requires-clause-colour_job c = record {
-  lowest = lowest-is c.args.layout.now c.args.shape.now.colour c.args.bands.now.c1 c.args.sx c.args.sy c.lowest_rect-2.result c.requires.cut.c1 c.lowest_rect-2.ensures.sound c.lowest_rect-2.ensures.value;
-  low = lowest-low c.args.layout.now c.args.shape.now.colour c.args.bands.now.c1 c.args.sx c.args.sy c.lowest_rect-2.result c.requires.cut.c1 c.lowest_rect-2.ensures.sound c.lowest_rect-2.ensures.value c.args.shape.now.colour_fits c.requires.across c.requires.down;
+  lowest = lowest-is c.args.coded.layout.now c.args.coded.shape.now.colour c.args.bands.now.c1 c.args.coded.sx c.args.coded.sy c.lowest_rect-2.result c.requires.cut.c1 c.lowest_rect-2.ensures.sound c.lowest_rect-2.ensures.value;
+  low = lowest-low c.args.coded.layout.now c.args.coded.shape.now.colour c.args.bands.now.c1 c.args.coded.sx c.args.coded.sy c.lowest_rect-2.result c.requires.cut.c1 c.lowest_rect-2.ensures.sound c.lowest_rect-2.ensures.value c.args.coded.shape.now.colour_fits c.requires.across c.requires.down;
   across = c.requires.across;
   down = c.requires.down;
   qindex = c.head_of-head.ensures.small;
@@ -48,63 +48,63 @@ read_blocks-requires-clause-colour_job c = record {
 
 pub returns-then-not-read_blocks-clause-decoded : goal.returns-then-not-read_blocks-clause-decoded
 returns-then-not-read_blocks-clause-decoded c =
-    let r : SliceRead = record { slicing = c.args.layout.now; shape = c.args.shape.now; sx = c.args.sx; sy = c.args.sy; matrix = c.args.matrix.now; bytes = c.args.bytes.now; head = c.head_of-head.result } in
-    let head : IsHeaded r = headed r (omega (arith, c.if-head-left.false, c.length_bits.ensures, length_bits-fit (length c.args.bytes.now) c.requires.some)) c.head_of-head.ensures.qindex c.head_of-head.ensures.luma_bits in
+    let r : SliceRead = record { slicing = c.args.coded.layout.now; shape = c.args.coded.shape.now; sx = c.args.coded.sx; sy = c.args.coded.sy; matrix = c.args.coded.matrix.now; bytes = c.args.coded.bytes.now; head = c.head_of-head.result } in
+    let head : IsHeaded r = headed r (omega (arith, c.if-head-left.false, c.length_bits.ensures, length_bits-fit (length c.args.coded.bytes.now) c.requires.some)) c.head_of-head.ensures.qindex c.head_of-head.ensures.luma_bits in
     wide-after-reading MAX_SHORT c.args.room.now c.args.room.now r (shown_trio c.args.bands.now) (shown_trio c.read_blocks.new.bands) (shown_trio c.read_blocks.new.bands) head refl c.if-not-read_blocks.ensures.read
 
 pub returns-then-not-read_blocks-clause-others : goal.returns-then-not-read_blocks-clause-others
 returns-then-not-read_blocks-clause-others c =
-    let r : SliceRead = record { slicing = c.args.layout.now; shape = c.args.shape.now; sx = c.args.sx; sy = c.args.sy; matrix = c.args.matrix.now; bytes = c.args.bytes.now; head = c.head_of-head.result } in
+    let r : SliceRead = record { slicing = c.args.coded.layout.now; shape = c.args.coded.shape.now; sx = c.args.coded.sx; sy = c.args.coded.sy; matrix = c.args.coded.matrix.now; bytes = c.args.coded.bytes.now; head = c.head_of-head.result } in
     others-after-reading MAX_SHORT c.args.room.now r (shown_trio c.args.bands.now) (shown_trio c.read_blocks.new.bands) _ c.read_blocks.ensures.read
 
 pub restore_all-requires-clause-inside : goal.restore_all-requires-clause-inside
 restore_all-requires-clause-inside c =
-    let r : SliceRead = record { slicing = c.args.layout.now; shape = c.args.shape.now; sx = c.args.sx; sy = c.args.sy; matrix = c.args.matrix.now; bytes = c.args.bytes.now; head = c.head_of-head.result } in
-    let lowest : AreLowest r c.lowest_rect.result c.lowest_rect-2.result = record { luma_is = lowest-is c.args.layout.now c.args.shape.now.luma c.args.bands.now.luma c.args.sx c.args.sy c.lowest_rect.result c.requires.cut.luma c.lowest_rect.ensures.sound c.lowest_rect.ensures.value; colour_is = lowest-is c.args.layout.now c.args.shape.now.colour c.args.bands.now.c1 c.args.sx c.args.sy c.lowest_rect-2.result c.requires.cut.c1 c.lowest_rect-2.ensures.sound c.lowest_rect-2.ensures.value } in
+    let r : SliceRead = record { slicing = c.args.coded.layout.now; shape = c.args.coded.shape.now; sx = c.args.coded.sx; sy = c.args.coded.sy; matrix = c.args.coded.matrix.now; bytes = c.args.coded.bytes.now; head = c.head_of-head.result } in
+    let lowest : AreLowest r c.lowest_rect.result c.lowest_rect-2.result = record { luma_is = lowest-is c.args.coded.layout.now c.args.coded.shape.now.luma c.args.bands.now.luma c.args.coded.sx c.args.coded.sy c.lowest_rect.result c.requires.cut.luma c.lowest_rect.ensures.sound c.lowest_rect.ensures.value; colour_is = lowest-is c.args.coded.layout.now c.args.coded.shape.now.colour c.args.bands.now.c1 c.args.coded.sx c.args.coded.sy c.lowest_rect-2.result c.requires.cut.c1 c.lowest_rect-2.ensures.sound c.lowest_rect-2.ensures.value } in
     lie-in-lowest MAX_SHORT c.args.room.now r (shown_trio c.args.bands.now) (shown_trio c.read_blocks.new.bands) c.lowest_rect.result c.lowest_rect-2.result lowest c.requires.across c.requires.down
     (record { depth = c.requires.cut.luma.depth; sizes = cut_sizes _ _ _ c.requires.cut.luma }) (record { depth = c.requires.cut.c1.depth; sizes = cut_sizes _ _ _ c.requires.cut.c1 }) (record { depth = c.requires.cut.c2.depth; sizes = cut_sizes _ _ _ c.requires.cut.c2 })
     c.if-not-read_blocks.ensures.read
 
 pub returns-then-not-restore_all-clause-decoded : goal.returns-then-not-restore_all-clause-decoded
 returns-then-not-restore_all-clause-decoded c =
-    let r : SliceRead = record { slicing = c.args.layout.now; shape = c.args.shape.now; sx = c.args.sx; sy = c.args.sy; matrix = c.args.matrix.now; bytes = c.args.bytes.now; head = c.head_of-head.result } in
-    let head : IsHeaded r = headed r (omega (arith, c.if-head-left.false, c.length_bits.ensures, length_bits-fit (length c.args.bytes.now) c.requires.some)) c.head_of-head.ensures.qindex c.head_of-head.ensures.luma_bits in
-    let lowest : AreLowest r c.lowest_rect.result c.lowest_rect-2.result = record { luma_is = lowest-is c.args.layout.now c.args.shape.now.luma c.args.bands.now.luma c.args.sx c.args.sy c.lowest_rect.result c.requires.cut.luma c.lowest_rect.ensures.sound c.lowest_rect.ensures.value; colour_is = lowest-is c.args.layout.now c.args.shape.now.colour c.args.bands.now.c1 c.args.sx c.args.sy c.lowest_rect-2.result c.requires.cut.c1 c.lowest_rect-2.ensures.sound c.lowest_rect-2.ensures.value } in
+    let r : SliceRead = record { slicing = c.args.coded.layout.now; shape = c.args.coded.shape.now; sx = c.args.coded.sx; sy = c.args.coded.sy; matrix = c.args.coded.matrix.now; bytes = c.args.coded.bytes.now; head = c.head_of-head.result } in
+    let head : IsHeaded r = headed r (omega (arith, c.if-head-left.false, c.length_bits.ensures, length_bits-fit (length c.args.coded.bytes.now) c.requires.some)) c.head_of-head.ensures.qindex c.head_of-head.ensures.luma_bits in
+    let lowest : AreLowest r c.lowest_rect.result c.lowest_rect-2.result = record { luma_is = lowest-is c.args.coded.layout.now c.args.coded.shape.now.luma c.args.bands.now.luma c.args.coded.sx c.args.coded.sy c.lowest_rect.result c.requires.cut.luma c.lowest_rect.ensures.sound c.lowest_rect.ensures.value; colour_is = lowest-is c.args.coded.layout.now c.args.coded.shape.now.colour c.args.bands.now.c1 c.args.coded.sx c.args.coded.sy c.lowest_rect-2.result c.requires.cut.c1 c.lowest_rect-2.ensures.sound c.lowest_rect-2.ensures.value } in
     wide-where-stopped MAX_SHORT c.args.room.now r (shown_trio c.args.bands.now) (shown_trio c.read_blocks.new.bands) (trio_by short_stack c.restore_all.new.luma c.restore_all.new.c1 c.restore_all.new.c2) c.lowest_rect.result c.lowest_rect-2.result lowest c.if-not-read_blocks.ensures.read
     c.args.room.now head (c.restore_all.ensures.stopped c.if-not-restore_all.true)
 
 pub returns-then-not-restore_all-clause-others : goal.returns-then-not-restore_all-clause-others
 returns-then-not-restore_all-clause-others c =
-    let r : SliceRead = record { slicing = c.args.layout.now; shape = c.args.shape.now; sx = c.args.sx; sy = c.args.sy; matrix = c.args.matrix.now; bytes = c.args.bytes.now; head = c.head_of-head.result } in
-    let lowest : AreLowest r c.lowest_rect.result c.lowest_rect-2.result = record { luma_is = lowest-is c.args.layout.now c.args.shape.now.luma c.args.bands.now.luma c.args.sx c.args.sy c.lowest_rect.result c.requires.cut.luma c.lowest_rect.ensures.sound c.lowest_rect.ensures.value; colour_is = lowest-is c.args.layout.now c.args.shape.now.colour c.args.bands.now.c1 c.args.sx c.args.sy c.lowest_rect-2.result c.requires.cut.c1 c.lowest_rect-2.ensures.sound c.lowest_rect-2.ensures.value } in
+    let r : SliceRead = record { slicing = c.args.coded.layout.now; shape = c.args.coded.shape.now; sx = c.args.coded.sx; sy = c.args.coded.sy; matrix = c.args.coded.matrix.now; bytes = c.args.coded.bytes.now; head = c.head_of-head.result } in
+    let lowest : AreLowest r c.lowest_rect.result c.lowest_rect-2.result = record { luma_is = lowest-is c.args.coded.layout.now c.args.coded.shape.now.luma c.args.bands.now.luma c.args.coded.sx c.args.coded.sy c.lowest_rect.result c.requires.cut.luma c.lowest_rect.ensures.sound c.lowest_rect.ensures.value; colour_is = lowest-is c.args.coded.layout.now c.args.coded.shape.now.colour c.args.bands.now.c1 c.args.coded.sx c.args.coded.sy c.lowest_rect-2.result c.requires.cut.c1 c.lowest_rect-2.ensures.sound c.lowest_rect-2.ensures.value } in
     others-after-restoring MAX_SHORT c.args.room.now r (shown_trio c.args.bands.now) (shown_trio c.read_blocks.new.bands) (trio_by short_stack c.restore_all.new.luma c.restore_all.new.c1 c.restore_all.new.c2) c.lowest_rect.result c.lowest_rect-2.result lowest c.if-not-read_blocks.ensures.read
     c.restore_all.ensures.keeps
 
 pub returns-clause-decoded : goal.returns-clause-decoded
 returns-clause-decoded c =
-    let r : SliceRead = record { slicing = c.args.layout.now; shape = c.args.shape.now; sx = c.args.sx; sy = c.args.sy; matrix = c.args.matrix.now; bytes = c.args.bytes.now; head = c.head_of-head.result } in
-    let head : IsHeaded r = headed r (omega (arith, c.if-head-left.false, c.length_bits.ensures, length_bits-fit (length c.args.bytes.now) c.requires.some)) c.head_of-head.ensures.qindex c.head_of-head.ensures.luma_bits in
-    let lowest : AreLowest r c.lowest_rect.result c.lowest_rect-2.result = record { luma_is = lowest-is c.args.layout.now c.args.shape.now.luma c.args.bands.now.luma c.args.sx c.args.sy c.lowest_rect.result c.requires.cut.luma c.lowest_rect.ensures.sound c.lowest_rect.ensures.value; colour_is = lowest-is c.args.layout.now c.args.shape.now.colour c.args.bands.now.c1 c.args.sx c.args.sy c.lowest_rect-2.result c.requires.cut.c1 c.lowest_rect-2.ensures.sound c.lowest_rect-2.ensures.value } in
+    let r : SliceRead = record { slicing = c.args.coded.layout.now; shape = c.args.coded.shape.now; sx = c.args.coded.sx; sy = c.args.coded.sy; matrix = c.args.coded.matrix.now; bytes = c.args.coded.bytes.now; head = c.head_of-head.result } in
+    let head : IsHeaded r = headed r (omega (arith, c.if-head-left.false, c.length_bits.ensures, length_bits-fit (length c.args.coded.bytes.now) c.requires.some)) c.head_of-head.ensures.qindex c.head_of-head.ensures.luma_bits in
+    let lowest : AreLowest r c.lowest_rect.result c.lowest_rect-2.result = record { luma_is = lowest-is c.args.coded.layout.now c.args.coded.shape.now.luma c.args.bands.now.luma c.args.coded.sx c.args.coded.sy c.lowest_rect.result c.requires.cut.luma c.lowest_rect.ensures.sound c.lowest_rect.ensures.value; colour_is = lowest-is c.args.coded.layout.now c.args.coded.shape.now.colour c.args.bands.now.c1 c.args.coded.sx c.args.coded.sy c.lowest_rect-2.result c.requires.cut.c1 c.lowest_rect-2.ensures.sound c.lowest_rect-2.ensures.value } in
     decoded-slice MAX_SHORT c.args.room.now r (shown_trio c.args.bands.now) (shown_trio c.read_blocks.new.bands) (trio_by short_stack c.restore_all.new.luma c.restore_all.new.c1 c.restore_all.new.c2) c.lowest_rect.result c.lowest_rect-2.result lowest c.if-not-read_blocks.ensures.read
     head (c.restore_all.ensures.restored c.if-not-restore_all.false) c.restore_all.ensures.keeps
 
 pub returns-clause-others : goal.returns-clause-others
 returns-clause-others c =
-    let r : SliceRead = record { slicing = c.args.layout.now; shape = c.args.shape.now; sx = c.args.sx; sy = c.args.sy; matrix = c.args.matrix.now; bytes = c.args.bytes.now; head = c.head_of-head.result } in
-    let lowest : AreLowest r c.lowest_rect.result c.lowest_rect-2.result = record { luma_is = lowest-is c.args.layout.now c.args.shape.now.luma c.args.bands.now.luma c.args.sx c.args.sy c.lowest_rect.result c.requires.cut.luma c.lowest_rect.ensures.sound c.lowest_rect.ensures.value; colour_is = lowest-is c.args.layout.now c.args.shape.now.colour c.args.bands.now.c1 c.args.sx c.args.sy c.lowest_rect-2.result c.requires.cut.c1 c.lowest_rect-2.ensures.sound c.lowest_rect-2.ensures.value } in
+    let r : SliceRead = record { slicing = c.args.coded.layout.now; shape = c.args.coded.shape.now; sx = c.args.coded.sx; sy = c.args.coded.sy; matrix = c.args.coded.matrix.now; bytes = c.args.coded.bytes.now; head = c.head_of-head.result } in
+    let lowest : AreLowest r c.lowest_rect.result c.lowest_rect-2.result = record { luma_is = lowest-is c.args.coded.layout.now c.args.coded.shape.now.luma c.args.bands.now.luma c.args.coded.sx c.args.coded.sy c.lowest_rect.result c.requires.cut.luma c.lowest_rect.ensures.sound c.lowest_rect.ensures.value; colour_is = lowest-is c.args.coded.layout.now c.args.coded.shape.now.colour c.args.bands.now.c1 c.args.coded.sx c.args.coded.sy c.lowest_rect-2.result c.requires.cut.c1 c.lowest_rect-2.ensures.sound c.lowest_rect-2.ensures.value } in
     others-after-restoring MAX_SHORT c.args.room.now r (shown_trio c.args.bands.now) (shown_trio c.read_blocks.new.bands) (trio_by short_stack c.restore_all.new.luma c.restore_all.new.c1 c.restore_all.new.c2) c.lowest_rect.result c.lowest_rect-2.result lowest c.if-not-read_blocks.ensures.read
     c.restore_all.ensures.keeps
 
 pub returns-then-not-restore_all-clause-cut : goal.returns-then-not-restore_all-clause-cut
 returns-then-not-restore_all-clause-cut c = record {
-  luma = c.restore_all.ensures.luma_sound c.args.layout.now c.args.shape.now.luma c.read_blocks.ensures.cut.luma;
-  c1 = c.restore_all.ensures.c1_sound c.args.layout.now c.args.shape.now.colour c.read_blocks.ensures.cut.c1;
-  c2 = c.restore_all.ensures.c2_sound c.args.layout.now c.args.shape.now.colour c.read_blocks.ensures.cut.c2;
+  luma = c.restore_all.ensures.luma_sound c.args.coded.layout.now c.args.coded.shape.now.luma c.read_blocks.ensures.cut.luma;
+  c1 = c.restore_all.ensures.c1_sound c.args.coded.layout.now c.args.coded.shape.now.colour c.read_blocks.ensures.cut.c1;
+  c2 = c.restore_all.ensures.c2_sound c.args.coded.layout.now c.args.coded.shape.now.colour c.read_blocks.ensures.cut.c2;
 }
 
 pub returns-clause-cut : goal.returns-clause-cut
 returns-clause-cut c = record {
-  luma = c.restore_all.ensures.luma_sound c.args.layout.now c.args.shape.now.luma c.read_blocks.ensures.cut.luma;
-  c1 = c.restore_all.ensures.c1_sound c.args.layout.now c.args.shape.now.colour c.read_blocks.ensures.cut.c1;
-  c2 = c.restore_all.ensures.c2_sound c.args.layout.now c.args.shape.now.colour c.read_blocks.ensures.cut.c2;
+  luma = c.restore_all.ensures.luma_sound c.args.coded.layout.now c.args.coded.shape.now.luma c.read_blocks.ensures.cut.luma;
+  c1 = c.restore_all.ensures.c1_sound c.args.coded.layout.now c.args.coded.shape.now.colour c.read_blocks.ensures.cut.c1;
+  c2 = c.restore_all.ensures.c2_sound c.args.coded.layout.now c.args.coded.shape.now.colour c.read_blocks.ensures.cut.c2;
 }
