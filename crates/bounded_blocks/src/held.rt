@@ -3,7 +3,7 @@
 ghost use Rattle.std.specs.Prelude.{◌≡◌, ◌-◌, ◌^◌, ◌≤◌, ℕ, ℤ, unsigned_abs};
 ghost use Rattle.std.proofs.Common.{lit≤};
 
-use crate::{MAX_NARROW, MAX_SHORT};
+use bit_codes::{MAX_NARROW, MAX_SHORT};
 
 /// Numbers of a width.
 pub(crate) trait Held: Copy + Drop {

@@ -4,7 +4,7 @@ use Rattle.std.proofs.lemmas.Int.{ints}
 use Rattle.std.proofs.lemmas.Bool.{cases_lt, cases_eq}
 use Rattle.std.specs.Prelude.{◌⊎◌}
 use Rattle.planes.specs.declared.Rect.{Rect}
-use Rattle.planes.specs.declared.TheConstants.{MAX_MAGNITUDE}
+use Rattle.bit_codes.specs.declared.TheConstants.{MAX_MAGNITUDE}
 use Rattle.planes.specs.Numbers.{Within}
 use Rattle.planes.specs.Raster.{Grid, Raster, height, at}
 use Rattle.planes.specs.Rect.{IsInRect}

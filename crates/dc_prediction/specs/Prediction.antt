@@ -1,7 +1,7 @@
 -- DC prediction: what a place of the lowest subband is predicted to hold, and the band that its residuals make
 -- (SMPTE ST 2042-1:2017, 13.4, dc_prediction).
 use Rattle.std.specs.Prelude.{◌≡◌, ℕ, zero, suc, ◌+◌, ◌-◌, ◌*◌, ◌<◌, ℤ, pos, ◌+ℤ◌}
-use Rattle.planes.specs.declared.TheConstants.{MAX_MAGNITUDE}
+use Rattle.bit_codes.specs.declared.TheConstants.{MAX_MAGNITUDE}
 use Rattle.std.specs.Int.{int_div_euclid}
 use Rattle.planes.specs.Raster.{Grid}
 

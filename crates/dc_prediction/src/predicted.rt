@@ -2,17 +2,18 @@
 
 ghost use Rattle.std.specs.Prelude.{◌≡◌, ℕ, ◌+◌, ◌*◌, ◌^◌, ◌≤◌, ◌↔◌, ◌+ℤ◌, ℤ, pos, true};
 ghost use Rattle.std.proofs.Common.{lit≤};
-ghost use Rattle.planes.specs.declared.TheConstants.{MAX_MAGNITUDE};
+ghost use Rattle.bit_codes.specs.declared.TheConstants.{MAX_MAGNITUDE};
 ghost use Rattle.planes.specs.Numbers.{Within};
 ghost use Rattle.dc_prediction.specs.Prediction.{mean};
 ghost use Rattle.dc_prediction.specs.Restoring.{IsNarrow};
 ghost use Rattle.dc_prediction.specs.AnyWidth.{IsAny};
 ghost use Rattle.dc_prediction.specs.Grows.{narrow_grows, wide_grows, wide_rises};
 
+use bit_codes::MAX_NARROW;
 use planes::Number;
 
 // The greatest magnitude of a narrow band's numbers.
-const MOST: i32 = 262144;
+const MOST: i32 = MAX_NARROW as i32;
 
 /// Numbers of a band that is restored.
 pub trait Predicted: Number {

@@ -2,7 +2,7 @@
 use Rattle.std.proofs.Common.{◌≡◌, ℕ, zero, suc, ◌-◌, ◌*◌, ◌/◌, ◌%◌, ◌^◌, ◌<◌, ◌≤◌, lit≤, arith, inl, inr, pos}
 use Rattle.std.proofs.lemmas.Bool.{cases_eq}
 use Rattle.planes.specs.Numbers.{Within}
-use Rattle.planes.specs.declared.TheConstants.{MAX_MAGNITUDE}
+use Rattle.bit_codes.specs.declared.TheConstants.{MAX_MAGNITUDE}
 use Rattle.planes.proofs.Floors.{wider}
 use Rattle.lifting.specs.declared.Wavelet.{Wavelet}
 use Rattle.lifting.specs.declared.Wavelet.TheVariants.{LeGall, HaarFlat, HaarShift}

@@ -4,7 +4,7 @@ use Rattle.lifting.specs.declared.Wavelet.{Wavelet}
 use Rattle.lifting.specs.Transform.{Grid, synthesis}
 use Rattle.lifting.specs.Ranges.{BandsWithin}
 use Rattle.lifting.specs.Bands.{coefficients_of, coefficients_in, lowest, AreIn}
-use Rattle.planes.specs.declared.TheConstants.{MAX_MAGNITUDE}
+use Rattle.bit_codes.specs.declared.TheConstants.{MAX_MAGNITUDE}
 use Rattle.planes.specs.Raster.{Raster, height}
 use Rattle.planes.specs.Subbands.{BandStack, BandsOf, HaveSizes}
 use Rattle.lifting.specs.declared.SampleArea.{SampleArea}

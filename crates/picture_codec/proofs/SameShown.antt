@@ -1,7 +1,7 @@
 -- Bands that show the same are taken alike, and have the same samples.
 use Rattle.std.proofs.Common.{◌≡◌, ℕ, suc, ◌≤◌, inl, inr, refl, sym, ap, subst, ◌∙◌, arith}
 use Rattle.std.specs.Prelude.{ℤ}
-use Rattle.planes.specs.declared.TheConstants.{MAX_MAGNITUDE}
+use Rattle.bit_codes.specs.declared.TheConstants.{MAX_MAGNITUDE}
 use Rattle.planes.specs.Numbers.{Within}
 use Rattle.planes.specs.Subbands.{BandStack, BandExists, subband_length}
 use Rattle.dc_prediction.specs.Prediction.{reach}

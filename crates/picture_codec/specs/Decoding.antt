@@ -1,6 +1,6 @@
 -- The decoder of pictures.
 use Rattle.std.specs.Prelude.{◌≡◌, ℕ, ◌+◌, ◌/◌, ◌%◌, ◌<◌, ◌≤◌, nat_lt, Bool, true, false, if◌then◌else◌, Option, None, Some, List, length, ℤ}
-use Rattle.planes.specs.declared.TheConstants.{MAX_MAGNITUDE}
+use Rattle.bit_codes.specs.declared.TheConstants.{MAX_MAGNITUDE}
 use Rattle.planes.specs.Numbers.{Within}
 use Rattle.planes.specs.Raster.{Raster, height, at}
 use Rattle.planes.specs.Subbands.{BandsOf, BandStack, BandExists, band_of, HaveSizes, AreFilledBands, AreZeroBands}

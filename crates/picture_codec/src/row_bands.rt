@@ -19,6 +19,7 @@ use crate::picture::Picture;
 use crate::showing::{show_in_32_bits, show_in_64_bits};
 use crate::wide_bands::WideBands;
 use crate::workspace::SynthesisRoom;
+use bit_codes::MAX_NARROW;
 use bounded_blocks::CodeTable;
 use planes::{Bands, NarrowBands, NarrowTrio, NoMemory, Trio};
 use quant_factors::Matrix;
@@ -30,7 +31,7 @@ use std::marker::Model;
 use transform_params::TransformParams;
 
 // The greatest magnitude in bands of 32 bits.
-const MOST_NARROW: i64 = 262144;
+const MOST_NARROW: i64 = MAX_NARROW as i64;
 
 // The bands of a component.
 fn wide_stack(bands: &Trio, c: Component) -> &Bands

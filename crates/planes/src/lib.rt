@@ -24,9 +24,6 @@ use row_store::{Rows, start_of};
 use std::alloc::{AllocError, AllocFailed, Global};
 use std::marker::Model;
 
-/// The greatest magnitude of a coefficient: a slice that stands for a greater one is refused.
-pub const MAX_MAGNITUDE: u64 = 1 << 36;
-
 /// Memory ran out.
 #[derive(Clone, Copy, Debug, PartialEq, Eq)]
 pub struct NoMemory;

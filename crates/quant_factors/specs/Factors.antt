@@ -1,6 +1,6 @@
 -- What a quantiser does to a number (SMPTE ST 2042-1:2017, 13.3.1 inverse_quant and 13.3.2 quant_factor, quant_offset).
 use Rattle.std.specs.Prelude.{◌≡◌, ℕ, ◌+◌, ◌*◌, ◌/◌, ◌%◌, ◌^◌, ◌<◌, ◌≤◌, ◌==◌, if◌then◌else◌, ℤ, pos, negsuc, neg_ℤ, unsigned_abs}
-use Rattle.planes.specs.declared.TheConstants.{MAX_MAGNITUDE}
+use Rattle.bit_codes.specs.declared.TheConstants.{MAX_MAGNITUDE}
 use Rattle.quant_factors.specs.declared.Dequantised.{Dequantised}
 use Rattle.quant_factors.specs.declared.Dequantised.TheVariants.{Is, TooLarge}
 

@@ -7,8 +7,8 @@ ghost use Rattle.quant_factors.specs.Factors.{factor_of, offset_of, restored_of,
 pub mod laws;
 mod matrix;
 
+use bit_codes::MAX_MAGNITUDE;
 pub use matrix::Matrix;
-use planes::MAX_MAGNITUDE;
 
 // The factors of the indices 0 to 127, four a row: those of one power of two.
 #[rattlefmt::skip]

@@ -14,7 +14,7 @@ use crate::gathered::Gathered;
 use planes::NarrowBands;
 
 /// The greatest magnitude for which bands of 16 bits serve: the sum of two such numbers fits in 16 bits.
-pub const MAX_SHORT: i32 = 16383;
+pub const MAX_SHORT: i32 = bit_codes::MAX_SHORT as i32;
 
 // Deals a list out to two runs, which take its numbers in turn.
 #[inline(always)]

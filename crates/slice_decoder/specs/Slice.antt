@@ -1,7 +1,7 @@
 -- A slice as a function of its bytes (SMPTE ST 2042-1:2017, 13.5.3.1 ld_slice, 13.5.6.3 slice_band, 13.5.6.4
 -- color_diff_slice_band).
 use Rattle.std.specs.Prelude.{ℕ, zero, suc, ◌+◌, ◌*◌, ◌&&◌, Bool, true, if◌then◌else◌, nat_le, nat_lt, List, [], ◌∷◌, ◌++◌, length, take, drop, replicate, ℤ, unsigned_abs}
-use Rattle.planes.specs.declared.TheConstants.{MAX_MAGNITUDE}
+use Rattle.bit_codes.specs.declared.TheConstants.{MAX_MAGNITUDE}
 use Rattle.bit_codes.specs.Bits.{bits_of, binary_after}
 use Rattle.bounded_blocks.specs.Reading.{values}
 use Rattle.slice_geometry.specs.declared.Size.{Size}

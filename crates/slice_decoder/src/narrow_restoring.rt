@@ -1,6 +1,6 @@
 //! The values of a block in 32 bits, read and dequantised in place.
 
-ghost use Rattle.bounded_blocks.specs.declared.TheConstants.{MAX_NARROW, SPARE};
+ghost use Rattle.bounded_blocks.specs.declared.TheConstants.{SPARE};
 ghost use Rattle.std.specs.Prelude.{◌≡◌, ℕ, ℤ, List, ◌+◌, ◌-◌, ◌*◌, ◌^◌, ◌<◌, ◌≤◌, true, false, length, slice_index_or, pos, unsigned_abs, MatchOption};
 ghost use Rattle.quant_factors.specs.Factors.{factor_of, offset_of, restored_of, inverse_of, signed};
 ghost use Rattle.quant_factors.specs.Weights.{band_quantiser};
@@ -13,7 +13,8 @@ ghost use Rattle.slice_decoder.specs.RestoredBands.{all_quantisers, IsBand, AreB
 
 use crate::jobs::PartJob;
 use crate::levels::area_of;
-use bounded_blocks::{Block, CodeTable, MAX_NARROW};
+use bit_codes::MAX_NARROW;
+use bounded_blocks::{Block, CodeTable};
 use quant_factors::{Dequantised, Matrix, factor, inverse, offset};
 
 // The least magnitude that has all bits of these: none of theirs is above it.

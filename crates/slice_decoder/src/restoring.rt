@@ -1,6 +1,6 @@
 // The values of a block, dequantised in place.
 
-ghost use Rattle.planes.specs.declared.TheConstants.{MAX_MAGNITUDE};
+ghost use Rattle.bit_codes.specs.declared.TheConstants.{MAX_MAGNITUDE};
 ghost use Rattle.std.specs.Prelude.{◌≡◌, ℕ, ◌+◌, ◌-◌, ◌*◌, ◌<◌, ◌≤◌, true, length, slice_index_or, pos, unsigned_abs};
 ghost use Rattle.quant_factors.specs.Factors.{inverse_of};
 ghost use Rattle.slice_decoder.specs.Jobs.{part_in, IsPartJob, places_of};

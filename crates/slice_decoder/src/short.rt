@@ -1,7 +1,7 @@
 //! A slice into bands of 16 bits, whose slices lie as the layout cuts a component.
 
 ghost use Rattle.std.specs.Prelude.{◌≡◌, ℕ, ◌+◌, ◌-◌, ◌*◌, ◌<◌, ◌≤◌, true, length, slice_index_or, pos};
-ghost use Rattle.bounded_blocks.specs.declared.TheConstants as blocks;
+ghost use Rattle.bit_codes.specs.declared.TheConstants as bits;
 ghost use Rattle.bounded_blocks.specs.declared.TheConstants.{SPARE};
 ghost use Rattle.planes.specs.Bounded.{IsWithin};
 ghost use Rattle.slice_bands.specs.declared.short.TheConstants.{MAX_SHORT};
@@ -95,7 +95,7 @@ fn read_values(
     requires count { count ≡ each * places_of (short_part job) }
     requires room { count + SPARE ≤ length buffer.old }
     requires places { count ≤ steps.old }
-    ensures within { StayWithin blocks.MAX_SHORT result (λ k. slice_index_or
+    ensures within { StayWithin bits.MAX_SHORT result (λ k. slice_index_or
         (dealt block.now (all_quantisers each (short_part job.entry))) k (pos 0)) 0 count }
     ensures values { result ≡ true → (k : ℕ) → k < count → slice_index_or buffer.new k (pos 0)
         ≡ slice_index_or (dealt block.now (all_quantisers each (short_part job.entry))) k (pos 0) }

@@ -4,7 +4,7 @@
 //! value at a place is the same in all slices of one size and index: it is made once, and then one loop restores a block.
 
 ghost use Rattle.std.specs.Prelude.{◌≡◌, ℕ, ◌+◌, ◌^◌, ◌<◌, ◌≤◌, length, slice_index_or, pos, true, IfOk};
-ghost use Rattle.bounded_blocks.specs.declared.TheConstants.{MAX_SHORT};
+ghost use Rattle.bit_codes.specs.declared.TheConstants.{MAX_SHORT};
 ghost use Rattle.slice_decoder.specs.Jobs.{short_part, IsShortJob};
 ghost use Rattle.slice_decoder.specs.Restored.{restored_at, StayWithin};
 ghost use Rattle.slice_decoder.specs.RestoredBands.{all_quantisers};

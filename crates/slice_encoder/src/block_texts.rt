@@ -1,6 +1,6 @@
 // Codes put into a block, as far as it reaches.
 
-ghost use Rattle.planes.specs.declared.TheConstants.{MAX_MAGNITUDE};
+ghost use Rattle.bit_codes.specs.declared.TheConstants.{MAX_MAGNITUDE};
 ghost use Rattle.std.specs.Prelude.{◌≡◌, ◌+◌, ◌*◌, ◌/◌, ◌%◌, ◌^◌, ◌<◌, ◌≤◌, ◌++◌, length, take, replicate, true, unsigned_abs};
 ghost use Rattle.std.specs.List.{All};
 ghost use Rattle.bit_codes.specs.Bits.{digits_below};

@@ -1,6 +1,6 @@
 // What values need, by the length of their codes up to the last one that isn't 0.
 
-ghost use Rattle.planes.specs.declared.TheConstants.{MAX_MAGNITUDE};
+ghost use Rattle.bit_codes.specs.declared.TheConstants.{MAX_MAGNITUDE};
 ghost use Rattle.std.specs.Prelude.{◌≡◌, ◌≢◌, ◌-◌, ◌*◌, ◌^◌, ◌<◌, ◌≤◌, length, pos, slice_index_or, take, drop, unsigned_abs};
 ghost use Rattle.bit_codes.specs.Codes.{signed_code_of};
 ghost use Rattle.bounded_blocks.specs.Writing.{codes_of, need};

@@ -1,5 +1,5 @@
 use Rattle.std.proofs.Common.{◌*◌, arith}
-use Rattle.planes.specs.declared.TheConstants.{MAX_MAGNITUDE}
+use Rattle.bit_codes.specs.declared.TheConstants.{MAX_MAGNITUDE}
 use Rattle.planes.specs.Raster.{at}
 use Rattle.dc_prediction.proofs.Widths.{wide_may, wide_restored, restores_rect}
 use Rattle.dc_prediction.proofs.restore_rect.Goals as goal
