@@ -12,7 +12,7 @@ ghost use Rattle.lifting.specs.LevelRoom.{HaveLevelRoom, HoldsLevels};
 
 use crate::Wavelet;
 use crate::roll::Level;
-use crate::synthesis::{Size, level_of};
+use crate::synthesis::{PaddedSize, level_of};
 use planes::{Bands, Plane};
 
 // The greatest magnitude that a step takes in 16 bits.
@@ -78,7 +78,7 @@ pub(crate) fn is_short(
     wavelet: Wavelet,
     bands: &Bands<i16>,
     n: u32,
-    size: Size,
+    size: PaddedSize,
     plane: &Plane<i16>,
 ) -> bool
     requires some { n < bands.now.depth }

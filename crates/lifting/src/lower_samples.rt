@@ -14,16 +14,18 @@ ghost use Rattle.lifting.specs.LowerSamples.{rounded};
 ghost use Rattle.lifting.specs.Turns.{SameSize};
 
 use crate::samples::Sampled;
-use crate::synthesis::{Size, synth_levels_of};
+use crate::synthesis::{PaddedSize, synth_levels_of};
 use crate::synthesis_samples::{sample_lowest, synth_samples_of};
 use crate::{LowerLevel, SampleArea, Wavelet};
 use planes::{Bands, NarrowBands, NarrowPlane, Plane};
 
-// A level of a component of this padded size.
+/// A lower level of a component of this padded size.
 #[derive(Clone, Copy)]
-struct LevelAt {
-    level: LowerLevel,
-    size: Size,
+pub struct LevelAt {
+    /// The level.
+    pub level: LowerLevel,
+    /// The size of the whole component.
+    pub size: PaddedSize,
 }
 
 // Each number of a row over 2^shift, rounded.
@@ -65,22 +67,21 @@ fn round_plane<T: Sampled>(plane: &mut Plane<T>, shift: u32)
 pub fn synth_lower_samples(
     wavelet: Wavelet,
     bands: &Bands,
-    level: LowerLevel,
-    w: u32,
-    h: u32,
+    at: LevelAt,
     plane: &mut Plane,
     scratch: &mut Plane,
     samples: &mut [u16],
     area: SampleArea,
 )
-    requires few { level.levels ≤ bands.now.depth }
-    requires shift { level.shift ≤ 4 }
-    requires room { HaveLevelRoom bands.now level.levels w h plane.old scratch.old }
-    requires columns { plane.old.w ≡ lowest bands.now.depth w * 2 ^ level.levels }
-    requires rows { height plane.old ≡ lowest bands.now.depth h * 2 ^ level.levels }
-    requires small { AreSmallIn bands.now w h }
-    requires shown { IsShownArea area (lowest bands.now.depth w * 2 ^ level.levels)
-        (lowest bands.now.depth h * 2 ^ level.levels) samples.old }
+    requires few { at.level.levels ≤ bands.now.depth }
+    requires shift { at.level.shift ≤ 4 }
+    requires room { HaveLevelRoom bands.now at.level.levels at.size.w at.size.h plane.old
+        scratch.old }
+    requires columns { plane.old.w ≡ lowest bands.now.depth at.size.w * 2 ^ at.level.levels }
+    requires rows { height plane.old ≡ lowest bands.now.depth at.size.h * 2 ^ at.level.levels }
+    requires small { AreSmallIn bands.now at.size.w at.size.h }
+    requires shown { IsShownArea area (lowest bands.now.depth at.size.w * 2 ^ at.level.levels)
+        (lowest bands.now.depth at.size.h * 2 ^ at.level.levels) samples.old }
     ensures same_width { plane.new.w ≡ plane.old.w }
     ensures same_height { height plane.new ≡ height plane.old }
     ensures same_width_scratch { scratch.new.w ≡ scratch.old.w }
@@ -88,15 +89,11 @@ pub fn synth_lower_samples(
     ensures count { length samples.new ≡ length samples.old }
     ensures samples { let depth = bands.now.depth in
         AreSamplesOf area.w area.h area.depth samples.new
-        (λ y x. rounded level.shift (synthesis wavelet (lowest depth h) (lowest depth w)
-        (coefficients_of bands.now) level.levels y x)) }
+        (λ y x. rounded at.level.shift (synthesis wavelet (lowest depth at.size.h)
+        (lowest depth at.size.w) (coefficients_of bands.now) at.level.levels y x)) }
 {
     // A depth is at most 4.
     let _ = bands.depth();
-    let at = LevelAt {
-        level,
-        size: Size { w, h },
-    };
     synth_lower_samples_of(wavelet, bands, at, plane, scratch, samples, area);
 }
 
@@ -104,22 +101,21 @@ pub fn synth_lower_samples(
 pub fn synth_lower_samples_narrow(
     wavelet: Wavelet,
     bands: &NarrowBands,
-    level: LowerLevel,
-    w: u32,
-    h: u32,
+    at: LevelAt,
     plane: &mut NarrowPlane,
     scratch: &mut NarrowPlane,
     samples: &mut [u16],
     area: SampleArea,
 )
-    requires few { level.levels ≤ bands.now.depth }
-    requires shift { level.shift ≤ 4 }
-    requires room { HaveLevelRoom bands.now level.levels w h plane.old scratch.old }
-    requires columns { plane.old.w ≡ lowest bands.now.depth w * 2 ^ level.levels }
-    requires rows { height plane.old ≡ lowest bands.now.depth h * 2 ^ level.levels }
-    requires small { AreNarrowIn bands.now w h }
-    requires shown { IsShownArea area (lowest bands.now.depth w * 2 ^ level.levels)
-        (lowest bands.now.depth h * 2 ^ level.levels) samples.old }
+    requires few { at.level.levels ≤ bands.now.depth }
+    requires shift { at.level.shift ≤ 4 }
+    requires room { HaveLevelRoom bands.now at.level.levels at.size.w at.size.h plane.old
+        scratch.old }
+    requires columns { plane.old.w ≡ lowest bands.now.depth at.size.w * 2 ^ at.level.levels }
+    requires rows { height plane.old ≡ lowest bands.now.depth at.size.h * 2 ^ at.level.levels }
+    requires small { AreNarrowIn bands.now at.size.w at.size.h }
+    requires shown { IsShownArea area (lowest bands.now.depth at.size.w * 2 ^ at.level.levels)
+        (lowest bands.now.depth at.size.h * 2 ^ at.level.levels) samples.old }
     ensures same_width { plane.new.w ≡ plane.old.w }
     ensures same_height { height plane.new ≡ height plane.old }
     ensures same_width_scratch { scratch.new.w ≡ scratch.old.w }
@@ -127,15 +123,11 @@ pub fn synth_lower_samples_narrow(
     ensures count { length samples.new ≡ length samples.old }
     ensures samples { let depth = bands.now.depth in
         AreSamplesOf area.w area.h area.depth samples.new
-        (λ y x. rounded level.shift (synthesis wavelet (lowest depth h) (lowest depth w)
-        (coefficients_of bands.now) level.levels y x)) }
+        (λ y x. rounded at.level.shift (synthesis wavelet (lowest depth at.size.h)
+        (lowest depth at.size.w) (coefficients_of bands.now) at.level.levels y x)) }
 {
     // A depth is at most 4.
     let _ = bands.depth();
-    let at = LevelAt {
-        level,
-        size: Size { w, h },
-    };
     synth_lower_samples_of(wavelet, bands, at, plane, scratch, samples, area);
 }
 

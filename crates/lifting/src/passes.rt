@@ -11,7 +11,7 @@ ghost use Rattle.lifting.specs.Turns.{SameSize};
 
 use crate::columns::{place_after, place_before};
 use crate::kernels::{shifted, stepped, unshifted};
-use crate::synthesis::Size;
+use crate::synthesis::PaddedSize;
 use crate::{PairStep, Wavelet};
 use planes::Plane;
 
@@ -41,7 +41,7 @@ fn parity_of(kind: PairStep) -> u32
 
 // What a pass makes of a place.
 #[tactic(auto, unfolding(crate::specs::Lines::lift))]
-fn passed(plane: &Plane, y: u32, x: u32, size: Size, wavelet: Wavelet, pass: Pass) -> i64
+fn passed(plane: &Plane, y: u32, x: u32, size: PaddedSize, wavelet: Wavelet, pass: Pass) -> i64
     requires sized { HasCorner size.h size.w plane.now }
     requires y_inside { y < size.h }
     requires x_inside { x < size.w }
@@ -72,7 +72,7 @@ fn passed(plane: &Plane, y: u32, x: u32, size: Size, wavelet: Wavelet, pass: Pas
 }
 
 // A pass over row y, after the rows above it.
-fn pass_row(plane: &mut Plane, y: u32, size: Size, wavelet: Wavelet, pass: Pass)
+fn pass_row(plane: &mut Plane, y: u32, size: PaddedSize, wavelet: Wavelet, pass: Pass)
     ghost g: { Grid }
     requires sized { HasCorner size.h size.w plane.old }
     requires y_inside { y < size.h }
@@ -88,7 +88,7 @@ fn pass_row(plane: &mut Plane, y: u32, size: Size, wavelet: Wavelet, pass: Pass)
 }
 
 // A pass over the first columns and rows.
-fn pass_over(plane: &mut Plane, size: Size, wavelet: Wavelet, pass: Pass)
+fn pass_over(plane: &mut Plane, size: PaddedSize, wavelet: Wavelet, pass: Pass)
     ghost g: { Grid }
     requires is { (y x : ℕ) → at plane.old y x ≡ g y x }
     requires sized { HasCorner size.h size.w plane.old }
@@ -126,7 +126,7 @@ pub fn synth_level(wavelet: Wavelet, plane: &mut Plane, w: u32, h: u32)
 {
     // A plane's sizes are at most 8208, so that places of rows are small numbers.
     let _ = (plane.w(), plane.h());
-    let size = Size { w, h };
+    let size = PaddedSize { w, h };
     pass_over(plane, size, wavelet, Pass::Down(PairStep::EvenDown));
     pass_over(plane, size, wavelet, Pass::Down(PairStep::OddUp));
     pass_over(plane, size, wavelet, Pass::Along(PairStep::EvenDown));
@@ -153,7 +153,7 @@ pub fn analyse_level(wavelet: Wavelet, plane: &mut Plane, w: u32, h: u32)
 {
     // A plane's sizes are at most 8208, so that places of rows are small numbers.
     let _ = (plane.w(), plane.h());
-    let size = Size { w, h };
+    let size = PaddedSize { w, h };
     pass_over(plane, size, wavelet, Pass::Double);
     pass_over(plane, size, wavelet, Pass::Along(PairStep::OddDown));
     pass_over(plane, size, wavelet, Pass::Along(PairStep::EvenUp));

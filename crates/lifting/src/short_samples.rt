@@ -9,7 +9,7 @@ ghost use Rattle.lifting.specs.SampleRoom.{HaveRoom, IsShownArea, synthesis_of};
 ghost use Rattle.lifting.specs.Turns.{SameSize};
 
 use crate::carried::is_short;
-use crate::synthesis::{Size, put_lowest, synth_next};
+use crate::synthesis::{PaddedSize, put_lowest, synth_next};
 use crate::synthesis_samples::{sample_only, synth_last};
 use crate::{SampleArea, Wavelet};
 use planes::{Bands, Plane};
@@ -19,7 +19,7 @@ fn synth_short_levels(
     wavelet: Wavelet,
     bands: &Bands<i16>,
     levels: u32,
-    size: Size,
+    size: PaddedSize,
     plane: &mut Plane<i16>,
     scratch: &mut Plane<i16>,
 ) -> bool
@@ -50,27 +50,25 @@ fn synth_short_levels(
 pub fn synth_samples_short(
     wavelet: Wavelet,
     bands: &Bands<i16>,
-    w: u32,
-    h: u32,
+    size: PaddedSize,
     plane: &mut Plane<i16>,
     scratch: &mut Plane<i16>,
     samples: &mut [u16],
     area: SampleArea,
 ) -> bool
-    requires room { HaveRoom bands.now w h plane.old scratch.old }
+    requires room { HaveRoom bands.now size.w size.h plane.old scratch.old }
     requires few_bits { area.depth ≤ 15 }
-    requires shown { IsShownArea area w h samples.old }
+    requires shown { IsShownArea area size.w size.h samples.old }
     ensures same_width { plane.new.w ≡ plane.old.w }
     ensures same_height { height plane.new ≡ height plane.old }
     ensures same_width_scratch { scratch.new.w ≡ scratch.old.w }
     ensures same_height_scratch { height scratch.new ≡ height scratch.old }
     ensures count { length samples.new ≡ length samples.old }
-    ensures answer { (result ≡ true) ↔ AreShortIn wavelet bands.now w h }
+    ensures answer { (result ≡ true) ↔ AreShortIn wavelet bands.now size.w size.h }
     ensures left { result ≡ false → samples.new ≡ samples.old }
     ensures samples { result ≡ true → AreSamplesOf area.w area.h area.depth samples.new
-        (synthesis_of wavelet bands.now w h) }
+        (synthesis_of wavelet bands.now size.w size.h) }
 {
-    let size = Size { w, h };
     if bands.depth() == 0 {
         sample_only(bands, size, samples, area);
         return true;

@@ -15,7 +15,7 @@ ghost use Rattle.lifting.specs.Turns.{SameSize};
 
 use crate::roll_samples::roll_samples;
 use crate::samples::{Sampled, sample_band};
-use crate::synthesis::{Size, level_of, synth_levels_of};
+use crate::synthesis::{PaddedSize, level_of, synth_levels_of};
 use crate::{SampleArea, Wavelet};
 use planes::{Bands, NarrowBands, NarrowPlane, Plane};
 
@@ -23,7 +23,7 @@ use planes::{Bands, NarrowBands, NarrowPlane, Plane};
 pub(crate) fn synth_last<T: Sampled>(
     wavelet: Wavelet,
     bands: &Bands<T>,
-    size: Size,
+    size: PaddedSize,
     plane: &Plane<T>,
     scratch: &mut Plane<T>,
     samples: &mut [u16],
@@ -83,7 +83,7 @@ pub(crate) fn sample_lowest<T: Sampled>(samples: &mut [u16], area: SampleArea, b
 /// The samples of a component whose bands have no level.
 pub(crate) fn sample_only<T: Sampled>(
     bands: &Bands<T>,
-    size: Size,
+    size: PaddedSize,
     samples: &mut [u16],
     area: SampleArea,
 )
@@ -108,27 +108,26 @@ pub(crate) fn sample_only<T: Sampled>(
 pub fn synth_samples(
     wavelet: Wavelet,
     bands: &Bands,
-    w: u32,
-    h: u32,
+    size: PaddedSize,
     plane: &mut Plane,
     scratch: &mut Plane,
     samples: &mut [u16],
     area: SampleArea,
 )
-    requires room { HaveRoom bands.now w h plane.old scratch.old }
-    requires small { AreSmallIn bands.now w h }
-    requires shown { IsShownArea area w h samples.old }
+    requires room { HaveRoom bands.now size.w size.h plane.old scratch.old }
+    requires small { AreSmallIn bands.now size.w size.h }
+    requires shown { IsShownArea area size.w size.h samples.old }
     ensures same_width { plane.new.w ≡ plane.old.w }
     ensures same_height { height plane.new ≡ height plane.old }
     ensures same_width_scratch { scratch.new.w ≡ scratch.old.w }
     ensures same_height_scratch { height scratch.new ≡ height scratch.old }
     ensures count { length samples.new ≡ length samples.old }
     ensures samples { AreSamplesOf area.w area.h area.depth samples.new
-        (synthesis_of wavelet bands.now w h) }
+        (synthesis_of wavelet bands.now size.w size.h) }
 {
     // A depth is at most 4.
     let _ = bands.depth();
-    synth_samples_of(wavelet, bands, Size { w, h }, plane, scratch, samples, area);
+    synth_samples_of(wavelet, bands, size, plane, scratch, samples, area);
 }
 
 /// The samples of a component as `synth_samples` has them, from bands whose magnitudes are at most 2^18, in 32 bits.
@@ -137,34 +136,33 @@ pub fn synth_samples(
 pub fn synth_samples_narrow(
     wavelet: Wavelet,
     bands: &NarrowBands,
-    w: u32,
-    h: u32,
+    size: PaddedSize,
     plane: &mut NarrowPlane,
     scratch: &mut NarrowPlane,
     samples: &mut [u16],
     area: SampleArea,
 )
-    requires room { HaveRoom bands.now w h plane.old scratch.old }
-    requires small { AreNarrowIn bands.now w h }
-    requires shown { IsShownArea area w h samples.old }
+    requires room { HaveRoom bands.now size.w size.h plane.old scratch.old }
+    requires small { AreNarrowIn bands.now size.w size.h }
+    requires shown { IsShownArea area size.w size.h samples.old }
     ensures same_width { plane.new.w ≡ plane.old.w }
     ensures same_height { height plane.new ≡ height plane.old }
     ensures same_width_scratch { scratch.new.w ≡ scratch.old.w }
     ensures same_height_scratch { height scratch.new ≡ height scratch.old }
     ensures count { length samples.new ≡ length samples.old }
     ensures samples { AreSamplesOf area.w area.h area.depth samples.new
-        (synthesis_of wavelet bands.now w h) }
+        (synthesis_of wavelet bands.now size.w size.h) }
 {
     // A depth is at most 4.
     let _ = bands.depth();
-    synth_samples_of(wavelet, bands, Size { w, h }, plane, scratch, samples, area);
+    synth_samples_of(wavelet, bands, size, plane, scratch, samples, area);
 }
 
 /// The same at any width.
 pub(crate) fn synth_samples_of<T: Sampled>(
     wavelet: Wavelet,
     bands: &Bands<T>,
-    size: Size,
+    size: PaddedSize,
     plane: &mut Plane<T>,
     scratch: &mut Plane<T>,
     samples: &mut [u16],

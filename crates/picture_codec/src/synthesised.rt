@@ -7,7 +7,9 @@ ghost use Rattle.lifting.specs.SampleRoom.{HaveRoom, AreSmallIn, AreNarrowIn, Is
 ghost use Rattle.lifting.specs.Clipping.{AreSamplesOf};
 
 use crate::workspace::Workspace;
-use lifting::{SampleArea, Wavelet, synth_samples, synth_samples_narrow, synth_samples_short};
+use lifting::{
+    PaddedSize, SampleArea, Wavelet, synth_samples, synth_samples_narrow, synth_samples_short,
+};
 use planes::{Bands, Number};
 use slice_geometry::Size;
 
@@ -56,9 +58,12 @@ impl Synthesised for i64 {
         samples: &mut [u16],
         area: SampleArea,
     ) -> bool {
-        let (w, h) = (padded.w, padded.h);
+        let size = PaddedSize {
+            w: padded.w,
+            h: padded.h,
+        };
         let Workspace { plane, scratch } = room;
-        synth_samples(wavelet, bands, w, h, plane, scratch, samples, area);
+        synth_samples(wavelet, bands, size, plane, scratch, samples, area);
         true
     }
 }
@@ -76,9 +81,12 @@ impl Synthesised for i32 {
         samples: &mut [u16],
         area: SampleArea,
     ) -> bool {
-        let (w, h) = (padded.w, padded.h);
+        let size = PaddedSize {
+            w: padded.w,
+            h: padded.h,
+        };
         let Workspace { plane, scratch } = room;
-        synth_samples_narrow(wavelet, bands, w, h, plane, scratch, samples, area);
+        synth_samples_narrow(wavelet, bands, size, plane, scratch, samples, area);
         true
     }
 }
@@ -96,8 +104,11 @@ impl Synthesised for i16 {
         samples: &mut [u16],
         area: SampleArea,
     ) -> bool {
-        let (w, h) = (padded.w, padded.h);
+        let size = PaddedSize {
+            w: padded.w,
+            h: padded.h,
+        };
         let Workspace { plane, scratch } = room;
-        synth_samples_short(wavelet, bands, w, h, plane, scratch, samples, area)
+        synth_samples_short(wavelet, bands, size, plane, scratch, samples, area)
     }
 }

@@ -11,7 +11,10 @@ ghost use Rattle.lifting.specs.SampleRoom.{AreSmallIn, AreNarrowIn, IsShownArea}
 ghost use Rattle.lifting.specs.Transform.{synthesis};
 ghost use Rattle.proxy_picture.specs.Making.{AreOfSize};
 
-use lifting::{LowerLevel, SampleArea, Wavelet, synth_lower_samples, synth_lower_samples_narrow};
+use lifting::{
+    LevelAt, LowerLevel, PaddedSize, SampleArea, Wavelet, synth_lower_samples,
+    synth_lower_samples_narrow,
+};
 use planes::{Bands, NoMemory, Number, Plane};
 use slice_geometry::Size;
 use std::alloc::Global;
@@ -102,10 +105,13 @@ impl Lowered for i64 {
             padded,
             area,
         } = part;
+        let size = PaddedSize {
+            w: padded.w,
+            h: padded.h,
+        };
+        let at = LevelAt { level: lower, size };
         let LevelPlanes { plane, scratch } = planes;
-        synth_lower_samples(
-            wavelet, bands, lower, padded.w, padded.h, plane, scratch, samples, area,
-        );
+        synth_lower_samples(wavelet, bands, at, plane, scratch, samples, area);
     }
 }
 
@@ -124,9 +130,12 @@ impl Lowered for i32 {
             padded,
             area,
         } = part;
+        let size = PaddedSize {
+            w: padded.w,
+            h: padded.h,
+        };
+        let at = LevelAt { level: lower, size };
         let LevelPlanes { plane, scratch } = planes;
-        synth_lower_samples_narrow(
-            wavelet, bands, lower, padded.w, padded.h, plane, scratch, samples, area,
-        );
+        synth_lower_samples_narrow(wavelet, bands, at, plane, scratch, samples, area);
     }
 }

@@ -7,7 +7,7 @@ ghost use Rattle.lifting.specs.Bands.{SameSizes};
 
 use super::wavelets::{can_synth, exists};
 use crate::checks::assert_same;
-use lifting::{SampleArea, Wavelet, synth, synth_samples_short};
+use lifting::{PaddedSize, SampleArea, Wavelet, synth, synth_samples_short};
 use planes::{Bands, NoMemory, Number, Plane};
 use std::alloc::Global;
 use std::process::Abort;
@@ -273,8 +273,7 @@ fn expect(
     let fits = synth_samples_short(
         wavelet,
         &bands,
-        32,
-        16,
+        PaddedSize { w: 32, h: 16 },
         &mut plane,
         &mut scratch,
         &mut samples,

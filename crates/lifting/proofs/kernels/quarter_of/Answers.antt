@@ -1,4 +1,4 @@
-use Rattle.std.proofs.Common.{◌≡◌, ◌∙◌, arith, ap, ℤ, pos, ◌+ℤ◌}
+use Rattle.std.proofs.Common.{◌≡◌, ◌∙◌, arith, ap, pos, ◌+ℤ◌}
 use Rattle.std.specs.Int.{int_shr}
 use Rattle.lifting.proofs.Growth.{few_more_within, quarter_within}
 use Rattle.lifting.proofs.kernels.quarter_of.Goals as goal

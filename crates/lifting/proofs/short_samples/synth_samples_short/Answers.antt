@@ -7,30 +7,30 @@ use Rattle.lifting.proofs.short_samples.synth_samples_short.Goals as goal
 
 pub synth_short_levels-requires-clause-room : goal.synth_short_levels-requires-clause-room
 synth_short_levels-requires-clause-room c =
-    lower_levels_fit c.args.bands.now c.args.plane.now c.args.scratch.now c.args.w c.args.h c.requires.room (omega (arith, c.depth.ensures.value, c.if-depth-eq0.false)) _ (omega (arith, c.depth-last.ensures.value))
+    lower_levels_fit c.args.bands.now c.args.plane.now c.args.scratch.now c.args.size.w c.args.size.h c.requires.room (omega (arith, c.depth.ensures.value, c.if-depth-eq0.false)) _ (omega (arith, c.depth-last.ensures.value))
 
 pub is_short-requires-clause-room : goal.is_short-requires-clause-room
 is_short-requires-clause-room c =
     let b = c.args.bands.now in
     let n : ℕ = c.depth-last.result - 1 in
     let up = c.synth_short_levels in
-    room_alone b n c.args.w c.args.h up.new.plane up.new.scratch
-    (room_for_fewer b n c.args.w c.args.h c.args.plane.now c.args.scratch.now
-    (lower_levels_fit b c.args.plane.now c.args.scratch.now c.args.w c.args.h c.requires.room (omega (arith, c.depth.ensures.value, c.if-depth-eq0.false)) n (omega (arith, c.depth-last.ensures.value)))
+    room_alone b n c.args.size.w c.args.size.h up.new.plane up.new.scratch
+    (room_for_fewer b n c.args.size.w c.args.size.h c.args.plane.now c.args.scratch.now
+    (lower_levels_fit b c.args.plane.now c.args.scratch.now c.args.size.w c.args.size.h c.requires.room (omega (arith, c.depth.ensures.value, c.if-depth-eq0.false)) n (omega (arith, c.depth-last.ensures.value)))
     n (omega arith) up.new.plane up.new.scratch up.ensures.same_size up.ensures.same_size_scratch)
 
 pub synth_last-requires-clause-has_room : goal.synth_last-requires-clause-has_room
 synth_last-requires-clause-has_room c =
     let b = c.args.bands.now in
     let is : c.depth-last.result - 1 ≡ b.depth - 1 = omega (arith, c.depth-last.ensures.value) in
-    short_fits c.args.wavelet b c.args.w c.args.h (b.depth - 1) (subst (λ (n : ℕ). IsShortAt c.args.wavelet b c.args.w c.args.h n) is (c.is_short.ensures.0 c.if-not-is_short.false))
+    short_fits c.args.wavelet b c.args.size.w c.args.size.h (b.depth - 1) (subst (λ (n : ℕ). IsShortAt c.args.wavelet b c.args.size.w c.args.size.h n) is (c.is_short.ensures.0 c.if-not-is_short.false))
 
 pub returns-clause-answer : goal.returns-clause-answer
 returns-clause-answer c =
     let b = c.args.bands.now in
     let last : ℕ = c.depth-last.result - 1 in (
       λ e n lt. elim (cases_eq n last) [
-        | inl is ↦ subst (λ (j : ℕ). IsShortAt c.args.wavelet b c.args.w c.args.h j) (sym is) (c.is_short.ensures.0 c.if-not-is_short.false)
+        | inl is ↦ subst (λ (j : ℕ). IsShortAt c.args.wavelet b c.args.size.w c.args.size.h j) (sym is) (c.is_short.ensures.0 c.if-not-is_short.false)
         | inr ne ↦ c.synth_short_levels.ensures.answer.0 c.if-not-synth_short_levels.false n (omega (arith, c.depth-last.ensures.value))
       ],
       λ p. refl,
