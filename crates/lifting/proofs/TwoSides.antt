@@ -1,5 +1,5 @@
 -- A row that is made in two halves, each from parts of rows.
-use Rattle.std.proofs.Common.{◌≡◌, sym, ap, subst, ◌∙◌, ℕ, ◌+◌, ◌-◌, ◌*◌, ◌<◌, ◌≤◌, arith, List, ◌++◌, length, take, drop, ℤ, inl, inr, true, false}
+use Rattle.std.proofs.Common.{◌≡◌, refl, sym, ap, subst, ◌∙◌, ℕ, ◌+◌, ◌-◌, ◌*◌, ◌<◌, ◌≤◌, arith, List, ◌++◌, length, take, drop, ℤ, inl, inr, true, false}
 use Rattle.std.specs.Prelude.{nat_lt}
 use Rattle.std.proofs.lemmas.Bool.{cases_lt}
 use Rattle.std.proofs.lemmas.Bool.Decides.{nat_tests}
@@ -63,3 +63,10 @@ side_back w x le = grind (arith, nat_tests)
 
 pub side_inside : (w x : ℕ) → x < 2 * w → side_place w x < 2 * w
 side_inside w x lt = grind (arith, nat_tests)
+
+-- the even places of a line beside its odd ones
+pub beside_side : (line : Line) (w x : ℕ) → beside w (λ i. line (2 * i)) (λ i. line (2 * i + 1)) x ≡ line (side_place w x)
+beside_side line w x = elim (cases_lt x w) [
+  | inl early ↦ let is : nat_lt x w ≡ true = grind (arith, nat_tests) in rw is refl
+  | inr late ↦ let is : nat_lt x w ≡ false = grind (arith, nat_tests) in rw is refl
+]

@@ -1,4 +1,6 @@
 use Rattle.std.proofs.Common.{◌≡◌, ◌∙◌, refl, subst, ℕ, ◌+◌, ◌*◌, ◌%◌, ◌<◌, ◌≤◌, arith}
+use Rattle.std.proofs.lemmas.Grind.{common_steps}
+use Rattle.std.proofs.lemmas.Int.{ints}
 use Rattle.planes.specs.Valued.{grid_of}
 use Rattle.planes.specs.Subbands.{band_of}
 use Rattle.lifting.specs.Lines.{before}
@@ -7,6 +9,15 @@ use Rattle.lifting.specs.Transform.{analysis_level, every_other}
 use Rattle.lifting.proofs.LevelsDown.{same_sizes_after, other_levels_after}
 use Rattle.lifting.proofs.RollingBack.{same_row, above_apart, turn_small, odd_done, even_done, dealt_left, dealt_right, rows_more}
 use Rattle.lifting.proofs.roll_back.roll_back.Goals as goal
+
+pub put_sides-requires-clause-small : goal.put_sides-requires-clause-small
+put_sides-requires-clause-small g c = grind (ints, arith, common_steps)
+
+pub loop-y-init : goal.loop-y-init
+loop-y-init g c = grind (ints, arith, common_steps)
+
+pub put_two-requires-clause-small : goal.put_two-requires-clause-small
+put_two-requires-clause-small g c = grind (ints, arith, common_steps)
 
 pub finish_two-requires-clause-small : goal.finish_two-requires-clause-small
 finish_two-requires-clause-small G c =
@@ -71,3 +82,9 @@ loop-y-preserved G c =
       };
       others = other_levels_after c.args.level c.args.bands.now c.loop-y.bands c.deal_two.new.bands i.same_sizes i.others dealt.others;
     }
+
+pub returns-clause-left : goal.returns-clause-left
+returns-clause-left g c = grind (ints, arith, common_steps)
+
+pub returns-clause-dealt : goal.returns-clause-dealt
+returns-clause-dealt g c = grind (ints, arith, common_steps)

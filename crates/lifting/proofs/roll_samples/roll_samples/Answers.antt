@@ -1,4 +1,6 @@
 use Rattle.std.proofs.Common.{rules, ◌≡◌, ◌∙◌, ◌+◌, ◌*◌, ◌%◌, arith, inl, inr, slice_index_or}
+use Rattle.std.proofs.lemmas.Grind.{common_steps}
+use Rattle.std.proofs.lemmas.Int.{ints}
 use Rattle.std.proofs.lemmas.Bool.{cases_eq}
 use Rattle.planes.specs.Valued.{grid_of}
 use Rattle.lifting.specs.Clipping.{sample_of}
@@ -6,6 +8,15 @@ use Rattle.lifting.specs.Transform.{synthesis_level}
 use Rattle.lifting.proofs.RollingUp.{even_lifted}
 use Rattle.lifting.proofs.SampleRows.{other_rows}
 use Rattle.lifting.proofs.roll_samples.roll_samples.Goals as goal
+
+pub make_even-requires : goal.make_even-requires
+make_even-requires g c κs within = grind (ints, arith, common_steps)
+
+pub put_below-below-requires : goal.put_below-below-requires
+put_below-below-requires g c κs within = grind (ints, arith, common_steps)
+
+pub make_odd-requires : goal.make_odd-requires
+make_odd-requires g c κs within = grind (ints, arith, common_steps)
 
 pub sample_row-requires : goal.sample_row-requires
 sample_row-requires g c κs within =
@@ -17,6 +28,9 @@ sample_row-requires g c κs within =
         search rules,
       ),
     )
+
+pub sample_row-requires-in-loop-y : goal.sample_row-requires-in-loop-y
+sample_row-requires-in-loop-y g c κs within = grind (ints, arith, common_steps)
 
 pub loop-y-preserved : goal.loop-y-preserved
 loop-y-preserved g c =

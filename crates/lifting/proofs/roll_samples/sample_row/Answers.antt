@@ -5,7 +5,7 @@ use Rattle.lifting.specs.Places.{woven}
 use Rattle.lifting.specs.Fits.{LineFits}
 use Rattle.lifting.specs.Clipping.{sample_of}
 use Rattle.lifting.proofs.RollingUp.{row_fits, row_made}
-use Rattle.lifting.proofs.SampleRows.{part_row, row_inside}
+use Rattle.lifting.proofs.SampleRows.{part_row, part_behind, row_inside}
 use Rattle.lifting.proofs.roll_samples.sample_row.Goals as goal
 
 pub sample_sides-requires-clause-has_room : goal.sample_sides-requires-clause-has_room
@@ -27,3 +27,10 @@ returns-then-y-area-clause-row g c lt x lx =
 
 pub returns-then-y-area-clause-before : goal.returns-then-y-area-clause-before
 returns-then-y-area-clause-before c = grind (arith, common_steps)
+
+pub returns-then-y-area-clause-behind : goal.returns-then-y-area-clause-behind
+returns-then-y-area-clause-behind g c k le =
+    let start : ℕ = c.args.y * c.args.area.w in
+    let samples = c.args.samples.now in
+    let inside : start + c.args.area.w ≤ length samples = row_inside c.args.y c.args.area.h c.args.area.w (length samples) c.if-y-area.true c.requires.1.1.0.2 in
+    part_behind start (start + c.args.area.w - start) samples c.sample_sides.new.dst k (omega arith) (omega (arith, c.sample_sides.auto.dst)) (omega arith)
