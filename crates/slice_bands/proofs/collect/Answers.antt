@@ -21,3 +21,27 @@ overflow_mul-sx-in-loop-sx g c = grind (arith, common_steps)
 
 pub returns-after-loop-sx : goal.returns-after-loop-sx
 returns-after-loop-sx g c = grind (arith, common_steps)
+
+pub overflow_mul-sx : goal.overflow_mul-sx
+overflow_mul-sx g c = grind (arith, common_steps)
+
+pub overflow_add-start : goal.overflow_add-start
+overflow_add-start g c = grind (arith, common_steps)
+
+pub overflow_add-start-in-loop-sx : goal.overflow_add-start-in-loop-sx
+overflow_add-start-in-loop-sx g c = grind (arith, common_steps)
+
+pub collect_fixed-requires-clause-room : goal.collect_fixed-requires-clause-room
+collect_fixed-requires-clause-room g c = grind (arith, common_steps)
+
+pub returns-then-count-eq8 : goal.returns-then-count-eq8
+returns-then-count-eq8 g c = grind (arith, common_steps)
+
+pub returns-then-count-eq4 : goal.returns-then-count-eq4
+returns-then-count-eq4 g c = grind (arith, common_steps)
+
+pub returns-then-count-eq2 : goal.returns-then-count-eq2
+returns-then-count-eq2 g c = grind (arith, common_steps)
+
+pub returns-then-count-eq1 : goal.returns-then-count-eq1
+returns-then-count-eq1 g c = grind (arith, common_steps)

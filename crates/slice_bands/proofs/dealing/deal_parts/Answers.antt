@@ -28,3 +28,33 @@ overflow_mul-sx-in-loop-sx g c = grind (arith, common_steps)
 
 pub returns-after-loop-sx-clause-put : goal.returns-after-loop-sx-clause-put
 returns-after-loop-sx-clause-put g c = grind (arith, common_steps)
+
+pub overflow_add-start-in-loop-sx : goal.overflow_add-start-in-loop-sx
+overflow_add-start-in-loop-sx g c = grind (arith, common_steps)
+
+pub returns-then-count-eq8-clause-put : goal.returns-then-count-eq8-clause-put
+returns-then-count-eq8-clause-put g c = grind (arith, common_steps)
+
+pub returns-then-count-eq4-clause-put : goal.returns-then-count-eq4-clause-put
+returns-then-count-eq4-clause-put g c = grind (arith, common_steps)
+
+pub returns-then-count-eq2-clause-put : goal.returns-then-count-eq2-clause-put
+returns-then-count-eq2-clause-put g c = grind (arith, common_steps)
+
+pub returns-then-count-eq1-clause-put : goal.returns-then-count-eq1-clause-put
+returns-then-count-eq1-clause-put g c = grind (arith, common_steps)
+
+pub returns-then-count-eq8-clause-front : goal.returns-then-count-eq8-clause-front
+returns-then-count-eq8-clause-front g c = c.deal_fixed.ensures.front
+
+pub returns-then-count-eq4-clause-front : goal.returns-then-count-eq4-clause-front
+returns-then-count-eq4-clause-front g c = c.deal_fixed-then-count-eq4.ensures.front
+
+pub returns-then-count-eq2-clause-front : goal.returns-then-count-eq2-clause-front
+returns-then-count-eq2-clause-front g c = c.deal_fixed-then-count-eq2.ensures.front
+
+pub returns-then-count-eq1-clause-front : goal.returns-then-count-eq1-clause-front
+returns-then-count-eq1-clause-front g c = c.deal_fixed-then-count-eq1.ensures.front
+
+pub returns-after-loop-sx-clause-front : goal.returns-after-loop-sx-clause-front
+returns-after-loop-sx-clause-front g c = c.loop-sx.invariant.front

@@ -1,10 +1,11 @@
-use Rattle.std.proofs.Common.{◌≡◌, ◌≤◌, ◌<◌, ◌∙◌, ℕ, ◌+◌, ◌*◌, pos, length, sym, ap, arith, subst, get_or, true, false}
+use Rattle.std.proofs.Common.{◌≡◌, ◌≤◌, ◌<◌, ◌∙◌, ℕ, ◌+◌, ◌*◌, ℤ, pos, length, sym, ap, arith, subst, get_or, true, false}
 use Rattle.std.proofs.lemmas.Nat.{mul-le}
 use Rattle.std.proofs.lemmas.Grind.{common_steps}
 use Rattle.planes.specs.Bounded.{IsWithin}
 use Rattle.planes.specs.Raster.{height, row_of}
 use Rattle.planes.specs.Subbands.{band_of}
 use Rattle.slice_bands.specs.declared.short.TheConstants.{MAX_SHORT}
+use Rattle.slice_bands.specs.Slices.{Slices}
 use Rattle.slice_bands.specs.Places.{part_h}
 use Rattle.slice_bands.proofs.Parts.{part_most}
 use Rattle.slice_bands.proofs.Deals.{AreDealtTo, row_put, same_more, agree_now, exists_now, down_now, rows_now, band_done}
@@ -82,3 +83,30 @@ loop-y-init c = grind (arith, common_steps)
 
 pub row-numbers-requires : goal.row-numbers-requires
 row-numbers-requires c = grind (arith, common_steps)
+
+pub overflow_step-y : goal.overflow_step-y
+overflow_step-y c =
+    let s = c.args.self.now in
+    let most : c.part_h-h.result ≤ s.sh = omega (arith, part_most s.depth c.args.level s.sh, c.part_h-h.ensures) in
+    let strips : c.args.sy * c.part_h-h.result ≤ s.down * s.sh = mul-le c.args.sy c.part_h-h.result s.down s.sh (omega (arith, c.requires.strip)) most in
+    omega (arith, strips, c.shows.ensures.sound.short_h)
+
+pub narrow_row-requires-clause-len : goal.narrow_row-requires-clause-len
+narrow_row-requires-clause-len c = grind (arith, common_steps)
+
+pub narrow_row-requires-clause-short : goal.narrow_row-requires-clause-short
+narrow_row-requires-clause-short c = c.are_short.ensures.0 c.if-not-are_short.false
+
+pub put_row-requires-clause-inside : goal.put_row-requires-clause-inside
+put_row-requires-clause-inside c =
+    let s = c.args.self.now in
+    let strips : (c.args.sy + 1) * c.part_h-h.result ≤ s.down * c.part_h-h.result = mul-le (c.args.sy + 1) c.part_h-h.result s.down c.part_h-h.result (omega (arith, c.requires.strip)) (omega arith) in
+    let inside : c.loop-y.y < s.down * c.part_h-h.result = omega (arith, c.loop-y-test.true, c.loop-y.auto.y-end, strips) in
+    subst (λ (t : Slices ℤ). c.loop-y.y < t.down * part_h t c.args.level) (sym c.loop-y.invariant.same)
+    (subst (λ (h : ℕ). c.loop-y.y < s.down * h) c.part_h-h.ensures inside)
+
+pub put_row-requires-clause-whole : goal.put_row-requires-clause-whole
+put_row-requires-clause-whole c = grind (arith, common_steps)
+
+pub returns-then-not-are_short-clause-dealt : goal.returns-then-not-are_short-clause-dealt
+returns-then-not-are_short-clause-dealt c = grind (arith, common_steps)

@@ -59,3 +59,14 @@ overflow_step-y g c = grind (arith, common_steps)
 
 pub overflow_mul-y-end : goal.overflow_mul-y-end
 overflow_mul-y-end g c = grind (arith, common_steps)
+
+pub loop-y-init : goal.loop-y-init
+loop-y-init g c = grind (arith, common_steps)
+
+pub copy_row-requires-clause-inside : goal.copy_row-requires-clause-inside
+copy_row-requires-clause-inside g c =
+    let s = c.args.self.now in
+    let h : ℕ = c.part_h-h.result in
+    let strips : (c.args.sy + 1) * h ≤ s.down * h = mul-le (c.args.sy + 1) h s.down h (omega (arith, c.requires.strip)) (omega arith) in
+    let inside : c.loop-y.y < s.down * h = omega (arith, c.loop-y-test.true, c.loop-y.auto.y-end, strips) in
+    subst (λ (n : ℕ). c.loop-y.y < s.down * n) c.part_h-h.ensures inside
