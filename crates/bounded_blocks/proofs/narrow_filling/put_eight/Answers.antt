@@ -1,7 +1,11 @@
-use Rattle.std.proofs.Common.{◌+◌, ◌++◌, List, [], ◌∷◌, map, take, ℤ, refl, sym, ap, ◌∙◌, arith}
+use Rattle.std.proofs.Common.{ℕ, ◌+◌, ◌*◌, ◌<◌, ◌≤◌, ◌++◌, List, [], ◌∷◌, length, map, take, ℤ, refl, sym, ap, ◌∙◌, arith}
 use Rattle.std.proofs.lemmas.List.{take-map, map-append}
+use Rattle.std.proofs.lemmas.Nat.{mul-le}
 use Rattle.bounded_blocks.proofs.EightValues.{low-byte, byte-is, cons-same, eight-are}
 use Rattle.bounded_blocks.proofs.narrow_filling.put_eight.Goals as goal
+
+eight-fit : (at long each most : ℕ) → at + 8 ≤ long → long * each < most → 8 * each < most
+eight-fit at long each most room fits = let more : 8 * each ≤ long * each = mul-le 8 each long each (omega arith) (omega arith) in omega arith
 
 pub of_byte-requires : goal.of_byte-requires
 of_byte-requires g c = low-byte c.args.values.now 0 c.requires.low
@@ -26,6 +30,9 @@ of_byte-requires-7 g c = low-byte c.args.values.now 6 c.requires.low
 
 pub of_byte-requires-8 : goal.of_byte-requires-8
 of_byte-requires-8 g c = low-byte c.args.values.now 7 c.requires.low
+
+pub put_all-requires : goal.put_all-requires
+put_all-requires g c = (eight-fit c.args.at (length c.args.out.now) _ _ c.requires.room c.well_formed.0.1, c.requires.room)
 
 pub returns-clause-values : goal.returns-clause-values
 returns-clause-values g c =
