@@ -1,7 +1,8 @@
-use Rattle.std.proofs.Common.{◌≡◌, ◌∙◌, ℕ, true, false, refl, sym, ap, arith}
+use Rattle.std.proofs.Common.{◌≡◌, ◌∙◌, ◌+◌, ℕ, true, false, refl, sym, ap, arith}
 use Rattle.slice_encoder.specs.declared.gathered.Reaches.{Reaches}
 use Rattle.slice_encoder.specs.GatheredSlices.{low_by, gathered_low, gathered_reaches}
 use Rattle.slice_encoder.proofs.GatheredLists.{low_refuted_below, gathered_may}
+use Rattle.slice_encoder.specs.LowNeeds.{may_fit}
 use Rattle.slice_encoder.proofs.candidates.find_first.Goals as goal
 
 pub loop-start-init : goal.loop-start-init
@@ -79,3 +80,41 @@ reaches-reaches-requires-clause-room c = record {
   luma = omega (arith, c.requires.room.luma, c.loop-start.invariant.luma_length);
   colour = omega (arith, c.requires.room.colour, c.loop-start.invariant.colour_length);
 }
+
+pub returns-then-not-known-clause-first : goal.returns-then-not-known-clause-first
+returns-then-not-known-clause-first c =
+    let l = c.loop-start in
+    let same : l.end ≡ l.start = omega (arith, c.loop-start-test.false, l.invariant.order) in
+    record {
+      most = omega (arith, l.invariant.order, l.invariant.most);
+      may = ap (λ (i : ℕ). may_fit c.args.bytes (gathered_low c.args.gathered.now c.args.matrix.now i)) (sym same) ∙ l.invariant.may;
+      least = l.invariant.refuted;
+    }
+
+pub returns-then-not-known-clause-next : goal.returns-then-not-known-clause-next
+returns-then-not-known-clause-next c =
+    let l = c.loop-start in
+    let same : l.end ≡ l.start = omega (arith, c.loop-start-test.false, l.invariant.order) in
+    λ e. l.invariant.next e ∙ ap (λ (i : ℕ). gathered_reaches c.args.gathered.now c.args.matrix.now (i + 1)) same
+
+pub returns-else-not-known-clause-first : goal.returns-else-not-known-clause-first
+returns-else-not-known-clause-first c =
+    let l = c.loop-start in
+    let same : l.end ≡ l.start = omega (arith, c.loop-start-test.false, l.invariant.order) in
+    record {
+      most = omega (arith, l.invariant.order, l.invariant.most);
+      may = ap (λ (i : ℕ). may_fit c.args.bytes (gathered_low c.args.gathered.now c.args.matrix.now i)) (sym same) ∙ l.invariant.may;
+      least = l.invariant.refuted;
+    }
+
+pub returns-else-not-known-clause-reaches : goal.returns-else-not-known-clause-reaches
+returns-else-not-known-clause-reaches c =
+    let l = c.loop-start in
+    let same : l.end ≡ l.start = omega (arith, c.loop-start-test.false, l.invariant.order) in
+    l.invariant.known c.if-not-known.false ∙ ap (λ (i : ℕ). gathered_reaches c.args.gathered.now c.args.matrix.now i) same
+
+pub returns-else-not-known-clause-next : goal.returns-else-not-known-clause-next
+returns-else-not-known-clause-next c =
+    let l = c.loop-start in
+    let same : l.end ≡ l.start = omega (arith, c.loop-start-test.false, l.invariant.order) in
+    λ e. l.invariant.next e ∙ ap (λ (i : ℕ). gathered_reaches c.args.gathered.now c.args.matrix.now (i + 1)) same

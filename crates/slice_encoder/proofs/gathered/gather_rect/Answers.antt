@@ -1,15 +1,24 @@
-use Rattle.std.proofs.Common.{◌≡◌, ◌∙◌, ℕ, ◌+◌, ◌-◌, ◌*◌, ◌^◌, ◌<◌, ◌++◌, List, length, get_or, take, map, sym, subst, ap, arith, ℤ, to_z, of_z, w32}
+use Rattle.std.proofs.Common.{◌≡◌, ◌∙◌, ℕ, ◌+◌, ◌-◌, ◌*◌, ◌^◌, ◌<◌, ◌≤◌, ◌++◌, List, length, get_or, take, map, sym, subst, ap, arith, ℤ, to_z, of_z, w32}
 use Rattle.std.specs.List.{flat_map, range_with_len}
-use Rattle.std.proofs.lemmas.List.{length-set, get_or_default}
+use Rattle.std.proofs.lemmas.List.{append-nil, length-set, get_or_default}
 use Rattle.std.proofs.lemmas.List.Elements.{All-set}
 use Rattle.std.proofs.lemmas.Nat.{mul-add-lt}
 use Rattle.planes.specs.Numbers.{Within}
+use Rattle.planes.specs.declared.Rect.{Rect}
 use Rattle.planes.specs.Raster.{Raster, row_of}
 use Rattle.planes.specs.Valued.{valued, grid_of}
 use Rattle.slice_encoder.specs.Listing.{row_values}
 use Rattle.slice_encoder.proofs.Near.{fits_narrow}
 use Rattle.slice_encoder.proofs.Listed.{listed_one, flat_more, next_row, turned}
 use Rattle.slice_encoder.proofs.gathered.gather_rect.Goals as goal
+
+-- the place of a number of a rectangle
+in_room : (r : Rect) (y x place from had n : ℕ) → r.y0 ≤ y → y < r.y1 → r.x0 ≤ x → x < r.x1 → place ≡ from + (y - r.y0) * (r.x1 - r.x0) + (x - r.x0) → n ≡ had → from + (r.x1 - r.x0) * (r.y1 - r.y0) ≤ had → place < n
+in_room r y x place from had n low high left right place_is same room =
+    let w : ℕ = r.x1 - r.x0 in
+    let h : ℕ = r.y1 - r.y0 in
+    let inside = mul-add-lt (y - r.y0) w (x - r.x0) h (omega arith) (omega arith) in
+    omega (arith, place_is, same, room, inside, turned w h)
 
 -- a number of a row, as the plane has it
 number_is : {X : Type 0} (value : X → ℤ) (none : X) (p : Raster X) (y x : ℕ) (row : List X) (r : X) → row ≡ row_of p y → x < length row → r ≡ get_or row x r → value r ≡ grid_of value none p y x
@@ -21,6 +30,17 @@ narrowed-requires g c =
     let x = c.loop-x.x in
     let e_is = number_is g.T.Number.value g.T.Number.none c.args.coefficients.now y x _ c.index-row-x.result c.row-row.ensures.value (omega (arith, c.row-row.ensures.len, c.requires.can.x_inside)) c.index-row-x.is in
     subst (λ (u : ℤ). Within (2 ^ 27) u) (sym e_is) (c.requires.can.small y x)
+
+pub loop-x-init : goal.loop-x-init
+loop-x-init g c =
+    let l = c.loop-y in
+    let none : c.args.rect.x0 - c.args.rect.x0 ≡ 0 = omega arith in
+    record {
+      place = omega (arith, l.invariant.place);
+      same_length = l.invariant.same_length;
+      small = l.invariant.small;
+      so_far = rw none (rw append-nil l.invariant.so_far);
+    }
 
 pub loop-x-preserved : goal.loop-x-preserved
 loop-x-preserved g c =
@@ -81,3 +101,30 @@ returns-clause-gathered g c =
     ap (λ (n : ℕ). take n l.out) place
     ∙ l.invariant.so_far
     ∙ ap (λ (n : ℕ). take c.args.from c.args.out.now ++ flat_map (row_values value r) (range_with_len r.y0 n)) whole
+
+pub offset_bounds-row-x : goal.offset_bounds-row-x
+offset_bounds-row-x g c = omega (arith, c.row-row.ensures.len, c.requires.can.x_inside)
+
+pub bounds-row-x : goal.bounds-row-x
+bounds-row-x g c = omega (arith, c.row-row.ensures.len, c.requires.can.x_inside)
+
+pub offset_bounds-out-place : goal.offset_bounds-out-place
+offset_bounds-out-place g c =
+    let l = c.loop-x in
+    let lt = in_room c.args.rect c.loop-y.y l.x l.place c.args.from (length c.args.out.now) (length l.out) c.loop-y.auto.y c.loop-y-test.true l.auto.x c.loop-x-test.true l.invariant.place l.invariant.same_length c.requires.room in
+    omega (arith, lt)
+
+pub bounds-out-place : goal.bounds-out-place
+bounds-out-place g c =
+    let l = c.loop-x in
+    let lt = in_room c.args.rect c.loop-y.y l.x l.place c.args.from (length c.args.out.now) (length l.out) c.loop-y.auto.y c.loop-y-test.true l.auto.x c.loop-x-test.true l.invariant.place l.invariant.same_length c.requires.room in
+    lt
+
+pub overflow_add-place : goal.overflow_add-place
+overflow_add-place g c =
+    let l = c.loop-x in
+    let lt = in_room c.args.rect c.loop-y.y l.x l.place c.args.from (length c.args.out.now) (length l.out) c.loop-y.auto.y c.loop-y-test.true l.auto.x c.loop-x-test.true l.invariant.place l.invariant.same_length c.requires.room in
+    omega (arith, lt)
+
+pub returns-clause-small : goal.returns-clause-small
+returns-clause-small g c = c.loop-y.invariant.small

@@ -103,3 +103,9 @@ gather-requires-clause-given c =
       c1 = record { depth = ready.c1.depth; sizes = ready.c1.sizes; small = ready.c1.small };
       c2 = record { depth = ready.c2.depth; sizes = ready.c2.sizes; small = ready.c2.small };
     }
+
+pub returns-clause-kept : goal.returns-clause-kept
+returns-clause-kept c =
+    let a = c.args in
+    let found = c.find_least-found in
+    subst (λ (s : SliceEncoderSeen). AreTried (coded_picture s.slicing s.shape a.matrix.now (trio_seen a.coefficients)) a.sx a.sy found.result.index a.kept.now found.new.kept) c.self.view_is found.ensures.kept
