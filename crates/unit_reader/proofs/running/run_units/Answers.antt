@@ -7,6 +7,7 @@ use Rattle.unit_reader.specs.Reading.{NextOver}
 use Rattle.unit_reader.specs.Running.{command_from, machine_over}
 use Rattle.unit_reader.proofs.Opens.{opens_machine}
 use Rattle.unit_reader.proofs.Exits.{goes_first, holds_first, ran_unopened_by, goes_more, place_more, passes_item, passes_last, holds_turn, ran_unwritten, ran_finished, ran_refused, ran_rested, ran_lost, ran_no_memory, takes_at_most, begun_opens, unrefused_begun, unrefused_turn, turned_soon, lost_soon, none_soon}
+use Rattle.unit_reader.proofs.Told.{err_no_ok, memory_no_fault}
 use Rattle.unit_reader.proofs.running.run_units.Goals as goal
 
 pub returns-in-Err : goal.returns-in-Err
@@ -25,7 +26,7 @@ returns-in-Err g c =
         ran = ran_unopened_by (Unit {0}) g.T.Units.grammar g.T.Units.beyond g.C.UnitCommand.first cmd (rest c.args.src.now) (written c.args.out.now) (written c.open.new.out) c.in-Err.halt c.in-Err.ensures.wrote;
         limit = takes_none (rest c.args.src.now);
         cause = cause_halt (Unit {0}) g.row.C-Ending.Denot (g.S.Source.faults c.args.src.now) (g.S.Source.faults c.args.src.now) (g.K.Sink.faults c.args.out.now) (g.K.Sink.faults c.args.out.now) (g.K.Sink.faults c.open.new.out) c.in-Err.halt refl refl c.in-Err.ensures.cause;
-        end = λ ending e done. absurd cc;
+        end = λ ending e done. err_no_ok e;
       };
       soon = none_soon g.C.UnitCommand.may_go_on machine (machine_laws limit (past_limit G L) G first cmd laws) (opens_machine g.C.UnitCommand.may_go_on G L laws first cmd opens) (g.S.Source.rest c.args.src.now) _;
     }
@@ -76,7 +77,7 @@ returns-in-ReadFault g c =
         ran = ran_lost L g.met.T.Units.laws g.C.UnitCommand.first cmd r0 o0 o1 i.holds at.2;
         limit = takes_at_most G L g.T.Units.past g.T.Table.tells g.T.Table.stopped old c.next.new.self r0 r1 r2 (Err c.in-Err-next.stop) i.goes n;
         cause = (subst (λ m. m ≤ (g.S.Source.faults c.next.new.src)) i.steady why.0, subst (λ m. Rose m (g.S.Source.faults c.next.new.src)) i.steady why.1, i.steady_out);
-        end = λ ending e done. absurd cc;
+        end = λ ending e done. err_no_ok e;
       };
       soon = lost_soon L r0 r1 r2 g.met.T.Units.laws g.C.UnitCommand.first cmd opens _ i.unrefused at.1 at.2;
     }
@@ -105,9 +106,9 @@ returns-in-NoMemory g c =
         ran = ran_no_memory L g.met.T.Units.laws g.C.UnitCommand.first cmd r0 o0 o1 i.holds at.2;
         limit = takes_at_most G L g.T.Units.past g.T.Table.tells g.T.Table.stopped old c.next.new.self r0 r1 r2 (Err c.in-Err-next.stop) i.goes n;
         cause = (why ∙ i.steady, i.steady_out);
-        end = λ ending e done. absurd cc;
+        end = λ ending e done. err_no_ok e;
       };
-      soon = turned_soon g.T.Units.beyond g.T.Units.past g.T.Table.tells g.T.Table.stopped c.loop-turn.reader c.next.new.self r0 r1 r2 (Err c.in-Err-next.stop) g.met.T.Units.laws g.C.UnitCommand.first cmd opens _ i.goes.most i.unrefused n (λ e. absurd cc);
+      soon = turned_soon g.T.Units.beyond g.T.Units.past g.T.Table.tells g.T.Table.stopped c.loop-turn.reader c.next.new.self r0 r1 r2 (Err c.in-Err-next.stop) g.met.T.Units.laws g.C.UnitCommand.first cmd opens _ i.goes.most i.unrefused n (memory_no_fault refl);
     }
 
 pub returns-in-Err-next : goal.returns-in-Err-next
@@ -316,7 +317,7 @@ returns-in-Err-turn g c =
         ran = ran_unwritten (Unit {0}) g.met.T.Units.laws g.C.UnitCommand.first cmd r0 o0 o1 (written c.turn.new.out) w c.in-Err-turn.halt i.holds n (c.in-Err-turn.ensures.wrote old.table p i.keeps);
         limit = takes_at_most G L g.T.Units.past Tells Stopped old new r0 r1 r2 (Ok c.in-Ok-next.turn) i.goes a;
         cause = cause_halt (Unit {0}) g.row.C-Ending.Denot (g.S.Source.faults c.args.src.now) (g.S.Source.faults c.next.new.src) (g.K.Sink.faults c.args.out.now) (g.K.Sink.faults c.loop-turn.out) (g.K.Sink.faults c.turn.new.out) c.in-Err-turn.halt steady i.steady_out c.in-Err-turn.ensures.cause;
-        end = λ ending e done. absurd cc;
+        end = λ ending e done. err_no_ok e;
       };
       soon = turned_soon L g.T.Units.past Tells Stopped old new r0 r1 r2 (Ok c.in-Ok-next.turn) g.met.T.Units.laws g.C.UnitCommand.first cmd opens _ i.goes.most i.unrefused a (writes_no_read (Unit {0}) _ _ o1 (written c.turn.new.out) c.in-Err-turn.halt _ refl (c.in-Err-turn.ensures.wrote old.table p i.keeps));
     }
