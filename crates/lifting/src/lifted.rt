@@ -9,11 +9,12 @@ ghost use Rattle.lifting.specs.Steps.{step};
 ghost use Rattle.lifting.specs.Turns.{SameSize, HaveStepRoom};
 
 use crate::kernels::stepped;
+use crate::laned::{LANES, Laned, lift_at};
 use crate::{PairStep, Wavelet};
 use planes::{Number, Plane};
 
 /// Numbers with room for a level of analysis, which takes those within 2^25.
-pub trait Analysed: Number {
+pub trait Analysed: Laned {
     ghost back_law: { 2 ^ 29 ≤ Self.Number.reach };
 }
 
@@ -27,26 +28,25 @@ impl Analysed for i64 {
 
 /// A wavelet's step on each place of `dst`, whose neighbours are those of `a` before it and `b` behind it.
 #[inline(always)]
-pub(crate) fn lift_each<T: Number>(
-    dst: &mut [T],
-    a: &[T],
-    b: &[T],
-    wavelet: Wavelet,
-    kind: PairStep,
-)
+pub(crate) fn lift_each<T: Laned>(dst: &mut [T], a: &[T], b: &[T], wavelet: Wavelet, kind: PairStep)
     requires { HaveStepRoom T.value T.none T.reach dst.old a.now b.now }
     ensures { let at = valued T.value T.none in
         (i : ℕ) → i < length dst.old
         → at dst.new i ≡ step wavelet kind (at dst.old i) (at a.now i) (at b.now i) }
 {
-    for i in 0..dst.len() {
+    let mut at = 0;
+    while LANES <= dst.len() - at {
+        lift_at(dst, a, b, at, wavelet, kind);
+        at += LANES;
+    }
+    for i in at..dst.len() {
         dst[i] = stepped(wavelet, kind, dst[i], a[i], b[i]);
     }
 }
 
 /// The same, with a loop for each wavelet by itself, so that no turn of it asks which wavelet it is.
 #[inline(always)]
-pub(crate) fn lift_between<T: Number>(
+pub(crate) fn lift_between<T: Laned>(
     dst: &mut [T],
     a: &[T],
     b: &[T],

@@ -5,21 +5,20 @@ ghost use Rattle.std.specs.Int.{int_min, int_max};
 ghost use Rattle.std.proofs.Common.{lit≤};
 ghost use Rattle.planes.specs.Numbers.{Within};
 ghost use Rattle.planes.specs.Valued.{valued, EachValued};
-ghost use Rattle.lifting.specs.declared.PairStep.TheVariants.{OddUp};
-ghost use Rattle.lifting.specs.Places.{woven, odd_stepped};
-ghost use Rattle.lifting.specs.Steps.{step, halved};
+ghost use Rattle.lifting.specs.Places.{woven};
+ghost use Rattle.lifting.specs.Steps.{halved};
 ghost use Rattle.lifting.specs.Lines.{synthesis_line};
 ghost use Rattle.lifting.specs.Fits.{LineFits};
 ghost use Rattle.lifting.specs.Clipping.{sample_of, clipped_up};
 ghost use Rattle.lifting.specs.LowerSamples.{rounded};
 
-use crate::halves::lift_even_half;
-use crate::kernels::{shifted, stepped};
+use crate::halves::{lift_even_half, lift_odd_half};
+use crate::kernels::shifted;
+use crate::laned::Laned;
 use crate::{PairStep, Wavelet};
-use planes::Number;
 
 /// Numbers that become samples.
-pub trait Sampled: Number {
+pub trait Sampled: Laned {
     // The most bits of a sample.
     ghost depths: { ℕ };
 
@@ -165,22 +164,7 @@ pub(crate) fn sample_band<T: Sampled>(dst: &mut [u16], row: &[T], depth: u32)
     }
 }
 
-// The sample of an odd place, lifted between the even ones beside it.
-#[inline(always)]
-fn odd_sample<T: Sampled>(odd: T, a: T, b: T, wavelet: Wavelet, half: T) -> u16
-    requires odd_small { Within T.reach (T.value odd) }
-    requires a_small { Within T.reach (T.value a) }
-    requires b_small { Within T.reach (T.value b) }
-    requires some { pos 1 ≤ℤ T.value half }
-    requires most { T.value half ≤ℤ pos (2 ^ (T.depths - 1)) }
-    ensures { pos result
-        ≡ clipped_up (T.value half) (halved wavelet
-        (step wavelet OddUp (T.value odd) (T.value a) (T.value b))) }
-{
-    sample(stepped(wavelet, PairStep::OddUp, odd, a, b), wavelet, half)
-}
-
-// The first pairs of samples of the even and the odd places, each odd one lifted on the way.
+// The first pairs of samples of the even and the odd places.
 #[inline(always)]
 fn weave_each<T: Sampled>(
     dst: &mut [u16],
@@ -195,18 +179,17 @@ fn weave_each<T: Sampled>(
     requires short { length even.now ≤ 8208 }
     requires same_len { length odd.now ≡ length even.now }
     requires room { 2 * count ≤ length dst.old }
-    requires inner { count < length even.now }
-    requires even_small { EachValued T.value T.none T.reach even.now }
-    requires odd_small { EachValued T.value T.none T.reach odd.now }
+    requires inside { count ≤ length even.now }
+    requires even_small { EachValued T.value T.none (T.reach + T.reach) even.now }
+    requires odd_small { EachValued T.value T.none (T.reach + T.reach) odd.now }
     ensures { let at = valued T.value T.none in
         (i : ℕ) → i < 2 * count → pos (slice_index_or dst.new i 0)
         ≡ clipped_up (T.value half)
-        (halved wavelet (woven (at even.now)
-        (odd_stepped (step wavelet OddUp) (length odd.now) (at even.now) (at odd.now)) i)) }
+        (halved wavelet (woven (at even.now) (at odd.now) i)) }
 {
     for k in 0..count {
         dst[2 * k] = sample(even[k], wavelet, half);
-        dst[2 * k + 1] = odd_sample(odd[k], even[k], even[k + 1], wavelet, half);
+        dst[2 * k + 1] = sample(odd[k], wavelet, half);
     }
 }
 
@@ -224,14 +207,13 @@ fn weave_pairs<T: Sampled>(
     requires short { length even.now ≤ 8208 }
     requires same_len { length odd.now ≡ length even.now }
     requires room { 2 * count ≤ length dst.old }
-    requires inner { count < length even.now }
-    requires even_small { EachValued T.value T.none T.reach even.now }
-    requires odd_small { EachValued T.value T.none T.reach odd.now }
+    requires inside { count ≤ length even.now }
+    requires even_small { EachValued T.value T.none (T.reach + T.reach) even.now }
+    requires odd_small { EachValued T.value T.none (T.reach + T.reach) odd.now }
     ensures { let at = valued T.value T.none in
         (i : ℕ) → i < 2 * count → pos (slice_index_or dst.new i 0)
         ≡ clipped_up (T.value half)
-        (halved wavelet (woven (at even.now)
-        (odd_stepped (step wavelet OddUp) (length odd.now) (at even.now) (at odd.now)) i)) }
+        (halved wavelet (woven (at even.now) (at odd.now) i)) }
 {
     match wavelet {
         Wavelet::LeGall => weave_each(dst, even, odd, count, Wavelet::LeGall, half),
@@ -240,34 +222,25 @@ fn weave_pairs<T: Sampled>(
     }
 }
 
-// The samples of the even and the odd places, as many as there is room for, the odd ones lifted on the way. Behind the last
-// odd place there is no even one, and the even one before it stands for it.
+// The samples of the even and the odd places, as many as there is room for.
 #[tactic(auto, using(crate::proofs::SampleRows::half_some, crate::proofs::SampleRows::half_most))]
 fn weave_samples<T: Sampled>(dst: &mut [u16], even: &[T], odd: &[T], wavelet: Wavelet, depth: u32)
     requires some_bits { 1 ≤ depth }
     requires bits { depth ≤ T.depths }
-    requires some { 1 ≤ length even.now }
     requires short { length even.now ≤ 8208 }
     requires same_len { length odd.now ≡ length even.now }
     requires room { length dst.old ≤ 2 * length even.now }
-    requires even_small { EachValued T.value T.none T.reach even.now }
-    requires odd_small { EachValued T.value T.none T.reach odd.now }
+    requires even_small { EachValued T.value T.none (T.reach + T.reach) even.now }
+    requires odd_small { EachValued T.value T.none (T.reach + T.reach) odd.now }
     ensures { let at = valued T.value T.none in
         (i : ℕ) → i < length dst.old → slice_index_or dst.new i 0
-        ≡ sample_of depth (halved wavelet
-        (woven (at even.now) (odd_stepped (step wavelet OddUp) (length odd.now) (at even.now)
-        (at odd.now)) i)) }
+        ≡ sample_of depth (halved wavelet (woven (at even.now) (at odd.now) i)) }
 {
     let half = T::half_range(depth);
-    let (n, last) = (dst.len(), even.len() - 1);
-    let count = if n / 2 < last { n / 2 } else { last };
+    let (n, count) = (dst.len(), dst.len() / 2);
     weave_pairs(dst, even, odd, count, wavelet, half);
-    if n == 2 * count {
-        return;
-    }
-    dst[2 * count] = sample(even[count], wavelet, half);
-    if n > 2 * count + 1 {
-        dst[2 * count + 1] = odd_sample(odd[count], even[count], even[count], wavelet, half);
+    if n > 2 * count {
+        dst[2 * count] = sample(even[count], wavelet, half);
     }
 }
 
@@ -294,7 +267,8 @@ pub(crate) fn sample_sides<T: Sampled>(
         (synthesis_line wavelet (2 * w) (woven (at row.old) (λ j. at row.old (w + j))) i)) }
 {
     let (even, rest) = row.split_at_mut(w);
-    let odd = &rest[..w];
+    let odd = &mut rest[..w];
     lift_even_half(even, odd, wavelet, PairStep::EvenDown);
+    lift_odd_half(odd, even, wavelet, PairStep::OddUp);
     weave_samples(dst, even, odd, wavelet, depth);
 }

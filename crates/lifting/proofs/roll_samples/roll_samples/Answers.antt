@@ -23,9 +23,12 @@ sample_row-requires g c κs within =
     let y = c.loop-y.y in (
       search rules,
       (
-        even_lifted c.args.level.now g.g y (grid_of g.T.Number.value g.T.Number.none c.make_odd.new.scratch (y % 2))
-            (λ x lx. c.make_odd.ensures.others (y % 2) x (omega arith) ∙ c.put_below-below.ensures.above x lx),
         search rules,
+        (
+          even_lifted c.args.level.now g.g y (grid_of g.T.Number.value g.T.Number.none c.make_odd.new.scratch (y % 2))
+              (λ x lx. c.make_odd.ensures.others (y % 2) x (omega arith) ∙ c.put_below-below.ensures.above x lx),
+          search rules,
+        ),
       ),
     )
 

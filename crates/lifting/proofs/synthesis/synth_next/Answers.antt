@@ -18,12 +18,15 @@ roll_up-requires G c κs within =
     let room = next_in_room b n w h p c.args.scratch.now q c.requires.some c.args.wavelet l of in (
       search rules,
       (
-        level_bands b w h q.whole_columns q.whole_rows q.bands c.args.wavelet n c.requires.some l of,
+        search rules,
         (
-          next_fits G.T.Number.value G.T.Number.none c.args.wavelet (lowest b.depth h) (lowest b.depth w) b n p l of
-              (level_rows b w h q.whole_columns q.whole_rows q.bands c.args.wavelet n c.requires.some l of) (level_columns b w h q.whole_columns q.whole_rows q.bands c.args.wavelet n c.requires.some l of)
-              c.requires.below G.T.Number.reach c.requires.has_room,
-          (low_of_grid G.T.Number.value G.T.Number.none p l, (room.0, (room.1, (room.2, room.3)))),
+          level_bands b w h q.whole_columns q.whole_rows q.bands c.args.wavelet n c.requires.some l of,
+          (
+            next_fits G.T.Number.value G.T.Number.none c.args.wavelet (lowest b.depth h) (lowest b.depth w) b n p l of
+                (level_rows b w h q.whole_columns q.whole_rows q.bands c.args.wavelet n c.requires.some l of) (level_columns b w h q.whole_columns q.whole_rows q.bands c.args.wavelet n c.requires.some l of)
+                c.requires.below G.T.Number.reach c.requires.has_room,
+            (low_of_grid G.T.Number.value G.T.Number.none p l, (room.0, (room.1, (room.2, room.3)))),
+          ),
         ),
       ),
     )

@@ -14,16 +14,19 @@ roll_samples-requires g c κs within =
     c.args.plane.now c.depth-depth.result c.depth-depth.ensures.value l c.level_of-level.ensures c.requires.below g.T.Number.reach c.requires.has_room in (
       search rules,
       (
-        (s.some_bits, c.requires.bits, s.count, s.few),
+        search rules,
         (
-          omega (arith, last.0, s.across),
+          (s.some_bits, c.requires.bits, s.count, s.few),
           (
-            omega (arith, last.1, s.down),
+            omega (arith, last.0, s.across),
             (
-              (omega (arith, last.0, q.some_columns), omega (arith, last.1, q.some_rows), omega (arith, last.0, q.scratch_columns, c.w.ensures), omega (arith, last.1, q.low), last.2),
+              omega (arith, last.1, s.down),
               (
-                last.3,
-                (omega (arith, last.0, q.columns), (omega (arith, last.1, q.rows), (low_of_grid g.T.Number.value g.T.Number.none c.args.plane.now l, (omega (arith, last.0, q.scratch_columns), q.three_rows)))),
+                (omega (arith, last.0, q.some_columns), omega (arith, last.1, q.some_rows), omega (arith, last.0, q.scratch_columns, c.w.ensures), omega (arith, last.1, q.low), last.2),
+                (
+                  last.3,
+                  (omega (arith, last.0, q.columns), (omega (arith, last.1, q.rows), (low_of_grid g.T.Number.value g.T.Number.none c.args.plane.now l, (omega (arith, last.0, q.scratch_columns), q.three_rows)))),
+                ),
               ),
             ),
           ),

@@ -1,0 +1,10 @@
+use Rattle.std.proofs.Common.{◌-◌, ◌^◌}
+use mir.Syntax.{w16}
+use Rattle.lifting.proofs.Lanes.{room_short, difference_lanes, difference_each}
+use Rattle.lifting.proofs.laned.I16Laned.difference.Goals as goal
+
+pub returns-clause-small : goal.returns-clause-small
+returns-clause-small c = difference_lanes w16 (2 ^ 14 - 2) room_short c.args.a c.args.b c.requires.a_small c.requires.b_small
+
+pub returns-clause-each : goal.returns-clause-each
+returns-clause-each c i lt = difference_each w16 (2 ^ 14 - 2) room_short c.args.a c.args.b c.requires.a_small c.requires.b_small i lt

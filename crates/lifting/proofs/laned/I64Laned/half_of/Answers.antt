@@ -1,0 +1,10 @@
+use Rattle.std.proofs.Common.{◌^◌}
+use mir.Syntax.{w64}
+use Rattle.lifting.proofs.Lanes.{room_wide, half_lanes, half_each}
+use Rattle.lifting.proofs.laned.I64Laned.half_of.Goals as goal
+
+pub returns-clause-small : goal.returns-clause-small
+returns-clause-small c = half_lanes w64 (2 ^ 61) room_wide c.args.v c.requires
+
+pub returns-clause-each : goal.returns-clause-each
+returns-clause-each c i lt = half_each w64 (2 ^ 61) room_wide c.args.v c.requires i lt

@@ -1,0 +1,10 @@
+use Rattle.std.proofs.Common.{◌^◌}
+use mir.Syntax.{w64}
+use Rattle.lifting.proofs.Lanes.{room_wide, sum_lanes, sum_each}
+use Rattle.lifting.proofs.laned.I64Laned.sum.Goals as goal
+
+pub returns-clause-small : goal.returns-clause-small
+returns-clause-small c = sum_lanes w64 (2 ^ 61) room_wide c.args.a c.args.b c.requires.a_small c.requires.b_small
+
+pub returns-clause-each : goal.returns-clause-each
+returns-clause-each c i lt = sum_each w64 (2 ^ 61) room_wide c.args.a c.args.b c.requires.a_small c.requires.b_small i lt
