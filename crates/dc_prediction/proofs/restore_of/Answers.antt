@@ -1,4 +1,5 @@
 use Rattle.std.proofs.Common.{◌+◌, ◌∙◌, refl, arith, inr}
+use Rattle.std.proofs.lemmas.Grind.{common_steps}
 use Rattle.planes.specs.Rect.{IsInRect}
 use Rattle.planes.specs.Valued.{grid_of}
 use Rattle.dc_prediction.specs.Restoring.{row_rect}
@@ -38,3 +39,6 @@ loop-y-preserved g c =
           joined g.T.Predicted.limit (IsInRect (upper r (l.y + 1))) (IsInRect (upper r l.y)) (IsInRect (row_rect l.y r.x0 r.x1)) (upper_row r l.y (omega arith))
           (grid c.args.plane.now) (grid l.plane) (grid c.restore_row.new.plane) l.invariant.restored (q.restored c.if-not-restore_row.false);
     }
+
+pub returns-clause-restored : goal.returns-clause-restored
+returns-clause-restored g c = grind (arith, common_steps)

@@ -1,4 +1,6 @@
 use Rattle.std.proofs.Common.{◌∙◌, ℤ, sym, ap, subst}
+use Rattle.std.proofs.Common.{arith}
+use Rattle.std.proofs.lemmas.Grind.{common_steps}
 use Rattle.planes.specs.Raster.{Raster, height}
 use Rattle.planes.specs.Subbands.{with_band}
 use Rattle.slice_bands.specs.Short.{ShowTheSame}
@@ -28,3 +30,9 @@ pub returns-clause-same : goal.returns-clause-same
 returns-clause-same c = λ _.
     subst (λ (p : Raster ℤ). ShowTheSame (short_stack c.args.self.now) (with_band c.gather.new.bands 0 0 p)) (sym c.narrow_plane.ensures)
     (shows_all c.args.self.now c.shows.ensures.sizes c.requires.sound c.args.bands.now c.requires.sizes c.gather.new.bands (all_same c.args.self.now.slices c.gather.new.bands c.gather.ensures.depth c.gather.ensures.strips) c.band_mut.ensures.there)
+
+pub returns-clause-answer : goal.returns-clause-answer
+returns-clause-answer c = grind (arith, common_steps)
+
+pub narrow_plane-requires-clause-short : goal.narrow_plane-requires-clause-short
+narrow_plane-requires-clause-short c = grind (arith, common_steps)
