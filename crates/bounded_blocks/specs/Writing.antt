@@ -44,6 +44,12 @@ pub record Puts (end place : ℕ) (bytes : List ℕ) (place' : ℕ) (bytes' : Li
   pub written : bits_before place' bytes' ≡ bits_before place bytes ++ take (end - place) text
   pub behind : bits_behind place' bytes' ≡ bits_behind place' bytes
 
+-- Texts that were written one behind the other were written as one.
+abbrev pub PutsCompose : Type 0
+PutsCompose = (end place : ℕ) (bytes : List ℕ) (place1 : ℕ) (bytes1 : List ℕ) (place2 : ℕ) (bytes2 : List ℕ) (first second : List Bool)
+    → place ≤ end → Puts end place bytes place1 bytes1 first → Puts end place1 bytes1 place2 bytes2 second
+    → Puts end place bytes place2 bytes2 (first ++ second)
+
 -- From a place to a block's end all is ones, and all else stays.
 abbrev pub Finishes : ℕ → ℕ → List ℕ → List ℕ → Type 0
 Finishes end place bytes bytes' =

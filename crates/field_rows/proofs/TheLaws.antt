@@ -3,7 +3,7 @@ use Rattle.std.proofs.Common.{◌≡◌, ℕ, Bool, List, Result, Ok, Err, inl, 
 use Rattle.bit_codes.specs.declared.CodeFault.{CodeFault}
 use Rattle.bit_codes.specs.Bits.{Cursor}
 use Rattle.field_rows.specs.Rows.{Value, Rows, Fault, read}
-use Rattle.field_rows.specs.Pieces.{EndsWithAByte, IsSteady}
+use Rattle.field_rows.specs.Pieces.{EndsWithAByte}
 use Rattle.field_rows.specs.Moved.{IsMovable}
 use Rattle.field_rows.specs.RowLaws.{ReadsWhatStands, HasOneRowAnswer, IgnoresMore, ReadsTheSameMoved, ReadsTheSameRenamed, IsReadAgain, HasFaultWithin}
 use Rattle.field_rows.proofs.Answers.{Stand-read, IsRefused-read, found_fields, found_refusal, Stand-one}
@@ -52,10 +52,10 @@ one_answer {R = R} {A = A} reason_of rows c = go (read reason_of rows c) refl
           λ vs a behind f. not_both (a, behind) fault (read reason_of rows c) (Stand-read reason_of rows vs c a behind f) e,
         )
 
-pub ignores_more : {R A : Type 0} (reason_of : CodeFault → R) (rows : Rows R A) (c : Cursor) (bits : List Bool) → IsSteady rows → EndsWithAByte c → IgnoresMore reason_of rows c bits
-ignores_more reason_of rows c bits steady whole = record {
-  value = λ a behind e. read-more reason_of rows c a behind bits steady.steady whole e;
-  fault = λ f other e. read-more_refused reason_of rows c f bits steady.steady whole other e;
+pub ignores_more : {R A : Type 0} (reason_of : CodeFault → R) (rows : Rows R A) (c : Cursor) (bits : List Bool) → EndsWithAByte c → IgnoresMore reason_of rows c bits
+ignores_more reason_of rows c bits whole = record {
+  value = λ a behind e. read-more reason_of rows c a behind bits whole e;
+  fault = λ f other e. read-more_refused reason_of rows c f bits whole other e;
 }
 
 pub moved_the_same : {R A : Type 0} (reason_of : CodeFault → R) (rows : Rows R A) (bytes : ℕ) (c : Cursor) → IsMovable rows → ReadsTheSameMoved reason_of rows bytes c

@@ -26,8 +26,7 @@ HasOneRowAnswer {R = R} {A = A} reason_of rows c =
     × ((vs' : List Value) (f' : Fault R) → IsRefused reason_of rows vs' c f' → f ≡ f')
     × ((vs' : List Value) (a : A) (behind : Cursor) → Stand rows vs' c a behind → ⊥))
 
--- Bits behind change nothing, once rows are read or refused for another reason than shortness. The rows do not ask
--- whether bits are left, and the bits end with a byte.
+-- Bits behind change nothing, once rows are read or refused for another reason than shortness. The bits end with a byte.
 pub record IgnoresMore {R A : Type 0} (reason_of : CodeFault → R) (rows : Rows R A) (c : Cursor) (bits : List Bool) : Type 0 where
   pub value : (a : A) (behind : Cursor) → read reason_of rows c ≡ Ok (a, behind)
       → read reason_of rows (with_more c bits) ≡ Ok (a, with_more behind bits)

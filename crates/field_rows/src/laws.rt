@@ -5,7 +5,7 @@ ghost use Rattle.std.specs.Prelude.{◌≡◌, ℕ, List, Bool};
 ghost use Rattle.bit_codes.specs.declared.CodeFault.{CodeFault};
 ghost use Rattle.bit_codes.specs.Bits.{Cursor};
 ghost use Rattle.field_rows.specs.Rows.{Rows, Value};
-ghost use Rattle.field_rows.specs.Pieces.{IsSteady, EndsWithAByte};
+ghost use Rattle.field_rows.specs.Pieces.{EndsWithAByte};
 ghost use Rattle.field_rows.specs.Moved.{IsMovable};
 ghost use Rattle.field_rows.specs.RowLaws.{ReadsWhatStands, HasOneRowAnswer, IgnoresMore, ReadsTheSameMoved, ReadsTheSameRenamed, IsReadAgain, HasFaultWithin};
 
@@ -24,7 +24,7 @@ pub fn each_table_has_one_answer<R, A>()
 /// Bits behind what was read change nothing.
 pub fn more_bits_change_nothing<R, A>()
     ensures { (reason_of : CodeFault → R) (rows : Rows R A) (c : Cursor) (bits : List Bool)
-        → IsSteady rows → EndsWithAByte c → IgnoresMore reason_of rows c bits }
+        → EndsWithAByte c → IgnoresMore reason_of rows c bits }
 {}
 
 /// Rows behind a head of so many bytes are read as rows at the front.

@@ -8,7 +8,6 @@ use Rattle.bit_codes.specs.Bits.{bits_of, bytes_of}
 use Rattle.bit_codes.proofs.BitLemmas.{length-bits}
 use Rattle.bit_codes.proofs.ByteLemmas.{bytes_of-bits_of}
 use Rattle.field_rows.specs.Rows.{some_bytes, Value, Bytes, Rule, Rows, done, row, ◌>>=◌, read, field_at, spelled, first_broken}
-use Rattle.field_rows.specs.Pieces.{IsSteady}
 use Rattle.field_rows.proofs.Pieces.{read-more}
 use Rattle.field_rows.proofs.Reading.{read-bind}
 use Rattle.field_rows.proofs.Words.{split-bits}
@@ -44,12 +43,12 @@ moves_row g n rules next place piece long fits holds = record {
 }
 
 -- behind the bytes of a group
-pub moves_group : {Z R U A : Type 0} (g : Grammar Z R U) (group : Rows R A) (next : A → Rows R U) (place : ℕ) (piece : List ℕ) (a : A) → IsSteady group → read g.reason_of group (bytes_at place piece) ≡ Ok (a, bytes_at (place + length piece) [])
+pub moves_group : {Z R U A : Type 0} (g : Grammar Z R U) (group : Rows R A) (next : A → Rows R U) (place : ℕ) (piece : List ℕ) (a : A) → read g.reason_of group (bytes_at place piece) ≡ Ok (a, bytes_at (place + length piece) [])
     → Moves g (group >>= next) place piece (next a)
-moves_group g group next place piece a steady e = record {
+moves_group g group next place piece a e = record {
   moves = λ more.
       let far = ap (read g.reason_of group) (bytes_at-append place piece more)
-      ∙ read-more g.reason_of group (bytes_at place piece) a (bytes_at (place + length piece) []) (bits_of more) steady.steady (record { whole = omega (arith, length-bits piece) }) e in
+      ∙ read-more g.reason_of group (bytes_at place piece) a (bytes_at (place + length piece) []) (bits_of more) (record { whole = omega (arith, length-bits piece) }) e in
       read-bind g.reason_of group next (bytes_at place (piece ++ more)) ∙ rw far refl;
 }
 

@@ -22,7 +22,7 @@ bytes_at-whole place bytes = record { whole = omega (arith, length-bits bytes) }
 pub unit-more : {Z R U : Type 0} (g : Grammar Z R U) → IsGrammar g → (z : Z) (bytes more : List ℕ) (unit : U) (behind : Cursor) → unit_at g z bytes ≡ Ok (unit, behind) → unit_at g z (bytes ++ more) ≡ Ok (unit, with_more behind (bits_of more))
 unit-more g laws z bytes more unit behind e =
     ap (read g.reason_of (g.rows z)) (bytes_at-append (g.place z) bytes more)
-    ∙ read-more g.reason_of (g.rows z) (bytes_at (g.place z) bytes) unit behind (bits_of more) (laws.steady z).steady (bytes_at-whole (g.place z) bytes) e
+    ∙ read-more g.reason_of (g.rows z) (bytes_at (g.place z) bytes) unit behind (bits_of more) (bytes_at-whole (g.place z) bytes) e
 
 -- it takes bits
 pub unit-shorter : {Z R U : Type 0} (g : Grammar Z R U) → IsGrammar g → (z : Z) (bytes : List ℕ) (unit : U) (behind : Cursor) → unit_at g z bytes ≡ Ok (unit, behind) → length behind.rest < 8 * length bytes
@@ -34,7 +34,7 @@ unit-shorter g laws z bytes unit behind e =
 pub unit-refused : {Z R U : Type 0} (g : Grammar Z R U) → IsGrammar g → (z : Z) (bytes more : List ℕ) (fault : Fault R) → fault.reason ≢ g.reason_of codes.Short → unit_at g z bytes ≡ Err fault → unit_at g z (bytes ++ more) ≡ Err fault
 unit-refused g laws z bytes more fault other e =
     ap (read g.reason_of (g.rows z)) (bytes_at-append (g.place z) bytes more)
-    ∙ read-more_refused g.reason_of (g.rows z) (bytes_at (g.place z) bytes) fault (bits_of more) (laws.steady z).steady (bytes_at-whole (g.place z) bytes) other e
+    ∙ read-more_refused g.reason_of (g.rows z) (bytes_at (g.place z) bytes) fault (bits_of more) (bytes_at-whole (g.place z) bytes) other e
 
 pub not_short : {Z R U : Type 0} (g : Grammar Z R U) → IsGrammar g → (reason : R) → g.is_short reason ≡ false → reason ≢ g.reason_of codes.Short
 not_short g laws reason e same = let clash : true ≡ false = sym laws.short ∙ ap g.is_short (sym same) ∙ e in cc

@@ -4,7 +4,7 @@ use Rattle.std.proofs.lemmas.List.{length-append, drop_at}
 use Rattle.bit_codes.specs.declared.CodeFault.{CodeFault}
 use Rattle.bit_codes.specs.Bits.{Cursor, bits_of, at_byte_end}
 use Rattle.bit_codes.proofs.BitLemmas.{length-bits}
-use Rattle.field_rows.specs.Rows.{Value, Number, Flag, Bytes, Skipped, Here, IsEnd, Rule, Rows, done, row, ◌>>=◌, Fault, read, and_then, reading_unless, first_broken, byte_end, whole_bytes, bytes_under, word_under, byte_under, check_at, some_bytes, renamed}
+use Rattle.field_rows.specs.Rows.{Value, Number, Flag, Bytes, Skipped, Here, Rule, Rows, done, row, ◌>>=◌, Fault, read, and_then, reading_unless, first_broken, byte_end, whole_bytes, bytes_under, word_under, byte_under, check_at, some_bytes, renamed}
 use Rattle.field_rows.specs.Standing.{StandsAt, Stand}
 use Rattle.field_rows.specs.Moved.{renamed_answer}
 use Rattle.field_rows.proofs.Reading.{read-bind, read-done, read-byte_end}
@@ -68,7 +68,6 @@ EndsWhole-row {R = R} {A = A} reason_of n at rules next f = record { ends = λ c
     long (Flag b) c mid g = absurd g.spelled
     long (Skipped bits) c mid g = absurd g.spelled
     long (Here place) c mid g = absurd g.spelled
-    long (IsEnd b) c mid g = absurd g.spelled
 
     by : (c behind : Cursor) (a : A) → c.place % 8 ≡ 0 → (c.place + length c.rest) % 8 ≡ 0 → (vs : List Value) → Stand (row (some_bytes n) at rules next) vs c a behind → behind.place % 8 ≡ 0
     by c behind a aligned whole [] g = absurd g

@@ -1,14 +1,12 @@
 -- What is asked of a table, and of what stands in front of bytes.
 use Rattle.std.specs.Prelude.{◌≡◌, ◌≤◌, ◌<◌, ℕ, true, List, ◌++◌, length}
 use Rattle.bit_codes.specs.declared.CodeFault.TheVariants as codes
-use Rattle.field_rows.specs.Pieces.{IsSteady}
 use Rattle.field_rows.proofs.Shorter.{BeginsWithBytes}
 use Rattle.run_theory.specs.Grammar.{Grammar}
 use Rattle.run_theory.specs.Fronts.{Front, Stands}
 
--- what is asked of a grammar: its rows ask nothing of what follows, and begin with bytes; and a short field is told by its reason
+-- what is asked of a grammar: its rows begin with bytes, and a short field is told by its reason
 pub record IsGrammar {Z R U : Type 0} (g : Grammar Z R U) : Type 0 where
-  pub steady : (z : Z) → IsSteady (g.rows z)
   pub some : (z : Z) → BeginsWithBytes (g.rows z)
   pub short : g.is_short (g.reason_of codes.Short) ≡ true
 

@@ -1,6 +1,5 @@
 pub mod WorkedRows
 pub mod Readings
-pub mod Steady
 pub mod Movable
 pub mod Groups
 pub mod Failing

@@ -1,74 +1,28 @@
 -- Behind the beginning of a unit that stands, the rest of the unit is left.
-use Rattle.std.proofs.Common.{◌≡◌, ℕ, ◌+◌, ◌*◌, ◌≤◌, Bool, List, ◌++◌, length, take, drop, Option, Some, None, Ok, sym, ap, subst, ◌∙◌, arith}
+use Rattle.std.proofs.Common.{◌≡◌, ℕ, ◌+◌, ◌*◌, ◌≤◌, Bool, List, ◌++◌, length, take, drop, Ok, sym, ap, subst, ◌∙◌, arith}
 use Rattle.std.proofs.lemmas.List.{length-take, take-append-drop, take_at}
 use Rattle.bit_codes.specs.Bits.{bits_of}
 use Rattle.bit_codes.proofs.BitLemmas.{length-bits}
 use Rattle.bit_codes.proofs.Numbers.{bits_of-append}
 use Rattle.field_rows.specs.Rows.{Rows, ◌>>=◌, read}
-use Rattle.field_rows.specs.Pieces.{IsSteady}
 use Rattle.field_rows.proofs.Reading.{read-bind}
-use Rattle.field_rows.proofs.Steady.{steady, IsSteady-done}
-use Rattle.parse_info.specs.declared.Code.{Code}
-use Rattle.parse_info.specs.declared.Code.TheVariants.{SequenceHeader, EndOfSequence, Auxiliary, Padding, LowDelayPicture}
-use Rattle.parse_info.specs.declared.ParseInfo.{ParseInfo}
-use Rattle.sequence_header.specs.declared.parts.HeaderParts.{HeaderParts}
-use Rattle.sequence_header.proofs.Steady.{header_steady}
-use Rattle.transform_params.proofs.Movable.{params_steady}
 use Rattle.run_theory.specs.Grammar.{bytes_at}
 use Rattle.run_theory.specs.Begun.{Moves}
 use Rattle.stream_rows.specs.declared.reason.Reason.{Reason}
-use Rattle.stream_rows.specs.Units.{Past, First, DataUnit, reason_of, next_checked}
+use Rattle.stream_rows.specs.Units.{Past, DataUnit, reason_of}
 use Rattle.stream_rows.proofs.Exact.{read-others}
-use Rattle.stream_rows.proofs.Steady.{head_steady}
 use Rattle.stream_cut.specs.Skim.{skim_grammar, skim_rows}
-use Rattle.stream_cut.specs.Opening.{Opened, OpensSkipped, OpensEnd, open_first, open_repeated, open_picture, open_payload_of, open_payload, open_rows}
+use Rattle.stream_cut.specs.Opening.{Opened, open_rows}
 use Rattle.stream_cut.proofs.RestRows.{rest_rows}
 use Rattle.stream_cut.proofs.SameRows.{same_rows}
 
--- ---- the rows of a beginning ask nothing of what follows them
-
-next_steady : (z : Past) (next : ℕ) → IsSteady (next_checked z next)
-unfolding next_checked
-next_steady z next = search steady depth 20
-
-first_steady : (z : Past) (next : ℕ) → IsSteady (open_first z next)
-unfolding open_first
-first_steady z next = search (steady, header_steady, next_steady) depth 20
-
-repeated_steady : (z : Past) (next : ℕ) (first : First) → IsSteady (open_repeated z next first)
-unfolding open_repeated
-repeated_steady z next first = search (steady, next_steady) depth 20
-
-picture_steady : (z : Past) (next : ℕ) (parts : HeaderParts) → IsSteady (open_picture z next parts)
-unfolding open_picture
-picture_steady z next parts = search (steady, params_steady, next_steady) depth 20
-
-payload_of_steady : (z : Past) (first : First) (next : ℕ) (code : Code) → IsSteady (open_payload_of z first next code)
-unfolding open_payload_of
-payload_of_steady z first next SequenceHeader = repeated_steady z next first
-payload_of_steady z first next EndOfSequence = IsSteady-done OpensEnd
-payload_of_steady z first next LowDelayPicture = picture_steady z next first.parts
-payload_of_steady z first next Auxiliary = IsSteady-done (OpensSkipped next)
-payload_of_steady z first next Padding = IsSteady-done (OpensSkipped next)
-
-payload_steady : (z : Past) (first : Option First) (head : ParseInfo) → IsSteady (open_payload z first head)
-unfolding open_payload
-payload_steady z None head = first_steady z head.next
-payload_steady z (Some first) head = payload_of_steady z first head.next head.code
-
-open_steady : (z : Past) → IsSteady (open_rows z)
-unfolding open_rows
-open_steady z = search (steady, head_steady, payload_steady) depth 20
-
--- ---- so they are moved over the bytes that they took
-
-moves_over : (rows : Rows Reason Opened) (next : Opened → Rows Reason DataUnit) (at : ℕ) (bytes : List ℕ) (a : Opened) (long : ℕ) → IsSteady rows → read reason_of rows (bytes_at at bytes) ≡ Ok (a, bytes_at (at + long) (drop long bytes)) → long ≤ length bytes
+moves_over : (rows : Rows Reason Opened) (next : Opened → Rows Reason DataUnit) (at : ℕ) (bytes : List ℕ) (a : Opened) (long : ℕ) → read reason_of rows (bytes_at at bytes) ≡ Ok (a, bytes_at (at + long) (drop long bytes)) → long ≤ length bytes
     → Moves skim_grammar (rows >>= next) at (take long bytes) (next a)
-moves_over rows next at bytes a long steady e inside = record { moves = λ more. moves more }
+moves_over rows next at bytes a long e inside = record { moves = λ more. moves more }
   where
     moves : (more : List ℕ) → read reason_of (rows >>= next) (bytes_at at (take long bytes ++ more)) ≡ read reason_of (next a) (bytes_at (at + length (take long bytes)) more)
     moves more =
-        let t = read-others reason_of rows (bytes_at at bytes) a (bytes_at (at + long) (drop long bytes)) (bits_of more) steady.steady (record { whole = omega (arith, length-bits bytes) }) (omega (arith, length-bits more)) e in
+        let t = read-others reason_of rows (bytes_at at bytes) a (bytes_at (at + long) (drop long bytes)) (bits_of more) (record { whole = omega (arith, length-bits bytes) }) (omega (arith, length-bits more)) e in
         let size : length t.text ≡ 8 * long = omega (arith, t.along) in
         let whole : bits_of bytes ≡ bits_of (take long bytes) ++ bits_of (drop long bytes) = ap bits_of (sym (take-append-drop long bytes)) ∙ bits_of-append (take long bytes) (drop long bytes) in
         let piece : length (take long bytes) ≡ long = omega (arith, length-take long bytes, inside) in
@@ -80,4 +34,4 @@ moves_over rows next at bytes a long steady e inside = record { moves = λ more.
 pub opening_moves : (z : Past) (bytes : List ℕ) (opened : Opened) (size : ℕ) → read reason_of (open_rows z) (bytes_at z.place bytes) ≡ Ok (opened, bytes_at (z.place + size) (drop size bytes)) → size ≤ length bytes
     → Moves skim_grammar (skim_rows z) z.place (take size bytes) (rest_rows z opened)
 opening_moves z bytes opened size e inside =
-    subst (λ rows. Moves skim_grammar rows z.place (take size bytes) (rest_rows z opened)) (same_rows z) (moves_over (open_rows z) (rest_rows z) z.place bytes opened size (open_steady z) e inside)
+    subst (λ rows. Moves skim_grammar rows z.place (take size bytes) (rest_rows z opened)) (same_rows z) (moves_over (open_rows z) (rest_rows z) z.place bytes opened size e inside)

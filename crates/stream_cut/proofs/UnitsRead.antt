@@ -188,10 +188,10 @@ length-all p slices some s count =
 -- ---- the payload of a picture
 
 params_of_skim : IsGroup skim_grammar transform_reason params.reason_of params_rows
-params_of_skim = record { names = params_group.names; movable = params_group.movable; steady = params_group.steady }
+params_of_skim = record { names = params_group.names; movable = params_group.movable }
 
 header_of_skim : IsGroup skim_grammar header_reason header.reason_of header_rows
-header_of_skim = record { names = header_group.names; movable = header_group.movable; steady = header_group.steady }
+header_of_skim = record { names = header_group.names; movable = header_group.movable }
 
 record WordRead (rules : ℕ → List (Rule Reason)) (at : ℕ) (bs : List ℕ) (n : ℕ) (mid : Cursor) : Type 0 where
   inside : 4 ≤ length bs

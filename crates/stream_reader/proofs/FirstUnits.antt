@@ -16,7 +16,6 @@ use Rattle.stream_rows.specs.Refusals.{Refusal}
 use Rattle.stream_rows.specs.Streams.{refusal_of}
 use Rattle.stream_rows.specs.Units.{nothing_yet, Sequence, reason_of, unit_rows, units}
 use Rattle.stream_reader.specs.Heads.{IsFirstUnit}
-use Rattle.stream_rows.proofs.Steady.{unit_steady}
 use Rattle.stream_reader.proofs.Before.{read-before}
 
 -- it stands in front
@@ -35,7 +34,7 @@ first_stays_refused bytes more refusal other h = (
   h.0,
   h.1,
   ap (read reason_of (unit_rows nothing_yet)) (bytes_at-append 0 bytes more)
-      ∙ read-more_refused reason_of (unit_rows nothing_yet) (bytes_at 0 bytes) h.0 (bits_of more) (unit_steady nothing_yet).steady (record { whole = omega (arith, length-bits bytes) }) (λ e. other (ap (λ r. r.reason) h.1 ∙ e)) h.2,
+      ∙ read-more_refused reason_of (unit_rows nothing_yet) (bytes_at 0 bytes) h.0 (bits_of more) (record { whole = omega (arith, length-bits bytes) }) (λ e. other (ap (λ r. r.reason) h.1 ∙ e)) h.2,
 )
 
 -- Where the bytes without the last are no first unit, a first unit takes them all.
@@ -44,7 +43,7 @@ first_takes_all front byte refusal x short h = ⊎_elim
     (λ (lt : x.1 < length (front ++ byte ∷ [])).
     let bits = bits_of (byte ∷ []) in
     let behind = bytes_at x.1 (drop x.1 (front ++ byte ∷ [])) in
-    let before = read-before reason_of (unit_rows nothing_yet) (bytes_at 0 front) bits (Sequence x.0) behind (unit_steady nothing_yet).steady
+    let before = read-before reason_of (unit_rows nothing_yet) (bytes_at 0 front) bits (Sequence x.0) behind
     (ap (read reason_of (unit_rows nothing_yet)) (sym (bytes_at-append 0 front (byte ∷ []))) ∙ h.1)
     (omega (arith, lt, length-bits (byte ∷ []), length-bits (drop x.1 (front ++ byte ∷ [])), length-drop x.1 (front ++ byte ∷ []))) in
     absurd (clash _ (Sequence x.0, before.of) _ short.2 before.reads))

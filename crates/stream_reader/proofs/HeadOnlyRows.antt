@@ -3,8 +3,6 @@ use Rattle.std.proofs.Common.{◌≡◌, ℕ, ◌+◌, ◌*◌, ◌<◌, ◌≤�
 use Rattle.std.specs.Prelude.{OnOk, IfErr}
 use Rattle.bit_codes.specs.Bits.{Cursor, bits_of}
 use Rattle.field_rows.specs.Rows.{◌or_else◌, Fault, read, reading_unless, and_then, first_broken}
-use Rattle.field_rows.specs.Pieces.{IsSteady}
-use Rattle.field_rows.proofs.Steady.{steady}
 use Rattle.field_rows.proofs.Words.{IsBytes}
 use Rattle.parse_info.specs.declared.Code.{Code}
 use Rattle.parse_info.specs.declared.ParseInfo.{ParseInfo}
@@ -29,11 +27,6 @@ pub heads_table : IsTable heads
 heads_table = record { laws = heads_laws; names = refl; told = λ reason. refl }
 
 -- ---- the head
-
--- more bytes don't change what it came to
-pub head_only_steady : IsSteady head_only_head
-unfolding head_only_head head_rows
-head_only_steady = search steady depth 20
 
 abbrev head_only_reader : Reader Reason
 head_only_reader = record { reason_of = reason_of; bad_prefix = reasons.BadPrefix; unsupported = reasons.UnsupportedCode; code_rules = λ code. []; next_rules = λ code next. (leads_on code next or_else reasons.OffsetShort) ∷ []; previous_rules = λ code next previous. [] }

@@ -18,7 +18,7 @@ use Rattle.stream_rows.specs.Units.{is_truncated, Past, First, DataUnit, Sequenc
 use Rattle.stream_rows.specs.Streams.{limit}
 use Rattle.stream_reader.specs.Turns.{Takes, IsFirstHeader, ReadsHeader}
 use Rattle.unit_reader.specs.Stops.{StopsOver}
-use Rattle.stream_rows.proofs.Steady.{units_laws}
+use Rattle.stream_rows.proofs.UnitsLaws.{units_laws}
 use Rattle.stream_rows.proofs.Groups.{group_moves, group_refused}
 use Rattle.stream_rows.proofs.UnitGroups.{header_group}
 use Rattle.stream_reader.proofs.PartTurns.{checked_refused, checked_takes_gone}

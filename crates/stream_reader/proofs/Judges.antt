@@ -22,7 +22,7 @@ use Rattle.stream_rows.specs.Streams.{limit, past_limit, refusal_of, HasOneAnswe
 use Rattle.unit_reader.specs.Stops.{LimitStops}
 use Rattle.stream_reader.specs.Reader.{StreamReaderSeen, new_reader, is_end_item, TakesStreamItem, TakesEnd, NextItemOver}
 use Rattle.stream_reader.specs.Judging.{IsVerdict, IsStopVerdict}
-use Rattle.stream_rows.proofs.Steady.{units_laws}
+use Rattle.stream_rows.proofs.UnitsLaws.{units_laws}
 use Rattle.stream_rows.proofs.Tables.{stream_table}
 use Rattle.stream_rows.proofs.OneAnswer.{one_answer}
 use Rattle.stream_rows.proofs.Answering.{machine, IsPlain, answer_stream, answer_refusal, after-place}

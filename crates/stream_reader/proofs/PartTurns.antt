@@ -20,7 +20,7 @@ use Rattle.stream_rows.specs.Units.{Past, First, DataUnit, Repeated, Skipped, re
 use Rattle.stream_rows.specs.Streams.{limit}
 use Rattle.stream_reader.specs.Turns.{Takes}
 use Rattle.unit_reader.specs.Stops.{stop_of, StopsOver}
-use Rattle.stream_rows.proofs.Steady.{units_laws}
+use Rattle.stream_rows.proofs.UnitsLaws.{units_laws}
 use Rattle.stream_rows.proofs.CheckedRows.{read-checked_unit}
 use Rattle.stream_rows.specs.declared.reason.Reason.{Reason}
 use Rattle.unit_reader.proofs.Stopping.{stops_lost, stops_short, stops_refused}

@@ -21,7 +21,6 @@ use Rattle.transform_params.specs.declared.faults.TransformReason.{TransformReas
 use Rattle.transform_params.specs.declared.faults.TransformReason.TheVariants as transforms
 use Rattle.transform_params.specs.Params as params
 use Rattle.transform_params.specs.Params.{Params, params_rows}
-use Rattle.transform_params.proofs.Movable.{params_steady}
 use Rattle.slice_decoder.specs.declared.SliceFault.{SliceFault}
 use Rattle.slice_decoder.specs.declared.SliceFault.TheVariants as faults
 use Rattle.slice_decoder.specs.Slice.{slice_at, is_small}
@@ -46,7 +45,7 @@ use Rattle.stream_reader.specs.Turns.{Takes, IsShown, IsTaker}
 use Rattle.unit_reader.specs.Stops.{stop_of, StopsOver}
 use Rattle.stream_reader.specs.UnitParts.{IsAtFirstSlice, TookSlices, slice_reason}
 use Rattle.stream_rows.proofs.Frames.{frame_is}
-use Rattle.stream_rows.proofs.Steady.{units_laws}
+use Rattle.stream_rows.proofs.UnitsLaws.{units_laws}
 use Rattle.stream_reader.proofs.Reasons.{other_reason}
 use Rattle.unit_reader.proofs.Stopping.{stops_lost, stops_short, stops_refused}
 use Rattle.stream_rows.proofs.Groups.{group_moves, group_refused}
@@ -165,7 +164,7 @@ params_refused {held1 = held1} {at = at} others count front fault room reason st
     let other : is_truncated (transform_reason fault.reason) ≡ false = ap is_truncated (sym why) ∙ other' in
     let more : bits_of front ++ bits_of (drop count held1) ≡ bits_of held1 = sym (bits_of-append front (drop count held1)) ∙ ap (λ l. bits_of (l ++ drop count held1)) is ∙ ap bits_of (take-append-drop count held1) in
     let here : params_read held1 ≡ Err fault = ap (λ (l : List Bool). read params.reason_of params_rows (record { place = 0; rest = l })) (sym more)
-    ∙ read-more_refused params.reason_of params_rows (cursor_at front 0) fault (bits_of (drop count held1)) params_steady.steady (record { whole = omega (arith, length-bits front) }) (transform_other fault.reason other) e in
+    ∙ read-more_refused params.reason_of params_rows (cursor_at front 0) fault (bits_of (drop count held1)) (record { whole = omega (arith, length-bits front) }) (transform_other fault.reason other) e in
     stops_refused units_laws room (8 * at + fault.place) (at + fault.place / 8) (transform_reason fault.reason) stop b (group_refused params_group others at held1 fault here)
     other total (omega arith) (s ∙ refused_for (at + fault.place / 8) why)
 

@@ -5,7 +5,7 @@ use Rattle.run_theory.proofs.GrammarLaws.{IsGrammar}
 use Rattle.stream_rows.specs.declared.reason.Reason.{Reason}
 use Rattle.stream_rows.specs.declared.reason.Reason.TheVariants as reasons
 use Rattle.stream_rows.specs.Units.{units, reason_of, is_truncated}
-use Rattle.stream_rows.proofs.Steady.{units_laws}
+use Rattle.stream_rows.proofs.UnitsLaws.{units_laws}
 
 -- What is asked of a table of units with the reasons of a stream.
 pub record IsTable {Z U : Type 0} (g : Grammar Z Reason U) : Type 0 where

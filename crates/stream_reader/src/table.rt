@@ -2,7 +2,7 @@
 
 ghost use Rattle.stream_rows.specs.Units.{units};
 ghost use Rattle.stream_rows.specs.declared.reason.Reason.TheVariants as reasons;
-ghost use Rattle.stream_rows.proofs.Steady.{units_laws};
+ghost use Rattle.stream_rows.proofs.UnitsLaws.{units_laws};
 ghost use Rattle.stream_rows.proofs.Answering.{after-place};
 ghost use Rattle.stream_reader.specs.StreamTable.{IsFoundBy, TellsUnit, StopsTable};
 ghost use Rattle.stream_reader.specs.StreamTableLaws.{stops_before, stops_otherwise, stops_behind};

@@ -4,7 +4,7 @@ use Rattle.std.proofs.lemmas.List.{length-append}
 use Rattle.std.proofs.lemmas.Bool.{lt-ltb}
 use Rattle.bit_codes.specs.Bits.{Cursor}
 use Rattle.bit_codes.proofs.BitLemmas.{length-bits}
-use Rattle.field_rows.specs.Rows.{Value, Number, Flag, Bytes, Skipped, Here, IsEnd, Rows, done, row, a_number, a_flag, some_bytes, to_byte_end, here, end_here, read, field_at, spelled}
+use Rattle.field_rows.specs.Rows.{Value, Number, Flag, Bytes, Skipped, Here, Rows, done, row, a_number, a_flag, some_bytes, to_byte_end, here, read, field_at, spelled}
 use Rattle.field_rows.specs.Standing.{StandsAt, Stand}
 use Rattle.field_rows.proofs.Pieces.{Stand-along}
 use Rattle.field_rows.proofs.Shorter.{BeginsWithBytes}
@@ -15,7 +15,7 @@ use Rattle.stream_rows.specs.declared.reason.Reason.{Reason}
 use Rattle.stream_rows.specs.declared.reason.Reason.TheVariants as reasons
 use Rattle.stream_rows.specs.Units.{Past, DataUnit, reason_of, unit_rows}
 use Rattle.stream_rows.specs.Streams.{UnitRows, units_by}
-use Rattle.stream_rows.proofs.Steady.{units_laws}
+use Rattle.stream_rows.proofs.UnitsLaws.{units_laws}
 use Rattle.stream_rows.proofs.Whole.{unit_whole}
 
 -- These are the rows of a grammar, and each unit of them ends with a byte.
@@ -33,7 +33,6 @@ field_long n (Number m) c mid f = absurd f.spelled
 field_long n (Flag b) c mid f = absurd f.spelled
 field_long n (Skipped b) c mid f = absurd f.spelled
 field_long n (Here p) c mid f = absurd f.spelled
-field_long n (IsEnd b) c mid f = absurd f.spelled
 
 rows_long : (rows : Rows Reason DataUnit) (vs : List Value) (c : Cursor) (unit : DataUnit) (mid : Cursor) → BeginsWithBytes rows → Stand rows vs c unit mid → length mid.rest + 8 ≤ length c.rest
 rows_long (done made) vs c unit mid h f = absurd h
@@ -42,7 +41,6 @@ rows_long (row a_flag at rules next) vs c unit mid h f = absurd h
 rows_long (row (some_bytes zero) at rules next) vs c unit mid h f = absurd h
 rows_long (row to_byte_end at rules next) vs c unit mid h f = absurd h
 rows_long (row here at rules next) vs c unit mid h f = absurd h
-rows_long (row end_here at rules next) vs c unit mid h f = absurd h
 rows_long (row (some_bytes (suc n)) at rules next) [] c unit mid h f = absurd f
 rows_long (row (some_bytes (suc n)) at rules next) (v ∷ vs) c unit mid h f =
     let more = Stand-along (next v) vs f.0 unit mid f.3 in
@@ -61,7 +59,6 @@ rows_short (row a_flag at rules next) place h = absurd h
 rows_short (row (some_bytes zero) at rules next) place h = absurd h
 rows_short (row to_byte_end at rules next) place h = absurd h
 rows_short (row here at rules next) place h = absurd h
-rows_short (row end_here at rules next) place h = absurd h
 rows_short (row (some_bytes (suc n)) at rules next) place h = rw (lt-ltb 0 (8 * suc n) (omega arith)) refl
 
 pub none_read : (rows : UnitRows) → IsTable rows → (z : Past) → unit_at (units_by rows) z [] ≡ Err (record { place = 8 * z.place; reason = reasons.Truncated })

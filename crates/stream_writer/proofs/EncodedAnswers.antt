@@ -13,7 +13,7 @@ use Rattle.run_theory.proofs.FrontLaws.{front_before, step-stands}
 use Rattle.stream_rows.specs.declared.reason.Reason.{Reason}
 use Rattle.stream_rows.specs.Units.{Past, nothing_yet, DataUnit, End, unit_rows, after, units}
 use Rattle.stream_rows.specs.Streams.{ends, Entry, limit, past_limit}
-use Rattle.stream_rows.proofs.Steady.{units_laws}
+use Rattle.stream_rows.proofs.UnitsLaws.{units_laws}
 use Rattle.stream_rows.proofs.Tables.{stream_table}
 use Rattle.stream_rows.proofs.StreamLaws.{stands_front}
 use Rattle.stream_rows.proofs.Answering.{machine, laws_of, last-front}

@@ -4,7 +4,7 @@ use Rattle.std.proofs.lemmas.List.{length-append, length-take, take_all}
 use Rattle.std.specs.Io.KnownBytes.{Appends, Consumes}
 use Rattle.vc2_io.proofs.Known.{Consumes-none, Consumes-then}
 use Rattle.field_rows.specs.Rows.{Fault}
-use Rattle.run_theory.specs.Walk.{Machine, Ends, IsMachine, answer_to}
+use Rattle.run_theory.specs.Walk.{Machine, Ends, IsMachine, answer_to, all_but}
 use Rattle.run_theory.specs.Ran.{Ran, TakesAtMost}
 use Rattle.run_theory.specs.Runs.{WritesText, Closes}
 use Rattle.run_theory.specs.Window.{Holds}
@@ -25,7 +25,7 @@ use Rattle.unit_reader.specs.declared.reader.Turn.TheVariants as turns
 use Rattle.unit_reader.specs.Stops.{limit, past_limit}
 use Rattle.unit_reader.specs.Reading.{ReaderSeen, new_reader, TakesItem, TakesLast, NextOver}
 use Rattle.unit_reader.specs.Running.{Passes, command_from, machine_over}
-use Rattle.unit_reader.specs.Soon.{all_but, Soon, HasOpenEndings}
+use Rattle.unit_reader.specs.Soon.{Soon, HasOpenEndings}
 use Rattle.unit_reader.proofs.Opens.{IsOpenMachine, Unrefused, nothing_open, unrefused_first, unrefused_more, unrefused_took, open_behind, open_soon, opens_machine, waits_answer}
 
 -- The bytes so far are those of the units so far and those that are held; the reader goes on.

@@ -2,10 +2,10 @@
 use Rattle.std.proofs.Common.{◌≡◌, ℕ, zero, suc, List, ◌++◌, length, drop, Option, Result, Ok, Err, refl, sym, ap, subst, ◌∙◌}
 use Rattle.std.specs.Io.KnownBytes.{Appends, IsAtEnd}
 use Rattle.vc2_io.specs.Outside.{IsPrefix, IsProperPrefix}
-use Rattle.run_theory.specs.Walk.{Step, Ends, Whole, Answer, Machine, IsMachine, before, after_step, walk, answer_from, answer_to, out_of, due, IsPrompt}
+use Rattle.run_theory.specs.Walk.{Step, Ends, Whole, Answer, Machine, IsMachine, before, after_step, walk, answer_from, answer_to, out_of, due, IsPrompt, all_but}
 use Rattle.run_theory.specs.Ran.{Ran, HaltHasCause}
 use Rattle.run_theory.specs.Runs.{Change, Runs}
-use Rattle.unit_reader.specs.Soon.{Soon, all_but}
+use Rattle.unit_reader.specs.Soon.{Soon}
 use Rattle.run_theory.specs.declared.Halt.{Halt}
 use Rattle.run_theory.specs.declared.Halt.TheVariants.{ReadFault, OutFault, NoMemory}
 use Rattle.vc2_cli.specs.Mapped.{step_told, answer_told, told_as, result_told}

@@ -25,7 +25,7 @@ use Rattle.stream_rows.specs.Refusals.{Refusal}
 use Rattle.stream_rows.specs.Units.{Past, nothing_yet, DataUnit, Sequence, Repeated, Picture, Skipped, End, reason_of, unit_rows, after, units}
 use Rattle.stream_rows.specs.Streams.{bytes_between, ends, Entry, total, Units, IsStream, IsRefusal, limit, past_limit}
 use Rattle.stream_rows.specs.Laws.{HasUnit}
-use Rattle.stream_rows.proofs.Steady.{units_laws}
+use Rattle.stream_rows.proofs.UnitsLaws.{units_laws}
 use Rattle.stream_rows.proofs.Whole.{unit_whole}
 use Rattle.stream_rows.proofs.FrontIs.{front_is}
 use Rattle.stream_rows.proofs.Answering.{near, after-place}

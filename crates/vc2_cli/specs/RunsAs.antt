@@ -2,12 +2,11 @@
 use Rattle.std.specs.Prelude.{◌≡◌, ◌+◌, ℕ, List, Option, Some, IfSome, Result, Ok, Err}
 use Rattle.std.specs.Io.KnownBytes.{Appends, Consumes}
 use Rattle.vc2_io.specs.declared.TheConstants.{INPUT_LIMIT}
-use Rattle.run_theory.specs.Walk.{Answer, out_of}
+use Rattle.run_theory.specs.Walk.{Answer, out_of, all_but}
 use Rattle.run_theory.specs.Ran.{TakesAtMost, HaltHasCause}
 use Rattle.run_theory.specs.Runs.{Change, HasNoNewFault, Closes}
 use Rattle.run_theory.specs.declared.Halt.{Halt}
 use Rattle.run_theory.specs.declared.Halt.TheVariants.{ReadFault, OutFault, NoMemory}
-use Rattle.unit_reader.specs.Soon.{all_but}
 use Rattle.vc2_words.specs.Commands.{AskedCommand, header, trial}
 use Rattle.vc2_cli.specs.declared.status.Ending.{Ending}
 use Rattle.vc2_cli.specs.declared.status.Ending.TheVariants.{Done}

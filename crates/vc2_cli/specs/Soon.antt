@@ -1,7 +1,6 @@
 -- How soon a run is over behind a refusal, by its status.
 use Rattle.std.specs.Prelude.{◌≡◌, ℕ, true, List, Option, Some, IfSome, Result, Ok, Err}
 use Rattle.std.specs.Io.KnownBytes.{Consumes}
-use Rattle.unit_reader.specs.Soon.{all_but}
 use Rattle.stream_rows.specs.Units.{is_truncated}
 use Rattle.vc2_words.specs.declared.keys.WordFault.{WordFault}
 use Rattle.vc2_words.specs.Commands.{AskedCommand}
@@ -9,6 +8,7 @@ use Rattle.vc2_cli.specs.declared.status.Status.{Status}
 use Rattle.vc2_cli.specs.declared.status.Status.TheVariants as status
 use Rattle.vc2_cli.specs.Reply.{Reply}
 use Rattle.vc2_cli.specs.Running.{running_of}
+use Rattle.run_theory.specs.Walk.{all_but}
 
 -- More bytes may still change this status: it is no refusal, or only that of a field that is short.
 abbrev pub IsOpen : Status → Type 0

@@ -7,7 +7,7 @@ use Rattle.unit_reader.proofs.Gets.{got_most}
 use Rattle.unit_reader.proofs.Stopping.{stops_told}
 use Rattle.stream_reader.specs.HeadUnits.{head_only_head}
 use Rattle.stream_reader.specs.HeadLaws.{heads_laws}
-use Rattle.stream_reader.proofs.HeadOnlyRows.{heads_table, head_only_steady}
+use Rattle.stream_reader.proofs.HeadOnlyRows.{heads_table}
 use Rattle.stream_reader.proofs.HeadTurns.{head_stands, head_fault, head_few}
 use Rattle.stream_reader.proofs.head_units.head.Goals as goal
 
@@ -15,7 +15,7 @@ pub returns-in-Ok-clause-part : goal.returns-in-Ok-clause-part
 returns-in-Ok-clause-part g c = λ others held0 rest0 b.
     let held = c.loop-info.window.held in
     let front : c.front.result.now ≡ take (min (length held) 13) held = c.front.ensures.value ∙ ap (λ n. take n held) (c.min-count.ensures ∙ ap (λ n. min n 13) c.len.ensures) in
-    head_stands heads_table head_only_head others c.front.result.now c.advance.new.self.held c.in-Ok.info head_only_steady (c.loop-info.invariant.begun others held0 rest0 b) front c.in-Ok.ensures c.advance.ensures.held
+    head_stands heads_table head_only_head others c.front.result.now c.advance.new.self.held c.in-Ok.info (c.loop-info.invariant.begun others held0 rest0 b) front c.in-Ok.ensures c.advance.ensures.held
 
 pub returns-in-Ok-clause-place : goal.returns-in-Ok-clause-place
 returns-in-Ok-clause-place g c =
@@ -26,7 +26,7 @@ pub returns-then-not-is_truncated-clause-part : goal.returns-then-not-is_truncat
 returns-then-not-is_truncated-clause-part g c = λ others held0 rest0 b.
     let held = c.loop-info.window.held in
     let front : c.front.result.now ≡ take (min (length held) 13) held = c.front.ensures.value ∙ ap (λ n. take n held) (c.min-count.ensures ∙ ap (λ n. min n 13) c.len.ensures) in
-    let f = head_fault heads_table c.args.place held head_only_head others c.front.result.now c.in-Err.refusal head_only_steady front c.in-Err.ensures in
+    let f = head_fault heads_table c.args.place held head_only_head others c.front.result.now c.in-Err.refusal front c.in-Err.ensures in
     stops_told heads_laws f.0 c.loop-info.window.room c.in-Err.refusal (c.loop-info.invariant.begun others held0 rest0 b) f.2 (ap (λ (r : Refusal). is_truncated r.reason) (sym f.1) ∙ sym c.is_truncated.ensures ∙ c.if-not-is_truncated.true) f.1 c.loop-info.invariant.total
 
 pub loop-info-preserved : goal.loop-info-preserved
@@ -37,7 +37,7 @@ loop-info-preserved g c =
     let short = head_few c.args.place held head_only_head c.front.result.now c.in-Err.refusal front c.in-Err.ensures cut in
     record {
       begun = λ others held0 rest0 b.
-          let f = head_fault heads_table c.args.place held head_only_head others c.front.result.now c.in-Err.refusal head_only_steady front c.in-Err.ensures in
+          let f = head_fault heads_table c.args.place held head_only_head others c.front.result.now c.in-Err.refusal front c.in-Err.ensures in
           c.in-Ok-read_on.ensures.more c.args.place held0 rest0 c.args.place (head_only_head >>= others) f.0 (c.loop-info.invariant.begun others held0 rest0 b) f.2 (ap (λ (r : Refusal). is_truncated r.reason) (sym f.1) ∙ cut) f.1 c.loop-info.invariant.total;
       total = omega (arith, c.loop-info.invariant.total, c.read_on.ensures.room);
       room = omega (arith, c.loop-info.invariant.room, c.read_on.ensures.room, c.in-Ok-read_on.ensures.longer);
@@ -55,7 +55,7 @@ pub returns-in-Err-read_on-clause-part : goal.returns-in-Err-read_on-clause-part
 returns-in-Err-read_on-clause-part g c = λ others held0 rest0 b.
     let held = c.loop-info.window.held in
     let front : c.front.result.now ≡ take (min (length held) 13) held = c.front.ensures.value ∙ ap (λ n. take n held) (c.min-count.ensures ∙ ap (λ n. min n 13) c.len.ensures) in
-    let f = head_fault heads_table c.args.place held head_only_head others c.front.result.now c.in-Err.refusal head_only_steady front c.in-Err.ensures in
+    let f = head_fault heads_table c.args.place held head_only_head others c.front.result.now c.in-Err.refusal front c.in-Err.ensures in
     c.in-Err-read_on.ensures.more c.args.place held0 rest0 c.args.place (head_only_head >>= others) f.0 (c.loop-info.invariant.begun others held0 rest0 b) f.2 (ap (λ (r : Refusal). is_truncated r.reason) (sym f.1) ∙ sym c.is_truncated.ensures ∙ c.if-not-is_truncated.false) f.1 c.loop-info.invariant.total
 
 pub returns-in-Ok-clause-held : goal.returns-in-Ok-clause-held

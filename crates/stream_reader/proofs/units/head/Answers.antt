@@ -4,11 +4,10 @@ use Rattle.std.proofs.lemmas.Grind.{common_steps}
 use Rattle.field_rows.specs.Rows.{◌>>=◌}
 use Rattle.stream_rows.specs.Refusals.{Refusal}
 use Rattle.stream_rows.specs.Units.{is_truncated, unit_head}
-use Rattle.stream_rows.proofs.Steady.{head_steady}
 use Rattle.unit_reader.proofs.Gets.{got_most}
 use Rattle.stream_reader.proofs.Reasons.{units_table}
 use Rattle.unit_reader.proofs.Stopping.{stops_told}
-use Rattle.stream_rows.proofs.Steady.{units_laws}
+use Rattle.stream_rows.proofs.UnitsLaws.{units_laws}
 use Rattle.stream_reader.proofs.HeadTurns.{head_stands, head_fault, head_few}
 use Rattle.stream_reader.proofs.HeldTurns.{drop_most}
 use Rattle.stream_reader.proofs.units.head.Goals as goal
@@ -17,7 +16,7 @@ pub returns-in-Ok-clause-part : goal.returns-in-Ok-clause-part
 returns-in-Ok-clause-part g c = λ others held0 rest0 b.
     let held = c.loop-info.window.held in
     let front : c.front.result.now ≡ take (min (length held) 13) held = c.front.ensures.value ∙ ap (λ n. take n held) (c.min-count.ensures ∙ ap (λ n. min n 13) c.len.ensures) in
-    head_stands units_table (unit_head c.args.earlier.now) others c.front.result.now c.advance.new.self.held c.in-Ok.info (head_steady c.args.earlier.now) (c.loop-info.invariant.begun others held0 rest0 b) front c.in-Ok.ensures c.advance.ensures.held
+    head_stands units_table (unit_head c.args.earlier.now) others c.front.result.now c.advance.new.self.held c.in-Ok.info (c.loop-info.invariant.begun others held0 rest0 b) front c.in-Ok.ensures c.advance.ensures.held
 
 pub returns-in-Ok-clause-place : goal.returns-in-Ok-clause-place
 returns-in-Ok-clause-place g c =
@@ -32,7 +31,7 @@ pub returns-then-not-is_truncated-clause-part : goal.returns-then-not-is_truncat
 returns-then-not-is_truncated-clause-part g c = λ others held0 rest0 b.
     let held = c.loop-info.window.held in
     let front : c.front.result.now ≡ take (min (length held) 13) held = c.front.ensures.value ∙ ap (λ n. take n held) (c.min-count.ensures ∙ ap (λ n. min n 13) c.len.ensures) in
-    let f = head_fault units_table c.args.earlier.now.place held (unit_head c.args.earlier.now) others c.front.result.now c.in-Err.refusal (head_steady c.args.earlier.now) front c.in-Err.ensures in
+    let f = head_fault units_table c.args.earlier.now.place held (unit_head c.args.earlier.now) others c.front.result.now c.in-Err.refusal front c.in-Err.ensures in
     stops_told units_laws f.0 c.loop-info.window.room c.in-Err.refusal (c.loop-info.invariant.begun others held0 rest0 b) f.2 (ap (λ (r : Refusal). is_truncated r.reason) (sym f.1) ∙ sym c.is_truncated.ensures ∙ c.if-not-is_truncated.true) f.1 c.loop-info.invariant.total
 
 pub loop-info-preserved : goal.loop-info-preserved
@@ -43,7 +42,7 @@ loop-info-preserved g c =
     let short = head_few c.args.earlier.now.place held (unit_head c.args.earlier.now) c.front.result.now c.in-Err.refusal front c.in-Err.ensures cut in
     record {
       begun = λ others held0 rest0 b.
-          let f = head_fault units_table c.args.earlier.now.place held (unit_head c.args.earlier.now) others c.front.result.now c.in-Err.refusal (head_steady c.args.earlier.now) front c.in-Err.ensures in
+          let f = head_fault units_table c.args.earlier.now.place held (unit_head c.args.earlier.now) others c.front.result.now c.in-Err.refusal front c.in-Err.ensures in
           c.in-Ok-read_on.ensures.more c.args.earlier.now held0 rest0 c.args.earlier.now.place ((unit_head c.args.earlier.now) >>= others) f.0 (c.loop-info.invariant.begun others held0 rest0 b) f.2 (ap (λ (r : Refusal). is_truncated r.reason) (sym f.1) ∙ cut) f.1 c.loop-info.invariant.total;
       total = omega (arith, c.loop-info.invariant.total, c.read_on.ensures.room);
       few = got_most 4108 c.read_on.ensures.got c.loop-info.invariant.few (omega (arith, short));
@@ -60,7 +59,7 @@ pub returns-in-Err-read_on-clause-part : goal.returns-in-Err-read_on-clause-part
 returns-in-Err-read_on-clause-part g c = λ others held0 rest0 b.
     let held = c.loop-info.window.held in
     let front : c.front.result.now ≡ take (min (length held) 13) held = c.front.ensures.value ∙ ap (λ n. take n held) (c.min-count.ensures ∙ ap (λ n. min n 13) c.len.ensures) in
-    let f = head_fault units_table c.args.earlier.now.place held (unit_head c.args.earlier.now) others c.front.result.now c.in-Err.refusal (head_steady c.args.earlier.now) front c.in-Err.ensures in
+    let f = head_fault units_table c.args.earlier.now.place held (unit_head c.args.earlier.now) others c.front.result.now c.in-Err.refusal front c.in-Err.ensures in
     c.in-Err-read_on.ensures.more c.args.earlier.now held0 rest0 c.args.earlier.now.place ((unit_head c.args.earlier.now) >>= others) f.0 (c.loop-info.invariant.begun others held0 rest0 b) f.2 (ap (λ (r : Refusal). is_truncated r.reason) (sym f.1) ∙ sym c.is_truncated.ensures ∙ c.if-not-is_truncated.false) f.1 c.loop-info.invariant.total
 
 pub returns-in-Ok-clause-held : goal.returns-in-Ok-clause-held
