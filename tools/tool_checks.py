@@ -4,6 +4,8 @@ import shutil
 import subprocess
 import tempfile
 
+from link_checks import links
+
 TOP = os.path.dirname(os.path.dirname(os.path.abspath(__file__)))
 SECONDS = 60
 CODING = "wavelet=legall depth=2 slices=6x4 bytes=64/1 matrix=4,2,2,0,4,4,2".split()
@@ -169,7 +171,7 @@ def pictures(tools):
 def tools(runs):
     """All checks of the scripts; what needs ffmpeg is named where it is missing."""
     made = Tools(runs)
-    for part in (films, films_refused, plans, pictures):
+    for part in (films, films_refused, plans, pictures, links):
         part(made)
     if shutil.which("ffmpeg"):
         films_by_ffmpeg(made)
