@@ -40,7 +40,10 @@ class Tools:
         self.runs.judge(name, (found, note.count(b"\n"), why in note), (status, 1, True))
 
     def program(self, words, source=b""):
-        return subprocess.run([self.runs.program, *words], input=source, capture_output=True).stdout
+        return self.run_program(words, source).stdout
+
+    def run_program(self, words, source=b""):
+        return subprocess.run([self.runs.program, *words], input=source, capture_output=True)
 
 
 def example(name):
@@ -77,7 +80,12 @@ def films(tools):
 def films_refused(tools):
     raw, stream = example("pair_422.yuv"), example("pair_422.vc2")
     source, encode = film(LINE, raw, 2), ["y4m", "encode", *CODING]
-    tools.refuses("a given size", [*encode, "size=48x32"], source, 2, b"`size` isn't given")
+    for word in ("size=48x30", "sampling=420", "fields=yes"):
+        tools.refuses(f"a given {word}", [*encode, word], source, 2, b"isn't the film's, which has " + word.partition("=")[0].encode())
+    status, _, note = tools.run([*encode, "fps=50/2"], source)
+    tools.runs.judge("the film's rate in other words", (status, note.count(b"\n")), (0, 1))
+    status, _, note = tools.run([*encode, "fps=30/1"], source)
+    tools.runs.judge("another rate than the film's", (status, b"fps=30/1 is given, and the film has 25/1" in note), (0, True))
     tools.refuses("a signal of one byte for two", [*encode, "signal=1"], source, 2, b"haven't the size")
     status, stream_full, _ = tools.run([*encode, "signal=0,1023,512,1023"], source)
     full = tools.program(["header"], stream_full)
@@ -132,15 +140,58 @@ def plans(tools):
     words = ["link_plan", "48x32", "422", "10", "25/1", "0.5", "depth=2", "slices=6x4"]
     status, out, _ = tools.run(words)
     lines = out.decode().splitlines()
-    tools.runs.judge("a plan", (status, len(lines), lines[2:3]), (0, 5, ["schedule rate=2468/24 delay=2 buffer=205"]))
+    schedule = "rate=2468/24 delay=2 buffer=205"
+    tools.runs.judge("a plan", (status, len(lines), lines[2:3]), (0, 10, [f"schedule {schedule}"]))
+    tools.runs.judge("the words of pace and hold", lines[6:8], ["pace rate=2468/24 slots=600 packet=1316 start=20", f"hold {schedule} slots=600 packet=1316 jitter=5"])
     made = tools.program(["trial", *lines[0].split(), "seed=1", "pictures=3"]).decode().splitlines()
-    tools.runs.judge("the words of a plan", made[2:3], [lines[2].removeprefix("schedule ")])
+    tools.runs.judge("the words of a plan", made[2:3], [schedule])
     tools.runs.judge("a plan's matrices", ["matrix=4,2,2,0,4,4,2" in tools.run([*words, "matrix=4,2,2,0,4,4,2"])[1].decode(), "matrix=8,4,4,0,4,4,0" in tools.run([*words, "wavelet=haar-shift"])[1].decode()], [True, True])
     tools.refuses("a plan for too slow a channel", [*words[:5], "0.001"], b"", 1, b"less than a byte")
     tools.refuses("a plan by a rate of 0", [*words[:4], "25/0", "1"], b"", 1, b"25/0 isn't")
-    tools.refuses("a plan by a key that is none", [*words, "x=1"], b"", 1, b"x=1 isn't")
+    for word in ("x=1", "group=0", "fields=maybe", "packet=0", "jitter=-1"):
+        tools.refuses(f"a plan by {word}", [*words, word], b"", 1, word.encode() + b" isn't")
     tools.refuses("a plan that vc2 refuses", [*words[:1], "47x32", *words[2:]], b"", 2, b"usage: SettingsRefused Divide")
+    tools.refuses("a plan of half frames", [*words, "fields=yes", "group=3"], b"", 2, b"usage: SettingsRefused GroupOdd")
     tools.runs.judge("no plan without words", tools.run(words[:3])[0], 1)
+
+
+def plans_kept(tools):
+    """Plans of groups and of fields: `y4m encode` takes the line, the stream isn't above the channel, and the schedule runs, the least one."""
+    raw = example("pair_422.yuv")
+    for name, more, tall in (("groups", ["group=4"], LINE), ("fields", ["fields=yes"], LINE.replace(b"Ip", b"It")), ("groups of fields", ["fields=yes", "group=6", "idle=5"], LINE.replace(b"Ip", b"It"))):
+        status, out, _ = tools.run(["link_plan", "48x32", "422", "10", "25/1", "0.5", "depth=2", "slices=6x4", *more])
+        lines = out.decode().splitlines()
+        frames, schedule = 18, lines[2].split()[1:]
+        status, stream, note = tools.run(["y4m", "encode", *lines[0].split()], film(tall, raw * (frames // 2), frames))
+        tools.runs.judge(f"a film by a plan of {name}", (status, len(stream) * 8 * 25 <= 500000 * frames), (0, True))
+        rate, delay, buffer = (int(word.split("=")[1]) if "/" not in word else word.split("=")[1] for word in schedule[:3])
+        for by, wanted in (((0, 0), 0), ((-1, 0), 1), ((0, -1), 1)):
+            found = tools.run_program(["check", f"rate={rate}", f"delay={delay + by[0]}", f"buffer={buffer + by[1]}", *schedule[3:]], stream)
+            tools.runs.judge(f"the schedule of {name}, {by}", found.returncode, wanted)
+    interlaced = film(LINE.replace(b"Ip", b"It"), raw, 2)
+    line = tools.run(["link_plan", "48x32", "422", "10", "25/1", "0.5", "depth=2", "slices=6x4"])[1].decode().splitlines()[0].split()
+    tools.refuses("an interlaced film that is planned as frames", ["y4m", "encode", *line], interlaced, 2, b"fields=no isn't the film's, which has fields=yes")
+    status, _, note = tools.run(["y4m", "encode", *CODING], interlaced)
+    tools.runs.judge("an interlaced film without a plan", (status, b"two fields are encoded for each of its 25/1 frames a second" in note), (0, True))
+
+
+def plans_of_films(tools):
+    """A plan that tries a film takes what came nearest, and no film but the one that is planned."""
+    with tempfile.TemporaryDirectory() as folder:
+        name, words = os.path.join(folder, "film.y4m"), ["link_plan", "48x32", "422", "10", "25/1", "0.5", "slices=6x4"]
+        with open(name, "wb") as file:
+            file.write(film(LINE, example("pair_422.yuv"), 2))
+        status, out, _ = tools.run([*words, f"film={name}"])
+        lines = out.decode().splitlines()
+        tried = [line.split() for line in lines if line.startswith("film ")]
+        best = max(tried, key=lambda it: float(it[1]))
+        taken = next(line.split() for line in lines if line.startswith("size="))
+        tools.runs.judge("a film that is tried", (status, len(tried) > 20, {best[3], best[4], best[7]} <= set(taken)), (0, True, True))
+        lines = tools.run([*words, f"film={name}", "wavelet=haar-flat", "depth=1"])[1].decode().splitlines()
+        tools.runs.judge("a film that is tried with given words", [line.split()[3:5] for line in lines if line.startswith("film ")], [["wavelet=haar-flat", "depth=1"]] * 2)
+        tools.refuses("another film than is planned", [*words[:4], "30/1", *words[5:], f"film={name}"], b"", 1, b"isn't the film that is planned: it has fps=25/1")
+        tools.refuses("frames that are planned as fields", [*words, "fields=yes", f"film={name}"], b"", 1, b"it has fields=no")
+        tools.refuses("a film that isn't there", [*words, f"film={name}s"], b"", 1, b"No such file")
 
 
 def pictures(tools):
@@ -171,7 +222,7 @@ def pictures(tools):
 def tools(runs):
     """All checks of the scripts; what needs ffmpeg is named where it is missing."""
     made = Tools(runs)
-    for part in (films, films_refused, plans, pictures, links):
+    for part in (films, films_refused, plans, plans_kept, plans_of_films, pictures, links):
         part(made)
     if shutil.which("ffmpeg"):
         films_by_ffmpeg(made)

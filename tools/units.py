@@ -61,19 +61,33 @@ def picture_length(unit):
     return before + slices * a // b
 
 
-def least_schedule(units, rate, idle=0):
-    """The least delay, and with it the least buffer, of units (bytes, None or the shape of a picture) at a rate of bytes a slot."""
-    ends, slots, at, slot = [], [], 0, 0
+def slots_of(units, idle):
+    """Of each picture the slot of its first slice, were there no delay, its place and its shape; last those of the tail."""
+    at = slot = 0
     for length, shape in units:
         if shape:
-            before, slices, a, b = shape
-            ends += [at + before + j * a // b for j in range(1, slices + 1)]
-            slots += range(slot, slot + slices)
-            slot += slices + idle
+            yield slot, at, shape
+            slot += shape[1] + idle
         at += length
-    ends.append(at)
-    slots.append(slot)
-    many, of = rate
-    delay = max(0, max(-(-end * of // many) - slot for end, slot in zip(ends, slots)))
-    taken = [0, *ends[:-1]]
-    return delay, max(min(at, (delay + slot) * many // of) - end for end, slot in zip(taken, slots))
+    yield slot, at, None
+
+
+def least_schedule(units, rate, idle=0):
+    """The least delay, and with it the least buffer, of units (bytes; None, or a picture's shape) at a rate of bytes in slots."""
+    (many, of), rows = rate, [*slots_of(units, idle)]
+    total, delay, most, taken = rows[-1][1], 0, 0, 0
+    for slot, at, shape in rows:
+        if shape:
+            before, slices, a, b = shape
+            late = max(-(-(at + before + j * a // b) * of // many) - j for j in range(1, slices + 1)) - slot + 1
+        else:
+            late = -(-at * of // many) - slot
+        delay = max(delay, late)
+    for slot, at, shape in rows:
+        first = min(total, (delay + slot) * many // of)
+        most = max(most, first - taken)
+        if shape:
+            before, slices, a, b = shape
+            start, taken = at + before, at + before + slices * a // b
+            most = max([most, *(min(total, (delay + slot + j) * many // of) - start - j * a // b for j in range(1, slices))])
+    return delay, most
