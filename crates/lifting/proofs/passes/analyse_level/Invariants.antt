@@ -1,5 +1,0 @@
-use Rattle.planes.specs.Raster.{at}
-use Rattle.lifting.proofs.passes.analyse_level.Given as goal
-
-abbrev pub ghost-pass_over : goal.ghost-pass_over
-ghost-pass_over a = at a.plane.now
