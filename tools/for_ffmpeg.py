@@ -1,10 +1,20 @@
-"""Streams spelled anew for ffmpeg 5.1, which reads a slice otherwise than the standard where its luma codes don't end with its
-luma block, and takes no ones past a block's end. So each luma block ends with its last code here, and each slice has bytes of
-ones behind it. The values are the same. A stream has one sequence, and frames."""
+#!/usr/bin/env python3
+"""Spells a stream anew for ffmpeg 5.1, which reads a slice otherwise than the standard where its luma codes don't end with its
+luma block, and takes no ones past a block's end. So each block ends with its last code here, and each slice has bytes of ones
+behind it. The values are the same.
+
+usage: tools/for_ffmpeg.py < STREAM > OUT
+
+The stream has one sequence, and frames. `vc2 check` has to accept it: VC2 names another program than the checkout's.
+"""
+import os
 import re
 import struct
+import subprocess
 import sys
 
+VC2 = os.environ.get("VC2") or os.path.join(os.path.dirname(os.path.dirname(os.path.realpath(__file__))), "vc2")
+HEADER, END, HEAD = 0x00, 0x10, 13
 # how many bytes each slice may get more: the first that serves
 MORE = (10, 23, 53, 109, 241, 509, 1201, 2503, 5003)
 
@@ -117,6 +127,10 @@ def spelled_slice(data, values, more):
     index, length, rest = bits[:7], int(bits[7 : 7 + places] or "0", 2), bits[7 + places :]
     luma, colour = rest[:length], rest[length:]
     codes = re.compile(f"{CODE}{{{values}}}").match(luma + "1" * (values + 99)).group()
+    # a colour code may run past the slice's end
+    whole = re.compile(f"{CODE}*").match(colour).end()
+    if whole < len(colour):
+        colour = colour[:whole] + re.compile(CODE).match(colour[whole:] + "1" * 99).group()
     text = index + f"{len(codes):0{(8 * new - 8).bit_length()}b}" + codes + colour
     if len(text) > 8 * new:
         raise NoRoom
@@ -150,6 +164,40 @@ def readable(data):
     sys.exit("a slice has more luma codes than it can be given room for")
 
 
+def asked(data, command):
+    """What the program says of the stream; its note is the end of this run where it refuses."""
+    ran = subprocess.run([VC2, command], input=data, stdout=subprocess.PIPE)
+    if ran.returncode:
+        sys.exit(ran.returncode)
+    return ran.stdout.decode()
+
+
+def main():
+    if len(sys.argv) > 1:
+        sys.exit(__doc__)
+    data = sys.stdin.buffer.read()
+    asked(data, "check")
+    if "coding frames" not in asked(data, "header").splitlines():
+        sys.exit("for_ffmpeg: the stream's pictures are fields")
+    units = units_of(data)
+    if any(unit[4] != END and unit[5:9] == bytes(4) for unit in units):
+        sys.exit("for_ffmpeg: a unit doesn't tell its length (its next offset is 0)")
+    # what follows an end unit counts to it
+    if [unit[4] for unit in units].count(HEADER) > 1 or len(units[-1]) > HEAD:
+        sys.exit("for_ffmpeg: the stream has more than one sequence header: `vc2 cut` takes a part")
+    sys.stdout.buffer.write(readable(data)[0])
+    sys.stdout.buffer.flush()
+
+
 def command_of(stream, form, *more):
     """What runs ffmpeg on a stream, to raw video or to nothing on its standard output."""
     return ["ffmpeg", "-loglevel", "error", *more, "-threads", "1", "-f", "dirac", "-i", stream, "-fps_mode", "passthrough", "-f", form, "-"]
+
+
+if __name__ == "__main__":
+    try:
+        main()
+    except BrokenPipeError:
+        os._exit(1)
+    except OSError as fault:
+        sys.exit(f"for_ffmpeg: {fault.strerror or fault}")
