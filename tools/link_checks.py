@@ -1,8 +1,14 @@
 """Checks of the tools of a link, for tools/program_check by tool_checks.py: what is lost, planned, paced, held and stuffed."""
 import os
 import random
+import re
 import select
+import shutil
+import socket
 import subprocess
+import time
+
+from units import next_of, number_of, previous_of
 
 CODING = "wavelet=legall depth=2 slices=6x4 bytes=64/1 matrix=4,2,2,0,4,4,2".split()
 SETTINGS = ["size=48x32", "sampling=422", "fps=25/1", "signal=3", *CODING]
@@ -150,6 +156,182 @@ def prompt(tools):
     started.communicate()
 
 
+# the rate of such a stream in slots, a hundred pictures a second
+SCHEDULE, CLOCK = "rate=1561/24 delay=2 buffer=130".split(), ["slots=2400", "packet=200"]
+
+
+def counts(note):
+    """What the last line of `pace` or `hold` tells, by its words."""
+    words = note.decode().splitlines()[-1].split()
+    return {word: float(value) for word, value in zip(words, words[1:]) if re.fullmatch(r"[\d.]+", value)}
+
+
+def units_of(stream):
+    at, units = 0, []
+    while at < len(stream):
+        length = next_of(stream[at : at + 13]) or 13
+        units.append(stream[at : at + length])
+        at += length
+    return units
+
+
+def are_chained(units):
+    """Whether each unit tells the length of the one before; a header may tell none."""
+    return all(previous_of(unit) == len(before) or unit[4] == 0 == previous_of(unit) for before, unit in zip(units, units[1:]))
+
+
+def fed(tools, words, pieces):
+    """(status, output, note) of a script that gets its input in pieces, each after so many seconds."""
+    script = os.path.join(TOP, "tools", words[0])
+    started = subprocess.Popen([script, *words[1:]], stdin=subprocess.PIPE, stdout=subprocess.PIPE, stderr=subprocess.PIPE, env=tools.environment)
+    try:
+        for seconds, piece in pieces:
+            time.sleep(seconds)
+            started.stdin.write(piece)
+            started.stdin.flush()
+    except BrokenPipeError:
+        pass
+    out, note = started.communicate()
+    return started.returncode, out, note
+
+
+def packets(tools, stream):
+    """Packets have one size and don't leave before they are due."""
+    ours, theirs = socket.socketpair(socket.AF_UNIX, socket.SOCK_DGRAM)
+    ours.settimeout(10)
+    words = [os.path.join(TOP, "tools", "pace"), SCHEDULE[0], *CLOCK]
+    started = subprocess.Popen(words, stdin=subprocess.PIPE, stdout=theirs, stderr=subprocess.PIPE)
+    started.stdin.write(stream)
+    started.stdin.close()
+    got, times = [], []
+    while sum(map(len, got)) < len(stream):
+        got.append(ours.recv(1000))
+        times.append(time.monotonic())
+    note = started.stderr.read()
+    started.wait()
+    rate = 1561 / 24 * 2400
+    soonest = min(at - n * 200 / rate for n, at in enumerate(times[:-1]))
+    tools.runs.judge("paced packets", (b"".join(got) == stream, {len(it) for it in got[:-1]}), (True, {200}))
+    # no packet is sooner beside the first one than its bytes allow, but for how late that one was
+    tools.runs.judge("none too soon", times[0] - soonest < 0.002 + counts(note)["late"] / 1000, True)
+    ours.close()
+    theirs.close()
+
+
+def paces(tools):
+    film = Film(tools, 26, "group=13")
+    packets(tools, film.stream)
+    words = ["pace", SCHEDULE[0], *CLOCK]
+    status, out, note = tools.run(words, film.stream)
+    told = counts(note)
+    tools.runs.judge("a paced stream", (status, out == film.stream, told["pictures"], told["packets"]), (0, True, 26, -(-len(film.stream) // 200)))
+    lossy = [tools.run([*words, "loss=1/20", f"seed={seed}"], film.stream)[1] for seed in (1, 1, 2)]
+    tools.runs.judge("packets left out", (lossy[0] == lossy[1], lossy[0] == lossy[2], len(lossy[0]) < len(film.stream)), (True, False, True))
+    tools.runs.judge("jitter alone", tools.run([*words, "jitter=3"], film.stream)[:2], (0, film.stream))
+    tools.runs.judge("pace of no stream", tools.run(words, film.raw)[::2][0], 1)
+    tools.runs.judge("pace of nothing", tools.run(words)[:2], (0, b""))
+    for more in (["rate=0/1"], ["rate=x"], ["rate=1/1", "x=1"], ["rate=1/1", "stall=cry"], ["rate=1/1", "packet=1"], []):
+        tools.runs.judge(f"pace {' '.join(more)}", tools.run(["pace", *more], film.stream)[:2], (2, b""))
+    with open("/dev/full", "wb") as full:
+        tools.runs.judge("pace into a full disk", tools.run(words, film.stream, full)[0], 4)
+
+
+def stalls(tools):
+    """An encoder that pauses after five pictures: the rest later, padding meanwhile, or the next pictures dropped."""
+    film = Film(tools, 26)
+    at = film.unit(5)
+    live = [(0.01, film.stream[film.unit(n) : film.unit(n + 1)]) for n in range(5, 26)]
+    live[-1] = (0.01, film.stream[film.unit(25) :])
+    for how in ("wait", "stuff", "drop"):
+        pieces = [(0, film.stream[:at]), (0.3, b""), *live]
+        status, out, note = fed(tools, ["pace", SCHEDULE[0], *CLOCK, f"stall={how}"], pieces)
+        told, units = counts(note), units_of(out)
+        tools.runs.judge(f"a stall, {how}", (status, told["stalls"] > 0, are_chained(units)), (0, True, True))
+        shown = tools.program(["decode"], out)
+        if how == "wait":
+            tools.runs.judge("all of it, later", out == film.stream, True)
+        elif how == "stuff":
+            tools.runs.judge("with padding", (shown == film.shown, told["padding"] > 0, told["padding"] == len(out) - len(film.stream)), (True, True, True))
+        else:
+            numbers = [number_of(unit) for unit in units if unit[4] == 0xC8]
+            tools.runs.judge("without the late pictures", (numbers[:5], told["dropped"] + len(numbers), told["dropped"] > 0), ([0, 1, 2, 3, 4], 26, True))
+            kept = tools.run(["join", "lost=drop"], out)
+            tools.runs.judge("and joined", kept[1] == b"".join(film.pictures[n] for n in numbers), True)
+
+
+def holds(tools):
+    film = Film(tools, 26, "group=13")
+    words = ["hold", *SCHEDULE, *CLOCK]
+    since = time.monotonic()
+    status, out, note = tools.run([*words, "full=wait"], film.stream)
+    told = counts(note)
+    tools.runs.judge("a stream that is held", (status, out == film.stream, told["pictures"], told["slices"], told["over"]), (0, True, 26, 624, 0))
+    tools.runs.judge("by its clock", time.monotonic() - since > 0.25, True)
+    status, out, note = tools.run(words, film.stream)
+    tools.runs.judge("a stream that comes too fast", (counts(note)["over"] > 0, out != film.stream), (True, True))
+    behind = film.stream.index(b"BBCD\0", 100)
+    tools.runs.judge("held from the next header on", tools.run([*words, "full=wait"], film.stream[500:])[1] == film.stream[behind:], True)
+    tools.runs.judge("nothing held", tools.run(words)[:2], (1, b""))
+    lossy = film.without(film.unit(3) + 400, 200)
+    status, out, note = tools.run([*words, "full=wait"], lossy)
+    tools.runs.judge("held with a loss", (status, out == lossy, counts(note)["cut"]), (0, True, 1))
+    late = [(0, film.stream[: film.unit(5)]), (0.3, film.stream[film.unit(5) :])]
+    status, out, note = fed(tools, [*words, "full=wait"], late)
+    told = counts(note)
+    tools.runs.judge("held, and late", (status, out == film.stream, told["late"] + told["anew"] > 0), (0, True, True))
+    for more in ([], SCHEDULE, [*SCHEDULE, "slots=0"], [*SCHEDULE, "slots=1", "full=up"], [*SCHEDULE, "slots=1", "buffer"]):
+        tools.runs.judge(f"hold {' '.join(more)}", tools.run(["hold", *more], film.stream)[:2], (2, b""))
+
+
+def stuffs(tools):
+    """A channel that carries more: the padded stream has the same pictures, and the schedule that is told is the least one."""
+    film = Film(tools, 13, "group=5")
+    for rate, idle in (("1600/24", 0), ("2000/24", 0), ("3001/47", 0), ("66/1", 0), ("1700/29", 5)):
+        words = [f"rate={rate}", *([f"idle={idle}"] if idle else [])]
+        status, out, note = tools.run(["stuff", *words], film.stream)
+        told = dict(word.split("=") for word in note.decode().split())
+        tools.runs.judge(f"stuffed to {rate}", (status, tools.program(["decode"], out) == film.shown, are_chained(units_of(out))), (0, True, True))
+        for by, wanted in (((0, 0), 0), ((-1, 0), 1), ((0, -1), 1)):
+            asked = [f"rate={rate}", f"delay={int(told['delay']) + by[0]}", f"buffer={int(told['buffer']) + by[1]}", *words[1:]]
+            tools.runs.judge(f"its schedule by {by}", tools.run_program(["check", *asked], out).returncode, wanted)
+    again = tools.run(["stuff", "rate=1700/24"], tools.run(["stuff", "rate=1600/24"], film.stream)[1])[1]
+    tools.runs.judge("stuffed anew", again == tools.run(["stuff", "rate=1700/24"], film.stream)[1], True)
+    status, out, _ = tools.run(["stuff", "rate=2000/24"], film.stream)
+    paced = tools.run(["pace", "rate=2000/24", *CLOCK], out)[1]
+    tools.runs.judge("paced with its padding", paced == out, True)
+    held = tools.run(["hold", "rate=2000/24", "delay=2", "buffer=700", *CLOCK, "full=wait"], out)
+    tools.runs.judge("held without it", (held[1] == film.stream, counts(held[2])["padding"] == len(out) - len(film.stream)), (True, True))
+    tools.refuses("stuffing of no stream", ["stuff", "rate=1/1"], film.raw, 1, b"no whole unit")
+    tools.runs.judge("stuff tells its usage", tools.run(["stuff"])[0], 2)
+
+
+def whole_chains(tools):
+    """encode, pace, hold, join: all pictures with nothing lost, and all but those that were."""
+    film = Film(tools, 50, "group=10")
+    for more, most in (([], 0), (["jitter=5"], 0), (["loss=1/100"], 25)):
+        sent = subprocess.Popen([os.path.join(TOP, "tools", "pace"), SCHEDULE[0], *CLOCK, *more], stdin=subprocess.PIPE, stdout=subprocess.PIPE, stderr=subprocess.PIPE)
+        # the clocks of a busy machine may be far behind
+        words = [os.path.join(TOP, "tools", "hold"), *SCHEDULE, *CLOCK, "jitter=200", "full=wait"]
+        held = subprocess.Popen(words, stdin=sent.stdout, stdout=subprocess.PIPE, stderr=subprocess.PIPE)
+        sent.stdout.close()
+        joined = subprocess.Popen([os.path.join(TOP, "tools", "join"), "lost=drop"], stdin=held.stdout, stdout=subprocess.PIPE, stderr=subprocess.PIPE, env=tools.environment)
+        held.stdout.close()
+        sent.stdin.write(film.stream)
+        sent.stdin.close()
+        out, note = joined.communicate()
+        lost = {int(line.split()[1]) for line in note.splitlines() if line.startswith(b"picture ")}
+        wanted = b"".join(it for n, it in enumerate(film.pictures) if n not in lost)
+        tools.runs.judge(f"a chain with {more}", (out == wanted, len(lost) <= most, bool(lost) == bool(most)), (True, True, True))
+        for run in (sent, held):
+            run.stderr.close()
+            run.wait()
+
+
 def links(tools):
-    for part in (whole_streams, losses, late, lost_fields, drawn_losses, prompt):
+    for part in (whole_streams, losses, late, lost_fields, drawn_losses, prompt, stuffs):
         part(tools)
+    if shutil.which(os.environ.get("CC", "cc")):
+        for part in (paces, stalls, holds, whole_chains):
+            part(tools)
+    else:
+        print("a C compiler is missing: pace and hold were not tried")

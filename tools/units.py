@@ -72,22 +72,41 @@ def slots_of(units, idle):
     yield slot, at, None
 
 
+def least_delay(row, rate):
+    """With which none of a row's slices is late, nor the tail."""
+    (slot, at, shape), (many, of) = row, rate
+    if not shape:
+        return -(-at * of // many) - slot
+    before, slices, a, b = shape
+    return max(-(-(at + before + j * a // b) * of // many) - j for j in range(1, slices + 1)) - slot + 1
+
+
+def most_held(row, rate, delay, total):
+    """How much is held at most when a row's slices are taken, but for the first."""
+    (slot, at, (before, slices, a, b)), (many, of) = row, rate
+    start = at + before
+    return max((min(total, (delay + slot + j) * many // of) - start - j * a // b for j in range(1, slices)), default=0)
+
+
 def least_schedule(units, rate, idle=0):
-    """The least delay, and with it the least buffer, of units (bytes; None, or a picture's shape) at a rate of bytes in slots."""
-    (many, of), rows = rate, [*slots_of(units, idle)]
-    total, delay, most, taken = rows[-1][1], 0, 0, 0
+    """The least delay, and with it the least buffer, of units (bytes; None, or a picture's shape) at a rate of bytes in slots.
+
+    Of pictures of one shape the one that comes latest for its slots asks for the delay, and of those behind which the stream goes
+    on the one that comes soonest for the buffer: so few are looked into."""
+    (many, of), rows, taken, latest, looked = rate, [*slots_of(units, idle)], 0, {}, {}
+    for row in rows:
+        behind = row[1] * of - row[0] * many
+        if row[2] not in latest or behind > latest[row[2]][0]:
+            latest[row[2]] = behind, row
+    delay, total = max(0, *(least_delay(row, rate) for _, row in latest.values())), rows[-1][1]
+    most = 0
     for slot, at, shape in rows:
+        most = max(most, min(total, (delay + slot) * many // of) - taken)
         if shape:
             before, slices, a, b = shape
-            late = max(-(-(at + before + j * a // b) * of // many) - j for j in range(1, slices + 1)) - slot + 1
-        else:
-            late = -(-at * of // many) - slot
-        delay = max(delay, late)
-    for slot, at, shape in rows:
-        first = min(total, (delay + slot) * many // of)
-        most = max(most, first - taken)
-        if shape:
-            before, slices, a, b = shape
-            start, taken = at + before, at + before + slices * a // b
-            most = max([most, *(min(total, (delay + slot + j) * many // of) - start - j * a // b for j in range(1, slices))])
-    return delay, most
+            taken = at + before + slices * a // b
+            is_last = (delay + slot + slices) * many // of >= total
+            key, behind = (shape, slot if is_last else None), at * of - slot * many
+            if key not in looked or behind < looked[key][0]:
+                looked[key] = behind, (slot, at, shape)
+    return delay, max([most, *(most_held(row, rate, delay, total) for _, row in looked.values())])
