@@ -5,6 +5,7 @@ import subprocess
 import tempfile
 
 from link_checks import links
+from quality import decibels, squares
 
 TOP = os.path.dirname(os.path.dirname(os.path.abspath(__file__)))
 SECONDS = 60
@@ -75,6 +76,35 @@ def films(tools):
         frames = film(tall, tools.program(["frames", f"order={order}"], stream), 1)
         tools.case(f"a stream of fields, {order} first", ["y4m", "decode", f"order={order}"], stream, (0, frames, b"frames 1 bytes %d\n" % len(stream)))
         tools.refuses("a stream of fields without an order", ["y4m", "decode"], stream, 1, b"order=top or order=bottom")
+
+
+def films_watched(tools):
+    """What is told of a film while it is encoded, and that the stream is the same."""
+    raw, signal = example("pair_422.yuv"), "size=48x64 sampling=422 signal=3".split()
+    frame = tools.program(["weave", *signal, "order=top"], raw)
+    lines = (LINE, raw, 2), (LINE.replace(b"H32", b"H64").replace(b"Ip", b"It"), 3 * frame, 3)
+    with tempfile.TemporaryDirectory() as folder:
+        for line, video, count in lines:
+            source, stats, words = film(line, video, count), os.path.join(folder, "stats"), ["y4m", "encode", *CODING]
+            wanted = tools.run(words, source)
+            status, stream, note = tools.run([*words, "progress=yes", f"stats={stats}"], source)
+            tools.runs.judge(f"a film of {count} that is watched", (status, stream), wanted[:2])
+            last = note.replace(b"\r", b"\n").splitlines()[-1].split()
+            tools.runs.judge("how far it is", (last[:2], last[2], last[4], len(last)), ([b"pictures", b"%d" % count], b"seconds", b"Mbit/s", 8))
+            with open(stats, encoding="utf-8") as file:
+                told = [row.split() for row in file]
+            shown = tools.program(["frames", "order=top"], stream)
+            near = [decibels(squares(one, other, 2), len(one) // 2, 10) for one, other in zip(parts(video, count), parts(shown, count))]
+            tools.runs.judge("a line a frame", [(row[1], row[3], row[-1]) for row in told], [(str(n), str(1561 * len(video) // count // 6144), f"{it:.2f}") for n, it in enumerate(near)])
+        with open("/dev/full", "wb") as full:
+            tools.runs.judge("watched into a full disk", tools.run([*words, "progress=yes"], source, full)[0], 4)
+    tools.refuses("a film that is refused while it is watched", [*words, "progress=yes", "x=1"], source, 2, b"usage: UnknownKey word 6")
+    tools.refuses("a progress of neither kind", [*words, "progress=maybe"], source, 2, b"neither yes nor no")
+
+
+def parts(raw, count):
+    size = len(raw) // count
+    return [raw[at : at + size] for at in range(0, len(raw), size)]
 
 
 def films_refused(tools):
@@ -222,7 +252,7 @@ def pictures(tools):
 def tools(runs):
     """All checks of the scripts; what needs ffmpeg is named where it is missing."""
     made = Tools(runs)
-    for part in (films, films_refused, plans, plans_kept, plans_of_films, pictures, links):
+    for part in (films, films_watched, films_refused, plans, plans_kept, plans_of_films, pictures, links):
         part(made)
     if shutil.which("ffmpeg"):
         films_by_ffmpeg(made)

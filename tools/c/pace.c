@@ -99,6 +99,7 @@ static void *read_units(void *unused) {
         memcpy(it->bytes, head, HEAD);
         if (read_whole(it->bytes + HEAD, len - HEAD) < len - HEAD) {
             got = 1;
+            free(it);
             break;
         }
         it->next = NULL, it->len = len, it->place = place, it->came = now();
