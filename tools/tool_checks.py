@@ -98,6 +98,7 @@ def films_watched(tools):
             tools.runs.judge("a line a frame", [(row[1], row[3], row[-1]) for row in told], [(str(n), str(1561 * len(video) // count // 6144), f"{it:.2f}") for n, it in enumerate(near)])
         with open("/dev/full", "wb") as full:
             tools.runs.judge("watched into a full disk", tools.run([*words, "progress=yes"], source, full)[0], 4)
+    source = film(LINE, raw, 2)
     tools.refuses("a film that is refused while it is watched", [*words, "progress=yes", "x=1"], source, 2, b"usage: UnknownKey word 6")
     tools.refuses("a progress of neither kind", [*words, "progress=maybe"], source, 2, b"neither yes nor no")
 
