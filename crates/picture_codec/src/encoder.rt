@@ -21,7 +21,7 @@ ghost use Rattle.picture_codec.specs.EncoderInside.{AreRowsWhole, AreWhole, Have
 use crate::centring::centre;
 use crate::dealt_bands::DealtBands;
 use crate::picture::Picture;
-use crate::workspace::{AnalysisWorkspace, depth_of, narrow_zero_trio, size_of};
+use crate::workspace::{AnalysisWorkspace, all_made, depth_of, narrow_zero_trio, size_of};
 use lifting::analyse_narrow;
 use planes::{NarrowBands, NarrowPlane, NarrowTrio, NoMemory, Plane, ThreePlanes};
 use quant_factors::Matrix;
@@ -216,11 +216,12 @@ fn kept_planes(
         × IsLowest layout.now shape.now.colour kept.c1
         × IsLowest layout.now shape.now.colour kept.c2) }
 {
-    Ok(ThreePlanes {
-        luma: kept_plane(alloc, layout, shape.luma)?,
-        c1: kept_plane(alloc, layout, shape.colour)?,
-        c2: kept_plane(alloc, layout, shape.colour)?,
-    })
+    let (luma, c1, c2) = all_made(
+        kept_plane(alloc, layout, shape.luma),
+        kept_plane(alloc, layout, shape.colour),
+        kept_plane(alloc, layout, shape.colour),
+    )?;
+    Ok(ThreePlanes { luma, c1, c2 })
 }
 
 // The planes of luma, and those of C1 and C2, which share theirs.

@@ -11,6 +11,7 @@ ghost use Rattle.picture_codec.specs.Decoding.{AreNewBands};
 ghost use Rattle.picture_codec.specs.ShortSlices.{HasSlicesOfOneSize, AreShortSound, AreBeside};
 
 use crate::late_narrow::MOST_VALUES;
+use crate::workspace::all_made;
 use bounded_blocks::CodeTable;
 use planes::NoMemory;
 use slice_bands::{ShortBands, ShortTrio};
@@ -85,11 +86,12 @@ pub(crate) fn short_zero_trio(
         → AreNewBands layout.now shape.now.colour (short_stack b.c2)) }
     ensures sound { IfOk result AreShortSound }
 {
-    Ok(ShortTrio {
-        luma: short_zero_bands(alloc, layout, shape.luma, is_cut)?,
-        c1: short_zero_bands(alloc, layout, shape.colour, is_cut)?,
-        c2: short_zero_bands(alloc, layout, shape.colour, is_cut)?,
-    })
+    let (luma, c1, c2) = all_made(
+        short_zero_bands(alloc, layout, shape.luma, is_cut),
+        short_zero_bands(alloc, layout, shape.colour, is_cut),
+        short_zero_bands(alloc, layout, shape.colour, is_cut),
+    )?;
+    Ok(ShortTrio { luma, c1, c2 })
 }
 
 // How many values a slice of a component has, where all have one size.

@@ -7,7 +7,7 @@ ghost use Rattle.slice_decoder.specs.Narrow.{trio_of};
 ghost use Rattle.picture_codec.specs.Decoding.{AreNewBands};
 ghost use Rattle.picture_codec.specs.DecodedBands.{AllAgree};
 
-use crate::workspace::late_zero_trio;
+use crate::workspace::{all_made, late_zero_trio};
 use planes::{Bands, LateTrio, NarrowTrio, NoMemory, Trio};
 use quant_factors::Matrix;
 use slice_decoder::{SliceFault, decode_slice};
@@ -49,11 +49,12 @@ impl WideBands {
         ensures late { IfOk result (λ b. b.is_made ≡ false) }
     {
         let depth = layout.depth();
-        let made = Trio {
-            luma: Bands::new(alloc, depth, 0, 0)?,
-            c1: Bands::new(alloc, depth, 0, 0)?,
-            c2: Bands::new(alloc, depth, 0, 0)?,
-        };
+        let (luma, c1, c2) = all_made(
+            Bands::new(alloc, depth, 0, 0),
+            Bands::new(alloc, depth, 0, 0),
+            Bands::new(alloc, depth, 0, 0),
+        )?;
+        let made = Trio { luma, c1, c2 };
         let late = late_zero_trio(alloc, layout, shape)?;
         Ok(WideBands {
             late,

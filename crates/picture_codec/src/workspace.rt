@@ -1,6 +1,6 @@
 //! What the decoder and the encoder of pictures have in common: the room for a component's transform, and its size.
 
-ghost use Rattle.std.specs.Prelude.{◌≡◌, ◌≤◌, true, IfOk};
+ghost use Rattle.std.specs.Prelude.{◌≡◌, ◌≤◌, true, Ok, IfOk};
 ghost use Rattle.slice_geometry.specs.Shape.{IsSize, IsDepth};
 ghost use Rattle.planes.specs.Subbands.{AreZeroBands};
 ghost use Rattle.picture_codec.specs.Pictures as pictures;
@@ -244,6 +244,17 @@ fn late_zero_bands<T: Number>(
     LateBands::new(alloc, layout.depth(), padded.w, padded.h)
 }
 
+/// What was made of each component, where all three were: `luma`, C1, C2.
+pub(crate) fn all_made<B: Drop>(
+    luma: Result<B, NoMemory>,
+    c1: Result<B, NoMemory>,
+    c2: Result<B, NoMemory>,
+) -> Result<(B, B, B), NoMemory>
+    ensures { IfOk result (λ made. (luma ≡ Ok made.0) × (c1 ≡ Ok made.1) × (c2 ≡ Ok made.2)) }
+{
+    Ok((luma?, c1?, c2?))
+}
+
 /// The memory of the bands of the three components.
 pub(crate) fn late_zero_trio<T: Number>(
     alloc: Global,
@@ -254,11 +265,12 @@ pub(crate) fn late_zero_trio<T: Number>(
         × AreNewBandsOf T.none layout.now shape.now.colour bands.c1
         × AreNewBandsOf T.none layout.now shape.now.colour bands.c2) }
 {
-    Ok(LateTrio {
-        luma: late_zero_bands(alloc, layout, shape.luma)?,
-        c1: late_zero_bands(alloc, layout, shape.colour)?,
-        c2: late_zero_bands(alloc, layout, shape.colour)?,
-    })
+    let (luma, c1, c2) = all_made(
+        late_zero_bands(alloc, layout, shape.luma),
+        late_zero_bands(alloc, layout, shape.colour),
+        late_zero_bands(alloc, layout, shape.colour),
+    )?;
+    Ok(LateTrio { luma, c1, c2 })
 }
 
 /// Bands of 32 bits of no rows, in whose place others are made.
@@ -268,11 +280,12 @@ pub(crate) fn rowless_narrow_trio(alloc: Global, depth: u32) -> Result<NarrowTri
         × AreZeroBands bands.c1 depth 0 0
         × AreZeroBands bands.c2 depth 0 0) }
 {
-    Ok(NarrowTrio {
-        luma: Bands::new(alloc, depth, 0, 0)?,
-        c1: Bands::new(alloc, depth, 0, 0)?,
-        c2: Bands::new(alloc, depth, 0, 0)?,
-    })
+    let (luma, c1, c2) = all_made(
+        Bands::new(alloc, depth, 0, 0),
+        Bands::new(alloc, depth, 0, 0),
+        Bands::new(alloc, depth, 0, 0),
+    )?;
+    Ok(NarrowTrio { luma, c1, c2 })
 }
 
 // The bands of a component in 32 bits, all zero.
@@ -294,11 +307,12 @@ pub(crate) fn narrow_zero_trio(
         × AreNewBands layout.now shape.now.colour bands.c1
         × AreNewBands layout.now shape.now.colour bands.c2) }
 {
-    Ok(NarrowTrio {
-        luma: narrow_zero_bands(alloc, layout, shape.luma)?,
-        c1: narrow_zero_bands(alloc, layout, shape.colour)?,
-        c2: narrow_zero_bands(alloc, layout, shape.colour)?,
-    })
+    let (luma, c1, c2) = all_made(
+        narrow_zero_bands(alloc, layout, shape.luma),
+        narrow_zero_bands(alloc, layout, shape.colour),
+        narrow_zero_bands(alloc, layout, shape.colour),
+    )?;
+    Ok(NarrowTrio { luma, c1, c2 })
 }
 
 /// The size of a component.
