@@ -10,6 +10,7 @@ from quality import decibels, squares
 TOP = os.path.dirname(os.path.dirname(os.path.abspath(__file__)))
 SECONDS = 60
 CODING = "wavelet=legall depth=2 slices=6x4 bytes=64/1 matrix=4,2,2,0,4,4,2".split()
+FIELDS = ["size=48x64", "sampling=422", "fps=25/1", "signal=3", "fields=yes", *CODING]
 LINE = b"YUV4MPEG2 W48 H32 F25:1 Ip A0:0 C422p10 XCOLORRANGE=LIMITED\n"
 FORMATS = [f"yuv{sampling}p{depth}" for sampling in (420, 422, 444) for depth in ("", "10le", "12le")]
 
@@ -165,6 +166,19 @@ def films_by_ffmpeg(tools):
         plain = tools.program(["encode", "size=96x64", f"sampling={kind[3:6]}", "fps=25/1", f"signal={words}", *coding], raw)
         shown = subprocess.run(raw_of, input=tools.run(["y4m", "decode"], stream)[1], capture_output=True, check=True).stdout
         tools.runs.judge(f"{kind} by ffmpeg", (stream == plain, shown == tools.program(["decode"], stream), len(shown)), (True, True, len(raw)))
+    spelled(tools)
+
+
+def spelled(tools):
+    """A stream that is spelled anew for ffmpeg has the same samples, there and by the program."""
+    stream, script = example("pair_422.vc2"), ["for_ffmpeg.py"]
+    read = "ffmpeg -nostdin -v error -threads 1 -f dirac -i - -fps_mode passthrough -f rawvideo -".split()
+    wanted, (status, anew, _) = tools.program(["decode"], stream), tools.run(script, stream)
+    shown = subprocess.run(read, input=anew, capture_output=True).stdout
+    tools.runs.judge("a stream spelled for ffmpeg", (status, shown == wanted, tools.program(["decode"], anew) == wanted), (0, True, True))
+    tools.refuses("two sequences spelled for ffmpeg", script, 2 * stream, 1, b"more than one sequence header")
+    tools.refuses("fields spelled for ffmpeg", script, tools.program(["encode", *FIELDS], example("pair_422.yuv")), 1, b"are fields")
+    tools.refuses("no stream spelled for ffmpeg", script, b"", 1, b"refused at 0: Truncated")
 
 
 def plans(tools):
@@ -228,7 +242,7 @@ def plans_of_films(tools):
 def pictures(tools):
     with tempfile.TemporaryDirectory() as folder:
         stream, drawn = os.path.join(TOP, "examples", "pair_422.vc2"), os.path.join(folder, "drawn")
-        lines = b"0 slices 24 at 0 17 middle 0 most 21\n1 slices 24 at 0 16 middle 0 most 22\n"
+        lines = b"0 slices 24 at 0 16 middle 0 most 19\n1 slices 24 at 0 15 middle 0 most 19\n"
         tools.case("indices", ["index_picture", stream], b"", (0, lines, b""))
         tools.case("a picture of indices", ["index_picture", stream, "1", drawn], b"", (0, lines, b""))
         with open(drawn, "rb") as file:
