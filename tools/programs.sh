@@ -124,15 +124,22 @@ have_unproved() {
     [ "$sum" = "$(sum_of "$code")" ] || fail "sources were changed while the program was built: the next call builds it"
 }
 
+# What is said of a kind of build.
+says_of() {
+    if [ "$1" = full ]; then
+        echo "not proved here: this code passed the gate with $(recorded kit)"
+    else
+        echo 'not proved: built with a stop at each operation that may fault'
+    fi
+}
+
 # What `--version` says of the program that calls run.
 state() {
     if is_proved; then
         echo "proved with $kit"
     elif ! find_unproved; then
         echo 'not proved, and not built yet'
-    elif [ "$kind" = full ]; then
-        echo "not proved here: this code passed the gate with $(recorded kit)"
     else
-        echo 'not proved: built with a stop at each operation that may fault'
+        says_of "$kind"
     fi
 }
