@@ -11,19 +11,22 @@ form_of() {
     tr -s ' []' '\n' <"$synopsis" | grep -m 1 "^$1="
 }
 
-# Raw video has no head, and a film in y4m has one. Of a file the script can look; a pipe is read by the program alone.
-is_film() {
-    [ -f /dev/stdin ] && head -c 9 /dev/stdin 2>/dev/null | grep -q '^YUV4MPEG2'
-}
-
-say_of_film() {
+reads_raw() {
     case $1 in
     encode | weave | split) ;;
-    *) return ;;
+    *) return 1 ;;
     esac
-    if is_film; then
+}
+
+# Raw video has no head, and a film in y4m has one. Of a file the script can look; a pipe is read by the program alone.
+say_of_film() {
+    if reads_raw "$1" && [ -f /dev/stdin ] && head -c 9 /dev/stdin 2>/dev/null | grep -q '^YUV4MPEG2'; then
         say "the input is a film in y4m, and $1 reads raw video: tools/y4m goes between them"
-    elif [ "$2" = 1 ] && [ ! -f /dev/stdin ]; then
+    fi
+}
+
+say_of_refusal() {
+    if reads_raw "$1" && [ ! -f /dev/stdin ]; then
         say "raw video has no head, and the words have to fit it; of a film in y4m tools/y4m makes that"
     fi
 }
@@ -49,16 +52,17 @@ explain() {
     esac
 }
 
-# Where the script is killed the program ends too, if there is setpriv.
+# Where the script is killed the program ends too, if there is a setpriv that sees to it.
 run() {
-    if command -v setpriv >/dev/null; then
+    say_of_film "${1-}"
+    if setpriv --pdeathsig TERM true 2>/dev/null; then
         setpriv --pdeathsig TERM "$program" "$@"
     else
         "$program" "$@"
     fi
     status=$?
     case $status in
-    0 | 1) say_of_film "${1-}" "$status" ;;
+    1) say_of_refusal "${1-}" ;;
     2) explain "$@" ;;
     3) say 'a read of standard input failed' ;;
     # whoever reads a pipe may have seen enough
