@@ -32,7 +32,7 @@ typedef struct {
     int is_due_known;
     uint64_t start, end;
     double slot;
-    uint64_t before, slices, a, b;
+    shape shape;
     uint64_t came;
 } segment;
 
@@ -78,41 +78,12 @@ static void report(void) {
             (unsigned long long)told.cut, (unsigned long long)told.anew);
 }
 
-/* Reads exp-Golomb codes of what has arrived; is_short where they end first. */
-typedef struct { const uint8_t *from; uint64_t at, bits; int is_short; } codes;
-
-static unsigned bit_of(codes *c) {
-    if (c->at >= c->bits) return c->is_short = 1;
-    unsigned bit = c->from[c->at >> 3] >> (7 - c->at % 8) & 1;
-    c->at++;
-    return bit;
-}
-
-static uint64_t uint_of(codes *c) {
-    uint64_t value = 1;
-    while (!bit_of(c) && value < 1ull << 40) value = 2 * value + bit_of(c);
-    return value - 1;
-}
-
-/* Reads a picture's shape. Gives 0 where its parameters haven't arrived, or are none. */
-static int read_shape(segment *it, uint64_t len) {
-    codes c = {at(it->start) + NUMBER, 0, 8 * (len < PARAMETERS ? len - NUMBER : PARAMETERS - NUMBER), 0};
-    uint_of(&c);
-    uint64_t depth = uint_of(&c), across = uint_of(&c), down = uint_of(&c);
-    it->a = uint_of(&c), it->b = uint_of(&c);
-    bit_of(&c);
-    for (uint64_t k = 0; k < 1 + 3 * depth && depth <= 4; k++) uint_of(&c);
-    it->before = NUMBER + (c.at + 7) / 8;
-    it->slices = across * down;
-    return !c.is_short && depth <= 4 && across && across <= 8192 && down && down <= 8192 && it->b && it->a;
-}
-
 static double due(double slot) { return now_.zero + slot * link_.slot; }
 
 /* Gives a picture its slots by its number, and the clock its zero where there is none that serves. */
 static void set_clock(segment *it, double came) {
     uint32_t number = big_endian(at(it->start) + 13), gap = number - now_.number;
-    double early = 2 * link_.jitter + (link_.delay + (double)it->slices) * link_.slot, period = (double)(it->slices + link_.idle) * link_.slot;
+    double early = 2 * link_.jitter + (link_.delay + (double)it->shape.slices) * link_.slot, period = (double)(it->shape.slices + link_.idle) * link_.slot;
     it->slot = now_.slot + gap * (double)(now_.slices + link_.idle);
     int is_far = gap > MOST_GAP || came - due(it->slot) > period || due(it->slot) - came > early + period;
     if (!now_.has_clock || is_far) {
@@ -122,7 +93,7 @@ static void set_clock(segment *it, double came) {
         now_.zero = since + link_.jitter + (link_.delay - it->slot) * link_.slot;
         now_.has_clock = 1;
     }
-    now_.number = number, now_.slot = it->slot, now_.slices = it->slices;
+    now_.number = number, now_.slot = it->slot, now_.slices = it->shape.slices;
     for (uint64_t n = held.count; n-- > 0 && !nth(n)->is_due_known;) nth(n)->slot = it->slot, nth(n)->is_due_known = 1;
 }
 
@@ -149,7 +120,7 @@ static int is_head_at(uint64_t place) { return place + HEAD <= held.arrived && i
 /* Counts slices of the segment that came since, and those of them that came late. */
 static void count_slices(segment *it, double came) {
     uint64_t had = it->came, len = held.parsed - it->start;
-    while (it->came < it->slices && it->before + (it->came + 1) * it->a / it->b <= len) it->came++;
+    while (it->came < it->shape.slices && it->shape.before + (it->came + 1) * it->shape.a / it->shape.b <= len) it->came++;
     double late = came - due(it->slot + (double)had);
     told.slices += it->came - had;
     if (it->came == had || late <= 0) return;
@@ -182,7 +153,7 @@ static int begin(double came) {
         drop_padding();
         return 1;
     } else {
-        if (unit[4] == PICTURE && !read_shape(&it, len)) {
+        if (unit[4] == PICTURE && !read_shape(unit, len, &it.shape)) {
             if (len < PARAMETERS && len < next_of(unit)) return 0;
         } else if (unit[4] == PICTURE) {
             it.kind = SLICES, it.is_due_known = 1;
@@ -265,11 +236,11 @@ static uint64_t due_place(double time, double *next) {
         } else if (!it->is_due_known || slots < 0) {
             if (it->is_due_known) *next = due(it->slot);
             break;
-        } else if (it->kind == UNIT || slots + 1 >= (double)it->slices) {
+        } else if (it->kind == UNIT || slots + 1 >= (double)it->shape.slices) {
             place = end;
         } else {
             slice = (uint64_t)slots + 1;
-            place = it->start + it->before + slice * it->a / it->b;
+            place = it->start + it->shape.before + slice * it->shape.a / it->shape.b;
             *next = due(it->slot + (double)slice);
         }
         if (place > end) place = end;

@@ -123,6 +123,40 @@ static inline int is_head(const uint8_t *unit) {
 
 static inline uint32_t unit_length(const uint8_t *unit) { return unit[4] == END ? HEAD : next_of(unit); }
 
+/* Reads exp-Golomb codes; is_short where they end first. */
+typedef struct { const uint8_t *from; uint64_t at, bits; int is_short; } codes;
+
+static inline unsigned bit_of(codes *c) {
+    if (c->at >= c->bits) return (unsigned)(c->is_short = 1);
+    unsigned bit = c->from[c->at >> 3] >> (7 - c->at % 8) & 1;
+    c->at++;
+    return bit;
+}
+
+static inline uint64_t uint_of(codes *c) {
+    uint64_t value = 1;
+    while (!bit_of(c) && value < 1ull << 40) value = 2 * value + bit_of(c);
+    return value - 1;
+}
+
+/* Of a picture: the bytes before its slices, how many these are, and their share a/b. */
+typedef struct { uint64_t before, slices, a, b; } shape;
+
+/* Reads a shape of the first bytes of a picture's unit. Gives 0 where they end before it does, or it is none. */
+static inline int read_shape(const uint8_t *unit, size_t len, shape *it) {
+    if (len <= NUMBER) return 0;
+    codes c = {unit + NUMBER, 0, 8 * (len < PARAMETERS ? len - NUMBER : PARAMETERS - NUMBER), 0};
+    uint_of(&c);
+    uint64_t depth = uint_of(&c), across = uint_of(&c), down = uint_of(&c);
+    it->a = uint_of(&c), it->b = uint_of(&c);
+    bit_of(&c);
+    for (uint64_t k = 0; k < 1 + 3 * depth && depth <= 4; k++) uint_of(&c);
+    it->before = NUMBER + (c.at + 7) / 8;
+    it->slices = across * down;
+    int is_cut = depth <= 4 && across && across <= 8192 && down && down <= 8192;
+    return !c.is_short && is_cut && it->b && it->a && it->a < 1ull << 32 && it->b < 1ull << 32;
+}
+
 /* A unit of so many bytes, at least HEAD, that says nothing. */
 static inline void put_padding(uint8_t *unit, uint32_t len, uint32_t before) {
     memset(unit, 0, len);
