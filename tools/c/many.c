@@ -472,9 +472,11 @@ static int read_picture(void) {
     shape it;
     if (told && first > cut.unit.len) read_more(&cut.unit, first - cut.unit.len);
     while (!told && cut.unit.len < PARAMETERS && !read_shape(cut.unit.at, cut.unit.len, &it) && read_more(&cut.unit, 1)) {}
-    if (!read_shape(cut.unit.at, cut.unit.len, &it)) return odd(1, LOOKED_AT);
+    int is_cut = !read_shape(cut.unit.at, cut.unit.len, &it);
+    if (is_cut) read_more(&cut.unit, LOOKED_AT - cut.unit.len);
+    if (is_cut && !read_shape(cut.unit.at, cut.unit.len, &it)) return odd(1, 0);
     size_t len = it.before + it.slices * it.a / it.b;
-    if (told && told != len) return odd(1, len > LOOKED_AT ? len : LOOKED_AT);
+    if (is_cut || (told && told != len)) return odd(1, len > LOOKED_AT ? len : LOOKED_AT);
     if (len > (1 << 28) + LOOKED_AT) return odd(1, LOOKED_AT);
     if (read_more(&cut.unit, len - cut.unit.len), cut.unit.len < len) return odd(1, 0);
     return 1;
