@@ -18,9 +18,9 @@ static const char usage[] =
     "A slice that is late is handed on as soon as it is there. Where a picture begins later or sooner than by more than a picture's\n"
     "time, the clock is set anew. The last line says how many pictures and slices came, how many slices late and by how much at most,\n"
     "how many bytes found no room, how many were held at most and of how many, what padding there was, how many units were\n"
-    "cut short, and how often the clock was set anew.";
+    "cut short, how often the clock was set anew, and how many bytes waited at most for the reader of what is handed on.";
 
-enum { SEGMENTS = 1024, PIECE = 65536, MOST_GAP = 1000 };
+enum { SEGMENTS = 1024, PIECE = 65536, MOST_GAP = 1000, MOST_HANDED = 1 << 28 };
 /* how late a batch of slices may be handed on, and how long a sleep is at least */
 static const double BATCH = 1e-3, SLEEP = 2.5e-4;
 
@@ -71,11 +71,13 @@ static uint8_t *at(uint64_t place) { return held.bytes + (place - held.front); }
 static segment *nth(uint64_t n) { return &held.segments[(held.first + n) % SEGMENTS]; }
 static segment *last(void) { return held.count ? nth(held.count - 1) : NULL; }
 
+static size_t most_handed(void);
+
 static void report(void) {
-    fprintf(stderr, "hold: pictures %llu slices %llu late %llu worst %.1f ms over %llu most %llu of %llu padding %llu cut %llu anew %llu\n",
+    fprintf(stderr, "hold: pictures %llu slices %llu late %llu worst %.1f ms over %llu most %llu of %llu padding %llu cut %llu anew %llu reader %zu\n",
             (unsigned long long)told.pictures, (unsigned long long)told.slices, (unsigned long long)told.late, told.worst * 1e3,
             (unsigned long long)told.over, (unsigned long long)told.most, (unsigned long long)link_.room, (unsigned long long)told.padding,
-            (unsigned long long)told.cut, (unsigned long long)told.anew);
+            (unsigned long long)told.cut, (unsigned long long)told.anew, most_handed());
 }
 
 static double due(double slot) { return now_.zero + slot * link_.slot; }
@@ -223,6 +225,53 @@ static void *receive(void *unused) {
     }
 }
 
+/* What was handed on and the reader hasn't taken: its pauses don't hold up the clock. */
+static struct {
+    pthread_mutex_t lock;
+    pthread_cond_t changed;
+    uint8_t *bytes;
+    size_t len, room, most;
+    int is_over;
+} handed = {.lock = PTHREAD_MUTEX_INITIALIZER, .changed = PTHREAD_COND_INITIALIZER};
+
+static size_t most_handed(void) { return handed.most; }
+
+static void hand(const uint8_t *from, size_t len) {
+    pthread_mutex_lock(&handed.lock);
+    while (handed.len > MOST_HANDED) pthread_cond_wait(&handed.changed, &handed.lock);
+    if (handed.len + len > handed.room) {
+        handed.bytes = realloc(handed.bytes, handed.room = 2 * (handed.len + len));
+        if (!handed.bytes) stop("no memory", NO_MEMORY);
+    }
+    memcpy(handed.bytes + handed.len, from, len);
+    handed.len += len;
+    handed.is_over = !len;
+    if (handed.len > handed.most) handed.most = handed.len;
+    pthread_cond_broadcast(&handed.changed);
+    pthread_mutex_unlock(&handed.lock);
+}
+
+/* Writes what is handed on, until a piece of no bytes comes. */
+static void *write_on(void *unused) {
+    uint8_t *piece = room_of(PIECE);
+    for (;;) {
+        pthread_mutex_lock(&handed.lock);
+        while (!handed.len && !handed.is_over) pthread_cond_wait(&handed.changed, &handed.lock);
+        size_t len = handed.len < PIECE ? handed.len : PIECE;
+        if (len) memcpy(piece, handed.bytes, len);
+        if (len) memmove(handed.bytes, handed.bytes + len, handed.len -= len);
+        pthread_cond_broadcast(&handed.changed);
+        pthread_mutex_unlock(&handed.lock);
+        if (!len) break;
+        if (!write_all(piece, len)) {
+            report();
+            _exit(WRITE_FAILED);
+        }
+    }
+    free(piece);
+    return unused;
+}
+
 /* Up to which place the bytes are due, and when the next ones are. Segments that are handed on whole are let go. */
 static uint64_t due_place(double time, double *next) {
     uint64_t place = held.taken;
@@ -268,13 +317,11 @@ static void hand_on(void) {
         }
         if (len) pthread_cond_broadcast(&held.changed);
         pthread_mutex_unlock(&held.lock);
-        if (len && !write_all(out, len)) {
-            report();
-            exit(WRITE_FAILED);
-        }
+        if (len) hand(out, len);
         if (is_done) break;
         if (len && next > now()) sleep_until(next < now() + BATCH / 2 ? now() + BATCH / 2 : next < now() + 0.01 ? next : now());
     }
+    hand(out, 0);
     free(out);
 }
 
@@ -313,9 +360,11 @@ int main(int count, char **words) {
     pthread_cond_init(&held.changed, &clock);
     sigemptyset(&ends), sigaddset(&ends, SIGINT), sigaddset(&ends, SIGTERM), sigaddset(&ends, SIGHUP);
     pthread_sigmask(SIG_BLOCK, &ends, NULL);
-    pthread_t threads[2];
+    pthread_t threads[3];
     if (pthread_create(&threads[0], NULL, receive, NULL) || pthread_create(&threads[1], NULL, await_signal, &ends)) stop("no thread", NO_MEMORY);
+    if (pthread_create(&threads[2], NULL, write_on, NULL)) stop("no thread", NO_MEMORY);
     hand_on();
+    pthread_join(threads[2], NULL);
     report();
     return now_.has_header ? DONE : REFUSED;
 }
