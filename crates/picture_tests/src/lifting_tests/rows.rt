@@ -266,8 +266,8 @@ fn is_narrow(row: &[i32]) -> bool
     true
 }
 
-/// How long rows are: blocks of lanes have four and eight places.
-const LENGTHS: [usize; 6] = [0, 1, 7, 8, 9, 17];
+/// How long rows are: blocks of lanes have eight places.
+const LENGTHS: [usize; 8] = [0, 1, 7, 8, 9, 15, 16, 17];
 
 /// A row of so many places, of those of another one over and over.
 fn repeated<T: Copy + Drop>(

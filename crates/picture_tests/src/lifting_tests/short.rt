@@ -13,15 +13,12 @@ use std::alloc::Global;
 use std::process::Abort;
 use std::test::Fail;
 
-/// What is shown of a component of 32 by 16: all but a column and a row.
-const AREA: SampleArea = SampleArea {
-    w: 31,
-    h: 15,
-    depth: 10,
-};
+/// How many samples are shown of the widest component: all but a column and a row.
+const MOST: usize = 525;
 
-/// How many samples these are.
-const COUNT: usize = 465;
+/// How wide components of one level are, in whose halves no place, 1, 7, 8, 9, 15, 16 or 17 lie beside their first one. Blocks of
+/// lanes have eight places.
+const WIDTHS: [u32; 8] = [2, 4, 16, 18, 20, 32, 34, 36];
 
 const WAVELETS: [Wavelet; 3] = [Wavelet::LeGall, Wavelet::HaarFlat, Wavelet::HaarShift];
 
@@ -156,12 +153,14 @@ fn put_lowest(bands: &mut Bands<i16>, value: i16)
     fill(bands.band_mut(0, 0), value, value);
 }
 
-/// The bands of a component of 32 by 16, all zero.
-fn zero_bands<T: Number>(alloc: Global, depth: u32) -> Result<Bands<T>, NoMemory>
-    requires { depth ≤ 4 }
-    ensures { IfOk result (λ b. HaveSizes b 32 16 × (b.depth ≡ depth)) }
+/// The bands of a component of w by 16, all zero.
+fn zero_bands<T: Number>(alloc: Global, w: u32, depth: u32) -> Result<Bands<T>, NoMemory>
+    requires few { depth ≤ 4 }
+    requires short { w ≤ 36 }
+    requires whole { w % 2 ^ depth ≡ 0 }
+    ensures { IfOk result (λ b. HaveSizes b w 16 × (b.depth ≡ depth)) }
 {
-    Bands::new(alloc, depth, 32, 16)
+    Bands::new(alloc, depth, w, 16)
 }
 
 /// The bands of a wavelet's levels that hold this. Where levels halve, LL is as much greater.
@@ -169,13 +168,16 @@ fn bands_of(
     rt: &impl Abort,
     alloc: Global,
     wavelet: Wavelet,
+    w: u32,
     depth: u32,
     content: Content,
 ) -> Result<Bands<i16>, NoMemory>
-    requires { depth ≤ 4 }
-    ensures { IfOk result (λ b. HaveSizes b 32 16 × (b.depth ≡ depth)) }
+    requires few { depth ≤ 4 }
+    requires short { w ≤ 36 }
+    requires whole { w % 2 ^ depth ≡ 0 }
+    ensures { IfOk result (λ b. HaveSizes b w 16 × (b.depth ≡ depth)) }
 {
-    let mut bands: Bands<i16> = zero_bands(alloc, depth)?;
+    let mut bands: Bands<i16> = zero_bands(alloc, w, depth)?;
     let halvings = if wavelet == Wavelet::HaarFlat {
         0
     } else {
@@ -217,18 +219,23 @@ fn sample(v: i64) -> u16 {
     (v.clamp(-512, 511) + 512) as u16
 }
 
-/// Asserts that these are the samples of a plane's first columns and rows.
-fn assert_samples(rt: &impl Abort, samples: &[u16], plane: &Plane) {
-    assert!(rt; samples.len() == COUNT && plane.w() == 32 && plane.h() == 16);
-    for y in 0..AREA.h {
-        for x in 0..AREA.w {
-            assert_same(
-                rt,
-                samples[(y * AREA.w + x) as usize],
-                sample(plane.get(y, x)),
-            );
-        }
+fn assert_row(rt: &impl Abort, samples: &[u16], row: &[i64]) {
+    assert!(rt; samples.len() <= row.len());
+    for x in 0..samples.len() {
+        assert_same(rt, samples[x], sample(row[x]));
     }
+}
+
+/// Asserts that these are the samples of a plane's first columns and rows.
+fn assert_samples(rt: &impl Abort, samples: &[u16], plane: &Plane, area: SampleArea) {
+    let mut left = samples;
+    for y in 0..area.h {
+        assert!(rt; area.w as usize <= left.len() && y < plane.h());
+        let (row, others) = left.split_at(area.w as usize);
+        assert_row(rt, row, plane.row(y));
+        left = others;
+    }
+    assert!(rt; left.is_empty());
 }
 
 /// Synthesis of the same in 64 bits.
@@ -236,14 +243,17 @@ fn synth_wide(
     rt: &impl Abort,
     alloc: Global,
     wavelet: Wavelet,
+    w: u32,
     short: &Bands<i16>,
 ) -> Result<Plane, NoMemory>
-    requires { short.now.depth ≤ 4 }
+    requires few { short.now.depth ≤ 4 }
+    requires short { w ≤ 36 }
+    requires whole { w % 2 ^ short.now.depth ≡ 0 }
 {
     let depth = short.depth();
-    let mut bands: Bands = zero_bands(alloc, depth)?;
-    let mut plane = Plane::new(alloc, 32, 16)?;
-    let mut scratch = Plane::new(alloc, 32, 16)?;
+    let mut bands: Bands = zero_bands(alloc, w, depth)?;
+    let mut plane = Plane::new(alloc, w, 16)?;
+    let mut scratch = Plane::new(alloc, w, 16)?;
     widen(rt, bands.band_mut(0, 0), short.band(0, 0));
     for level in 1..=depth {
         for orient in 1..=3 {
@@ -261,38 +271,54 @@ fn expect(
     rt: &impl Abort,
     alloc: Global,
     wavelet: Wavelet,
+    w: u32,
     depth: u32,
     content: Content,
 ) -> Result<(), Fail>
-    requires { depth ≤ 4 }
+    requires few { depth ≤ 4 }
+    requires some { 1 ≤ w }
+    requires short { w ≤ 36 }
+    requires whole { w % 2 ^ depth ≡ 0 }
 {
-    let bands = bands_of(rt, alloc, wavelet, depth, content)?;
-    let mut plane = Plane::new(alloc, 16, 8)?;
-    let mut scratch = Plane::new(alloc, 32, 8)?;
-    let mut samples = [0; COUNT];
+    let bands = bands_of(rt, alloc, wavelet, w, depth, content)?;
+    let mut plane = Plane::new(alloc, w, 8)?;
+    let mut scratch = Plane::new(alloc, w, 8)?;
+    let mut samples = [0; MOST];
+    let samples = &mut samples[..15 * (w as usize - 1)];
+    let area = SampleArea {
+        w: w - 1,
+        h: 15,
+        depth: 10,
+    };
     let fits = synth_samples_short(
         wavelet,
         &bands,
-        PaddedSize { w: 32, h: 16 },
+        PaddedSize { w, h: 16 },
         &mut plane,
         &mut scratch,
-        &mut samples,
-        AREA,
+        samples,
+        area,
     );
     assert_same(rt, fits, depth == 0 || content.fits);
     if fits {
-        assert_samples(rt, &samples, &synth_wide(rt, alloc, wavelet, &bands)?);
+        assert_samples(
+            rt,
+            samples,
+            &synth_wide(rt, alloc, wavelet, w, &bands)?,
+            area,
+        );
     }
     Ok(())
 }
 
 /// All contents, at one depth.
 fn expect_all(rt: &impl Abort, alloc: Global, depth: u32, contents: &[Content]) -> Result<(), Fail>
-    requires { depth ≤ 4 }
+    requires few { depth ≤ 4 }
+    requires whole { 32 % 2 ^ depth ≡ 0 }
 {
     for wavelet in WAVELETS {
         for content in contents {
-            expect(rt, alloc, wavelet, depth, *content)?;
+            expect(rt, alloc, wavelet, 32, depth, *content)?;
         }
     }
     Ok(())
@@ -306,4 +332,15 @@ fn room_of_short_levels(rt: HostRuntime) -> Result<(), Fail> {
     expect_all(&rt, rt.alloc(), 1, &CONTENTS)?;
     expect_all(&rt, rt.alloc(), 2, banded)?;
     expect_all(&rt, rt.alloc(), 4, banded)
+}
+
+#[test]
+fn short_rows_of_each_length(rt: HostRuntime) -> Result<(), Fail> {
+    for w in WIDTHS {
+        assert!(&rt; w % 2 == 0 && 1 <= w && w <= 36);
+        for wavelet in WAVELETS {
+            expect(&rt, rt.alloc(), wavelet, w, 1, CONTENTS[0])?;
+        }
+    }
+    Ok(())
 }
