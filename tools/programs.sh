@@ -93,7 +93,7 @@ is_proved() {
 
 # Whether the one of the same code without its proofs stands, of the kind that PROVED asks for.
 is_built() {
-    read_record "$unproved" || return 1
+    read_record "$unproved" && [ "$kind" ] || return 1
     set -- "$unproved" crates.txt
     if [ -f "$here/PROVED" ]; then
         set -- "$@" PROVED
