@@ -3,7 +3,7 @@
 # shellcheck shell=sh disable=SC2154
 
 say() {
-    [ "${VC2_QUIET-}" = 1 ] || echo "vc2: $1" >&2
+    [ "${VC2_QUIET-}" = 1 ] || printf 'vc2: %s\n' "$1" >&2
 }
 
 # How the synopsis spells a key.
