@@ -275,6 +275,10 @@ def holds(tools):
     lossy = film.without(film.unit(3) + 400, 200)
     status, out, note = tools.run([*words, "full=wait"], lossy)
     tools.runs.judge("held with a loss", (status, out == lossy, counts(note)["cut"]), (0, True, 1))
+    # slices are handed on as they come here, and the head that comes too soon comes in parts
+    pieces = [(0, lossy[: film.unit(3)]), *((0.0002, lossy[at : at + 7]) for at in range(film.unit(3), film.unit(4), 7)), (0, lossy[film.unit(4) :])]
+    status, out, note = fed(tools, ["hold", *SCHEDULE, "slots=240000", "packet=200", "full=wait"], pieces)
+    tools.runs.judge("held as it comes, with a loss", (status, out == b"".join(it for _, it in pieces), counts(note)["cut"]), (0, True, 1))
     late = [(0, film.stream[: film.unit(5)]), (0.3, film.stream[film.unit(5) :])]
     status, out, note = fed(tools, [*words, "full=wait"], late)
     told = counts(note)

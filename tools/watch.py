@@ -9,6 +9,7 @@ import time
 from fractions import Fraction
 from math import inf
 
+from plumbing import widen
 from quality import decibels, squares
 from units import END, HEAD, PICTURE, next_of
 
@@ -38,6 +39,7 @@ class Watch:
     def __init__(self, film, decoder, encoder, sink, stats, terminal):
         self.film, self.encoder, self.sink, self.stats, self.terminal = film, encoder, sink, stats, terminal
         self.decoder = subprocess.Popen(decoder, stdin=subprocess.PIPE, stdout=subprocess.PIPE, stderr=subprocess.DEVNULL)
+        widen(self.decoder.stdin, self.decoder.stdout)
         self.frames, self.lengths, self.parts, self.is_blind = queue.Queue(WAITING), queue.SimpleQueue(), [], False
         self.count = self.bytes = 0
         self.squares, self.since, self.last = [0, 0, 0], time.monotonic(), 0.0

@@ -193,8 +193,10 @@ static void parse(double came) {
 /* How many bytes may be taken in now: waits where that is asked and there is no room. */
 static uint64_t room_now(void) {
     if (held.arrived - held.front + PIECE > held.capacity) {
-        memmove(held.bytes, at(held.taken), held.arrived - held.taken);
-        held.front = held.taken;
+        /* a head that comes too soon may have begun in what was handed on */
+        uint64_t front = held.taken - held.front > HEAD ? held.taken - HEAD : held.front;
+        memmove(held.bytes, at(front), held.arrived - front);
+        held.front = front;
     }
     while (link_.waits && held.arrived - held.taken >= link_.room) pthread_cond_wait(&held.changed, &held.lock);
     uint64_t room = link_.room - (held.arrived - held.taken < link_.room ? held.arrived - held.taken : link_.room);
@@ -297,7 +299,7 @@ static uint64_t due_place(double time, double *next) {
         held.first = (held.first + 1) % SEGMENTS, held.count--;
     }
     if (held.is_over && !held.count) place = held.arrived;
-    return place;
+    return place > held.taken ? place : held.taken;
 }
 
 /* Hands on what is due, until all is. */

@@ -5,6 +5,7 @@
 #define _GNU_SOURCE
 
 #include <errno.h>
+#include <fcntl.h>
 #include <pthread.h>
 #include <signal.h>
 #include <stdint.h>
@@ -46,8 +47,9 @@ static inline void sleep_until(double at) {
     while (clock_nanosleep(CLOCK_MONOTONIC, TIMER_ABSTIME, &t, NULL) == EINTR) {}
 }
 
-/* A sleep that is over within some microseconds, and writes that fail without a signal. */
+/* A sleep that is over within some microseconds, pipes of 1 MiB, and writes that fail without a signal. */
 static inline void be_precise(void) {
+    for (int end = 0; end < 2; end++) fcntl(end, F_SETPIPE_SZ, 1 << 20);
     prctl(PR_SET_TIMERSLACK, 1000UL, 0UL, 0UL, 0UL);
     signal(SIGPIPE, SIG_IGN);
 }

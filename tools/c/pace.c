@@ -9,7 +9,7 @@ static const char usage[] =
     "byte is due. The clock begins once the first picture is there. A stall is where a packet is due and the encoder's next unit\n"
     "isn't there; what is done then:\n"
     "\n"
-    "  stall=wait   nothing is sent until it is, and all that follows is as much later (taken where nothing is said)\n"
+    "  stall=wait   nothing is sent until it is, and the clock begins anew with it, as at first (taken where nothing is said)\n"
     "  stall=stuff  units of padding are sent until it is, so the channel never pauses; also where its rate is above the stream's\n"
     "  stall=drop   the clock goes on: a picture that comes too late is dropped whole, and the next leaves when it is due. Where ten in\n"
     "               a row were dropped and they come no less late, the clock is set anew\n"
@@ -230,7 +230,7 @@ static int next_unit(void) {
             send_packet();
             it = pop(1);
             count_stall(since);
-            if (link_.how == WAIT) link_.zero = now() - (double)out.place / link_.rate;
+            if (link_.how == WAIT) link_.zero = now() + link_.start - (double)out.place / link_.rate;
         }
     }
     while (it && link_.how == DROP && is_dropped(it)) {
