@@ -1,11 +1,12 @@
 //! The samples of a row: lifted, shifted, clipped, offset, and woven of its halves.
 
-ghost use Rattle.std.specs.Prelude.{◌≡◌, ℕ, ◌+◌, ◌-◌, ◌*◌, ◌/◌, ◌^◌, ◌<◌, ◌≤◌, length, slice_index_or, pos, neg_ℤ, ◌-ℤ◌, ◌≤ℤ◌};
+ghost use Rattle.std.specs.Prelude.{◌≡◌, ℕ, ◌+◌, ◌-◌, ◌*◌, ◌/◌, ◌^◌, ◌<◌, ◌≤◌, length, slice_index_or, ◌%◌, ◌==◌, if◌then◌else◌, pos, neg_ℤ, ◌-ℤ◌, ◌≤ℤ◌};
 ghost use Rattle.std.specs.Int.{int_min, int_max};
 ghost use Rattle.std.proofs.Common.{lit≤};
 ghost use Rattle.planes.specs.Numbers.{Within};
 ghost use Rattle.planes.specs.Valued.{valued, EachValued};
-ghost use Rattle.lifting.specs.Places.{woven};
+ghost use Rattle.lifting.specs.Lanes.{AreLanes, BlockWithin};
+ghost use Rattle.lifting.specs.Places.{place, woven};
 ghost use Rattle.lifting.specs.Steps.{halved};
 ghost use Rattle.lifting.specs.Lines.{synthesis_line};
 ghost use Rattle.lifting.specs.Fits.{LineFits};
@@ -13,9 +14,10 @@ ghost use Rattle.lifting.specs.Clipping.{sample_of, clipped_up};
 ghost use Rattle.lifting.specs.LowerSamples.{rounded};
 
 use crate::halves::{lift_even_half, lift_odd_half};
-use crate::kernels::shifted;
-use crate::laned::Laned;
+use crate::kernels::{shifted, shifts};
+use crate::laned::{LANES, Laned};
 use crate::{PairStep, Wavelet};
+use std::simd::prelude::*;
 
 /// Numbers that become samples.
 pub trait Sampled: Laned {
@@ -43,6 +45,15 @@ pub trait Sampled: Laned {
         requires some { pos 1 ≤ℤ Self.value half }
         requires most { Self.value half ≤ℤ pos (2 ^ (depths - 1)) }
         ensures { pos result ≡ clipped_up (Self.value half) (Self.value v) };
+
+    /// The same of each lane.
+    fn offset_block(v: Self::Block, half: Self) -> u16x8
+        requires some { pos 1 ≤ℤ Self.value half }
+        requires most { Self.value half ≤ℤ pos (2 ^ (depths - 1)) }
+        requires small { AreLanes (Self.reach + Self.reach) (Self.lanes v) }
+        ensures count { length result ≡ 8 }
+        ensures each { (i : ℕ) → i < 8 → pos (slice_index_or result i 0)
+            ≡ clipped_up (Self.value half) (place (Self.lanes v) i) };
 
     /// A number over 2^shift, rounded, where half of that is `half`.
     fn rounded(v: Self, half: Self, shift: u32) -> Self
@@ -77,6 +88,12 @@ impl Sampled for i16 {
     }
 
     #[inline(always)]
+    fn offset_block(v: i16x8, half: i16) -> u16x8 {
+        let (low, high) = (i16x8::splat(-half), i16x8::splat(half - 1));
+        (v.simd_min(high).simd_max(low) + i16x8::splat(half)).cast::<u16>()
+    }
+
+    #[inline(always)]
     fn rounded(v: i16, half: i16, shift: u32) -> i16 {
         (v + half) >> shift
     }
@@ -105,6 +122,12 @@ impl Sampled for i32 {
     }
 
     #[inline(always)]
+    fn offset_block(v: i32x8, half: i32) -> u16x8 {
+        let (low, high) = (i32x8::splat(-half), i32x8::splat(half - 1));
+        (v.simd_min(high).simd_max(low) + i32x8::splat(half)).cast::<u16>()
+    }
+
+    #[inline(always)]
     fn rounded(v: i32, half: i32, shift: u32) -> i32 {
         (v + half) >> shift
     }
@@ -130,6 +153,12 @@ impl Sampled for i64 {
     #[inline(always)]
     fn offset(v: i64, half: i64) -> u16 {
         (i64::clip(v, half) + half) as u16
+    }
+
+    #[inline(always)]
+    fn offset_block(v: i64x8, half: i64) -> u16x8 {
+        let (low, high) = (i64x8::splat(-half), i64x8::splat(half - 1));
+        (v.simd_min(high).simd_max(low) + i64x8::splat(half)).cast::<u16>()
     }
 
     #[inline(always)]
@@ -164,6 +193,62 @@ pub(crate) fn sample_band<T: Sampled>(dst: &mut [u16], row: &[T], depth: u32)
     }
 }
 
+// 8 samples of even places and 8 of odd ones, woven, into a row from `at` on.
+#[inline(always)]
+fn put_woven(dst: &mut [u16], at: usize, even: u16x8, odd: u16x8)
+    requires inside { at + 16 ≤ length dst.old }
+    requires even_count { length even ≡ 8 }
+    requires odd_count { length odd ≡ 8 }
+    ensures block { (i : ℕ) → i < 16
+        → slice_index_or dst.new (at + i) 0 ≡ (if i % 2 == 0 then slice_index_or even (i / 2) 0 else slice_index_or odd (i / 2) 0) }
+    ensures below { (j : ℕ) → j < at → slice_index_or dst.new j 0 ≡ slice_index_or dst.old j 0 }
+{
+    let (low, high) = even.interleave(odd);
+    low.copy_to_slice(&mut dst[at..]);
+    high.copy_to_slice(&mut dst[at + 8..]);
+}
+
+// A level's last step of synthesis on each lane.
+#[inline(always)]
+fn block_shifted<T: Laned>(v: T::Block, wavelet: Wavelet) -> T::Block
+    requires { AreLanes (T.reach + T.reach) (T.lanes v) }
+    ensures small { AreLanes (T.reach + T.reach) (T.lanes result) }
+    ensures each { (i : ℕ) → i < 8
+        → place (T.lanes result) i ≡ halved wavelet (place (T.lanes v) i) }
+{
+    if shifts(wavelet) { T::half_of(v) } else { v }
+}
+
+// The samples of the 8 even and the 8 odd places from `at` on.
+#[inline(always)]
+fn weave_block<T: Sampled>(
+    dst: &mut [u16],
+    even: &[T],
+    odd: &[T],
+    at: usize,
+    wavelet: Wavelet,
+    half: T,
+)
+    requires some { pos 1 ≤ℤ T.value half }
+    requires most { T.value half ≤ℤ pos (2 ^ (T.depths - 1)) }
+    requires short { length even.now ≤ 8208 }
+    requires inside { at + 8 ≤ length even.now }
+    requires odd_inside { at + 8 ≤ length odd.now }
+    requires room { 2 * at + 16 ≤ length dst.old }
+    requires even_small { BlockWithin T.value T.none (T.reach + T.reach) even.now at }
+    requires odd_small { BlockWithin T.value T.none (T.reach + T.reach) odd.now at }
+    ensures block { let value_at = valued T.value T.none in
+        (i : ℕ) → i < 16 → pos (slice_index_or dst.new (2 * at + i) 0)
+        ≡ clipped_up (T.value half)
+        (halved wavelet (woven (value_at even.now) (value_at odd.now) (2 * at + i))) }
+    ensures below { (j : ℕ) → j < 2 * at
+        → slice_index_or dst.new j 0 ≡ slice_index_or dst.old j 0 }
+{
+    let evens = T::offset_block(block_shifted::<T>(T::load(even, at), wavelet), half);
+    let odds = T::offset_block(block_shifted::<T>(T::load(odd, at), wavelet), half);
+    put_woven(dst, 2 * at, evens, odds);
+}
+
 // The first pairs of samples of the even and the odd places.
 #[inline(always)]
 fn weave_each<T: Sampled>(
@@ -187,7 +272,12 @@ fn weave_each<T: Sampled>(
         ≡ clipped_up (T.value half)
         (halved wavelet (woven (at even.now) (at odd.now) i)) }
 {
-    for k in 0..count {
+    let mut at = 0;
+    while LANES <= count - at {
+        weave_block(dst, even, odd, at, wavelet, half);
+        at += LANES;
+    }
+    for k in at..count {
         dst[2 * k] = sample(even[k], wavelet, half);
         dst[2 * k + 1] = sample(odd[k], wavelet, half);
     }

@@ -1,9 +1,10 @@
-use Rattle.std.proofs.Common.{◌≡◌, ◌∙◌, sym, ap, ℕ, ◌+◌, ◌*◌, ◌<◌, ℤ, pos, length, arith}
+use Rattle.std.proofs.Common.{◌≡◌, ◌∙◌, sym, ap, ℕ, ◌+◌, ◌*◌, ◌<◌, ℤ, pos, length, slice_index_or, arith}
 use Rattle.planes.specs.Valued.{valued}
 use Rattle.lifting.specs.Places.{woven}
 use Rattle.lifting.specs.Steps.{halved}
 use Rattle.lifting.specs.Clipping.{clipped_up}
 use Rattle.lifting.proofs.WovenLines.{woven_even, woven_odd}
+use Rattle.lifting.proofs.LaneSamples.{next_pairs}
 use Rattle.lifting.proofs.SampleRows.{put_two, read_is, read_small}
 use Rattle.lifting.proofs.samples.weave_each.Goals as goal
 
@@ -24,3 +25,15 @@ loop-k-preserved G c =
 pub sample-requires-in-loop-k-clause-small : goal.sample-requires-in-loop-k-clause-small
 sample-requires-in-loop-k-clause-small G c =
     read_small G.T.Number.value G.T.Number.none (G.T.Number.reach + G.T.Number.reach) c.args.odd.now c.loop-k.k c.index-odd-k.result (omega (arith, c.loop-k-test.true, c.requires.inside, c.requires.same_len)) c.index-odd-k.is c.requires.odd_small
+
+pub loop-at-preserved : goal.loop-at-preserved
+loop-at-preserved G c =
+    let e : ℕ → ℤ = valued G.T.Number.value G.T.Number.none c.args.even.now in
+    let o : ℕ → ℤ = valued G.T.Number.value G.T.Number.none c.args.odd.now in
+    let from : ℕ = c.loop-at.at in
+    let up : ℤ → ℤ = λ v. clipped_up (G.T.Number.value c.args.half) (halved c.args.wavelet v) in
+    let done = c.weave_block.ensures in
+    record {
+      inside = omega (arith, c.loop-at-test.true, c.loop-at.invariant.inside);
+      done = next_pairs from (λ j. pos (slice_index_or c.weave_block.new.dst j 0) ≡ up (woven e o j)) (λ j lj. ap pos (done.below j lj) ∙ c.loop-at.invariant.done j lj) (λ i lt. done.block i lt);
+    }
