@@ -199,8 +199,8 @@ fn put_woven(dst: &mut [u16], at: usize, even: u16x8, odd: u16x8)
     requires inside { at + 16 ≤ length dst.old }
     requires even_count { length even ≡ 8 }
     requires odd_count { length odd ≡ 8 }
-    ensures block { (i : ℕ) → i < 16
-        → slice_index_or dst.new (at + i) 0 ≡ (if i % 2 == 0 then slice_index_or even (i / 2) 0 else slice_index_or odd (i / 2) 0) }
+    ensures block { (i : ℕ) → i < 16 → slice_index_or dst.new (at + i) 0
+        ≡ (if i % 2 == 0 then slice_index_or even (i / 2) 0 else slice_index_or odd (i / 2) 0) }
     ensures below { (j : ℕ) → j < at → slice_index_or dst.new j 0 ≡ slice_index_or dst.old j 0 }
 {
     let (low, high) = even.interleave(odd);

@@ -1,4 +1,4 @@
-use Rattle.std.proofs.Common.{◌≡◌, ◌∙◌, ap, ◌+◌, ℕ, ℤ, pos}
+use Rattle.std.proofs.Common.{◌∙◌, ap, ℤ, pos}
 use Rattle.planes.specs.Valued.{valued}
 use Rattle.lifting.specs.Lines.{Line}
 use Rattle.lifting.specs.Steps.{halved}

@@ -1,4 +1,4 @@
-use Rattle.std.proofs.Common.{◌+◌, ◌-◌, ◌^◌, arith}
+use Rattle.std.proofs.Common.{◌+◌, ◌^◌, arith}
 use mir.Syntax.{w32}
 use Rattle.lifting.proofs.LaneSamples.{offset_casts, offset_each}
 use Rattle.lifting.proofs.samples.I32Sampled.offset_block.Goals as goal
