@@ -17,6 +17,7 @@ use Rattle.field_weave.specs.declared.Order.{Order}
 use Rattle.field_weave.specs.declared.weaver.WeaveStop.{WeaveStop}
 use Rattle.field_weave.specs.declared.weaver.WeaveStop.TheVariants as stops
 use Rattle.field_weave.specs.Weaving.{frame_of_two, woven_frame, split}
+use Rattle.raw_video.specs.PictureSoon.{PicturesSoon}
 use Rattle.raw_video.specs.PictureRuns.{PictureCommand, BehindPictures, picture_machine}
 
 -- how a run comes out: the frames, or why it stopped before the input was over
@@ -117,6 +118,13 @@ stop_of (faults.RawTruncated place) = stops.RawTruncated place
 stop_of faults.TooLong = stops.TooLong
 stop_of faults.ReadFault = stops.ReadFault
 
+-- more bytes may still change how a run comes out
+abbrev pub MayGoOn : WeaveEnd → Type 0
+MayGoOn (Ok frames) = Unit {0}
+MayGoOn (Err (stops.HalfFrame place)) = Unit {0}
+MayGoOn (Err (stops.RawTruncated place)) = Unit {0}
+MayGoOn (Err other) = ⊥
+
 -- A call that weaves or splits: it ran, took at most the limit and one byte more, each fault has its cause, and where all is
 -- done the input is over.
 pub record Weaves {Z : Type 0} (machine : Machine Z WeaveEnd) (rest0 rest1 out0 out1 : Option (List ℕ))
@@ -125,3 +133,5 @@ pub record Weaves {Z : Type 0} (machine : Machine Z WeaveEnd) (rest0 rest1 out0 
   pub limit : TakesAtMost (INPUT_LIMIT + 1) rest0 rest1
   pub cause : HaltHasCause src0 src1 to0 to1 (weave_result result)
   pub end : IfOk result (λ frames. IsAtEnd rest1)
+  -- fewer than 4096 bytes were taken behind a refusal
+  pub soon : PicturesSoon MayGoOn machine rest0 rest1

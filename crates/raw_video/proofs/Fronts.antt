@@ -61,7 +61,7 @@ pub there_ended : (long room : ℕ) (taken : List ℕ) → length taken ≤ long
 there_ended long room taken few inside = ap (take long) (take_all room taken inside) ∙ take_all long taken few
 
 -- samples that are whole stay, whatever follows
-samples_front : (wide : Bool) (first then : List ℕ) → (behind : List ℕ) × (samples_in wide (first ++ then) ≡ samples_in wide first ++ behind)
+pub samples_front : (wide : Bool) (first then : List ℕ) → (behind : List ℕ) × (samples_in wide (first ++ then) ≡ samples_in wide first ++ behind)
 samples_front false first then = (then, refl)
 samples_front true [] then = (samples_in true then, refl)
 samples_front true (x ∷ []) then = (samples_in true (x ∷ then), refl)

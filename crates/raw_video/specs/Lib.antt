@@ -3,3 +3,4 @@ pub mod RawParse
 pub mod Reading
 pub mod PictureRuns
 pub mod Waiting
+pub mod PictureSoon

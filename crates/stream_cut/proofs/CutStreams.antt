@@ -18,6 +18,9 @@ use Rattle.stream_cut.proofs.Skimming.{skims}
 use Rattle.stream_cut.proofs.Cuts.{cuts_to_a_skimmed_stream, cut_has_shapes, fit_behind}
 use Rattle.stream_cut.proofs.NoLonger.{cuts_to_no_more}
 use Rattle.stream_cut.proofs.Bridge.{has_pieces, made_of}
+use Rattle.stream_cut.proofs.InTurn.{in_turn}
+use Rattle.slice_geometry.specs.declared.unit_list.UnitShape.{UnitShape}
+use Rattle.slice_geometry.specs.UnitLengths.{ShapesInTurn}
 
 -- ---- what is written is bytes
 
@@ -223,6 +226,7 @@ cuts_to_streams frames bytes es last fits s =
     let in_pieces : IsBytes (piece_bytes h.pieces) = fit_front (piece_bytes h.pieces) h.last_piece.bytes (subst IsBytes h.stream.parts fits) in
     let out_fits = all_fit frames h.pieces nothing_yet nothing_cut in_pieces tt tt in
     let m = made_of out c.pieces c.last out_fits (omega (arith, short, s.within)) c.stream in
+    let sh = cut_has_shapes frames bytes h.pieces h.last_piece fits h.stream in
     let found : map (λ (e : Entry). e.unit) m.es ++ m.last_entry.unit ∷ [] ≡ units_of_cut frames h.pieces =
     ap (λ l. l ++ m.last_entry.unit ∷ []) m.same ∙ ap (λ u. map (λ (p : Piece). p.unit) c.pieces ++ u ∷ []) m.last_same ∙ c.found in
     record {
@@ -239,5 +243,7 @@ cuts_to_streams frames bytes es last fits s =
       };
       short = short;
       pictures = pictures_from frames h.pieces nothing_yet nothing_cut;
-      shapes = cut_has_shapes frames bytes h.pieces h.last_piece fits h.stream;
+      shapes = sh;
+      in_turn = subst (λ (l : List UnitShape). ShapesInTurn 0 l (length out)) sh.read
+          (in_turn sh.pieces nothing_yet sh.stream.left sh.last (length out) (subst IsBytes sh.stream.parts out_fits) sh.stream.units sh.stream.end (ap (λ (l : List ℕ). length l) sh.stream.parts ∙ omega arith));
     }

@@ -51,14 +51,14 @@ facts_of z bytes more unit fits k =
     let r = by_reading z (bytes ++ more) (length bytes) unit (unit_at skim_grammar z (bytes ++ more)) refl k in
     unit_read z (bytes ++ more) unit r.0 fits r.1 bytes more refl r.2
 
-only_end : (unit : DataUnit) → unit_behind unit ≡ Final → unit ≡ End
+pub only_end : (unit : DataUnit) → unit_behind unit ≡ Final → unit ≡ End
 only_end (Sequence parts) e = absurd cc
 only_end Repeated e = absurd cc
 only_end (Picture parts number p slices) e = absurd cc
 only_end Skipped e = absurd cc
 only_end End e = refl
 
-end_facts : (z : Past) (bytes : List ℕ) (unit : DataUnit) → IsBytes bytes → front_of skim_grammar z bytes ≡ Finishes (length bytes) unit → Facts z (drop 13 bytes) End
+pub end_facts : (z : Past) (bytes : List ℕ) (unit : DataUnit) → IsBytes bytes → front_of skim_grammar z bytes ≡ Finishes (length bytes) unit → Facts z (drop 13 bytes) End
 end_facts z bytes unit fits k =
     let r = last_reading z bytes (length bytes) unit (unit_at skim_grammar z bytes) refl k in
     subst (Facts z (drop 13 bytes)) (only_end unit r.3) (unit_read z bytes unit r.0 fits r.1 bytes [] (sym (append-nil bytes)) r.2)

@@ -10,7 +10,7 @@ mod Cuts
 mod NoLonger
 pub mod SkimTables
 pub mod Bridge
-mod CutStreams
+pub mod CutStreams
 pub mod Running
 mod OpeningReads
 mod RestRows
@@ -25,3 +25,6 @@ mod SkimReads
 mod CutTurns
 mod CutUnits
 mod CutOpen
+mod BySequences
+mod WorkedSequences
+mod InTurn

@@ -1,6 +1,7 @@
 -- Transform parameters that were read: their bytes, and the bounds of their slices.
 use Rattle.std.proofs.Common.{◌≡◌, ℕ, ◌+◌, ◌*◌, ◌/◌, ◌%◌, ◌^◌, ◌≤◌, Bool, true, false, List, [], ◌∷◌, length, drop, None, Result, Ok, Err, refl, sym, ap, subst, ◌∙◌, arith}
 use Rattle.std.specs.Prelude.{nat_le, ◌&&◌}
+use Rattle.std.specs.Int.{is_in_range}
 use Rattle.std.proofs.lemmas.Bool.{leb-true}
 use Rattle.bit_codes.specs.Bits.{Cursor, cursor_at, bits_of}
 use Rattle.bit_codes.proofs.BitLemmas.{length-bits}
@@ -9,7 +10,7 @@ use Rattle.field_rows.specs.Standing.{Stand}
 use Rattle.field_rows.specs.Moved.{moved, moved_answer, renamed_answer}
 use Rattle.field_rows.proofs.Answers.{Stand-read, found_fields}
 use Rattle.field_rows.proofs.Words.{split-bits}
-use Rattle.slice_geometry.specs.Slicing.{Slicing, total_bytes}
+use Rattle.slice_geometry.specs.Slicing.{Slicing, slice_count, total_bytes}
 use Rattle.transform_params.specs.declared.faults.TransformReason.{TransformReason}
 use Rattle.transform_params.specs.declared.faults.TransformReason.TheVariants.{DepthRefused, SlicesRefused, ShareRefused}
 use Rattle.sequence_header.specs.declared.parts.HeaderParts.{HeaderParts}
@@ -32,6 +33,8 @@ use Rattle.stream_cut.proofs.Fields.{split}
 -- each slice has a byte, and they have few in all
 pub record AreFew (s : Slicing) : Type 0 where
   pub some : 1 ≤ s.b
+  pub byte : s.b ≤ s.a
+  pub count : slice_count s ≤ 2 ^ 20
   pub total : total_bytes s ≤ 2 ^ 28
 
 both : (a b : Bool) → (a && b) ≡ true → (a ≡ true) × (b ≡ true)
@@ -39,19 +42,28 @@ both true true e = (refl, refl)
 both true false e = absurd cc
 both false b e = absurd cc
 
-asked : (b : Bool) → first_broken ((b or_else ShareRefused) ∷ []) ≡ None → b ≡ true
-asked true e = refl
-asked false e = absurd cc
+asked : (r : TransformReason) (b : Bool) → first_broken ((b or_else r) ∷ []) ≡ None → b ≡ true
+asked r true e = refl
+asked r false e = absurd cc
 
-few_by : (count a : ℕ) (vs : List Value) (c : Cursor) (b : ℕ) (behind : Cursor) → Stand (denominator_rows count a) vs c b behind → (1 ≤ b) × (count * a / b ≤ 2 ^ 28)
+few_by : (count a : ℕ) (vs : List Value) (c : Cursor) (b : ℕ) (behind : Cursor) → Stand (denominator_rows count a) vs c b behind → (1 ≤ b) × (b ≤ a) × (count * a / b ≤ 2 ^ 28)
 unfolding denominator_rows number_under
 few_by count a [] c b behind k = absurd k
 few_by count a (v ∷ []) c b behind k =
-    let h = asked _ k.2 in
+    let h = asked ShareRefused _ k.2 in
     let one = both (nat_le 1 (number_value v)) _ h in
     let two = both (nat_le (number_value v) a) _ one.1 in
-    subst (λ n. (1 ≤ n) × (count * a / n ≤ 2 ^ 28)) k.3.0 (leb-true 1 (number_value v) one.0, leb-true (count * a / number_value v) (2 ^ 28) two.1)
+    subst (λ n. (1 ≤ n) × (n ≤ a) × (count * a / n ≤ 2 ^ 28)) k.3.0 (leb-true 1 (number_value v) one.0, leb-true (number_value v) a two.0, leb-true (count * a / number_value v) (2 ^ 28) two.1)
 few_by count a (v ∷ w ∷ vs) c b behind k = absurd k.3
+
+count_by : (across : ℕ) (vs : List Value) (c : Cursor) (down : ℕ) (behind : Cursor) → Stand (slices_y_rows across) vs c down behind → across * down ≤ 2 ^ 20
+unfolding slices_y_rows number_under
+count_by across [] c down behind k = absurd k
+count_by across (v ∷ []) c down behind k =
+    let h = asked SlicesRefused _ k.2 in
+    let one = both (is_in_range 1 8192 (number_value v)) _ h in
+    subst (λ n. across * n ≤ 2 ^ 20) k.3.0 (leb-true (across * number_value v) (2 ^ 20) one.1)
+count_by across (v ∷ w ∷ vs) c down behind k = absurd k.3
 
 pub made : (R : Type 0) {A : Type 0} (a b : A) (vs : List Value) (c behind : Cursor) → Stand {R = R} (done a) vs c b behind → a ≡ b
 made R a b [] c behind k = k.0
@@ -67,7 +79,7 @@ few_slicing vs c s behind k =
     let b = split (denominator_rows (x.a * y.a) a.a) _ a.more a.mid s behind a.others in
     let few = few_by (x.a * y.a) a.a b.fields a.mid b.a b.mid b.stand in
     let is : Slicing = record { depth = d.a; slices_x = x.a; slices_y = y.a; a = a.a; b = b.a } in
-    subst AreFew (made TransformReason is s b.more b.mid behind b.others) (record { some = few.0; total = few.1 })
+    subst AreFew (made TransformReason is s b.more b.mid behind b.others) (record { some = few.0; byte = few.1; count = count_by x.a y.fields x.mid y.a y.mid y.stand; total = few.2 })
 
 pub few_params : (vs : List Value) (c : Cursor) (p : Params) (behind : Cursor) → Stand params_rows vs c p behind → AreFew p.slicing
 unfolding params_rows params_fields whole_bytes

@@ -69,7 +69,7 @@ comes_to frames pieces tail left ending last f e =
     ∙ ap (λ l. record { ending = ending; text = l; last = last }) (append-nil (cut_front frames pieces))
 
 -- all that was written was counted
-counted_from : (frames : Frames) (pieces : List Piece) (z : Past) (w : Cutting) → (left_from frames z w pieces).written ≡ w.written + length (front_from frames z w pieces)
+pub counted_from : (frames : Frames) (pieces : List Piece) (z : Past) (w : Cutting) → (left_from frames z w pieces).written ≡ w.written + length (front_from frames z w pieces)
 counted_from frames [] z w = omega arith
 counted_from frames (p ∷ pieces) z w =
     let z1 = after z p.unit p.bytes in

@@ -37,7 +37,7 @@ use Rattle.stream_rows.proofs.LongestHeader.{header_most}
 use Rattle.stream_rows.proofs.LongestParams.{params_most}
 use Rattle.stream_cut.specs.Skim.{skim_slices, skim_picture, skim_payload_of, skim_payload, skim_rows, skim_grammar}
 use Rattle.stream_cut.proofs.Fields.{IsBytes, fit_take, fit_drop, byte_field, no_bits, split, others_hold}
-use Rattle.stream_cut.proofs.ParamsRead.{made, few_in, params_in, header_in}
+use Rattle.stream_cut.proofs.ParamsRead.{AreFew, made, few_in, params_in, header_in}
 use Rattle.stream_writer.proofs.EncodedPieces.{moves_then, moves_none, moves_bytes}
 use Rattle.stream_writer.proofs.EncodedParts.{moves_checked}
 use Rattle.stream_cut.proofs.SkimmedParts.{skims}
@@ -96,6 +96,8 @@ pub record IsHeader (parts : HeaderParts) (payload : List ℕ) : Type 0 where
 -- the number may stand.
 pub record IsPicture (parts : HeaderParts) (number : ℕ) (p : Params) (slices : List (List ℕ)) (payload : List ℕ) : Type 0 where
   pub most : 13 + length payload < 2 ^ 32
+  pub few : AreFew p.slicing
+  pub long : total_bytes p.slicing ≤ length payload
   pub moves : (z : Past) → first_broken (number_rules z number) ≡ None
       → Moves skim_grammar (skim_picture z (13 + length payload) parts) (z.place + 13) payload (done (Picture parts number p slices))
 
@@ -287,6 +289,8 @@ picture_read z next parts vs bs u behind fits k =
       };
       facts = record {
         most = omega (arith, size, total, few.total, params_most bs1 p g.long g.read g.inside);
+        few = few;
+        long = omega (arith, size, total);
         moves = picture_moves parts nb pt p s.more four (fit_take 4 bs fits) s.shares s.count (λ next at. group_moves params_of_skim next at bs1 p g.long g.read g.inside);
       };
     }

@@ -2,6 +2,8 @@
 -- frame, and of a sequence whose pictures are fields two in a row are. Each sequence with a chosen picture gives its first
 -- header, its chosen pictures and an end; their payloads are as they were, their offsets are new. Where no picture is chosen
 -- there is one header, the first sequence's, and an end. Repeated headers, auxiliary data and padding are left out.
+-- Sequences says so sequence by sequence, of the units that are defined here; the walk over units is for the code, and by the
+-- law `cuts_by_sequences` comes to the same.
 use Rattle.std.specs.Prelude.{ℕ, zero, suc, ◌+◌, ◌-◌, ◌/◌, ◌&&◌, Bool, List, [], ◌∷◌, ◌++◌, length, drop, Option, Some, None, nat_le, nat_lt, if◌then◌else◌}
 use Rattle.parse_info.specs.declared.TheConstants.{HEAD_SIZE}
 use Rattle.parse_info.specs.declared.Code.TheVariants.{SequenceHeader, LowDelayPicture}
@@ -44,7 +46,16 @@ abbrev pub cut_picture_unit : ℕ → List ℕ → List ℕ
 cut_picture_unit previous payload =
     head_bytes (record { code = LowDelayPicture; next = HEAD_SIZE + length payload; previous = previous }) ++ payload
 
--- ---- what the units so far leave to the cut
+-- Where no picture is chosen, this is the stream.
+abbrev pub empty_cut : List ℕ → List ℕ
+empty_cut payload = cut_header_unit payload ++ end_unit (HEAD_SIZE + length payload)
+
+-- a unit with its bytes
+pub record Piece : Type 0 where
+  pub unit : DataUnit
+  pub bytes : List ℕ
+
+-- ---- for the code: what the units so far leave to the cut
 
 -- The frames of the sequences that are over; the first sequence's first header; the bytes that were written; and where the
 -- sequence has a chosen picture, the length of the unit that was written last.
@@ -117,10 +128,6 @@ cut_next frames z w End bytes = record {
 cut_next frames z w Repeated bytes = w
 cut_next frames z w Skipped bytes = w
 
--- Where no picture is chosen, this is the stream.
-abbrev pub empty_cut : List ℕ → List ℕ
-empty_cut payload = cut_header_unit payload ++ end_unit (HEAD_SIZE + length payload)
-
 -- What the stream's last unit, an end of sequence, has the cut write: the end of a sequence that was begun; or, where nothing
 -- was written, the cut of no frame.
 abbrev pub closing_by : Option ℕ → ℕ → Option First → List ℕ
@@ -133,12 +140,7 @@ closing_by None (suc n) first = []
 abbrev pub closing : Cutting → List ℕ
 closing w = closing_by w.previous w.written w.first
 
--- ---- the cut of units
-
--- a unit with its bytes
-pub record Piece : Type 0 where
-  pub unit : DataUnit
-  pub bytes : List ℕ
+-- ---- the cut of units, by the walk
 
 -- what is settled by units that stand in front of an input, and what they leave to the cut
 abbrev pub front_from : Frames → Past → Cutting → List Piece → List ℕ

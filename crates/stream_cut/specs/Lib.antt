@@ -8,3 +8,4 @@ pub mod SkimTable
 pub mod SkimReader
 pub mod Keeping
 pub mod Cutter
+pub mod Sequences

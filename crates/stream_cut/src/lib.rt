@@ -8,6 +8,8 @@ mod skim_reader;
 mod table;
 
 pub use cutter::{CutStop, Cutter};
-pub use laws::{cuts_by_running, cuts_to_streams, one_skim_answer, skims_to_the_same};
+pub use laws::{
+    cuts_by_running, cuts_by_sequences, cuts_to_streams, one_skim_answer, skims_to_the_same,
+};
 pub use skim_reader::SkimReader;
 pub use table::SkimItem;

@@ -12,7 +12,7 @@ use Rattle.field_weave.specs.Weaving.{frame_of_two}
 use Rattle.raw_video.specs.PictureRuns.{BehindPictures, Goes}
 use Rattle.field_weave.specs.WeaveRuns.{splitting, split_machine, Weaves}
 use Rattle.raw_video.proofs.PictureTurns.{some_raw, goes_first, goes_more}
-use Rattle.field_weave.proofs.Weaves.{weaves_refused, weaves_ended, weaves_short}
+use Rattle.field_weave.proofs.Weaves.{splitting_ends, weaves_refused, weaves_ended, weaves_short}
 use Rattle.field_weave.proofs.weaver.split_frames.Goals as goal
 
 abbrev behind : ℕ → ℕ → BehindPictures ℕ
@@ -53,7 +53,7 @@ returns-in-Ok-End-clause-weaves g c =
     let shape = ap (λ (s : PictureShape). frame_of s) (i.shape ∙ i.frame_shape) ∙ c.requires in
     let front = subst (λ (h : Frame). ReadsFront h l.reader.place (rest l.src) (rest c.next.new.src) p (Ok End)) shape
     (subst (λ (s : RawStep). ReadsFront (frame_of l.reader.shape) l.reader.place (rest l.src) (rest c.next.new.src) p (Ok s)) c.in-Ok-End.field-0-is c.in-Ok-End.ensures.front) in
-    weaves_ended (frame_of_two f) (splitting order f) (some_frame c.args.frame.now.shape f c.requires) refl (behind l.reader.place l.frames) (rest c.args.src.now) (rest l.src) (written c.args.out.now) (written l.out) i.goes
+    weaves_ended (frame_of_two f) (splitting order f) (some_frame c.args.frame.now.shape f c.requires) refl (splitting_ends order f) (behind l.reader.place l.frames) (rest c.args.src.now) (rest l.src) (written c.args.out.now) (written l.out) i.goes
     (faults c.args.src.now) (faults l.src) (faults c.next.new.src) (out_faults c.args.out.now) (out_faults l.out) i.steady i.steady_out (rest c.next.new.src) p l.frames front refl refl c.in-Ok-End.ensures.cause
 
 pub returns-in-Err-clause-weaves : goal.returns-in-Err-clause-weaves
@@ -71,7 +71,7 @@ returns-in-Err-clause-weaves g c =
     let front = subst (λ (h : Frame). ReadsFront h l.reader.place (rest l.src) (rest c.next.new.src) p (Err c.in-Err.fault)) shape c.in-Err.ensures.front in
     subst (λ (s : WeaveStop). Weaves (split_machine order f) (rest c.args.src.now) (rest c.next.new.src) (written c.args.out.now) (written l.out) (faults c.args.src.now) (faults c.next.new.src) (out_faults c.args.out.now) (out_faults l.out) (Err s))
     (sym c.stop_of.ensures)
-    (weaves_refused (frame_of_two f) (splitting order f) (some_frame c.args.frame.now.shape f c.requires) refl (behind l.reader.place l.frames) (rest c.args.src.now) (rest l.src) (written c.args.out.now) (written l.out) i.goes
+    (weaves_refused (frame_of_two f) (splitting order f) (some_frame c.args.frame.now.shape f c.requires) refl (splitting_ends order f) (behind l.reader.place l.frames) (rest c.args.src.now) (rest l.src) (written c.args.out.now) (written l.out) i.goes
     (faults c.args.src.now) (faults l.src) (faults c.next.new.src) (out_faults c.args.out.now) (out_faults l.out) i.steady i.steady_out (rest c.next.new.src) p c.in-Err.fault front c.in-Err.ensures.cause)
 
 pub returns-in-Err-write_fields-clause-weaves : goal.returns-in-Err-write_fields-clause-weaves
@@ -89,7 +89,7 @@ returns-in-Err-write_fields-clause-weaves g c =
     let front = subst (λ (h : Frame). ReadsFront h l.reader.place (rest l.src) (rest c.next.new.src) p (Ok Picture)) shape
     (subst (λ (s : RawStep). ReadsFront (frame_of l.reader.shape) l.reader.place (rest l.src) (rest c.next.new.src) p (Ok s)) c.in-Ok-Picture.field-0-is c.in-Ok-Picture.ensures.front) in
     let short = c.in-Err-write_fields.ensures.err in
-    weaves_short (frame_of_two f) (splitting order f) (some_frame c.args.frame.now.shape f c.requires) refl (behind l.reader.place l.frames) (rest c.args.src.now) (rest l.src) (written c.args.out.now) (written l.out) i.goes
+    weaves_short (frame_of_two f) (splitting order f) (some_frame c.args.frame.now.shape f c.requires) refl (splitting_ends order f) (behind l.reader.place l.frames) (rest c.args.src.now) (rest l.src) (written c.args.out.now) (written l.out) i.goes
     (faults c.args.src.now) (faults l.src) (faults c.next.new.src) (out_faults c.args.out.now) (out_faults l.out) i.steady i.steady_out (rest c.next.new.src) p (written c.write_fields.new.out) (out_faults c.write_fields.new.out) front refl short
     c.in-Ok-Picture.ensures.cause c.in-Err-write_fields.ensures.cause
 

@@ -14,7 +14,7 @@ use Rattle.field_weave.specs.declared.weaver.WeaveStop.TheVariants.{HalfFrame}
 use Rattle.raw_video.specs.PictureRuns.{BehindPictures, Goes}
 use Rattle.field_weave.specs.WeaveRuns.{FieldsSoFar, weaving, weave_machine, field_more, field_text, fields_end, kept_first, Weaves}
 use Rattle.raw_video.proofs.PictureTurns.{some_raw, goes_first, goes_more}
-use Rattle.field_weave.proofs.Weaves.{weaves_refused, weaves_ended, weaves_half, weaves_short}
+use Rattle.field_weave.proofs.Weaves.{weaving_ends, weaves_refused, weaves_ended, weaves_half, weaves_short}
 use Rattle.field_weave.proofs.weaver.weave_fields.Goals.{then-begun-2, else-begun-2}
 use Rattle.field_weave.proofs.weaver.weave_fields.Goals as goal
 
@@ -72,7 +72,7 @@ returns-then-begun-clause-weaves g c =
     (subst (λ (s : RawStep). ReadsFront (frame_of l.reader.shape) l.reader.place (rest l.src) (rest c.next.new.src) p (Ok s)) c.in-Ok-End.field-0-is c.in-Ok-End.ensures.front) in
     subst (λ (k : ℕ). Weaves (weave_machine order f) (rest c.args.src.now) (rest c.next.new.src) (written c.args.out.now) (written l.out) (faults c.args.src.now) (faults c.next.new.src) (out_faults c.args.out.now) (out_faults l.out) (Err (HalfFrame k)))
     (sym c.place-place.ensures.value)
-    (weaves_half f (weaving order f) (some_raw c.args.field.now.shape) refl (behind l.reader.place l.frames l.begun l.first.samples) (rest c.args.src.now) (rest l.src) (written c.args.out.now) (written l.out) i.goes
+    (weaves_half f (weaving order f) (some_raw c.args.field.now.shape) refl (weaving_ends order f) (behind l.reader.place l.frames l.begun l.first.samples) (rest c.args.src.now) (rest l.src) (written c.args.out.now) (written l.out) i.goes
     (faults c.args.src.now) (faults l.src) (faults c.next.new.src) (out_faults c.args.out.now) (out_faults l.out) i.steady i.steady_out (rest c.next.new.src) p l.reader.place front
     (half_end l.reader.place l.frames l.begun l.first.samples c.if-begun.true) refl c.in-Ok-End.ensures.cause)
 
@@ -90,7 +90,7 @@ returns-in-Ok-End-clause-weaves g c =
     let shape = ap (λ (s : PictureShape). frame_of s) (i.shape ∙ i.field_shape) in
     let front = subst (λ (h : Frame). ReadsFront h l.reader.place (rest l.src) (rest c.next.new.src) p (Ok End)) shape
     (subst (λ (s : RawStep). ReadsFront (frame_of l.reader.shape) l.reader.place (rest l.src) (rest c.next.new.src) p (Ok s)) c.in-Ok-End.field-0-is c.in-Ok-End.ensures.front) in
-    weaves_ended f (weaving order f) (some_raw c.args.field.now.shape) refl (behind l.reader.place l.frames l.begun l.first.samples) (rest c.args.src.now) (rest l.src) (written c.args.out.now) (written l.out) i.goes
+    weaves_ended f (weaving order f) (some_raw c.args.field.now.shape) refl (weaving_ends order f) (behind l.reader.place l.frames l.begun l.first.samples) (rest c.args.src.now) (rest l.src) (written c.args.out.now) (written l.out) i.goes
     (faults c.args.src.now) (faults l.src) (faults c.next.new.src) (out_faults c.args.out.now) (out_faults l.out) i.steady i.steady_out (rest c.next.new.src) p l.frames front
     (whole_end l.reader.place l.frames l.begun l.first.samples c.if-begun.false) refl c.in-Ok-End.ensures.cause
 
@@ -109,7 +109,7 @@ returns-in-Err-clause-weaves g c =
     let front = subst (λ (h : Frame). ReadsFront h l.reader.place (rest l.src) (rest c.next.new.src) p (Err c.in-Err.fault)) shape c.in-Err.ensures.front in
     subst (λ (s : WeaveStop). Weaves (weave_machine order f) (rest c.args.src.now) (rest c.next.new.src) (written c.args.out.now) (written l.out) (faults c.args.src.now) (faults c.next.new.src) (out_faults c.args.out.now) (out_faults l.out) (Err s))
     (sym c.stop_of.ensures)
-    (weaves_refused f (weaving order f) (some_raw c.args.field.now.shape) refl (behind l.reader.place l.frames l.begun l.first.samples) (rest c.args.src.now) (rest l.src) (written c.args.out.now) (written l.out) i.goes
+    (weaves_refused f (weaving order f) (some_raw c.args.field.now.shape) refl (weaving_ends order f) (behind l.reader.place l.frames l.begun l.first.samples) (rest c.args.src.now) (rest l.src) (written c.args.out.now) (written l.out) i.goes
     (faults c.args.src.now) (faults l.src) (faults c.next.new.src) (out_faults c.args.out.now) (out_faults l.out) i.steady i.steady_out (rest c.next.new.src) p c.in-Err.fault front c.in-Err.ensures.cause)
 
 pub returns-in-Err-keep_or_write-clause-weaves : goal.returns-in-Err-keep_or_write-clause-weaves
@@ -128,7 +128,7 @@ returns-in-Err-keep_or_write-clause-weaves g c =
     let front = subst (λ (h : Frame). ReadsFront h l.reader.place (rest l.src) (rest c.next.new.src) p (Ok Picture)) shape
     (subst (λ (s : RawStep). ReadsFront (frame_of l.reader.shape) l.reader.place (rest l.src) (rest c.next.new.src) p (Ok s)) c.in-Ok-Picture.field-0-is c.in-Ok-Picture.ensures.front) in
     let short = subst (λ (h : Frame). GrewShort (written l.out) (written c.keep_or_write.new.out) (field_text order h p (kept_first l.begun l.first.samples))) is c.in-Err-keep_or_write.ensures.err in
-    weaves_short f (weaving order f) (some_raw c.args.field.now.shape) refl (behind l.reader.place l.frames l.begun l.first.samples) (rest c.args.src.now) (rest l.src) (written c.args.out.now) (written l.out) i.goes
+    weaves_short f (weaving order f) (some_raw c.args.field.now.shape) refl (weaving_ends order f) (behind l.reader.place l.frames l.begun l.first.samples) (rest c.args.src.now) (rest l.src) (written c.args.out.now) (written l.out) i.goes
     (faults c.args.src.now) (faults l.src) (faults c.next.new.src) (out_faults c.args.out.now) (out_faults l.out) i.steady i.steady_out (rest c.next.new.src) p (written c.keep_or_write.new.out) (out_faults c.keep_or_write.new.out) front refl short
     c.in-Ok-Picture.ensures.cause c.in-Err-keep_or_write.ensures.cause
 
