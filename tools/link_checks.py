@@ -181,18 +181,21 @@ def are_chained(units):
 
 
 def fed(tools, words, pieces):
-    """(status, output, note) of a script that gets its input in pieces, each after so many seconds."""
+    """(status, output, note) of a script that gets its input in pieces, each after so many seconds, once the first shows."""
     script = os.path.join(TOP, "tools", words[0])
     started = subprocess.Popen([script, *words[1:]], stdin=subprocess.PIPE, stdout=subprocess.PIPE, stderr=subprocess.PIPE, env=tools.environment)
+    first = b""
     try:
         for seconds, piece in pieces:
+            if seconds and not first:
+                first = os.read(started.stdout.fileno(), 1)
             time.sleep(seconds)
             started.stdin.write(piece)
             started.stdin.flush()
     except BrokenPipeError:
         pass
     out, note = started.communicate()
-    return started.returncode, out, note
+    return started.returncode, first + out, note
 
 
 def packets(tools, stream):
