@@ -275,6 +275,10 @@ def holds(tools):
     behind = film.stream.index(b"BBCD\0", 100)
     tools.runs.judge("held from the next header on", tools.run([*words, "full=wait"], film.stream[500:])[1] == film.stream[behind:], True)
     tools.runs.judge("nothing held", tools.run(words)[:2], (1, b""))
+    tools.runs.judge("nothing to hold", tools.run(words, film.raw)[:2], (1, b""))
+    for end in (b"BBCD", bytes(30), film.stream[film.unit(4) : film.unit(4) + 15], film.stream[film.unit(4) : film.unit(4) + 900]):
+        cut = film.stream[: film.unit(4)] + end
+        tools.runs.judge(f"held up to an end of {len(end)} bytes", tools.run([*words, "full=wait"], cut)[:2], (0, cut))
     lossy = film.without(film.unit(3) + 400, 200)
     status, out, note = tools.run([*words, "full=wait"], lossy)
     tools.runs.judge("held with a loss", (status, out == lossy, counts(note)["cut"]), (0, True, 1))

@@ -21,15 +21,14 @@ static const char usage[] =
     "cut short, how often the clock was set anew, and how many bytes waited at most for the reader of what is handed on.";
 
 enum { SEGMENTS = 1024, PIECE = 65536, MOST_GAP = 1000, MOST_HANDED = 1 << 28 };
-/* how late a batch of slices may be handed on, and how long a sleep is at least */
-static const double BATCH = 1e-3, SLEEP = 2.5e-4;
+/* how late a batch of slices may be handed on */
+static const double BATCH = 1e-3;
 
 typedef enum { JUNK, UNIT, SLICES } kind;
 
 /* A stretch of the stream: a unit, or what stands where none is. Places are counted in the bytes that are kept. */
 typedef struct {
     kind kind;
-    int is_due_known;
     uint64_t start, end;
     double slot;
     shape shape;
@@ -51,7 +50,7 @@ static struct {
     segment segments[SEGMENTS];
     uint64_t first, count;
     int is_over;
-} held = {.lock = PTHREAD_MUTEX_INITIALIZER};
+} held = {.lock = PTHREAD_MUTEX_INITIALIZER, .changed = PTHREAD_COND_INITIALIZER};
 
 /* The stream so far: whether a header came, the padding that is still to be dropped, the last kept unit, the clock. */
 static struct {
@@ -63,7 +62,7 @@ static struct {
 } now_;
 
 static struct {
-    uint64_t pictures, slices, late, over, most, padding, cut, anew, passed;
+    uint64_t pictures, slices, late, over, most, padding, cut, anew;
     double worst;
 } told;
 
@@ -96,7 +95,6 @@ static void set_clock(segment *it, double came) {
         now_.has_clock = 1;
     }
     now_.number = number, now_.slot = it->slot, now_.slices = it->shape.slices;
-    for (uint64_t n = held.count; n-- > 0 && !nth(n)->is_due_known;) nth(n)->slot = it->slot, nth(n)->is_due_known = 1;
 }
 
 /* Drops so much padding of what has arrived. */
@@ -104,6 +102,8 @@ static void drop_padding(void) {
     uint64_t len = held.arrived - held.parsed < now_.padding_left ? held.arrived - held.parsed : now_.padding_left;
     memmove(at(held.parsed), at(held.parsed + len), held.arrived - held.parsed - len);
     held.arrived -= len, now_.padding_left -= len, told.padding += len;
+    /* of a head that came too soon some bytes may have been handed on */
+    if (held.taken > held.parsed) held.taken -= held.taken - held.parsed < len ? held.taken - held.parsed : len;
 }
 
 /* The place of the next head from here on that has arrived, or where one may begin that hasn't. */
@@ -149,7 +149,7 @@ static int begin(double came) {
     if (len < HEAD || held.count == SEGMENTS) return 0;
     uint8_t *unit = at(held.parsed);
     if (!is_head(unit)) {
-        it.kind = JUNK, it.end = UINT64_MAX, it.is_due_known = 1;
+        it.kind = JUNK, it.end = UINT64_MAX;
     } else if (unit[4] == PADDING) {
         now_.padding_left = next_of(unit), now_.was_padding = 1;
         drop_padding();
@@ -158,14 +158,15 @@ static int begin(double came) {
         if (unit[4] == PICTURE && !read_shape(unit, len, &it.shape)) {
             if (len < PARAMETERS && len < next_of(unit)) return 0;
         } else if (unit[4] == PICTURE) {
-            it.kind = SLICES, it.is_due_known = 1;
+            it.kind = SLICES;
         }
         it.end = it.start + unit_length(unit);
         if (now_.was_padding) set_previous(unit, now_.before);
         now_.was_padding = 0, now_.before = unit_length(unit);
     }
     if (it.kind == SLICES) set_clock(&it, came), told.pictures++;
-    if (it.kind == UNIT && unit[4] == END) it.slot = now_.slot + (double)now_.slices, it.is_due_known = 1;
+    /* what isn't a picture is due behind the last slice */
+    if (it.kind == UNIT) it.slot = now_.slot + (double)now_.slices;
     held.segments[(held.first + held.count++) % SEGMENTS] = it;
     return 1;
 }
@@ -176,7 +177,6 @@ static void parse(double came) {
         uint64_t place = held.parsed;
         while (is_head_at(place = head_from(place, 0, 0)) && at(place)[4] != HEADER) place++;
         now_.has_header = is_head_at(place), now_.header_came = came;
-        told.passed += place - held.parsed;
         held.parsed = held.taken = place;
     }
     while (now_.has_header && held.parsed < held.arrived) {
@@ -203,6 +203,9 @@ static uint64_t room_now(void) {
     return room < PIECE ? room : PIECE;
 }
 
+static double take_due(void);
+
+/* Takes in what comes. What is due by then is handed on first, so that a pause of this machine's doesn't fill the buffer. */
 static void *receive(void *unused) {
     static uint8_t piece[PIECE];
     (void)unused;
@@ -214,6 +217,7 @@ static void *receive(void *unused) {
         if (n < 0 && errno == EINTR) continue;
         double came = now();
         pthread_mutex_lock(&held.lock);
+        take_due();
         room = room_now();
         held.is_over = n <= 0;
         uint64_t len = n > 0 ? (uint64_t)n : 0;
@@ -245,7 +249,7 @@ static void hand(const uint8_t *from, size_t len) {
         handed.bytes = realloc(handed.bytes, handed.room = 2 * (handed.len + len));
         if (!handed.bytes) stop("no memory", NO_MEMORY);
     }
-    memcpy(handed.bytes + handed.len, from, len);
+    if (len) memcpy(handed.bytes + handed.len, from, len);
     handed.len += len;
     handed.is_over = !len;
     if (handed.len > handed.most) handed.most = handed.len;
@@ -282,10 +286,10 @@ static uint64_t due_place(double time, double *next) {
         segment *it = nth(0);
         uint64_t end = it->end < held.parsed ? it->end : held.parsed, slice = 0;
         double slots = (time - now_.zero) / link_.slot - it->slot;
-        if (it->kind == JUNK || (held.is_over && !it->is_due_known)) {
+        if (it->kind == JUNK) {
             place = end;
-        } else if (!it->is_due_known || slots < 0) {
-            if (it->is_due_known) *next = due(it->slot);
+        } else if (slots < 0) {
+            *next = due(it->slot);
             break;
         } else if (it->kind == UNIT || slots + 1 >= (double)it->shape.slices) {
             place = end;
@@ -298,33 +302,35 @@ static uint64_t due_place(double time, double *next) {
         if (place < it->end || it->end > held.parsed) break;
         held.first = (held.first + 1) % SEGMENTS, held.count--;
     }
-    if (held.is_over && !held.count) place = held.arrived;
+    /* a unit that the input's end cuts never gets whole */
+    if (held.is_over && place == held.parsed) place = held.arrived;
     return place > held.taken ? place : held.taken;
+}
+
+/* Hands on what is due now, and says when the next bytes are. */
+static double take_due(void) {
+    double next = 0, time = now();
+    uint64_t place = now_.has_header ? due_place(time, &next) : held.taken;
+    if (place > held.taken) {
+        hand(at(held.taken), place - held.taken);
+        pthread_cond_broadcast(&held.changed);
+    }
+    held.taken = place;
+    return next;
 }
 
 /* Hands on what is due, until all is. */
 static void hand_on(void) {
-    uint8_t *out = room_of(held.capacity);
-    for (;;) {
-        double next = 0;
+    for (int is_done = 0; !is_done;) {
         pthread_mutex_lock(&held.lock);
-        uint64_t place = now_.has_header ? due_place(now(), &next) : held.taken, len = place - held.taken;
-        int is_done = held.is_over && place == held.arrived;
-        memcpy(out, at(held.taken), len);
-        held.taken = place;
-        if (!len && !is_done) {
-            struct timespec until = spec_of(next > now() + SLEEP ? next : now() + SLEEP);
-            if (!now_.has_header) pthread_cond_wait(&held.changed, &held.lock);
-            else pthread_cond_timedwait(&held.changed, &held.lock, &until);
-        }
-        if (len) pthread_cond_broadcast(&held.changed);
+        while (!now_.has_header && !held.is_over) pthread_cond_wait(&held.changed, &held.lock);
+        double next = take_due();
+        is_done = held.is_over && (held.taken == held.arrived || !now_.has_header);
         pthread_mutex_unlock(&held.lock);
-        if (len) hand(out, len);
-        if (is_done) break;
-        if (len && next > now()) sleep_until(next < now() + BATCH / 2 ? now() + BATCH / 2 : next < now() + 0.01 ? next : now());
+        double least = now() + BATCH / 2, most = now() + 10 * BATCH;
+        if (!is_done) sleep_until(next < least ? least : next > most ? most : next);
     }
-    hand(out, 0);
-    free(out);
+    hand(NULL, 0);
 }
 
 /* A signal ends it as the input's end does, with the last line. */
@@ -356,10 +362,6 @@ int main(int count, char **words) {
     held.capacity = 2 * link_.room + 4 * PIECE;
     held.bytes = room_of(held.capacity);
     be_precise();
-    pthread_condattr_t clock;
-    pthread_condattr_init(&clock);
-    pthread_condattr_setclock(&clock, CLOCK_MONOTONIC);
-    pthread_cond_init(&held.changed, &clock);
     sigemptyset(&ends), sigaddset(&ends, SIGINT), sigaddset(&ends, SIGTERM), sigaddset(&ends, SIGHUP);
     pthread_sigmask(SIG_BLOCK, &ends, NULL);
     pthread_t threads[3];
