@@ -109,15 +109,20 @@ def parts(raw, count):
     return [raw[at : at + size] for at in range(0, len(raw), size)]
 
 
-def films_refused(tools):
-    raw, stream = example("pair_422.yuv"), example("pair_422.vc2")
-    source, encode = film(LINE, raw, 2), ["y4m", "encode", *CODING]
+def films_contradicted(tools):
+    """Words beside the film's own."""
+    source, encode = film(LINE, example("pair_422.yuv"), 2), ["y4m", "encode", *CODING]
     for word in ("size=48x30", "sampling=420", "fields=yes"):
         tools.refuses(f"a given {word}", [*encode, word], source, 2, b"isn't the film's, which has " + word.partition("=")[0].encode())
     status, _, note = tools.run([*encode, "fps=50/2"], source)
     tools.runs.judge("the film's rate in other words", (status, note.count(b"\n")), (0, 1))
     status, _, note = tools.run([*encode, "fps=30/1"], source)
     tools.runs.judge("another rate than the film's", (status, b"fps=30/1 is given, and the film has 25/1" in note), (0, True))
+
+
+def films_refused(tools):
+    raw, stream = example("pair_422.yuv"), example("pair_422.vc2")
+    source, encode = film(LINE, raw, 2), ["y4m", "encode", *CODING]
     tools.refuses("a signal of one byte for two", [*encode, "signal=1"], source, 2, b"haven't the size")
     status, stream_full, _ = tools.run([*encode, "signal=0,1023,512,1023"], source)
     full = tools.program(["header"], stream_full)
@@ -267,7 +272,7 @@ def pictures(tools):
 def tools(runs):
     """All checks of the scripts; what needs ffmpeg is named where it is missing."""
     made = Tools(runs)
-    for part in (films, films_watched, films_refused, plans, plans_kept, plans_of_films, pictures, links):
+    for part in (films, films_watched, films_contradicted, films_refused, plans, plans_kept, plans_of_films, pictures, links):
         part(made)
     if shutil.which("ffmpeg"):
         films_by_ffmpeg(made)
