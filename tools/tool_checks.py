@@ -118,6 +118,8 @@ def films_contradicted(tools):
     tools.runs.judge("the film's rate in other words", (status, note.count(b"\n")), (0, 1))
     status, _, note = tools.run([*encode, "fps=30/1"], source)
     tools.runs.judge("another rate than the film's", (status, b"fps=30/1 is given, and the film has 25/1" in note), (0, True))
+    status, _, note = tools.run([*encode, "signal=0,1023,512,1023"], source)
+    tools.runs.judge("another signal than the film's", (status, b"is given, and the film has 3" in note), (0, True))
 
 
 def films_refused(tools):
@@ -235,7 +237,7 @@ def plans_of_films(tools):
         lines = out.decode().splitlines()
         tried = [line.split() for line in lines if line.startswith("film ")]
         best = max(tried, key=lambda it: float(it[1]))
-        taken = next(line.split() for line in lines if line.startswith("size="))
+        taken = lines[0].split()
         tools.runs.judge("a film that is tried", (status, len(tried) > 20, {best[3], best[4], best[7]} <= set(taken)), (0, True, True))
         lines = tools.run([*words, f"film={name}", "wavelet=haar-flat", "depth=1"])[1].decode().splitlines()
         tools.runs.judge("a film that is tried with given words", [line.split()[3:5] for line in lines if line.startswith("film ")], [["wavelet=haar-flat", "depth=1"]] * 2)
