@@ -7,6 +7,8 @@ use Rattle.stream_rows.specs.Streams.{refusal_of}
 use Rattle.stream_cut.specs.Cut.{CutEnd, Piece, cut_front}
 use Rattle.stream_cut.specs.Cut as cutter
 use Rattle.stream_cut.specs.CutLaws.{StandWithin, piece_bytes}
+use Rattle.channel_schedule.proofs.Unique.{plan_found}
+use Rattle.stream_cut.proofs.CutStreams.{cuts_to_streams}
 use Rattle.stream_cut.proofs.Running.{cuts_by_running}
 use Rattle.stream_cut.proofs.Bridge.{pieces_stand_within, has_pieces_before}
 use Rattle.vc2_words.specs.declared.settings.CutSettings.{CutSettings}
@@ -16,6 +18,7 @@ use Rattle.vc2_words.specs.Commands.{cut}
 use Rattle.vc2_cli.specs.Reply.{reply_of, command_reply}
 use Rattle.vc2_cli.specs.StreamReplies.{AreBytes, refused_reply}
 use Rattle.vc2_cli.specs.CutReplies.{HasCutReply, IsCutWhole, IsCutRefused, cut_reply}
+use Rattle.vc2_cli.specs.CutLines.{shapes_cut, CutLinesAreLeast}
 use Rattle.vc2_cli.proofs.Mapped.{told_answer}
 
 pub are_cut : (c : CutSettings) (pieces : List Piece) (tail : List ℕ) (left : Past) → StandWithin nothing_yet pieces tail left → HasCutReply c pieces tail left
@@ -45,3 +48,12 @@ is_cut_refused c bytes fits refusal r =
       h,
       subst (λ (l : List ℕ). command_reply (Ok (cut c)) l ≡ front (refusal_of r.fault)) (sym h.parts) ((are_cut c h.pieces h.tail h.left h.units).refusal r.fault h.refused) ∙ ap front (sym r.there),
     )
+
+pub cut_lines_are_least : (c : CutSettings) (bytes : List ℕ) → CutLinesAreLeast c bytes
+cut_lines_are_least c bytes es last fits rate s =
+    let k = cuts_to_streams (frames_asked c) bytes es last fits s in
+    record {
+      units = k.units;
+      reply = is_cut_whole c bytes es last s k.units;
+      plan = plan_found (shapes_cut c k.units.pieces) c.rate c.idle rate k.in_turn;
+    }

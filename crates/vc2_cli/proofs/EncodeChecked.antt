@@ -1,5 +1,5 @@
 -- `check` with the schedule of what was encoded runs.
-use Rattle.std.proofs.Common.{◌≡◌, ℕ, zero, suc, ◌+◌, ◌-◌, ◌*◌, ◌%◌, ◌^◌, ◌<◌, ◌≤◌, List, [], ◌∷◌, ◌++◌, length, map, Bool, true, false, refl, sym, ap, subst, ◌∙◌, arith, lit≤, append_assoc}
+use Rattle.std.proofs.Common.{◌≡◌, ℕ, zero, suc, ◌+◌, ◌-◌, ◌*◌, ◌%◌, ◌^◌, ◌<◌, ◌≤◌, List, [], ◌∷◌, ◌++◌, length, map, Option, None, Bool, true, false, refl, sym, ap, subst, ◌∙◌, arith, lit≤, append_assoc}
 use Rattle.std.specs.Prelude.{min, Result}
 use Rattle.std.specs.List.{AllByRecursion}
 use Rattle.std.proofs.lemmas.List.{length-append, length-map}
@@ -8,7 +8,7 @@ use Rattle.slice_geometry.specs.declared.PictureShape.{PictureShape}
 use Rattle.slice_geometry.specs.Frames.{Frame, frame_of}
 use Rattle.slice_geometry.specs.declared.unit_list.UnitShape.{UnitShape}
 use Rattle.slice_geometry.specs.UnitLengths as lengths
-use Rattle.slice_geometry.specs.UnitLengths.{IsUnitAllowed, ShapesInTurn}
+use Rattle.slice_geometry.specs.UnitLengths.{IsUnitAllowed, ShapesInTurn, UnitShapesSeen}
 use Rattle.slice_geometry.specs.Slicing.{slice_count, total_bytes}
 use Rattle.slice_geometry.proofs.UnitLemmas.{in_turn-push}
 use Rattle.sequence_header.specs.declared.parts.HeaderParts.{HeaderParts}
@@ -20,8 +20,16 @@ use Rattle.channel_schedule.specs.declared.schedule.Schedule.{Schedule}
 use Rattle.channel_schedule.specs.declared.schedule.Outcome.{Outcome}
 use Rattle.channel_schedule.specs.declared.schedule.Outcome.TheVariants.{Runs}
 use Rattle.channel_schedule.specs.Rates.{IsRate}
-use Rattle.channel_schedule.specs.Courses.{course_of, count_in, bytes_held, outcome_from}
-use Rattle.channel_schedule.specs.Plans.{lead_of, greatest, plan_delay, plan_size}
+use Rattle.channel_schedule.specs.declared.schedule.Rate.{Rate}
+use Rattle.channel_schedule.specs.declared.schedule.Outcome.TheVariants.{Late, Overfull}
+use Rattle.channel_schedule.specs.Repeats as repeats
+use Rattle.channel_schedule.specs.Repeats.{units_repeated, units_placed, length_of, stream_of_units, sequence, picture_slots}
+use Rattle.channel_schedule.proofs.Repeated.{length_of-append}
+use Rattle.channel_schedule.proofs.Known.{pictures_known}
+use Rattle.vc2_cli.specs.declared.status.Status.TheVariants as status
+use Rattle.vc2_cli.specs.LeastLines.{RunsNot, TheLineIsLeast, IsUsual, TheLineIsKnown}
+use Rattle.channel_schedule.specs.Courses.{Course, Run, IsOutcome, course_of, count_in, bytes_held, outcome_from}
+use Rattle.channel_schedule.specs.Plans.{IsPlan, lead_of, greatest, plan_delay, plan_size, plan_of}
 use Rattle.channel_schedule.proofs.Unique.{greatest-is, plan_found, plan_replays, one_outcome}
 use Rattle.channel_schedule.proofs.Leads.{lead_low, ceil_low}
 use Rattle.picture_codec.specs.Samples.{SamplesSeen, PictureSamples, AreSamples, HaveShape, picture_of}
@@ -54,7 +62,7 @@ use Rattle.vc2_cli.specs.Endings.{replayed_close}
 use Rattle.vc2_cli.specs.Scheduled.{Replayed, nothing_replayed, shapes_in, outcome_of, replaying, replay_machine}
 use Rattle.vc2_words.specs.declared.keys.WordFault.{WordFault}
 use Rattle.vc2_words.specs.Commands.{AskedCommand}
-use Rattle.vc2_cli.specs.Reply.{reply_of, command_reply}
+use Rattle.vc2_cli.specs.Reply.{Reply, reply_of, command_reply, schedule_status, fault_of}
 use Rattle.vc2_cli.specs.ScheduleWords.{HasWords}
 use Rattle.vc2_cli.proofs.ScheduleWords.{line_is_read}
 use Rattle.vc2_cli.specs.StreamReplies as streams
@@ -287,9 +295,15 @@ module _ (s : Asked) (pictures : List PictureSamples) (settings : AreSettings s)
       let all = units_length s settings.lawful.params (map (slices_of (frame_under s.parts) s.params) pictures) (header_length s.parts) s.first 0 (length pictures) (omega (arith, many)) sliced in
       omega (arith, length-append unit rest, length-header_unit s.parts, place_first s, all)
 
-  replays : reply_of [] (answer_to (replay_machine (plan_for s pictures)) (stream_of s pictures)) ≡ replayed_reply s pictures
-  replays =
-      let schedule = plan_for s pictures in
+  -- how `check` comes out over the stream with this outcome
+  abbrev told : Outcome → Answer Ending
+  told o = let e : Close Ending = replayed_close (length pictures) (length pictures * slice_count s.params.slicing) (stream_place s (length pictures) + 13) o in
+      record { ending = e.ending; text = []; last = e.last }
+
+  -- with any schedule
+  replays_with : (schedule : Schedule) → reply_of [] (answer_to (replay_machine schedule) (stream_of s pictures))
+      ≡ reply_of [] (told (outcome_of schedule (shapes_at s (length pictures) ++ plain_shape (stream_place s (length pictures)) 13 ∷ []) (stream_place s (length pictures) + 13)))
+  replays_with schedule =
       let unit = header_unit s.parts in
       let rest = units_behind (written_under s) 0 (header_length s.parts) s.first (map (slices_of (frame_under s.parts) s.params) pictures) in
       let f = settings.lawful in
@@ -306,7 +320,9 @@ module _ (s : Asked) (pictures : List PictureSamples) (settings : AreSettings s)
       let walk = walked s schedule f (map (slices_of (frame_under s.parts) s.params) pictures) first 0 (length pictures) (header_length s.parts) s.first (header_small (written_under s) f) f.first (going_start (written_under s) f) sliced may.even (omega (arith, many)) may.stream at_start in
       ap (λ (a : Answer Ending). reply_of [] (before [] a))
       (front_first command (λ z own unit bytes. refl) (written_under s) f (nothing_replayed schedule) rest (omega (arith, length_is, may.stream)) ∙ walk)
-      ∙ ap (λ (o : Outcome). let e : Close Ending = replayed_close (length pictures) (length pictures * slice_count s.params.slicing) (stream_place s (length pictures) + 13) o in reply_of [] (record { ending = e.ending; text = []; last = e.last })) (plan_runs s (length pictures) f.params settings.rate)
+
+  replays : reply_of [] (answer_to (replay_machine (plan_for s pictures)) (stream_of s pictures)) ≡ replayed_reply s pictures
+  replays = replays_with (plan_for s pictures) ∙ ap (λ (o : Outcome). reply_of [] (told o)) (plan_runs s (length pictures) settings.lawful.params settings.rate)
 
 -- its numbers are such that words can have
 held_low : (total came gone : ℕ) → min total came - gone ≤ total
@@ -375,3 +391,100 @@ are_decoded s pictures settings may =
     ∙ ap (λ (l : List ℕ). record (streams.decoded_reply bytes of.entries) { out = l }) shown
     ∙ ap (λ (k : ℕ). record (decoded_reply s pictures) { note = decoded_line k (length bytes) }) (count_all of.entries w found of.found ∙ length-map pictures (slices_of (frame_under s.parts) s.params))
     ∙ ap (λ (k : ℕ). record (decoded_reply s pictures) { note = decoded_line (length pictures) k }) long
+
+-- ---- the line is the least
+
+module _ (s : Asked) (pictures : List PictureSamples) (settings : AreSettings s) (may : MayBeWritten s pictures) where
+  abbrev seen : UnitShapesSeen
+  seen = shapes_in (shapes_at s (length pictures) ++ plain_shape (stream_place s (length pictures)) 13 ∷ []) (stream_place s (length pictures) + 13)
+
+  is_plan : IsPlan seen s.rate s.idle (plan_for s pictures).delay (plan_for s pictures).size
+  is_plan = plan_found seen s.rate s.idle settings.rate (all_in_turn s settings.lawful.params (length pictures))
+
+  not_done : (course : Course) (size n : ℕ) (o : Outcome) → IsOutcome course size n o → (Run course size n → ⊥) → schedule_status (fault_of o) ≡ status.Done → ⊥
+  not_done course size n Runs is runs e = runs is
+  not_done course size n (Late slot have need) is runs e = absurd cc
+  not_done course size n (Overfull slot fill room) is runs e = absurd cc
+
+  runs_not : (delay size : ℕ) → (Run (course_of seen s.rate s.idle delay) size (count_in seen) → ⊥) → RunsNot s pictures delay size
+  runs_not delay size runs e =
+      let schedule : Schedule = record { rate = s.rate; delay = delay; size = size; idle = s.idle } in
+      let course = course_of seen s.rate s.idle delay in
+      not_done course size (count_in seen) (outcome_from course size 0 (count_in seen)) (one_outcome course size (count_in seen)).found runs
+      (ap (λ (r : Reply). r.status) (sym (replays_with s pictures settings may schedule)) ∙ e)
+
+pub the_line_is_least : (s : Asked) (pictures : List PictureSamples) → TheLineIsLeast s pictures
+the_line_is_least s pictures settings may = record {
+  no_delay = λ delay size less. runs_not s pictures settings may delay size (λ run. absurd (omega (arith, less, (is_plan s pictures settings may).least delay run.in_time)));
+  no_size = λ size less. runs_not s pictures settings may (plan_for s pictures).delay size (λ run. absurd (omega (arith, less, (is_plan s pictures settings may).most.least size run.within)));
+}
+
+-- ---- one sequence, at the usual rate
+
+positive_product : (a b : ℕ) → 1 ≤ a → 1 ≤ b → 1 ≤ a * b
+positive_product a b f g = grind arith
+
+placed-append : (a b : List UnitShape) (place : ℕ) → units_placed place (a ++ b) ≡ units_placed place a ++ units_placed (place + length_of a) b
+placed-append [] b place = ap (λ (k : ℕ). units_placed k b) (omega arith)
+placed-append (u ∷ a) b place =
+    let at = place + lengths.shape_length u in
+    ap (λ (l : List UnitShape). record u { start = place } ∷ l) (placed-append a b at ∙ ap (λ (k : ℕ). units_placed at a ++ units_placed k b) (omega arith))
+
+repeated-more : (n : ℕ) (u : UnitShape) → units_repeated (suc n) (u ∷ []) ≡ units_repeated n (u ∷ []) ++ u ∷ []
+repeated-more zero u = refl
+repeated-more (suc n) u = ap (λ (l : List UnitShape). u ∷ l) (repeated-more n u)
+
+module _ (s : Asked) (one : s.group ≡ None) where
+  abbrev picture : UnitShape
+  picture = picture_shape s.params 0
+
+  abbrev units : ℕ → List UnitShape
+  units n = repeats.plain (header_length s.parts) ∷ units_repeated n (picture ∷ [])
+
+  units_more : (n : ℕ) → units (suc n) ≡ units n ++ picture ∷ []
+  units_more n = ap (λ (l : List UnitShape). repeats.plain (header_length s.parts) ∷ l) (repeated-more n picture)
+
+  none_begins : (n : ℕ) → begins_at s.group n ≡ false
+  none_begins n = ap (λ (g : Option ℕ). begins_at g n) one
+
+  place_is : (n : ℕ) → stream_place s n ≡ length_of (units n)
+  place_is zero = refl
+  place_is (suc n) =
+      let next : stream_place s (suc n) ≡ stream_place s n + unit_length s.params =
+      place_next s n ∙ ap (λ (b : Bool). stream_place s n + head_bytes_before s.parts b + unit_length s.params) (none_begins n) ∙ omega arith in
+      omega (arith, next, place_is n, ap length_of (units_more n), length_of-append (units n) (picture ∷ []), picture_length s.params 0)
+
+  shapes_are : (n : ℕ) → shapes_at s n ≡ units_placed 0 (units n)
+  shapes_are zero = refl
+  shapes_are (suc n) =
+      let place = stream_place s n in
+      ap (λ (b : Bool). shapes_at s n ++ due_shapes s.parts s.params b place) (none_begins n)
+      ∙ ap (λ (k : ℕ). shapes_at s n ++ picture_shape s.params k ∷ []) (omega (arith, place_is n))
+      ∙ ap (λ (l : List UnitShape). l ++ picture_shape s.params (0 + length_of (units n)) ∷ []) (shapes_are n)
+      ∙ sym (placed-append (units n) (picture ∷ []) 0)
+      ∙ ap (units_placed 0) (sym (units_more n))
+
+  stream_is : (n : ℕ) → shapes_in (shapes_at s n ++ plain_shape (stream_place s n) 13 ∷ []) (stream_place s n + 13) ≡ stream_of_units (sequence (header_length s.parts) 13 picture n)
+  stream_is n =
+      let place = stream_place s n in
+      let all : shapes_at s n ++ plain_shape place 13 ∷ [] ≡ units_placed 0 (units n ++ repeats.plain 13 ∷ []) =
+      ap (λ (k : ℕ). shapes_at s n ++ plain_shape k 13 ∷ []) (omega (arith, place_is n))
+      ∙ ap (λ (l : List UnitShape). l ++ plain_shape (0 + length_of (units n)) 13 ∷ []) (shapes_are n)
+      ∙ sym (placed-append (units n) (repeats.plain 13 ∷ []) 0) in
+      let total : place + 13 ≡ length_of (units n ++ repeats.plain 13 ∷ []) = omega (arith, place_is n, length_of-append (units n) (repeats.plain 13 ∷ []), plain_length 0 13) in
+      ap (λ (l : List UnitShape). shapes_in l (place + 13)) all ∙ ap (shapes_in (units_placed 0 (units n ++ repeats.plain 13 ∷ []))) total
+
+the_line_from_two : (s : Asked) → AreSettings s → IsUsual s → (n : ℕ) → 2 ≤ n → ended_plan s (shapes_at s n) (stream_place s n) ≡ ended_plan s (shapes_at s 2) (stream_place s 2)
+the_line_from_two s settings usual n few =
+    let f = settings.lawful.params in
+    let p = picture_shape s.params 0 in
+    let some : 1 ≤ slice_count s.params.slicing = positive_product s.params.slicing.slices_x s.params.slicing.slices_y f.allowed.slices.some_across f.allowed.slices.some_down in
+    let rate : s.rate ≡ record { num = lengths.shape_length p; den = picture_slots p s.idle } =
+    usual.rate ∙ ap (λ (k : ℕ). let r : Rate = record { num = k; den = slice_count s.params.slicing + s.idle } in r) (sym (picture_length s.params 0)) in
+    let known = (pictures_known (header_length s.parts) 13 p s.idle (picture_allowed s f 0) some).plans in
+    let same : (m : ℕ) → ended_plan s (shapes_at s m) (stream_place s m) ≡ plan_of (stream_of_units (sequence (header_length s.parts) 13 p m)) (record { num = lengths.shape_length p; den = picture_slots p s.idle }) s.idle =
+    λ m. ap (λ (u : UnitShapesSeen). plan_of u s.rate s.idle) (stream_is s usual.one m) ∙ ap (λ (r : Rate). plan_of (stream_of_units (sequence (header_length s.parts) 13 p m)) r s.idle) rate in
+    same n ∙ known.plan n few ∙ sym (same 2)
+
+pub the_line_is_known : (s : Asked) → TheLineIsKnown s
+the_line_is_known s settings usual pictures others few fewer = the_line_from_two s settings usual (length pictures) few ∙ sym (the_line_from_two s settings usual (length others) fewer)

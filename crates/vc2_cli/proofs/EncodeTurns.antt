@@ -18,6 +18,8 @@ use Rattle.raw_video.specs.Reading.{ReadsFront, RawCause, RawReaderSeen, reader_
 use Rattle.raw_video.specs.PictureRuns.{BehindPictures}
 use Rattle.raw_video.specs.PictureRuns as pictures
 use Rattle.raw_video.proofs.PictureTurns as turns
+use Rattle.raw_video.specs.PictureSoon.{HasOpenEndings, PicturesSoon}
+use Rattle.raw_video.proofs.OpenPrefixes.{soon_behind, soon_between, soon_unbegun}
 use Rattle.raw_video.specs.declared.reader.RawStep.{RawStep}
 use Rattle.raw_video.specs.declared.reader.RawStep.TheVariants as steps
 use Rattle.raw_video.specs.declared.reader.RawFault.{RawFault}
@@ -39,14 +41,26 @@ use Rattle.vc2_cli.specs.declared.status.Ending.{Ending}
 use Rattle.vc2_cli.specs.declared.status.Note.TheVariants.{Encoded}
 use Rattle.vc2_cli.specs.declared.status.Ending.TheVariants.{Done}
 use Rattle.run_theory.specs.Runs.{Runs, Closes}
-use Rattle.vc2_cli.specs.Endings.{IsDone}
-use Rattle.vc2_cli.specs.Encode.{written_under, raw_size, units_at, has_room, is_half, refused_at, ended_plan, ended_at, last_text, encoding, encode_machine, told_of_fault, told_of_stop}
+use Rattle.vc2_cli.specs.Endings.{IsDone, MayEndLater}
+use Rattle.vc2_cli.specs.Encode.{written_under, raw_size, shapes_at, stream_place, units_at, has_room, is_half, refused_at, ended_plan, ended_at, last_text, encoding, encode_machine, told_of_fault, told_of_stop}
 use Rattle.vc2_cli.specs.EncodeTurn.{IsBehind, WritesPictures}
 use Rattle.vc2_cli.proofs.Behind.{behind_next, due_is, room_is, no_room_is}
 use Rattle.run_theory.proofs.Closing.{takes_none, cause_then}
 
 pub encode_laws : (e : Asked) → 0 < raw_length (frame_under e.parts) → IsMachine (encode_machine e)
 encode_laws e some = turns.picture_laws (frame_under e.parts) (encoding e) some
+
+-- at the input's end, and inside a picture
+encode_ends : (e : Asked) → HasOpenEndings MayEndLater (encoding e)
+encode_ends e = record { finished = λ place n. by (is_half e.parts.coding n) place (ended_plan e (shapes_at e n) (stream_place e n)); cut = λ at. refl }
+  where
+    by : (half : Bool) (place : ℕ) (schedule : Schedule) → MayEndLater (ended_at half place schedule)
+    by true place schedule = refl
+    by false place schedule = tt
+
+-- nothing was read
+pub soon_unread : (e : Asked) → 0 < raw_size e → (rest : Option (List ℕ)) → PicturesSoon MayEndLater (encode_machine e) rest rest
+soon_unread e some rest = soon_unbegun MayEndLater (frame_under e.parts) (encoding e) (encode_ends e) some rest
 
 -- ---- one picture more
 -- the units that are due with the next picture
@@ -126,6 +140,13 @@ module _ (e : Asked) (n : ℕ) (rest0 rest1 out0 out1 : Option (List ℕ)) (read
 
   most_taken : (rest2 : Option (List ℕ)) (p : PictureSamples) (result : Result RawStep RawFault) → ReadsFront f reader.place rest1 rest2 p result → TakesAtMost (2 ^ 40 + 1) rest0 rest2
   most_taken rest2 p result r = turns.most_taken f (encoding e) some now rest0 rest1 out0 out1 goes.run rest2 p result r
+
+  -- however the picture came out
+  pub soon_read : (rest2 : Option (List ℕ)) (p : PictureSamples) (result : Result RawStep RawFault) → ReadsFront (frame_under e.parts) reader.place rest1 rest2 p result → PicturesSoon MayEndLater (encode_machine e) rest0 rest2
+  soon_read rest2 p result r = soon_behind MayEndLater f (encoding e) (encode_ends e) some now rest0 rest1 rest2 out0 out1 goes.run p result r
+
+  pub soon_on : PicturesSoon MayEndLater (encode_machine e) rest0 rest1
+  soon_on = soon_between MayEndLater f (encoding e) (encode_ends e) some now rest0 rest1 out0 out1 goes.run
 
   module _ (rest2 : Option (List ℕ)) (p : PictureSamples) (r : ReadsFront (frame_under e.parts) reader.place rest1 rest2 p (Ok steps.Picture)) where
     with_room : has_room e n ≡ true → (encoding e).stops reader.place n ≡ None

@@ -1,5 +1,5 @@
 -- A command's run by its line of the table, and what more is said of two.
-use Rattle.std.proofs.Common.{◌≡◌, ◌+◌, ℕ, List, [], Option, None, Some, IfSome, Result, Ok, IfOk, refl, arith}
+use Rattle.std.proofs.Common.{◌≡◌, ◌+◌, ℕ, List, [], Option, Some, Result, Ok, IfOk, refl, arith}
 use Rattle.vc2_io.specs.declared.TheConstants.{INPUT_LIMIT}
 use Rattle.run_theory.specs.Walk.{Machine, answer_to, IsMachine}
 use Rattle.run_theory.specs.Ran.{Ran, TakesAtMost, HaltHasCause}
@@ -7,6 +7,7 @@ use Rattle.run_theory.specs.Runs.{Change, HasNoNewFault, Runs, Closes}
 use Rattle.run_theory.specs.declared.Halt.{Halt}
 use Rattle.run_theory.proofs.Closing.{takes_none, cause_then}
 use Rattle.unit_reader.specs.Soon.{Soon}
+use Rattle.raw_video.specs.PictureSoon.{PicturesSoon}
 use Rattle.vc2_words.specs.declared.words.TrialPart.{TrialPart}
 use Rattle.vc2_words.specs.Settings.{Asked}
 use Rattle.vc2_words.specs.Commands.{AskedCommand, chain, header, decode, proxy, check, encode, trial, weave, split, frames, cut}
@@ -14,24 +15,29 @@ use Rattle.vc2_cli.specs.declared.status.Ending.{Ending}
 use Rattle.vc2_cli.specs.declared.status.Ending.TheVariants.{Done}
 use Rattle.vc2_cli.specs.declared.status.Note.TheVariants.{Nothing}
 use Rattle.vc2_cli.specs.declared.status.Status.{Status}
-use Rattle.vc2_cli.specs.Endings.{IsDone, MayEndOtherwise}
+use Rattle.vc2_cli.specs.Endings.{IsDone, MayEndOtherwise, MayEndLater}
 use Rattle.vc2_cli.specs.First.{header_machine, behind_first}
 use Rattle.vc2_cli.specs.Trial.{trial_text}
-use Rattle.vc2_cli.specs.Running.{running, over_units, over_video, trial_running}
+use Rattle.vc2_cli.specs.Running.{Stopping, running, by_reads, by_pieces, over_units, over_video, trial_running}
 use Rattle.vc2_cli.specs.RunsAs.{GoesOn, RunsAs, SaysMore}
 use Rattle.vc2_cli.specs.Reply.{AnswersTrial, IfTrial, IfHeader, ReadsAll, status_of}
 use Rattle.vc2_cli.specs.Settled.{Concludes}
 use Rattle.vc2_cli.proofs.HeaderRuns.{header_laws}
 use Rattle.vc2_cli.proofs.Settling.{comes_by, at_end, trial_comes, trial_told}
 
-pub goes_on : {Z : Type 0} (machine : Machine Z Ending) (most : ℕ) (rest0 rest1 : Option (List ℕ)) (result : Result Ending Halt) → Soon MayEndOtherwise machine most rest0 rest1 result → GoesOn (answer_to machine) most rest0 rest1 result
-goes_on machine most rest0 rest1 result s = (s.taken, s.took, s.goes, s.lost)
+-- units are judged after each read
+pub goes_on : {Z : Type 0} (machine : Machine Z Ending) (most : ℕ) (rest0 rest1 : Option (List ℕ)) (result : Result Ending Halt) → Soon MayEndOtherwise machine most rest0 rest1 result → GoesOn (answer_to machine) (by_reads most) rest0 rest1 result
+goes_on machine most rest0 rest1 result s = (s.taken, s.took, s.goes, λ each. s.lost)
+
+-- raw video after each piece
+goes_by_pieces : {Z : Type 0} (machine : Machine Z Ending) (rest0 rest1 : Option (List ℕ)) (result : Result Ending Halt) → PicturesSoon MayEndLater machine rest0 rest1 → GoesOn (answer_to machine) (by_pieces 4096) rest0 rest1 result
+goes_by_pieces machine rest0 rest1 result s = (s.taken, s.took, s.goes, λ each. absurd cc)
 
 -- a command that reads to the end
-to_end : {Z : Type 0} (machine : Machine Z Ending) (laws : IsMachine machine) (most : Option ℕ) (src out : Change) (result : Result Ending Halt) → Runs machine IsDone src out result
-    → IfSome most (λ m. GoesOn (answer_to machine) m src.was src.is result) → RunsAs (running machine (λ input. []) most) src out result
-to_end machine laws most src out result r soon = record {
-  comes = λ input e. comes_by machine laws (λ i. []) most src.was src.is out.was out.is input result e (at_end src.is result r.end) r.ran;
+to_end : {Z : Type 0} (machine : Machine Z Ending) (laws : IsMachine machine) (stops : Stopping) (src out : Change) (result : Result Ending Halt) → Runs machine IsDone src out result
+    → GoesOn (answer_to machine) stops src.was src.is result → RunsAs (running machine (λ input. []) stops) src out result
+to_end machine laws stops src out result r soon = record {
+  comes = λ input e. comes_by machine laws (λ i. []) stops src.was src.is out.was out.is input result e (at_end src.is result r.end) r.ran;
   limit = r.limit;
   cause = r.cause;
   soon = soon;
@@ -39,10 +45,11 @@ to_end machine laws most src out result r soon = record {
 
 pub units_run : {Z : Type 0} (machine : Machine Z Ending) (laws : IsMachine machine) (src out : Change) (result : Result Ending Halt) → Runs machine IsDone src out result → Soon MayEndOtherwise machine 4096 src.was src.is result
     → RunsAs (over_units machine) src out result
-units_run machine laws src out result r soon = to_end machine laws (Some 4096) src out result r (goes_on machine 4096 src.was src.is result soon)
+units_run machine laws src out result r soon = to_end machine laws (by_reads 4096) src out result r (goes_on machine 4096 src.was src.is result soon)
 
-pub video_runs : {Z : Type 0} (machine : Machine Z Ending) (laws : IsMachine machine) (src out : Change) (result : Result Ending Halt) → Runs machine IsDone src out result → RunsAs (over_video machine) src out result
-video_runs machine laws src out result r = to_end machine laws None src out result r tt
+pub video_runs : {Z : Type 0} (machine : Machine Z Ending) (laws : IsMachine machine) (src out : Change) (result : Result Ending Halt) → Runs machine IsDone src out result → PicturesSoon MayEndLater machine src.was src.is
+    → RunsAs (over_video machine) src out result
+video_runs machine laws src out result r soon = to_end machine laws (by_pieces 4096) src out result r (goes_by_pieces machine src.was src.is result soon)
 
 -- the first unit
 few_enough : (rest0 rest1 : Option (List ℕ)) → TakesAtMost 250 rest0 rest1 → TakesAtMost (INPUT_LIMIT + 1) rest0 rest1
@@ -50,9 +57,9 @@ few_enough rest0 rest1 few = (few.0, omega (arith, few.1), few.2)
 
 pub header_runs : (src out : Change) (result : Result Ending Halt) → ((input : List ℕ) → src.was ≡ Some input → IfOk result (λ ending. ReadsAll (status_of ending) → (more : List ℕ) → src.is ≡ Some more → more ≡ behind_first input))
     → TakesAtMost 250 src.was src.is → Ran header_machine src.was src.is out.was out.is result → HaltHasCause src.faults_were src.faults_are out.faults_were out.faults_are result
-    → Soon MayEndOtherwise header_machine 1 src.was src.is result → RunsAs (running header_machine behind_first (Some 1)) src out result
+    → Soon MayEndOtherwise header_machine 1 src.was src.is result → RunsAs (running header_machine behind_first (by_reads 1)) src out result
 header_runs src out result left few ran cause soon = record {
-  comes = λ input e. comes_by header_machine header_laws behind_first (Some 1) src.was src.is out.was out.is input result e (left input e) ran;
+  comes = λ input e. comes_by header_machine header_laws behind_first (by_reads 1) src.was src.is out.was out.is input result e (left input e) ran;
   limit = few_enough src.was src.is few;
   cause = cause;
   soon = goes_on header_machine 1 src.was src.is result soon;

@@ -1,10 +1,10 @@
 -- `weave` and `split` run as their machines do.
-use Rattle.std.proofs.Common.{◌≡◌, ℕ, ◌+◌, ◌*◌, ◌<◌, List, Option, Result, Ok, Err, sym, ap, subst, ◌∙◌, arith}
+use Rattle.std.proofs.Common.{◌≡◌, ℕ, ◌+◌, ◌*◌, ◌<◌, List, Option, Result, Ok, Err, refl, sym, ap, subst, ◌∙◌, arith}
 use Rattle.raw_video.specs.RawText.{is_wide}
 use Rattle.std.specs.Io.KnownBytes.{IsAtEnd}
 use Rattle.slice_geometry.specs.Frames.{Frame}
 use Rattle.raw_video.specs.RawParse.{sample_size, raw_length}
-use Rattle.run_theory.specs.Walk.{Answer, Machine, IsMachine, answer_to}
+use Rattle.run_theory.specs.Walk.{Answer, Machine, IsMachine, answer_to, all_but}
 use Rattle.field_weave.specs.WeaveAnswers.{woven_answer, split_answer}
 use Rattle.field_weave.proofs.Answers.{weave_answer, split_answers}
 use Rattle.run_theory.specs.Ran.{HaltHasCause}
@@ -16,14 +16,17 @@ use Rattle.stream_rows.proofs.Frames.{frame_is}
 use Rattle.field_weave.specs.Weaving.{frame_of_two}
 use Rattle.field_weave.specs.declared.weaver.WeaveStop.{WeaveStop}
 use Rattle.field_weave.specs.declared.weaver.WeaveStop.TheVariants as stops
-use Rattle.field_weave.specs.WeaveRuns.{WeaveEnd, weaving, splitting, weave_result, Weaves}
+use Rattle.field_weave.specs.WeaveRuns.{WeaveEnd, MayGoOn, weaving, splitting, weave_result, Weaves}
 use Rattle.field_weave.specs.WeaveRuns as weaver
+use Rattle.field_weave.proofs.Weaves.{weaving_ends, splitting_ends}
+use Rattle.raw_video.specs.PictureSoon.{PicturesSoon}
+use Rattle.raw_video.proofs.OpenPrefixes.{soon_unbegun}
 use Rattle.raw_video.proofs.PictureTurns.{picture_laws, some_raw}
 use Rattle.vc2_words.specs.declared.settings.FieldVideo.{FieldVideo}
 use Rattle.vc2_words.specs.Lawful.{IsFieldVideo}
 use Rattle.vc2_cli.specs.declared.status.Ending.{Ending}
 use Rattle.run_theory.specs.Runs.{Runs}
-use Rattle.vc2_cli.specs.Endings.{IsDone}
+use Rattle.vc2_cli.specs.Endings.{IsDone, MayEndLater}
 use Rattle.vc2_cli.specs.Mapped.{told_as, answer_told}
 use Rattle.vc2_cli.specs.Weave.{order_of, ending_of, weave_command_machine, split_command_machine, outcome_of}
 use Rattle.vc2_cli.proofs.Mapped.{told_laws, told_answer, told_ran}
@@ -86,6 +89,36 @@ module _ {Z : Type 0} (machine : Machine Z WeaveEnd) (rest0 rest1 out0 out1 : Op
     cause = causes result w.cause;
     end = ended result w;
   }
+
+-- an ending that may change is told as one
+may_end : (ending : WeaveEnd) → MayGoOn ending → MayEndLater (ending_of ending)
+may_end (Ok frames) goes = tt
+may_end (Err (stops.HalfFrame place)) goes = refl
+may_end (Err (stops.RawTruncated place)) goes = refl
+may_end (Err (stops.SampleTooLarge place)) goes = absurd goes
+may_end (Err stops.TooLong) goes = absurd goes
+may_end (Err stops.ReadFault) goes = absurd goes
+may_end (Err stops.OutFault) goes = absurd goes
+
+pub soon_told : {Z : Type 0} (machine : Machine Z WeaveEnd) (rest0 rest1 : Option (List ℕ)) → PicturesSoon MayGoOn machine rest0 rest1 → PicturesSoon MayEndLater (told_as ending_of machine) rest0 rest1
+soon_told machine rest0 rest1 s = record {
+  taken = s.taken;
+  took = s.took;
+  goes = subst MayEndLater (sym (ap (λ (a : Answer Ending). a.ending) (told_answer ending_of machine (all_but 4096 s.taken)))) (may_end _ s.goes);
+}
+
+-- nothing was read
+pub weave_unread : (video : FieldVideo) → IsFieldVideo video → (rest : Option (List ℕ)) → PicturesSoon MayEndLater (weave_command_machine video) rest rest
+weave_unread video is rest =
+    let f = frame_under video.header in
+    let order = order_of video.top in
+    soon_told (weaver.weave_machine order f) rest rest (soon_unbegun MayGoOn f (weaving order f) (weaving_ends order f) (some_field video.header is.header.passes) rest)
+
+pub split_unread : (video : FieldVideo) → IsFieldVideo video → (rest : Option (List ℕ)) → PicturesSoon MayEndLater (split_command_machine video) rest rest
+split_unread video is rest =
+    let f = frame_under video.header in
+    let order = order_of video.top in
+    soon_told (weaver.split_machine order f) rest rest (soon_unbegun MayGoOn (frame_of_two f) (splitting order f) (splitting_ends order f) (some_frame f (some_field video.header is.header.passes)) rest)
 
 -- what they come to
 pub weave_replies : (video : FieldVideo) (input : List ℕ) → IsFieldVideo video → answer_to (weave_command_machine video) input ≡ answer_told ending_of (woven_answer (order_of video.top) (frame_under video.header) input)

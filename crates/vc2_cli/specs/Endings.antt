@@ -1,7 +1,9 @@
 -- How a command ends: three ways, whatever the command is. Which are of an input that was read whole, and which may change.
-use Rattle.std.specs.Prelude.{◌≡◌, true, ℕ, []}
+use Rattle.std.specs.Prelude.{◌≡◌, Bool, true, false, ℕ, []}
 use Rattle.run_theory.specs.Fronts.{Close}
 use Rattle.stream_rows.specs.Units.{is_truncated}
+use Rattle.stream_rows.specs.declared.reason.Reason.{Reason}
+use Rattle.stream_rows.specs.declared.reason.Reason.TheVariants.{HalfFrame, RawTruncated}
 use Rattle.channel_schedule.specs.declared.schedule.Outcome.{Outcome}
 use Rattle.vc2_cli.specs.Texts.{accepted_line, replayed_lines}
 use Rattle.vc2_cli.specs.declared.status.Note.TheVariants.{Nothing}
@@ -14,10 +16,24 @@ IsDone (Done note) = Unit {0}
 IsDone (Scheduled outcome) = Unit {0}
 IsDone (Refused refusal) = ⊥
 
--- more bytes may still change it: it is no refusal, or only that of a field that is short
+-- More bytes may still change it: it is no refusal, or one for a reason that is open.
+abbrev pub MayEndBy : (Reason → Bool) → Ending → Type 0
+MayEndBy is_open (Refused refusal) = is_open refusal.reason ≡ true
+MayEndBy is_open other = Unit {0}
+
+-- over a stream, where only a short field is
 abbrev pub MayEndOtherwise : Ending → Type 0
-MayEndOtherwise (Refused refusal) = is_truncated refusal.reason ≡ true
-MayEndOtherwise other = Unit {0}
+MayEndOtherwise ending = MayEndBy is_truncated ending
+
+-- the open reasons of raw video: a picture that is not whole, and half a frame
+abbrev pub is_unfinished : Reason → Bool
+is_unfinished RawTruncated = true
+is_unfinished HalfFrame = true
+is_unfinished other = false
+
+-- over raw video
+abbrev pub MayEndLater : Ending → Type 0
+MayEndLater ending = MayEndBy is_unfinished ending
 
 -- an ending without a last text
 abbrev pub plain_close : Ending → Close Ending

@@ -24,6 +24,7 @@ pub mod FrameReplies
 pub mod CutReplies
 pub mod ScheduleWords
 pub mod EncodeReply
+pub mod LeastLines
 pub mod RawReplies
 pub mod Settled
 pub mod RunsAs
@@ -34,3 +35,4 @@ pub mod FirstTurn
 pub mod Telling
 pub mod Soon
 pub mod Program
+pub mod CutLines

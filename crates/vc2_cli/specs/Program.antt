@@ -13,7 +13,7 @@ use Rattle.vc2_cli.specs.Exit.{exit_code_of}
 use Rattle.vc2_cli.specs.Trial.{trial_text}
 use Rattle.vc2_cli.specs.Words.{words_ask}
 use Rattle.vc2_cli.specs.Reply.{reply_to, due_to, ReadsAll, IsStatusOf, Breaks, Stops, StopsShort, HasCauses, AnswersUsage, AnswersTrial, IfTrial, IfHeader}
-use Rattle.vc2_cli.specs.Soon.{StopsSoon, IfUnits}
+use Rattle.vc2_cli.specs.Soon.{StopsSoon, IfReads}
 
 -- What a run with these words comes to, of the source and the sinks before and after it. The first clauses are of an input
 -- that the source tells, the last ones of every source: of bytes they too speak only where source and sinks tell theirs.
@@ -38,10 +38,11 @@ pub record ProgramRan (words : List (List ℕ)) (src out note : Change) (told : 
   -- Where a write of the note failed, all of the output was written, and a proper prefix of the note.
   pub note_fault : IfSome src.was (λ input. let reply = reply_to words input in told ≡ st.NoteFault
       → Appends out.was out.is reply.out × GrewShort note.was note.is reply.note)
-  -- A command over the units of a stream takes fewer than 4096 bytes behind a refusal, which came with it in one read, and
+  -- A command takes fewer than 4096 bytes behind a refusal, which came with it in one read, or of raw video in one piece, and
   -- `header` none: without its last 4096 bytes, or its last byte, what was taken is not refused as an input of its own,
-  -- unless for a field that is short. Where a read failed, all that was taken is not.
-  pub soon : IfSome src.was (λ input. IfUnits (words_ask words) (λ most. StopsSoon (reply_to words) most input src.is told))
+  -- unless for a field or a picture that is short, or half a frame. Where a read of a command over the units of a stream
+  -- failed, all that was taken is not.
+  pub soon : IfSome src.was (λ input. IfReads (words_ask words) (λ stops. StopsSoon (reply_to words) stops input src.is told))
   -- At most 2^40 bytes and one more are taken, however the run comes out.
   pub limit : TakesAtMost (INPUT_LIMIT + 1) src.was src.is
   -- A fault is answered only where its object's count rose. So a failed read ends the run, and is never taken for the end

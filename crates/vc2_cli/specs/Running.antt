@@ -1,10 +1,13 @@
 -- The one table of the commands: what each comes to, with no word of what its machine keeps between units.
-use Rattle.std.specs.Prelude.{ℕ, List, [], Option, Some, None}
+use Rattle.std.specs.Prelude.{ℕ, Bool, true, false, List, [], Option, Some, None}
 use Rattle.vc2_io.specs.declared.TheConstants.{READ_SIZE}
 use Rattle.run_theory.specs.Walk.{Machine, Answer, answer_to, due}
 use Rattle.vc2_words.specs.declared.words.TrialPart.{TrialPart}
 use Rattle.vc2_words.specs.Settings.{Asked}
 use Rattle.vc2_words.specs.Commands.{AskedCommand, chain, header, decode, proxy, check, encode, trial, weave, split, frames, cut}
+use Rattle.stream_rows.specs.declared.reason.Reason.{Reason}
+use Rattle.stream_rows.specs.Units.{is_truncated}
+use Rattle.vc2_cli.specs.Endings.{is_unfinished}
 use Rattle.vc2_cli.specs.declared.status.Ending.{Ending}
 use Rattle.vc2_cli.specs.declared.status.Ending.TheVariants.{Done}
 use Rattle.vc2_cli.specs.declared.status.Note.TheVariants.{Nothing}
@@ -19,25 +22,39 @@ use Rattle.vc2_cli.specs.Weave.{order_of, weave_command_machine, split_command_m
 use Rattle.vc2_cli.specs.Frames.{frames_machine}
 use Rattle.vc2_cli.specs.Cut.{cut_command_machine}
 
+-- How soon a run is over behind a refusal: the most bytes that are read before they are judged, the reasons of refusals that
+-- more bytes may still change, and whether what each read brings is judged before the next one.
+pub record Stopping : Type 0 where
+  pub most : ℕ
+  pub is_open : Reason → Bool
+  pub each : Bool
+
 -- what a command answers to an input, the text that is due once bytes were taken, what it leaves of the input where it
--- ends well, and the most bytes that one read of it takes, where it reads units
+-- ends well, and how soon it is over, where it reads
 pub record Running : Type 0 where
   pub answer : List ℕ → Answer Ending
   pub due : List ℕ → List ℕ
   pub rest : List ℕ → List ℕ
-  pub most : Option ℕ
+  pub stops : Option Stopping
 
 -- the answers of a machine
-abbrev pub running : {Z : Type 0} → Machine Z Ending → (List ℕ → List ℕ) → Option ℕ → Running
-running machine rest most = record { answer = answer_to machine; due = due machine; rest = rest; most = most }
+abbrev pub running : {Z : Type 0} → Machine Z Ending → (List ℕ → List ℕ) → Stopping → Running
+running machine rest stops = record { answer = answer_to machine; due = due machine; rest = rest; stops = Some stops }
 
--- those of a command that reads units to the end, and of one that reads raw video to the end
+-- units are judged after each read of so many bytes
+abbrev pub by_reads : ℕ → Stopping
+by_reads most = record { most = most; is_open = is_truncated; each = true }
+
+-- raw video once a piece of so many bytes is full, however many reads that takes
+abbrev pub by_pieces : ℕ → Stopping
+by_pieces most = record { most = most; is_open = is_unfinished; each = false }
+
+-- a command that reads units to the end, and one that reads raw video to the end
 abbrev pub over_units : {Z : Type 0} → Machine Z Ending → Running
-over_units machine = running machine (λ input. []) (Some READ_SIZE)
+over_units machine = running machine (λ input. []) (by_reads READ_SIZE)
 
--- a command over raw video, whose line tells nothing of its own
 abbrev pub over_video : {Z : Type 0} → Machine Z Ending → Running
-over_video machine = running machine (λ input. []) None
+over_video machine = running machine (λ input. []) (by_pieces READ_SIZE)
 
 -- a trial reads nothing
 abbrev pub trial_running : Asked → TrialPart → Running
@@ -45,13 +62,13 @@ trial_running s part = record {
   answer = λ input. record { ending = Done Nothing; text = []; last = trial_text s part };
   due = λ taken. [];
   rest = λ input. input;
-  most = None;
+  stops = None;
 }
 
 -- the table
 abbrev pub running_of : AskedCommand → Running
 running_of chain = over_units chain_machine
-running_of header = running header_machine behind_first (Some 1)
+running_of header = running header_machine behind_first (by_reads 1)
 running_of decode = over_units decode_machine
 running_of (proxy level) = over_units (proxy_machine level)
 running_of (check None) = over_units check_machine

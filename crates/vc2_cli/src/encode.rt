@@ -7,10 +7,9 @@ ghost use Rattle.vc2_words.specs.Shown.{shown};
 ghost use Rattle.vc2_words.specs.Lawful.{AreLawfulWords};
 ghost use Rattle.run_theory.specs.Ran.{HaltHasCause};
 ghost use Rattle.stream_writer.specs.Writer.{next_place, next_previous, IsSteepOkUnder};
-ghost use Rattle.run_theory.specs.Runs.{change, Runs, Closes};
-ghost use Rattle.vc2_cli.specs.Endings.{IsDone};
-ghost use Rattle.vc2_cli.specs.Encode.{written_under, raw_size, encode_machine, refused_at, is_half, ended_plan, ended_at, last_text, told_of_fault, told_of_stop};
-ghost use Rattle.vc2_cli.specs.EncodeTurn.{WritesPictures};
+ghost use Rattle.run_theory.specs.Runs.{change, Closes};
+ghost use Rattle.vc2_cli.specs.Encode.{written_under, raw_size, refused_at, is_half, ended_plan, ended_at, last_text, told_of_fault, told_of_stop};
+ghost use Rattle.vc2_cli.specs.EncodeTurn.{WritesPictures, EncodeRuns};
 
 use crate::status::{Ending, Note};
 use channel_schedule::plan;
@@ -114,7 +113,7 @@ fn encode_pictures<S: Source, K: Sink>(
         → 1 ≤ slice_count (shown settings.now).params.slicing
         → WritesPictures (shown settings.now) 0 rest (S.rest src.old) out0
         (K.written out.old) reader.old writer.old
-        → Runs (encode_machine (shown settings.now)) IsDone
+        → EncodeRuns (shown settings.now)
         (record {
           was = rest;
           is = S.rest src.new;
@@ -153,7 +152,7 @@ pub(crate) fn encode<S: Source, K: Sink>(
 ) -> Result<Ending, Halt>
     requires lawful { AreLawfulWords (shown settings.now) }
     requires steep { IsSteepOkUnder (written_under (shown settings.now)) }
-    ensures { Runs (encode_machine (shown settings.now)) IsDone
+    ensures { EncodeRuns (shown settings.now)
         (change S.rest S.faults src.old src.new)
         (change K.written K.faults out.old out.new) result }
 {

@@ -18,7 +18,7 @@ ghost use Rattle.vc2_cli.specs.Trial.{trial_text};
 ghost use Rattle.run_theory.specs.Runs.{change};
 ghost use Rattle.vc2_cli.specs.Program.{ProgramRan};
 ghost use Rattle.vc2_cli.specs.Reply.{command_reply, command_due, status_of, note_line, note_of, fault_of, schedule_status, schedule_note, HasCauses, AnswersUsage, AnswersTrial, IfTrial, IfHeader};
-ghost use Rattle.vc2_cli.specs.Soon.{StopsSoon, IfUnits};
+ghost use Rattle.vc2_cli.specs.Soon.{StopsSoon, IfReads};
 ghost use Rattle.vc2_cli.specs.RunsAs.{Does};
 ghost use Rattle.vc2_cli.specs.Settled.{Settles, Concludes, HasNoteCause, status_of_halt};
 
@@ -231,8 +231,8 @@ fn answer<S: Source, K: Sink, N: Sink>(
     ensures header { IfHeader (seen_words command)
         (TakesAtMost 250 (S.rest src.old) (S.rest src.new)) }
     ensures soon { (input : List ℕ) → S.rest src.old ≡ Some input
-        → IfUnits (seen_words command) (λ most.
-        StopsSoon (command_reply (seen_words command)) most input (S.rest src.new) result) }
+        → IfReads (seen_words command) (λ stops.
+        StopsSoon (command_reply (seen_words command)) stops input (S.rest src.new) result) }
 {
     match command {
         Ok(command) => conclude(alloc, perform(alloc, command, src, out), note),

@@ -2,7 +2,8 @@
 ghost use Rattle.std.specs.Prelude.{◌≡◌, Ok};
 ghost use Rattle.vc2_words.specs.Lawful.{IsFieldVideo};
 ghost use Rattle.run_theory.specs.Runs.{change, Runs};
-ghost use Rattle.vc2_cli.specs.Endings.{IsDone};
+ghost use Rattle.raw_video.specs.PictureSoon.{PicturesSoon};
+ghost use Rattle.vc2_cli.specs.Endings.{IsDone, MayEndLater};
 ghost use Rattle.vc2_cli.specs.Encode.{refused_at};
 ghost use Rattle.vc2_cli.specs.Weave.{order_of, weave_command_machine, split_command_machine, outcome_of};
 
@@ -49,9 +50,11 @@ pub(crate) fn weave<S: Source, K: Sink>(
     out: &mut K,
 ) -> Result<Ending, Halt>
     requires { IsFieldVideo video.now }
-    ensures { Runs (weave_command_machine video.now) IsDone
+    ensures runs { Runs (weave_command_machine video.now) IsDone
         (change S.rest S.faults src.old src.new)
         (change K.written K.faults out.old out.new) result }
+    ensures soon { PicturesSoon MayEndLater (weave_command_machine video.now) (S.rest src.old)
+        (S.rest src.new) }
 {
     let shape = video.header.picture_shape();
     match Weaver::new(alloc, &shape, order_of(video.top)) {
@@ -72,9 +75,11 @@ pub(crate) fn split<S: Source, K: Sink>(
     out: &mut K,
 ) -> Result<Ending, Halt>
     requires { IsFieldVideo video.now }
-    ensures { Runs (split_command_machine video.now) IsDone
+    ensures runs { Runs (split_command_machine video.now) IsDone
         (change S.rest S.faults src.old src.new)
         (change K.written K.faults out.old out.new) result }
+    ensures soon { PicturesSoon MayEndLater (split_command_machine video.now) (S.rest src.old)
+        (S.rest src.new) }
 {
     let shape = video.header.picture_shape();
     match Weaver::new(alloc, &shape, order_of(video.top)) {

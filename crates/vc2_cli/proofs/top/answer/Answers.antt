@@ -8,7 +8,7 @@ use Rattle.vc2_cli.specs.Reply.{command_reply, command_due}
 use Rattle.vc2_cli.specs.Running.{running_of}
 use Rattle.vc2_cli.specs.Settled.{Settles}
 use Rattle.vc2_cli.specs.Soon.{StopsSoon}
-use Rattle.vc2_cli.proofs.SoonTold.{units_soon, units_at}
+use Rattle.vc2_cli.proofs.SoonTold.{reads_soon, reads_at}
 use Rattle.vc2_cli.proofs.Settling.{settles, settled_usage, causes, trial_at, header_at}
 use Rattle.vc2_cli.proofs.Told.{if_trial, if_header}
 use Rattle.vc2_cli.proofs.top.answer.Goals as goal
@@ -48,8 +48,8 @@ returns-in-Ok-clause-header g c =
 
 pub returns-in-Ok-clause-soon : goal.returns-in-Ok-clause-soon
 returns-in-Ok-clause-soon g c = λ input e.
-    units_at (λ r most. StopsSoon (command_reply r) most input (g.S.Source.rest c.perform.new.src) c.conclude.result) _ _ c.in-Ok.is
-    (units_soon (running_of (command_seen c.in-Ok.command)) (g.S.Source.rest c.args.src.now) (g.S.Source.rest c.perform.new.src) (g.N.Sink.written c.args.note.now) (g.N.Sink.written c.conclude.new.note) input c.perform.result c.conclude.result e c.perform.ensures.runs.soon c.conclude.ensures.told)
+    reads_at (λ r stops. StopsSoon (command_reply r) stops input (g.S.Source.rest c.perform.new.src) c.conclude.result) _ _ c.in-Ok.is
+    (reads_soon (running_of (command_seen c.in-Ok.command)) (g.S.Source.rest c.args.src.now) (g.S.Source.rest c.perform.new.src) (g.N.Sink.written c.args.note.now) (g.N.Sink.written c.conclude.new.note) input c.perform.result c.conclude.result e c.perform.ensures.runs.soon c.conclude.ensures.told)
 
 pub perform-requires-clause-schedule : goal.perform-requires-clause-schedule
 perform-requires-clause-schedule g c = λ schedule is. c.requires.schedule schedule (ap seen_words c.in-Ok.is ∙ ap Ok is)
@@ -83,4 +83,4 @@ returns-in-Err-clause-header g c = header_at _ _ _ c.in-Err.is tt
 
 pub returns-in-Err-clause-soon : goal.returns-in-Err-clause-soon
 returns-in-Err-clause-soon g c = λ input e.
-    units_at (λ r most. StopsSoon (command_reply r) most input (g.S.Source.rest c.args.src.now) c.refuse.result) _ _ c.in-Err.is tt
+    reads_at (λ r stops. StopsSoon (command_reply r) stops input (g.S.Source.rest c.args.src.now) c.refuse.result) _ _ c.in-Err.is tt

@@ -80,19 +80,19 @@ returns-in-Encode g c =
     let out = change g.K.Sink.written g.K.Sink.faults c.args.out.now c.encode.new.out in
     let s = shown c.in-Encode.settings in
     let lawful = c.requires.settings s (ap command_seen c.in-Encode.is) in
-    subst (λ (a : Command). Does (command_seen a) src out c.encode.result) (sym c.in-Encode.is) (does _ src out c.encode.result (video_runs (encode_machine s) (encode_laws s (some_size s lawful.0.header.passes)) src out c.encode.result c.encode.ensures) tt)
+    subst (λ (a : Command). Does (command_seen a) src out c.encode.result) (sym c.in-Encode.is) (does _ src out c.encode.result (video_runs (encode_machine s) (encode_laws s (some_size s lawful.0.header.passes)) src out c.encode.result c.encode.ensures.runs c.encode.ensures.soon) tt)
 
 pub returns-in-Weave : goal.returns-in-Weave
 returns-in-Weave g c =
     let src = change g.S.Source.rest g.S.Source.faults c.args.src.now c.weave.new.src in
     let out = change g.K.Sink.written g.K.Sink.faults c.args.out.now c.weave.new.out in
-    subst (λ (a : Command). Does (command_seen a) src out c.weave.result) (sym c.in-Weave.is) (does _ src out c.weave.result (video_runs (weave_command_machine c.in-Weave.video) (weave_laws c.in-Weave.video (c.requires.weave c.in-Weave.video (ap command_seen c.in-Weave.is))) src out c.weave.result c.weave.ensures) tt)
+    subst (λ (a : Command). Does (command_seen a) src out c.weave.result) (sym c.in-Weave.is) (does _ src out c.weave.result (video_runs (weave_command_machine c.in-Weave.video) (weave_laws c.in-Weave.video (c.requires.weave c.in-Weave.video (ap command_seen c.in-Weave.is))) src out c.weave.result c.weave.ensures.runs c.weave.ensures.soon) tt)
 
 pub returns-in-Split : goal.returns-in-Split
 returns-in-Split g c =
     let src = change g.S.Source.rest g.S.Source.faults c.args.src.now c.split.new.src in
     let out = change g.K.Sink.written g.K.Sink.faults c.args.out.now c.split.new.out in
-    subst (λ (a : Command). Does (command_seen a) src out c.split.result) (sym c.in-Split.is) (does _ src out c.split.result (video_runs (split_command_machine c.in-Split.video) (split_laws c.in-Split.video (c.requires.split c.in-Split.video (ap command_seen c.in-Split.is))) src out c.split.result c.split.ensures) tt)
+    subst (λ (a : Command). Does (command_seen a) src out c.split.result) (sym c.in-Split.is) (does _ src out c.split.result (video_runs (split_command_machine c.in-Split.video) (split_laws c.in-Split.video (c.requires.split c.in-Split.video (ap command_seen c.in-Split.is))) src out c.split.result c.split.ensures.runs c.split.ensures.soon) tt)
 
 pub returns-in-Cut : goal.returns-in-Cut
 returns-in-Cut g c =

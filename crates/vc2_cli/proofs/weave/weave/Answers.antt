@@ -14,7 +14,7 @@ use Rattle.vc2_cli.specs.Endings.{IsDone}
 use Rattle.vc2_cli.specs.Weave.{order_of, weave_command_machine}
 use Rattle.run_theory.proofs.Closing.{runs_unbegun}
 use Rattle.vc2_cli.proofs.FieldSizes.{luma_doubled, colour_doubled}
-use Rattle.vc2_cli.proofs.Weaving.{runs_told}
+use Rattle.vc2_cli.proofs.Weaving.{runs_told, soon_told, weave_unread}
 use Rattle.vc2_cli.proofs.weave.weave.Goals as goal
 
 pub new-requires-clause-luma : goal.new-requires-clause-luma
@@ -43,9 +43,14 @@ returns-in-Ok g c =
     let frame : frame_of made.field ≡ f = ap (λ (w : WeaverSeen). frame_of w.field) c.in-Ok.ensures ∙ frame_is video.header c.picture_shape-shape.result c.picture_shape-shape.ensures in
     let run = λ (o : Order) (h : Frame). (Weaves (weaver.weave_machine o h) (rest src0) (rest src1) (written out0) (written out1) (faults src0) (faults src1) (out_faults out0) (out_faults out1) c.weave-result.result) in
     let ran : run top f = subst (λ (o : Order). run o f) order (subst (λ (h : Frame). run made.order h) frame c.weave-result.ensures.weaves) in
-    subst (λ (r : Result Ending Halt). Runs (weave_command_machine video) IsDone (change rest faults src0 src1) (change written out_faults out0 out1) r) (sym c.outcome_of.ensures)
-    (runs_told (weaver.weave_machine top f) (rest src0) (rest src1) (written out0) (written out1) (faults src0) (faults src1) (out_faults out0) (out_faults out1) c.weave-result.result ran)
+    record {
+      runs = subst (λ (r : Result Ending Halt). Runs (weave_command_machine video) IsDone (change rest faults src0 src1) (change written out_faults out0 out1) r) (sym c.outcome_of.ensures)
+          (runs_told (weaver.weave_machine top f) (rest src0) (rest src1) (written out0) (written out1) (faults src0) (faults src1) (out_faults out0) (out_faults out1) c.weave-result.result ran);
+      soon = soon_told (weaver.weave_machine top f) (rest src0) (rest src1) ran.soon;
+    }
 
 pub returns-in-Err : goal.returns-in-Err
-returns-in-Err g c =
-    runs_unbegun (weave_command_machine c.args.video.now) IsDone (g.S.Source.rest c.args.src.now) (g.K.Sink.written c.args.out.now) (g.S.Source.faults c.args.src.now) (g.K.Sink.faults c.args.out.now)
+returns-in-Err g c = record {
+  runs = runs_unbegun (weave_command_machine c.args.video.now) IsDone (g.S.Source.rest c.args.src.now) (g.K.Sink.written c.args.out.now) (g.S.Source.faults c.args.src.now) (g.K.Sink.faults c.args.out.now);
+  soon = weave_unread c.args.video.now c.requires (g.S.Source.rest c.args.src.now);
+}
