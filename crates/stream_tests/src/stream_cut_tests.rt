@@ -1,10 +1,12 @@
-//! Frames that are cut out of streams.
+//! Frames that are cut out of streams, and units that are skimmed.
 
+use crate::stream_units_tests::reading::assert_same;
 use crate::told::bytes_of;
-use std::alloc::Global;
+use std::alloc::{AllocError, Global};
 use std::process::Abort;
 use std::test::Fail;
-use stream_cut::{CutStop, Cutter};
+use stream_cut::{CutStop, Cutter, SkimItem, SkimReader};
+use stream_units::{ReadStop, Refusal};
 use vc2_io::{MemSink, MemSource};
 
 /// The first and the last frame but one, where the input is refused, the input, and its cut. One of two frames and none of them;
@@ -99,6 +101,87 @@ fn cuts(rt: HostRuntime) -> Result<(), Fail> {
     for row in CUTS.split('\n') {
         for piece in [0, 1, 7] {
             expect_cut(&rt, rt.alloc(), row, piece)?;
+        }
+    }
+    Ok(())
+}
+
+/// What a reader of skimmed units answers: of each answer the item, the bytes of the unit that it keeps, whether it has a header,
+/// and where the last picture starts, with its bytes before the slices, its slices, and how many bytes these have on average. A
+/// header that stands once more, data that is skipped, two sequences, a slice that breaks a rule, and a wrong prefix.
+const SKIMS: &str = "\
+header picture end = Sequence 17 true 0 0 0 1/1, Picture 21 true 17 20 1 1/1, End 21 true 17 20 1 1/1,
+header unit 00 00000011 00000011 3F27424A unit 20 0000000F 00000011 AABB unit C8 00000015 0000000F 000000000C927001 \
+    unit 10 00000000 00000015 header end = Sequence 17 true 0 0 0 1/1, Repeated 17 true 0 0 0 1/1, \
+    Skipped 17 true 0 0 0 1/1, Picture 21 true 49 20 1 1/1, SequenceEnd 21 true 49 20 1 1/1, \
+    Sequence 17 true 49 20 1 1/1, 109 PreviousWrong
+header unit C8 00000017 00000011 000000000C909CFE0000 end = Sequence 17 true 0 0 0 1/1, \
+    Picture 23 true 17 20 1 3/1, 49 PreviousWrong
+42 = 0 Truncated
+42424345 = 0 BadPrefix";
+
+/// Tells an answer, and whether another may follow.
+fn tell_skim(
+    text: &mut String,
+    answer: Result<SkimItem, ReadStop>,
+    reader: &SkimReader,
+) -> Result<bool, AllocError> {
+    match answer {
+        Ok(item) => {
+            let (unit, shape) = (reader.unit().len(), reader.shape());
+            write!(text, " {item:?} {unit} {}", reader.header().is_some())?;
+            write!(
+                text,
+                " {} {} {} {}/{},",
+                shape.start, shape.head, shape.slices, shape.a, shape.b
+            )?;
+            Ok(item != SkimItem::End)
+        }
+        Err(ReadStop::Refused(Refusal { place, reason })) => {
+            write!(text, " {place} {reason:?}")?;
+            Ok(false)
+        }
+        Err(stop) => {
+            write!(text, " {stop:?}")?;
+            Ok(false)
+        }
+    }
+}
+
+/// Tells up to the end or a stop, nine answers at most.
+fn tell_skims(
+    text: &mut String,
+    reader: &mut SkimReader,
+    src: &mut MemSource,
+) -> Result<(), AllocError> {
+    for _ in 0..9 {
+        let answer = reader.next(src);
+        if !tell_skim(text, answer, reader)? {
+            break;
+        }
+    }
+    Ok(())
+}
+
+fn expect_skims(rt: &impl Abort, alloc: Global, row: &str, piece: usize) -> Result<(), Fail> {
+    let (words, wanted) = row.split_once(" =").expect(rt, "a row");
+    let input = bytes_of(alloc, words)?;
+    let pieces = [piece; 512];
+    let mut src = MemSource::new(input.as_slice(), &pieces, &[]);
+    let mut reader = SkimReader::new(alloc)?;
+    let mut text = String::new(alloc);
+    let done = tell_skims(&mut text, &mut reader, &mut src);
+    drop(reader);
+    done?;
+    assert_same(rt, text.as_str(), wanted);
+    Ok(())
+}
+
+#[test]
+fn skims(rt: HostRuntime) -> Result<(), Fail> {
+    for row in SKIMS.lines() {
+        for piece in [0, 1, 7] {
+            expect_skims(&rt, rt.alloc(), row, piece)?;
         }
     }
     Ok(())

@@ -1,5 +1,6 @@
 //! Streams read and written.
 
+mod bands;
 mod pictures;
 pub(crate) mod reading;
 mod refusals;
