@@ -15,12 +15,12 @@ static const char usage[] =
     "  full=wait    it isn't read yet: for a link that can wait, as TCP does\n"
     "\n"
     "What comes before the first sequence header is dropped, and padding is as it comes; the previous offset behind it is set anew.\n"
-    "A slice that is late is handed on as soon as it is there. Where a picture begins later or sooner than by more than a picture's\n"
-    "time, the clock is set anew. The last line says how many pictures and slices came, how many slices late and by how much at most,\n"
-    "how many bytes found no room, how many were held at most and of how many, what padding there was, how many units were\n"
+    "A slice that is late is handed on as soon as it is there. Where pictures begin later than by a picture's time for three such times,\n"
+    "or one sooner than the buffer fills, the clock is set anew. The last line says how many pictures and slices came, how many\n"
+    "slices late and by how much at most, how many bytes found no room, how many were held at most and of how many, what padding there was, how many units were\n"
     "cut short, how often the clock was set anew, and how many bytes waited at most for the reader of what is handed on.";
 
-enum { SEGMENTS = 1024, PIECE = 65536, MOST_GAP = 1000, MOST_HANDED = 1 << 28 };
+enum { SEGMENTS = 1024, PIECE = 65536, PART = 4096, MOST_GAP = 1000, PATIENCE = 3, MOST_HANDED = 1 << 28 };
 /* how late a batch of slices may be handed on */
 static const double BATCH = 1e-3;
 
@@ -52,12 +52,13 @@ static struct {
     int is_over;
 } held = {.lock = PTHREAD_MUTEX_INITIALIZER, .changed = PTHREAD_COND_INITIALIZER};
 
-/* The stream so far: whether a header came, the padding that is still to be dropped, the last kept unit, the clock. */
+/* The stream so far: whether a header came, the padding that is still to be dropped, the last kept unit, the clock, and since
+ * when pictures have come too late for it. */
 static struct {
     int has_header, has_clock, was_padding;
     uint64_t padding_left;
     uint32_t before, number;
-    double zero, slot, header_came;
+    double zero, slot, header_came, late_since;
     uint64_t slices;
 } now_;
 
@@ -84,15 +85,21 @@ static double due(double slot) { return now_.zero + slot * link_.slot; }
 /* Gives a picture its slots by its number, and the clock its zero where there is none that serves. */
 static void set_clock(segment *it, double came) {
     uint32_t number = big_endian(at(it->start) + 13), gap = number - now_.number;
-    double early = 2 * link_.jitter + (link_.delay + (double)it->shape.slices) * link_.slot, period = (double)(it->shape.slices + link_.idle) * link_.slot;
+    double period = (double)(it->shape.slices + link_.idle) * link_.slot;
     it->slot = now_.slot + gap * (double)(now_.slices + link_.idle);
-    int is_far = gap > MOST_GAP || came - due(it->slot) > period || due(it->slot) - came > early + period;
+    double late = came - due(it->slot);
+    if (late <= period) now_.late_since = 0;
+    else if (now_.late_since == 0) now_.late_since = came;
+    int is_late = late > period && came - now_.late_since >= PATIENCE * period;
+    /* of one that comes sooner than the buffer fills the end would find no room; a link that waits keeps the buffer full */
+    double soonest = (double)link_.room / link_.rate + (link_.waits ? period : 0);
+    int is_far = gap > MOST_GAP || is_late || -late > soonest;
     if (!now_.has_clock || is_far) {
         if (now_.has_clock) told.anew++;
         it->slot = now_.has_clock ? now_.slot + (double)(now_.slices + link_.idle) : 0;
         double since = now_.has_clock ? came : now_.header_came;
         now_.zero = since + link_.jitter + (link_.delay - it->slot) * link_.slot;
-        now_.has_clock = 1;
+        now_.has_clock = 1, now_.late_since = 0;
     }
     now_.number = number, now_.slot = it->slot, now_.slices = it->shape.slices;
 }
@@ -205,7 +212,17 @@ static uint64_t room_now(void) {
 
 static double take_due(void);
 
-/* Takes in what comes. What is due by then is handed on first, so that a pause of this machine's doesn't fill the buffer. */
+/* Takes in a part of what came, as much as there is room for. What is due by then is handed on first, so that pauses of this
+ * machine's and the sender's don't fill the buffer. */
+static void take_in(const uint8_t *piece, uint64_t len, double came) {
+    take_due();
+    uint64_t room = room_now();
+    if (len > room) told.over += len - room, len = room;
+    memcpy(at(held.arrived), piece, len);
+    held.arrived += len;
+    parse(came);
+}
+
 static void *receive(void *unused) {
     static uint8_t piece[PIECE];
     (void)unused;
@@ -217,14 +234,8 @@ static void *receive(void *unused) {
         if (n < 0 && errno == EINTR) continue;
         double came = now();
         pthread_mutex_lock(&held.lock);
-        take_due();
-        room = room_now();
+        for (ssize_t at = 0; at < n; at += PART) take_in(piece + at, (uint64_t)(n - at < PART ? n - at : PART), came);
         held.is_over = n <= 0;
-        uint64_t len = n > 0 ? (uint64_t)n : 0;
-        if (len > room) told.over += len - room, len = room;
-        memcpy(at(held.arrived), piece, len);
-        held.arrived += len;
-        parse(came);
         pthread_cond_broadcast(&held.changed);
         pthread_mutex_unlock(&held.lock);
         if (n <= 0) return NULL;
