@@ -15,12 +15,12 @@ static const char usage[] =
     "  full=wait    it isn't read yet: for a link that can wait, as TCP does\n"
     "\n"
     "What comes before the first sequence header is dropped, and padding is as it comes; the previous offset behind it is set anew.\n"
-    "A slice that is late is handed on as soon as it is there. Where pictures begin later than by a picture's time for three such times,\n"
-    "or one sooner than the buffer fills, the clock is set anew. The last line says how many pictures and slices came, how many\n"
+    "A slice that is late is handed on as soon as it is there. Where pictures begin late for the time of 25 of them, or by more than one's\n"
+    "time for the time of three, or one sooner than the buffer fills, the clock is set anew. The last line says how many pictures and slices came, how many\n"
     "slices late and by how much at most, how many bytes found no room, how many were held at most and of how many, what padding there was, how many units were\n"
     "cut short, how often the clock was set anew, and how many bytes waited at most for the reader of what is handed on.";
 
-enum { SEGMENTS = 1024, PIECE = 65536, PART = 4096, MOST_GAP = 1000, PATIENCE = 3, MOST_HANDED = 1 << 28 };
+enum { SEGMENTS = 1024, PIECE = 65536, PART = 4096, MOST_GAP = 1000, FEW = 3, MANY = 25, MOST_HANDED = 1 << 28 };
 /* how late a batch of slices may be handed on */
 static const double BATCH = 1e-3;
 
@@ -88,9 +88,9 @@ static void set_clock(segment *it, double came) {
     double period = (double)(it->shape.slices + link_.idle) * link_.slot;
     it->slot = now_.slot + gap * (double)(now_.slices + link_.idle);
     double late = came - due(it->slot);
-    if (late <= period) now_.late_since = 0;
+    if (late <= 0) now_.late_since = 0;
     else if (now_.late_since == 0) now_.late_since = came;
-    int is_late = late > period && came - now_.late_since >= PATIENCE * period;
+    int is_late = late > 0 && came - now_.late_since >= (late > period ? FEW : MANY) * period;
     /* of one that comes sooner than the buffer fills the end would find no room; a link that waits keeps the buffer full */
     double soonest = (double)link_.room / link_.rate + (link_.waits ? period : 0);
     int is_far = gap > MOST_GAP || is_late || -late > soonest;
