@@ -14,11 +14,12 @@ static const char usage[] =
     "  full=drop    what comes while the buffer is full is lost, as in a receiver of so much memory (taken where nothing is said)\n"
     "  full=wait    it isn't read yet: for a link that can wait, as TCP does\n"
     "\n"
-    "What comes before the first sequence header is dropped, and padding is as it comes; the previous offset behind it is set anew.\n"
-    "A slice that is late is handed on as soon as it is there. Where pictures begin late for the time of 25 of them, or by more than one's\n"
-    "time for the time of three, or one sooner than the buffer fills, the clock is set anew. The last line says how many pictures and slices came, how many\n"
-    "slices late and by how much at most, how many bytes found no room, how many were held at most and of how many, what padding there was, how many units were\n"
-    "cut short, how often the clock was set anew, and how many bytes waited at most for the reader of what is handed on.";
+    "What comes before the first sequence header is dropped, and padding is as it comes; the previous offset behind it is set\n"
+    "anew. A slice that is late is handed on as soon as it is there. Where pictures begin late for the time of 25 of them, or by\n"
+    "more than one's time for the time of three, or one sooner than the buffer fills, the clock is set anew. The last line says\n"
+    "how many pictures and slices came, how many slices late and by how much at most, how many bytes found no room, how many were\n"
+    "held at most and of how many, what padding there was, how many units were cut short, how often the clock was set anew, and\n"
+    "how many bytes waited at most for the reader of what is handed on.";
 
 enum { SEGMENTS = 1024, PIECE = 65536, PART = 4096, MOST_GAP = 1000, FEW = 3, MANY = 25, MOST_HANDED = 1 << 28 };
 /* how late a batch of slices may be handed on */
