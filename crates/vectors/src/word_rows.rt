@@ -10,6 +10,10 @@ const ROWS: &str = "\
     repeated key | check delay=1 delay=2 | # | Usage(RepeatedKey(2)) | # | usage: RepeatedKey word 2;
     leading zero | check delay=02 | # | Usage(BadValue(1)) | # | usage: BadValue word 1;
     missing buffer | check rate=21/1 delay=2 | # | Usage(MissingKey(Buffer)) | # | usage: MissingKey buffer;
+    missing delay | check rate=21/1 buffer=42 | # | Usage(MissingKey(Delay)) | # | usage: MissingKey delay;
+    missing pictures | trial .. seed=0 | # | Usage(MissingKey(Pictures)) | # | usage: MissingKey pictures;
+    trial of a stream that is too long | trial .. bytes=268435456/1 seed=0 pictures=1 | # | \
+        Usage(SettingsRefused(TrialSize)) | # | usage: SettingsRefused TrialSize;
     matrix too steep | encode .. matrix=88 | #808080 | \
         Usage(SettingsRefused(MatrixTooSteep)) | # | usage: SettingsRefused MatrixTooSteep;
     chain with a second word | chain x=1 | # | Usage(UnknownKey(1)) | # | usage: UnknownKey word 1;
