@@ -4,13 +4,13 @@ ghost use Rattle.std.specs.Prelude.{◌≡◌, ℕ, ◌^◌, ◌≤◌, true};
 ghost use Rattle.planes.specs.Numbers.{Within};
 ghost use Rattle.planes.specs.Raster.{height, at};
 ghost use Rattle.planes.specs.Subbands.{BandExists, band_of};
-ghost use Rattle.lifting.specs.Bands.{AgreeInSize, AreSmall};
+ghost use Rattle.lifting.specs.Bands.{AgreeInSize, AreSmall, AreNarrow};
 ghost use Rattle.lifting.specs.Places.{place};
 ghost use Rattle.lifting.specs.Ranges.{GridWithin};
 
 use crate::checks::assert_same;
-use lifting::{Wavelet, analyse, analyse_level, synth, synth_level};
-use planes::{Bands, Plane};
+use lifting::{Wavelet, analyse, analyse_level, synth, synth_level, synth_narrow};
+use planes::{Bands, NarrowBands, NarrowPlane, NoMemory, Plane};
 use std::alloc::Global;
 use std::process::Abort;
 use std::test::Fail;
@@ -63,6 +63,7 @@ fn are_bands(bands: &Bands, level: u32, w: u32, h: u32) -> bool
 pub(super) fn can_synth(bands: &Bands, plane: &Plane, scratch: &Plane) -> bool
     ensures sizes { result ≡ true → AgreeInSize bands.now plane.now scratch.now }
     ensures small { result ≡ true → AreSmall bands.now plane.now }
+    ensures narrow { result ≡ true → AreNarrow bands.now plane.now }
 {
     let (w, h, depth) = (plane.w(), plane.h(), bands.depth());
     if scratch.w() != w || scratch.h() != h || w % (1 << depth) != 0 || h % (1 << depth) != 0 {
@@ -316,5 +317,46 @@ fn two_levels(rt: HostRuntime) -> Result<(), Fail> {
     let mut plane = Plane::new(rt.alloc(), 8, 4)?;
     let mut scratch = Plane::new(rt.alloc(), 8, 4)?;
     assert_turns(&rt, &mut bands, &mut plane, &mut scratch, &TURNS);
+    Ok(())
+}
+
+/// Synthesis of bands of a plane of 8 by 4 in 32 bits.
+fn synth_in_32_bits(
+    rt: &impl Abort,
+    alloc: Global,
+    wavelet: Wavelet,
+    wide: &Bands,
+) -> Result<NarrowPlane, NoMemory> {
+    let like = Plane::new(alloc, 8, 4)?;
+    assert!(rt; can_synth(wide, &like, &like));
+    assert!(rt; wide.depth() == 2);
+    assert!(rt; wide.within(0x40000));
+    let mut bands = NarrowBands::new(alloc, 2, 8, 4)?;
+    let mut plane = NarrowPlane::new(alloc, 8, 4)?;
+    let mut scratch = NarrowPlane::new(alloc, 8, 4)?;
+    bands.narrow(wide);
+    synth_narrow(wavelet, &bands, &mut plane, &mut scratch);
+    Ok(plane)
+}
+
+/// Asserts the rows of a plane of 32 bits.
+fn assert_narrow_rows(rt: &impl Abort, plane: &NarrowPlane, values: &Values) {
+    for y in 0..plane.h() {
+        for x in 0..plane.w() {
+            assert!(rt; x < 8 && y < 4);
+            assert_same(rt, i64::from(plane.get(y, x)), values[(8 * y + x) as usize]);
+        }
+    }
+}
+
+/// The same of synthesis in 32 bits.
+#[test]
+fn two_levels_in_32_bits(rt: HostRuntime) -> Result<(), Fail> {
+    for (wavelet, by_synthesis, _) in &TURNS {
+        let mut bands = Bands::new(rt.alloc(), 2, 8, 4)?;
+        put_bands(&rt, &mut bands, &COEFFICIENTS);
+        let plane = synth_in_32_bits(&rt, rt.alloc(), *wavelet, &bands)?;
+        assert_narrow_rows(&rt, &plane, by_synthesis);
+    }
     Ok(())
 }

@@ -3,7 +3,7 @@ use Rattle.std.proofs.Math.Nat.{pow-le-pow_right}
 use Rattle.planes.specs.Numbers.{Within}
 use Rattle.planes.specs.Raster.{Raster, height, at}
 use Rattle.planes.specs.Subbands.{BandStack, BandExists, band_of, subband_length}
-use Rattle.lifting.specs.Bands.{AgreeInSize, AreSmall}
+use Rattle.lifting.specs.Bands.{AgreeInSize, AreSmall, AreNarrow}
 use Rattle.lifting.proofs.Levels.{not_zero}
 use Rattle.picture_tests.proofs.lifting_tests.wavelets.can_synth.Goals as goal
 use Rattle.planes.proofs.Floors.{wider}
@@ -67,6 +67,15 @@ module _ (b : BandStack) (w h : ℕ) (lowest_is : IsBand (band_of b 0 0) (w / 2 
     hh = λ n lt y x ly lx. wider (2 ^ 15) (2 ^ 36) _ (lit≤ tt) (band_within n 3 lt (omega arith) (omega arith) y x);
   }
 
+  all_narrow : (p : Raster ℤ) → AreNarrow b p
+  unfolding IsBand
+  all_narrow p = record {
+    ll = λ y x ly lx. wider (2 ^ 15) (2 ^ 18) _ (lit≤ tt) (lowest_is.2 y x);
+    hl = λ n lt y x ly lx. wider (2 ^ 15) (2 ^ 18) _ (lit≤ tt) (band_within n 1 lt (omega arith) (omega arith) y x);
+    lh = λ n lt y x ly lx. wider (2 ^ 15) (2 ^ 18) _ (lit≤ tt) (band_within n 2 lt (omega arith) (omega arith) y x);
+    hh = λ n lt y x ly lx. wider (2 ^ 15) (2 ^ 18) _ (lit≤ tt) (band_within n 3 lt (omega arith) (omega arith) y x);
+  }
+
 -- what the code found
 module _ (b : BandStack) (depth w h n : ℕ) (band : Raster ℤ) (is : depth ≡ b.depth) (lowest_is : band ≡ band_of b 0 0) (found : IsBand band (w / 2 ^ depth) (h / 2 ^ depth)) (all : depth ≤ n)
     (levels : (m orient : ℕ) → m < n → 1 ≤ orient → orient ≤ 3 → IsBand (band_of b (m + 1) orient) (w / 2 ^ (depth - m)) (h / 2 ^ (depth - m))) where
@@ -102,4 +111,16 @@ returns-clause-small c t =
     let is : depth ≡ b.depth = c.depth-depth.ensures.value in
     let found = c.is_band.ensures c.if-not-is_band.false in
     all_small b w h (lowest_found b depth w h c.loop-n.n c.band.result.now is c.band.ensures found (omega arith) c.loop-n.invariant)
+    (levels_found b depth w h c.loop-n.n c.band.result.now is c.band.ensures found (omega arith) c.loop-n.invariant) c.args.plane.now
+
+pub returns-clause-narrow : goal.returns-clause-narrow
+unfolding IsBand
+returns-clause-narrow c t =
+    let b = c.args.bands.now in
+    let depth = c.depth-depth.result in
+    let w = c.w-w.result in
+    let h = c.h-h.result in
+    let is : depth ≡ b.depth = c.depth-depth.ensures.value in
+    let found = c.is_band.ensures c.if-not-is_band.false in
+    all_narrow b w h (lowest_found b depth w h c.loop-n.n c.band.result.now is c.band.ensures found (omega arith) c.loop-n.invariant)
     (levels_found b depth w h c.loop-n.n c.band.result.now is c.band.ensures found (omega arith) c.loop-n.invariant) c.args.plane.now
