@@ -1,4 +1,4 @@
-//! Tests of blocks, predictions, wavelets, slices, pictures and raw video, in modules named by the crates that they test.
+//! Tests of blocks, predictions, wavelets, slices, pictures, fields and raw video, in modules named by the crates that they test.
 //! What is expected was worked out apart from the program.
 #![tactic(auto)]
 
@@ -8,6 +8,8 @@ mod bounded_blocks_tests;
 mod checks;
 #[cfg(test)]
 mod dc_prediction_tests;
+#[cfg(test)]
+mod field_weave_tests;
 #[cfg(test)]
 mod lifting_tests;
 #[cfg(test)]
