@@ -48,8 +48,9 @@ impl Sink for Room<'_> {
     ghost faults = { λ s. s.failures };
 
     fn write(&mut self, piece: &[u8]) -> Result<usize, Failed>
+        requires { 0 < length piece.now }
         ensures bound { WritesAtMost result piece.now }
-        ensures some { IfOk result (λ n. 0 < length piece.now → 0 < n) }
+        ensures some { IfOk result (λ n. 0 < n) }
         ensures bytes { WriteAppends (Some (room_seen self.old.cells.ghost_name self.old.cells.now
             self.old.len))
             (Some (room_seen self.new.cells.ghost_name self.new.cells.now self.new.len))
@@ -57,7 +58,7 @@ impl Sink for Room<'_> {
         ensures cause { HasCause self.old.failures self.new.failures result }
     {
         let count = piece.len().min(self.cells.len() - self.len);
-        if count == 0 && !piece.is_empty() {
+        if count == 0 {
             self.failures = self.failures.saturating_add(1);
             return Err(Failed);
         }
