@@ -2,12 +2,12 @@
 //!
 //! Owners are dropped by name, since the proof of that call is short.
 
-ghost use Rattle.std.specs.Prelude.{◌≡◌, false, OnOk};
+ghost use Rattle.std.specs.Prelude.{◌≡◌, false};
 
+use crate::checks::assert_same;
 use lifting::Wavelet;
 use picture_codec::{PictureDecoder, TransformParams};
 use quant_factors::Matrix;
-use slice_decoder::SliceFault;
 use slice_geometry::{Component, Layout, PictureShape, Size};
 use std::alloc::Global;
 use std::process::Abort;
@@ -75,47 +75,44 @@ fn params(rt: &impl Abort, wavelet: Wavelet) -> TransformParams {
     }
 }
 
-fn take(rt: &impl Abort, decoder: &mut PictureDecoder, bytes: &[u8]) -> Result<(), SliceFault>
+/// Takes the only slice.
+fn take(rt: &impl Abort, decoder: &mut PictureDecoder, bytes: &[u8])
     requires { decoder.old.refused ≡ false }
-    ensures { OnOk result (decoder.new.refused ≡ false) }
+    ensures { decoder.new.refused ≡ false }
 {
-    assert!(rt; bytes.len() < 100);
-    assert!(rt; decoder.wanted() == Some(bytes.len() as u32));
-    decoder.slice(bytes)
+    let wanted = decoder.wanted().expect(rt, "a slice");
+    assert!(rt; bytes.len() < 100 && wanted as usize == bytes.len());
+    decoder.slice(bytes).expect(rt, "a slice that stands");
 }
 
-/// Takes the only slice, and tells whether the picture has these samples of luma and grey ones of C2.
-fn has_samples(rt: &impl Abort, decoder: &mut PictureDecoder, bytes: &[u8], want: &[u16; 4]) -> bool
+const GREY: [u16; 4] = [0x8000; 4];
+
+/// Asserts that the picture of the only slice has these samples of luma, and grey ones of C2.
+fn expect_samples(rt: &impl Abort, decoder: &mut PictureDecoder, bytes: &[u8], want: &[u16])
     requires { decoder.old.refused ≡ false }
 {
-    match take(rt, decoder, bytes) {
-        Ok(()) => {}
-        Err(_) => return false,
-    }
-    if decoder.wanted().is_some() {
-        return false;
-    }
+    take(rt, decoder, bytes);
+    assert!(rt; decoder.wanted().is_none());
     let picture = decoder.finish();
-    picture.samples(Component::Luma) == want.as_slice()
-        && picture.samples(Component::C2) == [0x8000u16; 4].as_slice()
+    assert_same(rt, picture.samples(Component::Luma), want);
+    assert_same(rt, picture.samples(Component::C2), &GREY[..]);
 }
 
-fn is_decoded(rt: &impl Abort, alloc: Global, case: &Case, k: usize) -> bool {
+fn expect_decoded(rt: &impl Abort, alloc: Global, case: &Case, k: usize) {
     assert!(rt; k < 3);
     let params = params(rt, WAVELETS[k]);
     let mut decoder = PictureDecoder::new(alloc, &SHAPE, &params).expect(rt, "memory");
     decoder.restart();
-    let found = has_samples(rt, &mut decoder, &case.0, &case.1[k]);
+    expect_samples(rt, &mut decoder, &case.0, &case.1[k]);
     drop(decoder);
-    found
 }
 
 /// One value more than 2^18 in a band changes the width, and no sample but by that one.
 #[test]
 fn both_widths(rt: HostRuntime) {
     for case in &CASES {
-        assert!(&rt; is_decoded(&rt, rt.alloc(), case, 0));
-        assert!(&rt; is_decoded(&rt, rt.alloc(), case, 1));
-        assert!(&rt; is_decoded(&rt, rt.alloc(), case, 2));
+        expect_decoded(&rt, rt.alloc(), case, 0);
+        expect_decoded(&rt, rt.alloc(), case, 1);
+        expect_decoded(&rt, rt.alloc(), case, 2);
     }
 }

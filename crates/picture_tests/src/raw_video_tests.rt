@@ -68,13 +68,14 @@ fn told(
     src: &mut MemSource,
     sink: &mut MemSink,
 ) -> Result<String, Fail> {
-    let mut reader = RawReader::new(shape);
-    let mut picture = Picture::new(alloc, shape)?;
     let mut text = String::new(alloc);
-    tell_steps(rt, &mut reader, &mut picture, src, sink, &mut text)?;
+    let mut reader = RawReader::new(shape);
+    let mut picture = Picture::new(alloc, shape).expect(rt, "memory");
+    let done = tell_steps(rt, &mut reader, &mut picture, src, sink, &mut text);
+    drop(picture);
+    done?;
     write!(text, " {}", reader.place())?;
     assert_same(rt, sink.bytes().len() as u64, reader.place());
-    drop(picture);
     Ok(text)
 }
 

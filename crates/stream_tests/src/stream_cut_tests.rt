@@ -1,10 +1,11 @@
 //! Frames that are cut out of streams, and units that are skimmed.
+//!
+//! Owners are dropped by name, since the proof of that call is short.
 
 use crate::stream_units_tests::reading::assert_same;
 use crate::told::bytes_of;
 use std::alloc::{AllocError, Global};
 use std::process::Abort;
-use std::test::Fail;
 use stream_cut::{CutStop, Cutter, SkimItem, SkimReader};
 use stream_units::{ReadStop, Refusal};
 use vc2_io::{MemSink, MemSource};
@@ -69,41 +70,64 @@ fn place_of(cut: Result<(), CutStop>) -> Option<u64> {
     }
 }
 
+/// Where a cut of an input is refused, and how many bytes its units have.
+fn cut(
+    rt: &impl Abort,
+    alloc: Global,
+    from: u32,
+    to: u32,
+    src: &mut MemSource,
+    out: &mut MemSink,
+) -> (Option<u64>, u64) {
+    assert!(rt; from < to);
+    let mut cutter = Cutter::new(alloc, from, to).expect(rt, "memory");
+    let refused = place_of(cutter.cut(src, out));
+    let total = cutter.shapes().total();
+    drop(cutter);
+    (refused, total)
+}
+
 /// Reads the input in pieces.
-fn expect_cut(rt: &impl Abort, alloc: Global, row: &str, piece: usize) -> Result<(), Fail> {
-    let (asked, texts) = row.split_once(" = ").unwrap_or(("", ""));
-    let (input, wanted) = texts.split_once(" = ").unwrap_or(("", ""));
+fn expect_bytes(
+    rt: &impl Abort,
+    alloc: Global,
+    asked: &str,
+    input: &[u8],
+    wanted: &[u8],
+    piece: usize,
+) {
     let (from, others) = asked.split_once(' ').unwrap_or(("", ""));
     let (to, place) = others.split_once(' ').unwrap_or(("", ""));
     let (from, to) = (from.parse().unwrap_or(0), to.parse().unwrap_or(0));
-    if from >= to {
-        return Ok(());
-    }
-    let input = bytes_of(alloc, input)?;
-    let wanted = bytes_of(alloc, wanted)?;
     let pieces = [piece; 512];
-    let mut src = MemSource::new(input.as_slice(), &pieces, &[]);
-    let mut out = MemSink::new(alloc, 4096, 0, &[u64::MAX; 4])?;
-    let mut cutter = Cutter::new(alloc, from, to)?;
-    let refused = place_of(cutter.cut(&mut src, &mut out));
-    let total = cutter.shapes().total();
-    drop(cutter);
-    assert_eq!(rt; refused, place.parse().ok());
-    assert!(rt; out.bytes() == wanted.as_slice());
+    let mut src = MemSource::new(input, &pieces, &[]);
+    let mut out = MemSink::new(alloc, 4096, 0, &[u64::MAX; 4]).expect(rt, "memory");
+    let (refused, total) = cut(rt, alloc, from, to, &mut src, &mut out);
+    assert_same(rt, refused, place.parse().ok());
+    assert_same(rt, out.bytes(), wanted);
+    drop(out);
     if refused.is_none() {
-        assert_eq!(rt; total, wanted.len() as u64);
+        assert_same(rt, total, wanted.len() as u64);
     }
-    Ok(())
+}
+
+fn expect_cut(rt: &impl Abort, alloc: Global, row: &str, piece: usize) {
+    let (asked, texts) = row.split_once(" = ").expect(rt, "a row");
+    let (input, wanted) = texts.split_once(" = ").expect(rt, "a row");
+    let input = bytes_of(alloc, input).expect(rt, "memory");
+    let wanted = bytes_of(alloc, wanted).expect(rt, "memory");
+    expect_bytes(rt, alloc, asked, input.as_slice(), wanted.as_slice(), piece);
+    drop(input);
+    drop(wanted);
 }
 
 #[test]
-fn cuts(rt: HostRuntime) -> Result<(), Fail> {
+fn cuts(rt: HostRuntime) {
     for row in CUTS.split('\n') {
         for piece in [0, 1, 7] {
-            expect_cut(&rt, rt.alloc(), row, piece)?;
+            expect_cut(&rt, rt.alloc(), row, piece);
         }
     }
-    Ok(())
 }
 
 /// What a reader of skimmed units answers: of each answer the item, the bytes of the unit that it keeps, whether it has a header,
@@ -163,26 +187,26 @@ fn tell_skims(
     Ok(())
 }
 
-fn expect_skims(rt: &impl Abort, alloc: Global, row: &str, piece: usize) -> Result<(), Fail> {
+fn expect_skims(rt: &impl Abort, alloc: Global, row: &str, piece: usize) {
     let (words, wanted) = row.split_once(" =").expect(rt, "a row");
-    let input = bytes_of(alloc, words)?;
+    let input = bytes_of(alloc, words).expect(rt, "memory");
     let pieces = [piece; 512];
     let mut src = MemSource::new(input.as_slice(), &pieces, &[]);
-    let mut reader = SkimReader::new(alloc)?;
     let mut text = String::new(alloc);
+    let mut reader = SkimReader::new(alloc).expect(rt, "memory");
     let done = tell_skims(&mut text, &mut reader, &mut src);
     drop(reader);
-    done?;
+    assert!(rt; done.is_ok());
     assert_same(rt, text.as_str(), wanted);
-    Ok(())
+    drop(text);
+    drop(input);
 }
 
 #[test]
-fn skims(rt: HostRuntime) -> Result<(), Fail> {
+fn skims(rt: HostRuntime) {
     for row in SKIMS.lines() {
         for piece in [0, 1, 7] {
-            expect_skims(&rt, rt.alloc(), row, piece)?;
+            expect_skims(&rt, rt.alloc(), row, piece);
         }
     }
-    Ok(())
 }

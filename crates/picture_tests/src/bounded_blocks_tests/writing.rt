@@ -14,10 +14,10 @@ fn are_small(values: &[i64]) -> bool
     values.iter().all(|v| v.unsigned_abs() <= 0x10_0000_0000)
 }
 
-/// The need of values.
-fn need_of(rt: &impl Abort, values: &[i64]) -> u64 {
-    assert!(rt; values.len() <= 4 && are_small(values));
-    Need::of(values).bits()
+/// Asserts the need of the first of four values.
+fn expect_need(rt: &impl Abort, values: &[i64; 4], count: usize, need: u64) {
+    assert!(rt; count <= 4 && are_small(values));
+    assert!(rt; Need::of(&values[..count]).bits() == need);
 }
 
 /// Four values, how many of them are in a list, and its need, worked out by hand.
@@ -38,8 +38,7 @@ const NEEDS: [([i64; 4], usize, u64); 11] = [
 #[test]
 fn worked_needs(rt: HostRuntime) {
     for (values, count, need) in &NEEDS {
-        assert!(&rt; *count <= 4);
-        assert!(&rt; need_of(&rt, &values[..*count]) == *need);
+        expect_need(&rt, values, *count, *need);
     }
 }
 
@@ -62,12 +61,17 @@ const FILLED: [([i64; 2], usize, [u8; 2], [u8; 2]); 4] = [
     ([-7, 0], 1, [0x00, 0x40], [0xE0, 0x7F]),
 ];
 
+/// Asserts what becomes of two bytes that are alike.
+fn expect_filled(rt: &impl Abort, around: u8, values: &[i64; 2], count: usize, want: &[u8; 2]) {
+    assert!(rt; count <= 2);
+    assert!(rt; filled(rt, around, &values[..count]) == *want);
+}
+
 /// The bits around a block stay.
 #[test]
 fn bits_around_a_block_stay(rt: HostRuntime) {
     for (values, count, zeros, ones) in &FILLED {
-        assert!(&rt; *count <= 2);
-        assert!(&rt; filled(&rt, 0x00, &values[..*count]) == *zeros);
-        assert!(&rt; filled(&rt, 0xFF, &values[..*count]) == *ones);
+        expect_filled(&rt, 0x00, values, *count, zeros);
+        expect_filled(&rt, 0xFF, values, *count, ones);
     }
 }

@@ -3,10 +3,9 @@
 ghost use Rattle.std.specs.Prelude.{◌≡◌, ◌^◌, true};
 ghost use Rattle.lifting.specs.Places.{EachWithin};
 
+use crate::checks::assert_same;
 use lifting::{OneStep, PairStep, lift_one, lift_one_narrow, lift_pair, lift_pair_narrow};
-use std::alloc::{AllocError, Global};
 use std::process::Abort;
-use std::test::Fail;
 
 /// Three rows of magnitudes up to 2^61.
 const WIDE: [[i64; 11]; 3] = [
@@ -66,8 +65,10 @@ const NARROW: [[i32; 11]; 3] = [
     ],
 ];
 
-/// A step between two neighbours, a step beside one, and what they leave of these rows.
-const WIDE_STEPS: [(PairStep, OneStep, [i64; 11], [i64; 11]); 4] = [
+/// A step between two neighbours, a step beside one, and what they leave of a row.
+type Steps<T> = (PairStep, OneStep, [T; 11], [T; 11]);
+
+const WIDE_STEPS: [Steps<i64>; 4] = [
     (
         PairStep::EvenDown,
         OneStep::EvenDown,
@@ -190,8 +191,7 @@ const WIDE_STEPS: [(PairStep, OneStep, [i64; 11], [i64; 11]); 4] = [
     ),
 ];
 
-/// A step between two neighbours, a step beside one, and what they leave of these rows.
-const NARROW_STEPS: [(PairStep, OneStep, [i32; 11], [i32; 11]); 4] = [
+const NARROW_STEPS: [Steps<i32>; 4] = [
     (
         PairStep::EvenDown,
         OneStep::EvenDown,
@@ -269,119 +269,109 @@ fn is_narrow(row: &[i32]) -> bool
 /// How long rows are: blocks of lanes have eight places.
 const LENGTHS: [usize; 8] = [0, 1, 7, 8, 9, 15, 16, 17];
 
-/// A row of so many places, of those of another one over and over.
-fn repeated<T: Copy + Drop>(
-    alloc: Global,
-    row: &[T; 11],
-    len: usize,
-) -> Result<Vec<T>, AllocError> {
-    let mut places = Vec::new(alloc);
-    for x in 0..len {
-        places.push(row[x % 11])?;
+/// A row of the places of another one over and over.
+fn repeated<T: Copy>(row: &[T; 11]) -> [T; 17] {
+    let mut places = [row[0]; 17];
+    for x in 0..17 {
+        places[x] = row[x % 11];
     }
-    Ok(places)
+    places
 }
 
-fn wide(rt: &impl Abort, pair: PairStep, one: OneStep) -> ([i64; 11], [i64; 11]) {
-    let [row, a, b] = WIDE;
-    assert!(rt; is_wide(&row) && is_wide(&a) && is_wide(&b));
-    let (mut between, mut beside) = (row, row);
-    lift_pair(&mut between, &a, &b, pair);
-    lift_one(&mut beside, &a, one);
-    (between, beside)
-}
-
-fn narrow(rt: &impl Abort, pair: PairStep, one: OneStep) -> ([i32; 11], [i32; 11]) {
-    let [row, a, b] = NARROW;
-    assert!(rt; is_narrow(&row) && is_narrow(&a) && is_narrow(&b));
-    let (mut between, mut beside) = (row, row);
-    lift_pair_narrow(&mut between, &a, &b, pair);
-    lift_one_narrow(&mut beside, &a, one);
-    (between, beside)
-}
-
-#[test]
-fn wide_rows(rt: HostRuntime) {
-    for (pair, one, between, beside) in &WIDE_STEPS {
-        assert_eq!(&rt; wide(&rt, *pair, *one), (*between, *beside));
-    }
-}
-
-#[test]
-fn narrow_rows(rt: HostRuntime) {
-    for (pair, one, between, beside) in &NARROW_STEPS {
-        assert_eq!(&rt; narrow(&rt, *pair, *one), (*between, *beside));
-    }
-}
-
-/// Whether a step between two neighbours leaves of rows of a length what it leaves of each place.
-fn wide_pair_agrees(
+/// Asserts what a step between two neighbours leaves of a row.
+fn expect_wide_pair(
     rt: &impl Abort,
-    alloc: Global,
     step: PairStep,
-    left: &[i64; 11],
-    len: usize,
-) -> Result<(), AllocError> {
-    let [row, a, b] = WIDE;
-    let mut row = repeated(alloc, &row, len)?;
-    let (a, b) = (repeated(alloc, &a, len)?, repeated(alloc, &b, len)?);
-    assert!(rt;
-        row.len() == a.len() && row.len() == b.len() && is_wide(&row) && is_wide(&a) && is_wide(&b)
-    );
-    lift_pair(&mut row, &a, &b, step);
-    assert!(rt; row == repeated(alloc, left, len)?);
-    Ok(())
+    row: &mut [i64],
+    a: &[i64],
+    b: &[i64],
+    left: &[i64],
+) {
+    assert!(rt; row.len() == a.len() && row.len() == b.len());
+    assert!(rt; is_wide(row) && is_wide(a) && is_wide(b));
+    lift_pair(row, a, b, step);
+    assert_same(rt, &*row, left);
 }
 
-fn narrow_pair_agrees(
+fn expect_narrow_pair(
     rt: &impl Abort,
-    alloc: Global,
     step: PairStep,
-    left: &[i32; 11],
-    len: usize,
-) -> Result<(), AllocError> {
-    let [row, a, b] = NARROW;
-    let mut row = repeated(alloc, &row, len)?;
-    let (a, b) = (repeated(alloc, &a, len)?, repeated(alloc, &b, len)?);
-    assert!(rt;
-        row.len() == a.len()
-            && row.len() == b.len()
-            && is_narrow(&row)
-            && is_narrow(&a)
-            && is_narrow(&b)
+    row: &mut [i32],
+    a: &[i32],
+    b: &[i32],
+    left: &[i32],
+) {
+    assert!(rt; row.len() == a.len() && row.len() == b.len());
+    assert!(rt; is_narrow(row) && is_narrow(a) && is_narrow(b));
+    lift_pair_narrow(row, a, b, step);
+    assert_same(rt, &*row, left);
+}
+
+/// The same beside one neighbour.
+fn expect_wide_one(rt: &impl Abort, step: OneStep, row: &mut [i64], a: &[i64], left: &[i64]) {
+    assert!(rt; row.len() == a.len() && is_wide(row) && is_wide(a));
+    lift_one(row, a, step);
+    assert_same(rt, &*row, left);
+}
+
+fn expect_narrow_one(rt: &impl Abort, step: OneStep, row: &mut [i32], a: &[i32], left: &[i32]) {
+    assert!(rt; row.len() == a.len() && is_narrow(row) && is_narrow(a));
+    lift_one_narrow(row, a, step);
+    assert_same(rt, &*row, left);
+}
+
+/// Asserts what steps leave of rows of a length.
+fn expect_wide(rt: &impl Abort, steps: &Steps<i64>, len: usize) {
+    assert!(rt; len <= 17);
+    let (pair, one, between, beside) = steps;
+    let (a, b) = (repeated(&WIDE[1]), repeated(&WIDE[2]));
+    let (between, beside) = (repeated(between), repeated(beside));
+    let mut row = repeated(&WIDE[0]);
+    expect_wide_pair(
+        rt,
+        *pair,
+        &mut row[..len],
+        &a[..len],
+        &b[..len],
+        &between[..len],
     );
-    lift_pair_narrow(&mut row, &a, &b, step);
-    assert!(rt; row == repeated(alloc, left, len)?);
-    Ok(())
+    let mut row = repeated(&WIDE[0]);
+    expect_wide_one(rt, *one, &mut row[..len], &a[..len], &beside[..len]);
 }
 
-/// The same beside one neighbour, at both widths.
-fn ones_agree(
-    rt: &impl Abort,
-    alloc: Global,
-    step: OneStep,
-    left: (&[i64; 11], &[i32; 11]),
-    len: usize,
-) -> Result<(), AllocError> {
-    let ([row, a, _], [small, near, _]) = (WIDE, NARROW);
-    let (mut row, a) = (repeated(alloc, &row, len)?, repeated(alloc, &a, len)?);
-    let (mut small, near) = (repeated(alloc, &small, len)?, repeated(alloc, &near, len)?);
-    assert!(rt; row.len() == a.len() && is_wide(&row) && is_wide(&a));
-    assert!(rt; small.len() == near.len() && is_narrow(&small) && is_narrow(&near));
-    lift_one(&mut row, &a, step);
-    lift_one_narrow(&mut small, &near, step);
-    assert!(rt; row == repeated(alloc, left.0, len)? && small == repeated(alloc, left.1, len)?);
-    Ok(())
+fn expect_narrow(rt: &impl Abort, steps: &Steps<i32>, len: usize) {
+    assert!(rt; len <= 17);
+    let (pair, one, between, beside) = steps;
+    let (a, b) = (repeated(&NARROW[1]), repeated(&NARROW[2]));
+    let (between, beside) = (repeated(between), repeated(beside));
+    let mut row = repeated(&NARROW[0]);
+    expect_narrow_pair(
+        rt,
+        *pair,
+        &mut row[..len],
+        &a[..len],
+        &b[..len],
+        &between[..len],
+    );
+    let mut row = repeated(&NARROW[0]);
+    expect_narrow_one(rt, *one, &mut row[..len], &a[..len], &beside[..len]);
 }
 
+/// Rows of 15 places and more have all eleven.
 #[test]
-fn rows_of_each_length(rt: HostRuntime) -> Result<(), Fail> {
+fn wide_rows_of_each_length(rt: HostRuntime) {
     for len in &LENGTHS {
-        for ((pair, one, between, beside), narrow) in WIDE_STEPS.iter().zip(NARROW_STEPS.iter()) {
-            wide_pair_agrees(&rt, rt.alloc(), *pair, between, *len)?;
-            narrow_pair_agrees(&rt, rt.alloc(), narrow.0, &narrow.2, *len)?;
-            ones_agree(&rt, rt.alloc(), *one, (beside, &narrow.3), *len)?;
+        for steps in &WIDE_STEPS {
+            expect_wide(&rt, steps, *len);
         }
     }
-    Ok(())
+}
+
+#[test]
+fn narrow_rows_of_each_length(rt: HostRuntime) {
+    for len in &LENGTHS {
+        for steps in &NARROW_STEPS {
+            expect_narrow(&rt, steps, *len);
+        }
+    }
 }

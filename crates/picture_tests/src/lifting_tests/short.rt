@@ -1,17 +1,18 @@
 //! Synthesis in 16 bits against that in 64, and where it says that 16 bits have no room.
+//!
+//! Owners are dropped by name, since the proof of that call is short.
 
-ghost use Rattle.std.specs.Prelude.{◌≡◌, ℕ, ◌%◌, ◌^◌, ◌≤◌, IfOk, length, true};
+ghost use Rattle.std.specs.Prelude.{◌≡◌, ◌%◌, ◌^◌, ◌*◌, ◌-◌, ◌≤◌, length, true};
 ghost use Rattle.planes.specs.Raster.{height};
 ghost use Rattle.planes.specs.Subbands.{BandExists, HaveSizes};
 ghost use Rattle.lifting.specs.Bands.{SameSizes};
 
-use super::wavelets::{can_synth, exists};
+use super::wavelets::{can_synth, exists, plane};
 use crate::checks::assert_same;
 use lifting::{PaddedSize, SampleArea, Wavelet, synth, synth_samples_short};
-use planes::{Bands, NoMemory, Number, Plane};
+use planes::{Bands, Number, Plane};
 use std::alloc::Global;
 use std::process::Abort;
-use std::test::Fail;
 
 /// How many samples are shown of the widest component: all but a column and a row.
 const MOST: usize = 525;
@@ -24,7 +25,6 @@ const WAVELETS: [Wavelet; 3] = [Wavelet::LeGall, Wavelet::HaarFlat, Wavelet::Haa
 
 /// What the bands hold: LL one number, and a band of the last level numbers of one magnitude and both signs, or that one at its
 /// last place alone. All else is 0. `fits` is whether 16 bits have room for it.
-#[derive(Clone, Copy)]
 struct Content {
     ll: i16,
     orient: u32,
@@ -154,47 +154,44 @@ fn put_lowest(bands: &mut Bands<i16>, value: i16)
 }
 
 /// The bands of a component of w by 16, all zero.
-fn zero_bands<T: Number>(alloc: Global, w: u32, depth: u32) -> Result<Bands<T>, NoMemory>
+fn zero_bands<T: Number>(rt: &impl Abort, alloc: Global, w: u32, depth: u32) -> Bands<T>
     requires few { depth ≤ 4 }
     requires short { w ≤ 36 }
     requires whole { w % 2 ^ depth ≡ 0 }
-    ensures { IfOk result (λ b. HaveSizes b w 16 × (b.depth ≡ depth)) }
+    ensures sizes { HaveSizes result w 16 }
+    ensures depth { result.depth ≡ depth }
 {
-    Bands::new(alloc, depth, w, 16)
+    Bands::new(alloc, depth, w, 16).expect(rt, "memory")
 }
 
-/// The bands of a wavelet's levels that hold this. Where levels halve, LL is as much greater.
-fn bands_of(
-    rt: &impl Abort,
-    alloc: Global,
-    wavelet: Wavelet,
-    w: u32,
-    depth: u32,
-    content: Content,
-) -> Result<Bands<i16>, NoMemory>
-    requires few { depth ≤ 4 }
-    requires short { w ≤ 36 }
-    requires whole { w % 2 ^ depth ≡ 0 }
-    ensures { IfOk result (λ b. HaveSizes b w 16 × (b.depth ≡ depth)) }
+/// Puts what the band of the last level holds.
+fn put_last_level(rt: &impl Abort, bands: &mut Bands<i16>, content: &Content)
+    ensures { SameSizes bands.old bands.new }
 {
-    let mut bands: Bands<i16> = zero_bands(alloc, w, depth)?;
-    let halvings = if wavelet == Wavelet::HaarFlat {
-        0
-    } else {
-        depth.saturating_sub(1)
-    };
-    put_lowest(&mut bands, content.ll << halvings);
+    let depth = bands.depth();
     if depth > 0 {
         assert!(rt; exists(depth, depth, content.orient));
         put_band(
-            &mut bands,
+            bands,
             depth,
             content.orient,
             content.high,
             content.last_alone,
         );
     }
-    Ok(bands)
+}
+
+/// Puts what the bands hold by a wavelet. Where levels halve, LL is as much greater.
+fn put_content(rt: &impl Abort, bands: &mut Bands<i16>, wavelet: Wavelet, content: &Content)
+    ensures { SameSizes bands.old bands.new }
+{
+    let halvings = if wavelet == Wavelet::HaarFlat {
+        0
+    } else {
+        bands.depth().saturating_sub(1)
+    };
+    put_lowest(bands, content.ll << halvings);
+    put_last_level(rt, bands, content);
 }
 
 fn widen_row(wide: &mut [i64], row: &[i16])
@@ -226,121 +223,154 @@ fn assert_row(rt: &impl Abort, samples: &[u16], row: &[i64]) {
     }
 }
 
-/// Asserts that these are the samples of a plane's first columns and rows.
-fn assert_samples(rt: &impl Abort, samples: &[u16], plane: &Plane, area: SampleArea) {
+/// Asserts that these are the samples of a plane's first columns and of 15 rows.
+fn assert_samples(rt: &impl Abort, samples: &[u16], plane: &Plane, columns: u32) {
     let mut left = samples;
-    for y in 0..area.h {
-        assert!(rt; area.w as usize <= left.len() && y < plane.h());
-        let (row, others) = left.split_at(area.w as usize);
+    for y in 0..15 {
+        assert!(rt; columns as usize <= left.len() && y < plane.h());
+        let (row, others) = left.split_at(columns as usize);
         assert_row(rt, row, plane.row(y));
         left = others;
     }
     assert!(rt; left.is_empty());
 }
 
-/// Synthesis of the same in 64 bits.
-fn synth_wide(
-    rt: &impl Abort,
-    alloc: Global,
-    wavelet: Wavelet,
-    w: u32,
-    short: &Bands<i16>,
-) -> Result<Plane, NoMemory>
-    requires few { short.now.depth ≤ 4 }
-    requires short { w ≤ 36 }
-    requires whole { w % 2 ^ short.now.depth ≡ 0 }
-{
-    let depth = short.depth();
-    let mut bands: Bands = zero_bands(alloc, w, depth)?;
-    let mut plane = Plane::new(alloc, w, 16)?;
-    let mut scratch = Plane::new(alloc, w, 16)?;
-    widen(rt, bands.band_mut(0, 0), short.band(0, 0));
-    for level in 1..=depth {
+/// Puts the numbers of bands into ones of 64 bits.
+fn widen_bands(rt: &impl Abort, wide: &mut Bands, short: &Bands<i16>) {
+    widen(rt, wide.band_mut(0, 0), short.band(0, 0));
+    for level in 1..=short.depth() {
         for orient in 1..=3 {
-            assert!(rt; exists(bands.depth(), level, orient) && exists(depth, level, orient));
-            widen(rt, bands.band_mut(level, orient), short.band(level, orient));
+            assert!(rt;
+                exists(wide.depth(), level, orient) && exists(short.depth(), level, orient)
+            );
+            widen(rt, wide.band_mut(level, orient), short.band(level, orient));
         }
     }
-    assert!(rt; can_synth(&bands, &plane, &scratch));
-    synth(wavelet, &bands, &mut plane, &mut scratch);
-    Ok(plane)
 }
 
-/// Asserts whether 16 bits have room for a content, and that the samples are those of 64 bits then.
-fn expect(
+/// Synthesis of the same in 64 bits.
+fn synth_wide(rt: &impl Abort, alloc: Global, wavelet: Wavelet, bands: &Bands, w: u32) -> Plane
+    requires { w ≤ 36 }
+{
+    let mut made = plane(rt, alloc, w, 16);
+    let mut scratch = plane(rt, alloc, w, 16);
+    assert!(rt; can_synth(bands, &made, &scratch));
+    synth(wavelet, bands, &mut made, &mut scratch);
+    drop(scratch);
+    made
+}
+
+/// Whether 16 bits have room for bands of w by 16, and the samples of all but a column and a row of it then.
+fn synth_short(
     rt: &impl Abort,
     alloc: Global,
     wavelet: Wavelet,
+    bands: &Bands<i16>,
     w: u32,
-    depth: u32,
-    content: Content,
-) -> Result<(), Fail>
-    requires few { depth ≤ 4 }
+    samples: &mut [u16],
+) -> bool
+    requires few { bands.now.depth ≤ 4 }
     requires some { 1 ≤ w }
     requires short { w ≤ 36 }
-    requires whole { w % 2 ^ depth ≡ 0 }
+    requires whole { w % 2 ^ bands.now.depth ≡ 0 }
+    requires sizes { HaveSizes bands.now w 16 }
+    requires count { length samples.old ≡ 15 * (w - 1) }
 {
-    let bands = bands_of(rt, alloc, wavelet, w, depth, content)?;
-    let mut plane = Plane::new(alloc, w, 8)?;
-    let mut scratch = Plane::new(alloc, w, 8)?;
-    let mut samples = [0; MOST];
-    let samples = &mut samples[..15 * (w as usize - 1)];
+    let mut levels = plane(rt, alloc, w, 8);
+    let mut scratch = plane(rt, alloc, w, 8);
     let area = SampleArea {
         w: w - 1,
         h: 15,
         depth: 10,
     };
+    let size = PaddedSize { w, h: 16 };
     let fits = synth_samples_short(
         wavelet,
-        &bands,
-        PaddedSize { w, h: 16 },
-        &mut plane,
+        bands,
+        size,
+        &mut levels,
         &mut scratch,
         samples,
         area,
     );
+    drop(levels);
+    drop(scratch);
+    fits
+}
+
+/// Asserts that samples are those of the same bands in 64 bits.
+fn expect_samples(
+    rt: &impl Abort,
+    alloc: Global,
+    wavelet: Wavelet,
+    short: &Bands<i16>,
+    w: u32,
+    samples: &[u16],
+)
+    requires few { short.now.depth ≤ 4 }
+    requires some { 1 ≤ w }
+    requires short { w ≤ 36 }
+    requires whole { w % 2 ^ short.now.depth ≡ 0 }
+{
+    let mut bands: Bands = zero_bands(rt, alloc, w, short.depth());
+    widen_bands(rt, &mut bands, short);
+    let made = synth_wide(rt, alloc, wavelet, &bands, w);
+    drop(bands);
+    assert_samples(rt, samples, &made, w - 1);
+    drop(made);
+}
+
+/// Asserts whether 16 bits have room for a content, and that the samples are those of 64 bits then.
+fn expect(rt: &impl Abort, alloc: Global, wavelet: Wavelet, w: u32, depth: u32, content: &Content)
+    requires few { depth ≤ 4 }
+    requires some { 1 ≤ w }
+    requires short { w ≤ 36 }
+    requires whole { w % 2 ^ depth ≡ 0 }
+{
+    let mut bands: Bands<i16> = zero_bands(rt, alloc, w, depth);
+    put_content(rt, &mut bands, wavelet, content);
+    let mut samples = [0; MOST];
+    let samples = &mut samples[..15 * (w as usize - 1)];
+    let fits = synth_short(rt, alloc, wavelet, &bands, w, samples);
     assert_same(rt, fits, depth == 0 || content.fits);
     if fits {
-        assert_samples(
-            rt,
-            samples,
-            &synth_wide(rt, alloc, wavelet, w, &bands)?,
-            area,
-        );
+        expect_samples(rt, alloc, wavelet, &bands, w, samples);
     }
-    Ok(())
+    drop(bands);
 }
 
 /// All contents, at one depth.
-fn expect_all(rt: &impl Abort, alloc: Global, depth: u32, contents: &[Content]) -> Result<(), Fail>
+fn expect_all(rt: &impl Abort, alloc: Global, depth: u32, contents: &[Content])
     requires few { depth ≤ 4 }
     requires whole { 32 % 2 ^ depth ≡ 0 }
 {
     for wavelet in WAVELETS {
         for content in contents {
-            expect(rt, alloc, wavelet, 32, depth, *content)?;
+            expect(rt, alloc, wavelet, 32, depth, content);
         }
     }
-    Ok(())
 }
 
 /// At the bound and past it, by each wavelet. On the last of more levels LL is within 50 again.
 #[test]
-fn room_of_short_levels(rt: HostRuntime) -> Result<(), Fail> {
-    let (banded, _) = CONTENTS.split_at(5);
-    expect_all(&rt, rt.alloc(), 0, &CONTENTS)?;
-    expect_all(&rt, rt.alloc(), 1, &CONTENTS)?;
-    expect_all(&rt, rt.alloc(), 2, banded)?;
-    expect_all(&rt, rt.alloc(), 4, banded)
+fn room_of_short_levels(rt: HostRuntime) {
+    expect_all(&rt, rt.alloc(), 0, &CONTENTS);
+    expect_all(&rt, rt.alloc(), 1, &CONTENTS);
+    expect_all(&rt, rt.alloc(), 2, &CONTENTS[..5]);
+    expect_all(&rt, rt.alloc(), 4, &CONTENTS[..5]);
+}
+
+/// A content of a width, by each wavelet.
+fn expect_width(rt: &impl Abort, alloc: Global, w: u32, content: &Content) {
+    assert!(rt; w % 2 == 0 && 1 <= w && w <= 36);
+    for wavelet in WAVELETS {
+        expect(rt, alloc, wavelet, w, 1, content);
+    }
 }
 
 #[test]
-fn short_rows_of_each_length(rt: HostRuntime) -> Result<(), Fail> {
+fn short_rows_of_each_length(rt: HostRuntime) {
     for w in WIDTHS {
-        assert!(&rt; w % 2 == 0 && 1 <= w && w <= 36);
-        for wavelet in WAVELETS {
-            expect(&rt, rt.alloc(), wavelet, w, 1, CONTENTS[0])?;
-        }
+        expect_width(&rt, rt.alloc(), w, &CONTENTS[0]);
     }
-    Ok(())
 }

@@ -1,8 +1,10 @@
 //! Levels of synthesis and analysis, against an independent model.
+//!
+//! Owners are dropped by name, since the proof of that call is short.
 
-ghost use Rattle.std.specs.Prelude.{◌≡◌, ℕ, ◌^◌, ◌≤◌, true};
+ghost use Rattle.std.specs.Prelude.{◌≡◌, ℕ, ◌%◌, ◌^◌, ◌≤◌, true};
 ghost use Rattle.planes.specs.Numbers.{Within};
-ghost use Rattle.planes.specs.Raster.{height, at};
+ghost use Rattle.planes.specs.Raster.{height, at, filled_with};
 ghost use Rattle.planes.specs.Subbands.{BandExists, band_of};
 ghost use Rattle.lifting.specs.Bands.{AgreeInSize, AreSmall, AreNarrow};
 ghost use Rattle.lifting.specs.Places.{place};
@@ -10,10 +12,9 @@ ghost use Rattle.lifting.specs.Ranges.{GridWithin};
 
 use crate::checks::assert_same;
 use lifting::{Wavelet, analyse, analyse_level, synth, synth_level, synth_narrow};
-use planes::{Bands, NarrowBands, NarrowPlane, NoMemory, Plane};
+use planes::{Bands, NarrowBands, NarrowPlane, Number, Plane};
 use std::alloc::Global;
 use std::process::Abort;
-use std::test::Fail;
 
 // Whether each number is a sample of 16 bits about zero.
 fn is_row_of_samples(row: &[i64]) -> bool
@@ -89,81 +90,113 @@ fn can_analyse(bands: &Bands, plane: &Plane, scratch: &Plane) -> bool
     is_of_samples(plane) && can_synth(bands, plane, scratch)
 }
 
-/// A wavelet, a first row of coefficients with a second one of zeros, the row that both rows of the level are, and the first row
-/// that its analysis gives again.
-type Level = (Wavelet, [i64; 4], [i64; 4], [i64; 4]);
+/// A plane of zeros.
+pub(super) fn plane<T: Number>(rt: &impl Abort, alloc: Global, w: u32, h: u32) -> Plane<T>
+    requires w_fits { w ≤ 8208 }
+    requires h_fits { h ≤ 8208 }
+    ensures { result ≡ filled_with T.none w h }
+{
+    Plane::new(alloc, w, h).expect(rt, "memory")
+}
 
-const LEVELS: [Level; 3] = [
+/// A wavelet, and of a level of two rows how wide it is, its coefficients row by row, the rows that they make, and the coefficients
+/// that its analysis gives again.
+type Level<'a> = (Wavelet, u32, &'a [i64], &'a [i64], &'a [i64]);
+
+/// The last one is LL 20, HL 3, LH -4 and HH 1. Its analysis gives others, which make it again.
+const LEVELS: [Level<'static>; 4] = [
     (
         Wavelet::LeGall,
-        [10, 3, 6, -2],
-        [4, 5, 3, 2],
-        [10, 3, 6, -2],
+        4,
+        &[10, 3, 6, -2, 0, 0, 0, 0],
+        &[4, 5, 3, 2, 4, 5, 3, 2],
+        &[10, 3, 6, -2, 0, 0, 0, 0],
     ),
     (
         Wavelet::HaarFlat,
-        [10, 3, 6, -2],
-        [8, 11, 7, 5],
-        [10, 3, 6, -2],
+        4,
+        &[10, 3, 6, -2, 0, 0, 0, 0],
+        &[8, 11, 7, 5, 8, 11, 7, 5],
+        &[10, 3, 6, -2, 0, 0, 0, 0],
     ),
     (
         Wavelet::HaarShift,
-        [10, 3, 6, -2],
-        [4, 6, 4, 3],
-        [10, 4, 7, -2],
+        4,
+        &[10, 3, 6, -2, 0, 0, 0, 0],
+        &[4, 6, 4, 3, 4, 6, 4, 3],
+        &[10, 4, 7, -2, 0, 0, 0, 0],
+    ),
+    (
+        Wavelet::LeGall,
+        2,
+        &[20, 3, -4, 1],
+        &[11, 12, 8, 10],
+        &[21, 3, -5, 2],
     ),
 ];
 
-/// Asserts what synthesis makes of a level of 4 by 2, and analysis of that.
-fn expect_level(rt: &impl Abort, alloc: Global, level: &Level) -> Result<(), Fail> {
-    let (wavelet, first, row, again) = level;
-    let mut plane = Plane::new(alloc, 4, 2)?;
-    plane.row_mut(0).copy_from_slice(first);
-    assert!(rt; is_band(&plane, 4, 2));
-    synth_level(*wavelet, &mut plane, 4, 2);
-    assert_same(rt, (plane.row(0), plane.row(1)), (row, row));
-    assert!(rt; is_of_samples(&plane));
-    analyse_level(*wavelet, &mut plane, 4, 2);
-    assert_same(rt, (plane.row(0), plane.row(1)), (again, &[0; 4]));
+/// Asserts what synthesis makes of a level in place, and analysis of that.
+fn assert_level(rt: &impl Abort, plane: &mut Plane, level: &Level<'_>) {
+    let (wavelet, w, coefficients, rows, again) = *level;
+    let _ = put_rows(rt, plane, coefficients);
+    assert!(rt; w % 2 == 0 && is_band(plane, w, 2));
+    synth_level(wavelet, plane, w, 2);
+    let _ = assert_rows(rt, plane, rows);
+    assert!(rt; is_band(plane, w, 2));
+    analyse_level(wavelet, plane, w, 2);
+    let _ = assert_rows(rt, plane, again);
+}
+
+fn expect_level(rt: &impl Abort, alloc: Global, level: &Level<'_>) {
+    assert!(rt; level.1 <= 4);
+    let mut plane = plane(rt, alloc, level.1, 2);
+    assert_level(rt, &mut plane, level);
     drop(plane);
-    Ok(())
 }
 
 /// One level in place, by each wavelet.
 #[test]
-fn levels_in_place(rt: HostRuntime) -> Result<(), Fail> {
+fn levels_in_place(rt: HostRuntime) {
     for level in &LEVELS {
-        expect_level(&rt, rt.alloc(), level)?;
+        expect_level(&rt, rt.alloc(), level);
     }
-    Ok(())
 }
 
-/// LL 20, HL 3, LH -4 and HH 1 make a level of 2 by 2. Its analysis gives others, which make it again.
-#[test]
-fn a_level_of_four(rt: HostRuntime) -> Result<(), Fail> {
-    let mut plane = Plane::new(rt.alloc(), 2, 2)?;
-    plane.row_mut(0).copy_from_slice(&[20, 3]);
-    plane.row_mut(1).copy_from_slice(&[-4, 1]);
-    assert!(&rt; is_band(&plane, 2, 2));
-    synth_level(Wavelet::LeGall, &mut plane, 2, 2);
-    assert_same(&rt, (plane.row(0), plane.row(1)), (&[11, 12], &[8, 10]));
-    assert!(&rt; is_of_samples(&plane));
-    analyse_level(Wavelet::LeGall, &mut plane, 2, 2);
-    assert_same(&rt, (plane.row(0), plane.row(1)), (&[21, 3], &[-5, 2]));
-    drop(plane);
-    Ok(())
+/// Room for a plane and its bands.
+#[derive(Drop)]
+struct Room {
+    bands: Bands,
+    plane: Plane,
+    scratch: Plane,
+}
+
+fn make_room(rt: &impl Abort, alloc: Global, depth: u32, w: u32, h: u32) -> Room
+    requires depth { depth ≤ 4 }
+    requires w_fits { w ≤ 8208 }
+    requires h_fits { h ≤ 8208 }
+    requires w_whole { w % 2 ^ depth ≡ 0 }
+    requires h_whole { h % 2 ^ depth ≡ 0 }
+{
+    Room {
+        plane: plane(rt, alloc, w, h),
+        scratch: plane(rt, alloc, w, h),
+        bands: Bands::new(alloc, depth, w, h).expect(rt, "memory"),
+    }
 }
 
 /// With no level the plane is the lowest band itself.
+fn assert_no_level(rt: &impl Abort, bands: &mut Bands, plane: &mut Plane, scratch: &mut Plane) {
+    let _ = put_rows(rt, bands.band_mut(0, 0), &[-77]);
+    assert!(rt; can_synth(bands, plane, scratch));
+    synth(Wavelet::LeGall, bands, plane, scratch);
+    let _ = assert_rows(rt, plane, &[-77]);
+}
+
 #[test]
-fn no_level(rt: HostRuntime) -> Result<(), Fail> {
-    let mut bands = Bands::new(rt.alloc(), 0, 1, 1)?;
-    let (mut plane, mut scratch) = (Plane::new(rt.alloc(), 1, 1)?, Plane::new(rt.alloc(), 1, 1)?);
-    let _ = put_rows(&rt, bands.band_mut(0, 0), &[-77]);
-    assert!(&rt; can_synth(&bands, &plane, &scratch));
-    synth(Wavelet::LeGall, &bands, &mut plane, &mut scratch);
-    assert_same(&rt, plane.row(0), &[-77]);
-    Ok(())
+fn no_level(rt: HostRuntime) {
+    let mut room = make_room(&rt, rt.alloc(), 0, 1, 1);
+    assert_no_level(&rt, &mut room.bands, &mut room.plane, &mut room.scratch);
+    drop(room);
 }
 
 /// The values of a plane of 8 by 4, row by row, or of its two levels of bands: the lowest band of one row and two columns, and
@@ -312,31 +345,36 @@ fn assert_turns(
 }
 
 #[test]
-fn two_levels(rt: HostRuntime) -> Result<(), Fail> {
-    let mut bands = Bands::new(rt.alloc(), 2, 8, 4)?;
-    let mut plane = Plane::new(rt.alloc(), 8, 4)?;
-    let mut scratch = Plane::new(rt.alloc(), 8, 4)?;
-    assert_turns(&rt, &mut bands, &mut plane, &mut scratch, &TURNS);
-    Ok(())
+fn two_levels(rt: HostRuntime) {
+    let mut room = make_room(&rt, rt.alloc(), 2, 8, 4);
+    assert_turns(
+        &rt,
+        &mut room.bands,
+        &mut room.plane,
+        &mut room.scratch,
+        &TURNS,
+    );
+    drop(room);
 }
 
-/// Synthesis of bands of a plane of 8 by 4 in 32 bits.
+/// Synthesis in 32 bits of bands of a plane of 8 by 4, which is given too.
 fn synth_in_32_bits(
     rt: &impl Abort,
     alloc: Global,
     wavelet: Wavelet,
     wide: &Bands,
-) -> Result<NarrowPlane, NoMemory> {
-    let like = Plane::new(alloc, 8, 4)?;
-    assert!(rt; can_synth(wide, &like, &like));
-    assert!(rt; wide.depth() == 2);
-    assert!(rt; wide.within(0x40000));
-    let mut bands = NarrowBands::new(alloc, 2, 8, 4)?;
-    let mut plane = NarrowPlane::new(alloc, 8, 4)?;
-    let mut scratch = NarrowPlane::new(alloc, 8, 4)?;
+    like: &Plane,
+) -> NarrowPlane {
+    assert!(rt; can_synth(wide, like, like) && wide.within(0x40000));
+    assert!(rt; wide.depth() == 2 && like.w() == 8 && like.h() == 4);
+    let mut made: NarrowPlane = plane(rt, alloc, 8, 4);
+    let mut scratch: NarrowPlane = plane(rt, alloc, 8, 4);
+    let mut bands = NarrowBands::new(alloc, 2, 8, 4).expect(rt, "memory");
     bands.narrow(wide);
-    synth_narrow(wavelet, &bands, &mut plane, &mut scratch);
-    Ok(plane)
+    synth_narrow(wavelet, &bands, &mut made, &mut scratch);
+    drop(bands);
+    drop(scratch);
+    made
 }
 
 /// Asserts the rows of a plane of 32 bits.
@@ -349,14 +387,19 @@ fn assert_narrow_rows(rt: &impl Abort, plane: &NarrowPlane, values: &Values) {
     }
 }
 
+fn expect_narrow_turn(rt: &impl Abort, alloc: Global, room: &mut Room, turn: &Turn) {
+    put_bands(rt, &mut room.bands, &COEFFICIENTS);
+    let made = synth_in_32_bits(rt, alloc, turn.0, &room.bands, &room.plane);
+    assert_narrow_rows(rt, &made, &turn.1);
+    drop(made);
+}
+
 /// The same of synthesis in 32 bits.
 #[test]
-fn two_levels_in_32_bits(rt: HostRuntime) -> Result<(), Fail> {
-    for (wavelet, by_synthesis, _) in &TURNS {
-        let mut bands = Bands::new(rt.alloc(), 2, 8, 4)?;
-        put_bands(&rt, &mut bands, &COEFFICIENTS);
-        let plane = synth_in_32_bits(&rt, rt.alloc(), *wavelet, &bands)?;
-        assert_narrow_rows(&rt, &plane, by_synthesis);
+fn two_levels_in_32_bits(rt: HostRuntime) {
+    let mut room = make_room(&rt, rt.alloc(), 2, 8, 4);
+    for turn in &TURNS {
+        expect_narrow_turn(&rt, rt.alloc(), &mut room, turn);
     }
-    Ok(())
+    drop(room);
 }
