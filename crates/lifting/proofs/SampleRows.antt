@@ -1,11 +1,11 @@
 -- Samples, row by row.
-use Rattle.std.proofs.Common.{◌≡◌, ◌≢◌, ◌∙◌, sym, ap, subst, ℕ, suc, ◌+◌, ◌-◌, ◌*◌, ◌^◌, ◌<◌, ◌≤◌, arith, inl, inr, List, ◌++◌, length, take, drop, get_or, set, ℤ, pos}
+use Rattle.std.proofs.Common.{◌≡◌, ◌∙◌, sym, ap, subst, ℕ, suc, ◌+◌, ◌-◌, ◌*◌, ◌^◌, ◌<◌, ◌≤◌, arith, inl, inr, List, ◌++◌, length, take, get_or, set, ℤ, pos}
 use Rattle.std.specs.Prelude.{if◌then◌else◌, ◌==◌, neg_ℤ, ◌+ℤ◌, ◌-ℤ◌, unsigned_abs}
 use Rattle.std.specs.Int.{int_min, int_max}
 use Rattle.std.proofs.Math.Nat.{pow-le-pow_right, mul-le-mul_right, suc-mul}
 use Rattle.std.proofs.lemmas.Bool.{cases_lt, cases_eq}
 use Rattle.std.proofs.lemmas.Int.{ints}
-use Rattle.std.proofs.lemmas.List.{get_or_default, get_or-set_other, get_or-set_same, length-set, get_or_append_left, get_or-append-add, get_or-append_right, get_or-drop, length-take-le}
+use Rattle.std.proofs.lemmas.List.{get_or_default, get_or-set_other, get_or-set_same, length-set, get_or_append_left, get_or-append-add, length-take-le}
 use borrow.Rule.Slice.PartMut.{put_mid, post_of}
 use Rattle.planes.specs.Numbers.{Within}
 use Rattle.planes.specs.Valued.{valued, EachValued}
@@ -19,14 +19,6 @@ half_some depth = pow-le-pow_right {n = 2} (omega arith) {i = 0} {j = depth - 1}
 
 pub half_most : (depth most : ℕ) → depth ≤ most → 2 ^ (depth - 1) ≤ 2 ^ (most - 1)
 half_most depth most le = pow-le-pow_right {n = 2} (omega arith) {i = depth - 1} {j = most - 1} (omega arith)
-
--- what stands in the rows before and behind row y stands in each other row
-pub other_rows : (old new : List ℕ) (w y : ℕ) → ((k : ℕ) → k < y * w → get_or new k 0 ≡ get_or old k 0) → ((k : ℕ) → y * w + w ≤ k → get_or new k 0 ≡ get_or old k 0)
-    → (j x : ℕ) → j ≢ y → x < w → get_or new (j * w + x) 0 ≡ get_or old (j * w + x) 0
-other_rows old new w y before behind j x ne lt = elim (cases_lt j y) [
-  | inl less ↦ before (j * w + x) (omega (arith, lt, suc-mul j w, mul-le-mul_right {m = suc j} {n = y} w (omega arith)))
-  | inr not ↦ behind (j * w + x) (omega (arith, suc-mul y w, mul-le-mul_right {m = suc y} {n = j} w (omega arith)))
-]
 
 -- ---- the samples of a row
 
@@ -61,16 +53,6 @@ pub part_row : (a k : ℕ) (xs ys : List ℕ) (i : ℕ) → a ≤ length xs → 
 part_row a k xs ys i low here =
     let front : length (take a xs) ≡ a = length-take-le a xs low in
     ap (λ (n : ℕ). get_or (put_mid a k xs ys) (n + i) 0) (sym front) ∙ get_or-append-add (take a xs) (ys ++ post_of a k xs) i 0 ∙ get_or_append_left ys (post_of a k xs) 0 i here
-
--- and one behind it
-pub part_behind : (a k : ℕ) (xs ys : List ℕ) (i : ℕ) → a ≤ length xs → length ys ≡ k → a + k ≤ i → get_or (put_mid a k xs ys) i 0 ≡ get_or xs i 0
-part_behind a k xs ys i low len le =
-    let there : a + (k + (i - a - k)) ≡ i = omega arith in
-    get_or-append_right (take a xs) (ys ++ post_of a k xs) a i 0 (length-take-le a xs low) (omega arith)
-    ∙ get_or-append_right ys (post_of a k xs) k (i - a) 0 len (omega arith)
-    ∙ get_or-drop k (drop a xs) (i - a - k) 0
-    ∙ get_or-drop a xs (k + (i - a - k)) 0
-    ∙ ap (λ (n : ℕ). get_or xs n 0) there
 
 -- row y of h rows of w lies inside
 pub row_inside : (y h w n : ℕ) → y < h → n ≡ h * w → y * w + w ≤ n

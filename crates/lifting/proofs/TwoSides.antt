@@ -1,6 +1,6 @@
 -- A row that is made in two halves, each from parts of rows.
-use Rattle.std.proofs.Common.{◌≡◌, refl, sym, ap, subst, ◌∙◌, ℕ, ◌+◌, ◌-◌, ◌*◌, ◌<◌, ◌≤◌, arith, List, ◌++◌, length, take, drop, ℤ, inl, inr, true, false}
-use Rattle.std.specs.Prelude.{nat_lt}
+use Rattle.std.proofs.Common.{◌≡◌, refl, sym, ap, subst, ◌∙◌, ℕ, ◌+◌, ◌-◌, ◌*◌, ◌<◌, ◌≤◌, arith, List, ◌++◌, length, take, drop, ℤ, inl, inr, Bool, true, false}
+use Rattle.std.specs.Prelude.{nat_lt, if◌then◌else◌}
 use Rattle.std.proofs.lemmas.Bool.{cases_lt}
 use Rattle.std.proofs.lemmas.Bool.Decides.{nat_tests}
 use Rattle.std.proofs.lemmas.Grind.{common_steps}
@@ -42,6 +42,18 @@ two_sides value none w left right a b el pa pb =
     beside_by (λ x v. valued value none (left ++ right) x ≡ v) w a b (λ i lt. ap value (get_or-append left right none i (omega arith)) ∙ pa i lt)
     (λ i lt. ap (λ (n : ℕ). valued value none (left ++ right) (n + i)) (sym el) ∙ ap value (get_or-append-add left right i none) ∙ pb i lt)
 
+-- a step on two lines side by side
+pub beside_three : (f : ℤ → ℤ → ℤ → ℤ) (w x : ℕ) (v v' a a' b b' : Line) → beside w (λ i. f (v i) (a i) (b i)) (λ i. f (v' i) (a' i) (b' i)) x ≡ f (beside w v v' x) (beside w a a' x) (beside w b b' x)
+beside_three f w x v v' a a' b b' = go (nat_lt x w)
+  where
+    go : (r : Bool) → (if r then f (v x) (a x) (b x) else f (v' (x - w)) (a' (x - w)) (b' (x - w))) ≡ f (if r then v x else v' (x - w)) (if r then a x else a' (x - w)) (if r then b x else b' (x - w))
+    go true = refl
+    go false = refl
+
+-- a line whose front and back lie apart
+pub beside_whole : (w x : ℕ) (a b : Line) → ((i : ℕ) → i < w → b i ≡ a (w + i)) → x < 2 * w → beside w a b x ≡ a x
+beside_whole w x a b eb lx = beside_by (λ i v. v ≡ a i) w a b (λ i _. refl) eb x lx
+
 -- a row of a plane, as it is lent, and as it was written over
 pub row_small : {X : Type 0} (value : X → ℤ) (none : X) (m w y : ℕ) (p : Raster X) (row : List X) → row ≡ row_of p y → LineWithin w m (grid_of value none p y) → LineWithin w m (valued value none row)
 row_small value none m w y p row is small = subst (λ (r : List _). LineWithin w m (valued value none r)) (sym is) small
@@ -63,6 +75,13 @@ side_back w x le = grind (arith, nat_tests)
 
 pub side_inside : (w x : ℕ) → x < 2 * w → side_place w x < 2 * w
 side_inside w x lt = grind (arith, nat_tests)
+
+-- an even place of a line, and an odd one
+pub side_even : (line : Line) (w x : ℕ) → x < w → line (side_place w x) ≡ line (2 * x + 0)
+side_even line w x lx = let whole : 2 * x ≡ 2 * x + 0 = omega arith in ap line (side_front w x lx ∙ whole)
+
+pub side_odd : (line : Line) (w x : ℕ) → x < w → line (side_place w (w + x)) ≡ line (2 * x + 1)
+side_odd line w x lx = let whole : 2 * (w + x - w) + 1 ≡ 2 * x + 1 = omega arith in ap line (side_back w (w + x) (omega arith) ∙ whole)
 
 -- the even places of a line beside its odd ones
 pub beside_side : (line : Line) (w x : ℕ) → beside w (λ i. line (2 * i)) (λ i. line (2 * i + 1)) x ≡ line (side_place w x)

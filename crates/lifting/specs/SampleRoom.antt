@@ -1,7 +1,8 @@
 -- What the synthesis of samples asks of its rooms.
-use Rattle.std.specs.Prelude.{◌≡◌, ℕ, ℤ, pos, ◌*◌, ◌/◌, ◌%◌, ◌^◌, ◌≤◌, List, length}
+use Rattle.std.specs.Prelude.{◌≡◌, ℕ, ℤ, pos, ◌+◌, ◌<◌, slice_index_or, ◌*◌, ◌/◌, ◌%◌, ◌^◌, ◌≤◌, List, length}
 use Rattle.lifting.specs.declared.Wavelet.{Wavelet}
 use Rattle.lifting.specs.Transform.{Grid, synthesis}
+use Rattle.lifting.specs.Clipping.{sample_of}
 use Rattle.lifting.specs.Ranges.{BandsWithin}
 use Rattle.lifting.specs.Bands.{coefficients_of, coefficients_in, lowest, AreIn}
 use Rattle.bit_codes.specs.declared.TheConstants.{MAX_MAGNITUDE}
@@ -36,6 +37,10 @@ pub record IsShownArea (area : SampleArea) (w h : ℕ) (samples : List ℕ) : Ty
 -- an area's samples, each in 1 to `most` bits
 abbrev pub HoldsArea : ℕ → SampleArea → List ℕ → Type 0
 HoldsArea most area samples = (1 ≤ area.depth) × (area.depth ≤ most) × (length samples ≡ area.h * area.w) × (area.h * area.w ≤ 2 ^ 30)
+
+-- of an area the samples of its first rows, so many, are those of a grid
+abbrev pub AreSamplesTo : ℕ → SampleArea → List ℕ → Grid → Type 0
+AreSamplesTo rows area samples g = (y x : ℕ) → y < rows → y < area.h → x < area.w → slice_index_or samples (y * area.w + x) 0 ≡ sample_of area.depth (g y x)
 
 -- the bands of a component of w by h: all magnitudes are at most 2 ^ 18
 abbrev pub AreNarrowIn : BandStack → ℕ → ℕ → Type 0

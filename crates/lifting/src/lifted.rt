@@ -65,27 +65,27 @@ pub(crate) fn lift_between<T: Laned>(
     }
 }
 
-/// The w places of a row from x0 on, over the first w of another.
-pub(crate) fn copy_from<T: Number>(dst: &mut [T], row: &[T], x0: usize, w: usize)
-    requires short { w ≤ 2 ^ 32 }
-    requires left { x0 ≤ w }
+/// The first w places of a row over those of another.
+pub(crate) fn copy_front<T: Number>(dst: &mut [T], row: &[T], w: usize)
     requires room { w ≤ length dst.old }
-    requires inside { x0 + w ≤ length row.now }
+    requires inside { w ≤ length row.now }
     ensures { (x : ℕ) → x < w
-        → valued T.value T.none dst.new x ≡ valued T.value T.none row.now (x0 + x) }
+        → valued T.value T.none dst.new x ≡ valued T.value T.none row.now x }
 {
-    dst[..w].copy_from_slice(&row[x0..x0 + w]);
+    dst[..w].copy_from_slice(&row[..w]);
 }
 
-/// The first w columns and h rows of a plane over those of another.
-pub(crate) fn copy_corner<T: Number>(dst: &mut Plane<T>, src: &Plane<T>, w: u32, h: u32)
+/// The first w columns and h rows of a plane over those of another from row `top` on.
+pub(crate) fn copy_corner<T: Number>(dst: &mut Plane<T>, top: u32, src: &Plane<T>, w: u32, h: u32)
     requires fits { (w ≤ dst.old.w) × (w ≤ src.now.w) }
-    requires high { (h ≤ height dst.old) × (h ≤ height src.now) }
+    requires high { (top + h ≤ height dst.old) × (h ≤ height src.now) }
     ensures same_size { SameSize dst.old dst.new }
-    ensures copied { SameInside h w (grid_of T.value T.none dst.new)
+    ensures copied { SameInside h w (λ y. grid_of T.value T.none dst.new (top + y))
         (grid_of T.value T.none src.now) }
 {
+    // A plane's height is at most 8208, so that places of rows are small numbers.
+    let _ = dst.h();
     for y in 0..h {
-        copy_from(dst.row_mut(y), src.row(y), 0, w as usize);
+        copy_front(dst.row_mut(top + y), src.row(y), w as usize);
     }
 }

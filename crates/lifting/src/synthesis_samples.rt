@@ -4,20 +4,117 @@ ghost use Rattle.std.specs.Prelude.{◌≡◌, ℕ, ◌+◌, ◌-◌, ◌*◌, �
 ghost use Rattle.planes.specs.Raster.{height};
 ghost use Rattle.planes.specs.Valued.{grid_of};
 ghost use Rattle.planes.specs.Subbands.{HaveSizes};
-ghost use Rattle.lifting.specs.Transform.{synthesis};
-ghost use Rattle.lifting.specs.Bands.{lowest};
+ghost use Rattle.lifting.specs.Transform.{Grid, every_other, synthesis_level};
 ghost use Rattle.lifting.specs.declared.Wavelet.{Wavelet};
-ghost use Rattle.lifting.specs.Fits.{FitIn, LevelFitsIn};
-ghost use Rattle.lifting.specs.LevelRoom.{HoldsLevels};
+ghost use Rattle.lifting.specs.Fits.{FitIn, LevelFits, LevelFitsIn};
+ghost use Rattle.lifting.specs.LevelPairs.{rows_final, HasPairs, IsOpen, IsSameUp};
+ghost use Rattle.lifting.specs.LevelRoom.{HoldsLevels, last_rows};
 ghost use Rattle.lifting.specs.Clipping.{sample_of, AreSamplesOf};
-ghost use Rattle.lifting.specs.SampleRoom.{HoldsArea, HaveRoom, IsShownArea, AreNarrowIn, AreSmallIn, synthesis_of, synthesis_in};
-ghost use Rattle.lifting.specs.Turns.{SameSize};
+ghost use Rattle.lifting.specs.Ranges.{SameInside};
+ghost use Rattle.lifting.specs.SampleRoom.{HoldsArea, AreSamplesTo, HaveRoom, IsShownArea, AreNarrowIn, AreSmallIn, synthesis_of, synthesis_in};
+ghost use Rattle.lifting.specs.Turns.{SameSize, HasBands, HasGrid};
 
-use crate::roll_samples::roll_samples;
+use crate::level_up::LevelUp;
+use crate::roll::Level;
 use crate::samples::{Sampled, sample_band};
 use crate::synthesis::{PaddedSize, level_of, synth_levels_of};
 use crate::{SampleArea, Wavelet};
 use planes::{Bands, NarrowBands, NarrowPlane, Plane};
+
+// The next row of a level as that row of the samples, where they have it.
+fn sample_next<T: Sampled>(up: &mut LevelUp<'_, T>, samples: &mut [u16], area: SampleArea)
+    ghost g: { Grid }
+    requires open { IsOpen up.old }
+    requires more { up.old.given < rows_final up.old.wavelet up.old.h up.old.came }
+    requires has_room { LevelFits up.old.wavelet (2 * up.old.h) (2 * up.old.w) T.reach g }
+    requires before { HasPairs T.value T.none g up.old }
+    requires shown { HoldsArea T.depths area samples.old }
+    requires across { area.w ≤ 2 * up.old.w }
+    ensures same_level { IsSameUp up.old up.new }
+    ensures open { IsOpen up.new }
+    ensures counts { (up.new.came ≡ up.old.came) × (up.new.given ≡ up.old.given + 1) }
+    ensures after { HasPairs T.value T.none g up.new }
+    ensures count { length samples.new ≡ length samples.old }
+    ensures row { up.old.given < area.h → (x : ℕ) → x < area.w
+        → slice_index_or samples.new (up.old.given * area.w + x) 0 ≡ sample_of area.depth
+        (synthesis_level up.old.wavelet (2 * up.old.h) (2 * up.old.w) g up.old.given x) }
+    ensures above { (k : ℕ) → k < up.old.given * area.w
+        → slice_index_or samples.new k 0 ≡ slice_index_or samples.old k 0 }
+{
+    let y = up.given;
+    if y < area.h {
+        let start = (y * area.w) as usize;
+        let end = start + area.w as usize;
+        up.sample_row(&mut samples[start..end], area.depth);
+    } else {
+        up.skip();
+    }
+}
+
+// The rows of a level that are final.
+fn sample_rows<T: Sampled>(up: &mut LevelUp<'_, T>, samples: &mut [u16], area: SampleArea)
+    ghost g: { Grid }
+    requires open { IsOpen up.old }
+    requires has_room { LevelFits up.old.wavelet (2 * up.old.h) (2 * up.old.w) T.reach g }
+    requires before { HasPairs T.value T.none g up.old }
+    requires shown { HoldsArea T.depths area samples.old }
+    requires across { area.w ≤ 2 * up.old.w }
+    requires done { AreSamplesTo up.old.given area samples.old
+        (synthesis_level up.old.wavelet (2 * up.old.h) (2 * up.old.w) g) }
+    ensures same_level { IsSameUp up.old up.new }
+    ensures open { IsOpen up.new }
+    ensures came { up.new.came ≡ up.old.came }
+    ensures given { up.new.given ≡ rows_final up.old.wavelet up.old.h up.old.came }
+    ensures after { HasPairs T.value T.none g up.new }
+    ensures count { length samples.new ≡ length samples.old }
+    ensures done { AreSamplesTo up.new.given area samples.new
+        (synthesis_level up.old.wavelet (2 * up.old.h) (2 * up.old.w) g) }
+{
+    while up.given < up.rows_final() {
+        sample_next(up, samples, area);
+    }
+}
+
+// The samples of a level, of which LL stands in the plane's last h rows.
+fn sample_level<T: Sampled>(
+    level: &Level<T>,
+    plane: &Plane<T>,
+    scratch: &mut Plane<T>,
+    samples: &mut [u16],
+    area: SampleArea,
+)
+    ghost g: { Grid }
+    requires some { (1 ≤ level.now.w) × (1 ≤ level.now.h) }
+    requires bands { HasBands level.now }
+    requires grid { HasGrid T.value T.none g level.now }
+    requires has_room { LevelFits level.now.wavelet (2 * level.now.h) (2 * level.now.w) T.reach g }
+    requires low { SameInside level.now.h level.now.w (last_rows T.value T.none level.now.h plane.now)
+        (every_other 0 0 g) }
+    requires short { level.now.h ≤ 4104 }
+    requires fits { level.now.w ≤ plane.now.w }
+    requires high { level.now.h ≤ height plane.now }
+    requires fits_scratch { 2 * level.now.w ≤ scratch.old.w }
+    requires three_rows { 3 ≤ height scratch.old }
+    requires shown { HoldsArea T.depths area samples.old }
+    requires across { area.w ≤ 2 * level.now.w }
+    requires down { area.h ≤ 2 * level.now.h }
+    ensures same_size_scratch { SameSize scratch.old scratch.new }
+    ensures count { length samples.new ≡ length samples.old }
+    ensures samples { AreSamplesOf area.w area.h area.depth samples.new
+        (synthesis_level level.now.wavelet (2 * level.now.h) (2 * level.now.w) g) }
+{
+    // A plane's sizes are at most 8208, so that places of rows are small numbers.
+    let _ = (scratch.w(), plane.h());
+    let mut up = LevelUp::new(scratch.numbers_mut(), level.w, level.h, level.wavelet);
+    let low = plane.h() - level.h;
+    let mut above = level.pair(plane.row(low), 0);
+    for y in 0..level.h {
+        let pair = level.pair(plane.row(low + y), y);
+        up.put_pair(&above, &pair);
+        sample_rows(&mut up, samples, area);
+        above = pair;
+    }
+}
 
 /// The samples of the last level, from the levels below it in the plane.
 pub(crate) fn synth_last<T: Sampled>(
@@ -43,10 +140,8 @@ pub(crate) fn synth_last<T: Sampled>(
     ensures samples { AreSamplesOf area.w area.h area.depth samples.new
         (synthesis_in T.value T.none wavelet bands.now size.w size.h) }
 {
-    // A plane's width and height are at most 8208, a depth at most 4.
-    let (_, _, depth) = (scratch.w(), plane.h(), bands.depth());
-    let level = level_of(wavelet, bands, depth);
-    roll_samples(samples, area, plane, scratch, &level);
+    let level = level_of(wavelet, bands, bands.depth());
+    sample_level(&level, plane, scratch, samples, area);
 }
 
 // Row y of the samples, from that row of a band.

@@ -1,7 +1,8 @@
 -- Rows that are cut from one list.
-use Rattle.std.proofs.Common.{◌≡◌, refl, sym, ap, ◌∙◌, ℕ, zero, suc, ◌+◌, ◌*◌, ◌<◌, ◌≤◌, List, [], ◌∷◌, ◌++◌, length, get_or, set, take, drop, replicate, arith, length-append, length-drop}
+use Rattle.std.proofs.Common.{◌≡◌, refl, sym, ap, ◌∙◌, ℕ, zero, suc, ◌+◌, ◌-◌, ◌*◌, ◌<◌, ◌≤◌, List, [], ◌∷◌, ◌++◌, length, get_or, set, take, drop, replicate, arith, length-append, length-drop}
 use native.Mathlib.Nat.{zero-mul, suc-mul}
-use Rattle.std.proofs.lemmas.List.{take_at, drop_at, take_all, take-take, take-append-le, drop-append-le, drop-drop, drop-take, take-replicate, drop-replicate, length-take-le}
+use Rattle.std.specs.List.{flat_map}
+use Rattle.std.proofs.lemmas.List.{take_at, drop_at, take-append-drop, nil_from_length, take_all, take-take, take-append-le, drop-append-le, drop-drop, drop-take, take-replicate, drop-replicate, length-take-le}
 use Rattle.std.specs.Prelude.{slice_range}
 use Rattle.planes.specs.Raster.{over}
 use Rattle.planes.specs.LendingParts.{with_part}
@@ -94,3 +95,20 @@ rows_of-replicate w (suc h) x =
     ap (λ r. r ∷ rows_of w h (drop w (replicate (suc h * w) x))) (take-replicate w (suc h * w) x (omega arith))
     ∙ ap (λ l. replicate w x ∷ rows_of w h l) (drop-replicate w (suc h * w) x ∙ ap (λ n. replicate n x) (omega arith))
     ∙ ap (λ l. replicate w x ∷ l) (rows_of-replicate w h x)
+
+-- ---- all rows as one list
+
+pub rows_joined : {X : Type 0} (w h : ℕ) (xs : List X) → length xs ≡ h * w → flat_map (λ (row : List X). row) (rows_of w h xs) ≡ xs
+unfolding rows_of
+rows_joined w zero xs long = sym (nil_from_length xs (long ∙ zero-mul w))
+rows_joined w (suc h) xs long =
+    let shorter : length (drop w xs) ≡ h * w = length-drop w xs ∙ (let one = suc-mul h w in omega (arith, long, one)) in
+    ap (λ l. take w xs ++ l) (rows_joined w h (drop w xs) shorter) ∙ take-append-drop w xs
+
+-- a list of which all is written
+pub whole_part : {X : Type 0} (n : ℕ) (xs new : List X) → length xs ≡ n → with_part xs 0 n new ≡ over xs new
+whole_part n xs new long =
+    let all : slice_range xs 0 (0 + n) ≡ xs = take_all (0 + n - 0) xs (omega arith) in
+    let same : length (over xs new) ≡ length xs = length_over xs new in
+    ap (λ r. take (length xs) (over r new ++ drop (length (over r new)) xs)) all
+    ∙ take_at (over xs new) (drop (length (over xs new)) xs) (length xs) same

@@ -4,13 +4,14 @@ use native.Mathlib.Nat.{zero-mul}
 use Rattle.std.proofs.lemmas.Bool.{cases_eq}
 use Rattle.std.proofs.lemmas.List.{length-set, set-set, set-get_or, get_or-set_same, get_or-set_other, set_past, nil_from_length}
 use Rattle.std.specs.Prelude.{slice_range}
+use Rattle.std.specs.List.{flat_map}
 use Rattle.std.specs.Vec.{with_items}
 use Rattle.planes.specs.Raster.{Raster, height, row_of, over, with_row}
 use Rattle.planes.specs.LendingParts.{with_part}
 use Rattle.planes.specs.declared.row_store.Rows.TheInside.{Inside}
-use Rattle.planes.specs.Inside.{rows_of, shown, raster_of, AreSoundRows}
+use Rattle.planes.specs.Inside.{rows_of, shown, raster_of, AreSoundRows, numbers_of, with_numbers}
 use Rattle.planes.proofs.RasterLemmas.{over_whole}
-use Rattle.planes.proofs.RowLists.{row_ends, length-rows_of, row_part, length_part, rows_of-with_part}
+use Rattle.planes.proofs.RowLists.{row_ends, length-rows_of, row_part, length_part, rows_of-with_part, rows_joined, whole_part}
 
 length-shown : {X : Type 0} (w h : ℕ) (xs : List X) (lent : ℕ) (s : List X) → length (shown w h xs lent s) ≡ h
 length-shown w h xs lent s = length-set (rows_of w h xs) lent s ∙ length-rows_of w h xs
@@ -81,3 +82,17 @@ given_back {X} p q is xs y spare same taken new =
     ∙ sym (set-set (rows_of p.w p.h xs) y spare.items (over (get_or before y []) new))
     ∙ ap (λ l. set l y (over (get_or before y []) new)) same)
     ∙ ap (λ r. with_row r y new) is
+
+-- ---- all numbers, lent in their place
+
+pub numbers_shown : {X : Type 0} (p : Inside X) (q : Raster X) → raster_of p ≡ q → (xs : List X) → length xs ≡ p.h * p.w → rows_of p.w p.h xs ≡ shown p.w p.h p.numbers p.lent p.spare.items → xs ≡ numbers_of q
+numbers_shown p q is xs long same = sym (rows_joined p.w p.h xs long) ∙ ap (flat_map (λ row. row)) same ∙ ap numbers_of is
+
+pub all_given : {X : Type 0} (p : Inside X) (q : Raster X) → raster_of p ≡ q → (xs : List X) (count lent : ℕ) → p.h ≤ lent → count ≡ p.h * p.w → length xs ≡ p.h * p.w → xs ≡ numbers_of q
+    → (new : List X) → raster_of {X = X} (record { w = p.w; h = p.h; lent = lent; numbers = with_part xs 0 count new; spare = p.spare }) ≡ with_numbers q new
+all_given {X} p q is xs count lent past all long same new =
+    ap (λ rows. record { w = p.w; rows = rows })
+    (shown_past p.w p.h (with_part xs 0 count new) lent p.spare.items past
+    ∙ ap (rows_of p.w p.h) (whole_part count xs new (long ∙ sym all) ∙ ap (λ (l : List X). over l new) same))
+    ∙ ap (λ (n : ℕ). record { w = p.w; rows = rows_of p.w n (over (numbers_of q) new) }) (height_is p q is)
+    ∙ ap (λ (n : ℕ). record { w = n; rows = rows_of n (height q) (over (numbers_of q) new) }) (ap (λ (r : Raster X). r.w) is)

@@ -5,8 +5,8 @@
 ghost use Rattle.std.specs.Prelude.{◌≡◌, ◌≢◌, ◌↔◌, ℕ, ◌-◌, ◌*◌, ◌<◌, ◌≤◌, min, length, slice_index_or, pos, IfOk, true, []};
 ghost use Rattle.std.specs.Borrow.{sem};
 ghost use Rattle.planes.specs.Raster.{height, row_of, at, with_place, filled_with, IsEdgeFilled};
-ghost use Rattle.planes.specs.Inside.{rows_of};
-ghost use Rattle.planes.specs.Lending.{LendsRow};
+ghost use Rattle.planes.specs.Inside.{rows_of, numbers_of};
+ghost use Rattle.planes.specs.Lending.{LendsRow, LendsNumbers};
 ghost use Rattle.planes.specs.Bounded.{IsWithin, IsPlaneWithin};
 
 mod band_set;
@@ -216,6 +216,15 @@ impl<T: Number> Plane<T> {
         ensures len { length result.now ≡ self.old.w }
     {
         self.rows.row_mut(y)
+    }
+
+    /// All numbers, row by row from the top, to write. After the loan the rows are what its holder left.
+    pub fn numbers_mut(&mut self) -> &mut [T]
+        ensures* writes_back { sem 𝓛 (LendsNumbers T.row self.entry result) }
+        ensures value { result.now ≡ numbers_of self.old }
+        ensures len { length result.now ≡ height self.old * self.old.w }
+    {
+        self.rows.numbers_mut()
     }
 
     /// Row `dst` to write, beside the rows a and b to read, which may be one row. After the loan row `dst` is what

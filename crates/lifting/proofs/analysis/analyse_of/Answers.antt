@@ -1,4 +1,4 @@
-use Rattle.std.proofs.Common.{◌≡◌, ◌∙◌, refl, sym, subst, ℕ, ◌+◌, ◌-◌, ◌*◌, ◌^◌, ◌<◌, arith}
+use Rattle.std.proofs.Common.{rules, ◌≡◌, ◌∙◌, refl, sym, ap, subst, ℕ, ◌+◌, ◌-◌, ◌*◌, ◌^◌, ◌<◌, arith}
 use Rattle.std.proofs.lemmas.Grind.{common_steps}
 use Rattle.planes.specs.Valued.{grid_of}
 use Rattle.planes.specs.Raster.{height}
@@ -24,8 +24,8 @@ loop-j-init G c = record {
   dealt = λ n lt le. absurd (omega arith);
 }
 
-pub roll_back-requires-clause-small : goal.roll_back-requires-clause-small
-roll_back-requires-clause-small G c =
+pub analyse_next-requires : goal.analyse_next-requires
+analyse_next-requires G c κs within =
     let q = c.requires.sizes in
     let b = c.args.bands.now in
     let p = c.args.plane.now in
@@ -37,9 +37,21 @@ roll_back-requires-clause-small G c =
     let w = lowest b.depth p.w in
     let eh : c.h-h.result ≡ h * 2 ^ n = c.h-h.ensures.value ∙ rows_of b c.loop-j.bands p.w (height p) q.whole_columns q.whole_rows q.bands c.loop-j.invariant.same_sizes _ n level (omega arith) 1 (omega arith) (omega arith) c.band-band.result.now c.band-band.ensures in
     let ew : c.w-w.result ≡ w * 2 ^ n = c.w-w.ensures.value ∙ columns_of b c.loop-j.bands p.w (height p) q.whole_columns q.whole_rows q.bands c.loop-j.invariant.same_sizes _ n level (omega arith) 1 (omega arith) (omega arith) c.band-band.result.now c.band-band.ensures in
-    left_small c.args.wavelet h w b.depth (grid_of G.T.Number.value G.T.Number.none p) j n c.h-h.result c.w-w.result (grid_of G.T.Number.value G.T.Number.none c.loop-j.plane) (omega arith) inside eh ew c.loop-j.invariant.left
+    let small = left_small c.args.wavelet h w b.depth (grid_of G.T.Number.value G.T.Number.none p) j n c.h-h.result c.w-w.result (grid_of G.T.Number.value G.T.Number.none c.loop-j.plane) (omega arith) inside eh ew c.loop-j.invariant.left
     (whole_small h w b.depth (height p) p.w (2 ^ 15) (grid_of G.T.Number.value G.T.Number.none p) (whole_size (height p) b.depth q.whole_rows) (whole_size p.w b.depth q.whole_columns) c.requires.small)
-    (omega (arith, c.depth-depth.ensures))
+    (omega (arith, c.depth-depth.ensures)) in (
+      search rules,
+      (
+        search rules,
+        (
+          omega (arith, level),
+          (
+            omega (arith, level, c.loop-j.invariant.same_sizes.depth),
+            (λ y x ly lx. refl, (small, (grind (arith, common_steps), (grind (arith, common_steps), (grind (arith, common_steps), (grind (arith, common_steps), (search rules, search rules))))))),
+          ),
+        ),
+      ),
+    )
 
 pub loop-j-preserved : goal.loop-j-preserved
 loop-j-preserved G c =
@@ -49,7 +61,7 @@ loop-j-preserved G c =
     let s = c.args.scratch.now in
     let j = c.loop-j.j in
     let i = c.loop-j.invariant in
-    let done = c.roll_back.ensures in
+    let done = c.analyse_next.ensures in
     let n : ℕ = b.depth - (j + 1) in
     let inside : j < b.depth = omega (arith, c.depth-depth.ensures.value, c.loop-j-test.true) in
     let level : c.depth-depth.result - j ≡ n + 1 = omega (arith, c.depth-depth.ensures.value) in
@@ -58,13 +70,13 @@ loop-j-preserved G c =
     let eh : c.h-h.result ≡ h * 2 ^ n = c.h-h.ensures.value ∙ rows_of b c.loop-j.bands p.w (height p) q.whole_columns q.whole_rows q.bands i.same_sizes _ n level (omega arith) 1 (omega arith) (omega arith) c.band-band.result.now c.band-band.ensures in
     let ew : c.w-w.result ≡ w * 2 ^ n = c.w-w.ensures.value ∙ columns_of b c.loop-j.bands p.w (height p) q.whole_columns q.whole_rows q.bands i.same_sizes _ n level (omega arith) 1 (omega arith) (omega arith) c.band-band.result.now c.band-band.ensures in
     record {
-      same_size = sizes_after p c.loop-j.plane c.roll_back.new.plane i.same_size done.same_size;
-      same_size_scratch = sizes_after s c.loop-j.scratch c.roll_back.new.scratch i.same_size_scratch done.same_size_scratch;
-      same_sizes = same_sizes_after b c.loop-j.bands c.roll_back.new.bands i.same_sizes done.same_sizes;
-      left = left_next c.args.wavelet h w b.depth (grid_of G.T.Number.value G.T.Number.none p) j n c.h-h.result c.w-w.result (grid_of G.T.Number.value G.T.Number.none c.loop-j.plane) (omega arith) inside eh ew i.left (grid_of G.T.Number.value G.T.Number.none c.roll_back.new.plane) done.left;
+      same_size = sizes_after p c.loop-j.plane c.analyse_next.new.plane i.same_size done.same_size;
+      same_size_scratch = sizes_after s c.loop-j.scratch c.analyse_next.new.scratch i.same_size_scratch done.same_size_scratch;
+      same_sizes = same_sizes_after b c.loop-j.bands c.analyse_next.new.bands i.same_sizes done.same_sizes;
+      left = left_next c.args.wavelet h w b.depth (grid_of G.T.Number.value G.T.Number.none p) j n c.h-h.result c.w-w.result (grid_of G.T.Number.value G.T.Number.none c.loop-j.plane) (omega arith) inside eh ew i.left (grid_of G.T.Number.value G.T.Number.none c.analyse_next.new.plane) done.left;
       dealt =
           dealt_next c.args.wavelet h w b.depth (grid_of G.T.Number.value G.T.Number.none p) j n c.h-h.result c.w-w.result (grid_of G.T.Number.value G.T.Number.none c.loop-j.plane) (omega arith) inside eh ew i.left
-          G.T.Number.value G.T.Number.none c.loop-j.bands c.roll_back.new.bands _ (omega (arith, level)) i.same_sizes.depth done.others done.dealt i.dealt;
+          G.T.Number.value G.T.Number.none c.loop-j.bands c.analyse_next.new.bands _ (omega (arith, level)) i.same_sizes.depth done.others done.dealt i.dealt;
     }
 
 pub copy_corner-requires : goal.copy_corner-requires
@@ -93,21 +105,9 @@ returns-clause-coefficients G c =
     let ew : c.band_mut-lowest.result.now.w ≡ w = lowest_columns b c.loop-j.bands p.w (height p) q.whole_columns q.whole_rows q.bands i.same_sizes c.band_mut-lowest.result.now c.band_mut-lowest.ensures.value in
     let dealt : SameBands h w b.depth (coefficients_in G.T.Number.value G.T.Number.none (with_band c.loop-j.bands 0 0 c.copy_corner.new.dst)) (analysis c.args.wavelet h w b.depth (grid_of G.T.Number.value G.T.Number.none p)) =
     all_dealt G.T.Number.value G.T.Number.none c.args.wavelet h w b.depth (grid_of G.T.Number.value G.T.Number.none p) c.loop-j.j all (grid_of G.T.Number.value G.T.Number.none c.loop-j.plane) i.left c.loop-j.bands i.dealt c.copy_corner.new.dst c.band_mut-lowest.ensures.there
-    (λ y x ly lx. c.copy_corner.ensures.copied y x (omega (arith, eh, c.h-down.ensures)) (omega (arith, ew, c.w-across.ensures))) in
+    (λ y x ly lx. let first : y ≡ 0 + y = omega arith in ap (λ (n : ℕ). grid_of G.T.Number.value G.T.Number.none c.copy_corner.new.dst n x) first ∙ c.copy_corner.ensures.copied y x (omega (arith, eh, c.h-down.ensures)) (omega (arith, ew, c.w-across.ensures))) in
     subst (λ (d : ℕ). SameBands (lowest d (height p)) (lowest d p.w) d (coefficients_in G.T.Number.value G.T.Number.none (with_band c.loop-j.bands 0 0 c.copy_corner.new.dst)) (analysis c.args.wavelet (lowest d (height p)) (lowest d p.w) d (grid_of G.T.Number.value G.T.Number.none p)))
     (sym i.same_sizes.depth) dealt
 
 pub overflow_sub-level : goal.overflow_sub-level
 overflow_sub-level c = grind (arith, common_steps)
-
-pub roll_back-requires-clause-fits : goal.roll_back-requires-clause-fits
-roll_back-requires-clause-fits g c = grind (arith, common_steps)
-
-pub roll_back-requires-clause-high : goal.roll_back-requires-clause-high
-roll_back-requires-clause-high g c = grind (arith, common_steps)
-
-pub roll_back-requires-clause-fits_scratch : goal.roll_back-requires-clause-fits_scratch
-roll_back-requires-clause-fits_scratch g c = grind (arith, common_steps)
-
-pub roll_back-requires-clause-ring : goal.roll_back-requires-clause-ring
-roll_back-requires-clause-ring g c = grind (arith, common_steps)

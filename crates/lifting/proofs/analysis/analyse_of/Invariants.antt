@@ -19,3 +19,6 @@ invariant-loop-j G l =
       left : SameInside (h * 2 ^ (depth - l.j)) (w * 2 ^ (depth - l.j)) (grid_of G.T.Number.value G.T.Number.none l.plane) (remaining l.wavelet h w depth (grid_of G.T.Number.value G.T.Number.none l.fn.plane) l.j);
       dealt : (n : ℕ) → n < depth → depth - l.j ≤ n → HoldLevel G.T.Number.value G.T.Number.none (h * 2 ^ n) (w * 2 ^ n) (analysed l.wavelet h w depth (grid_of G.T.Number.value G.T.Number.none l.fn.plane) (suc n)) (suc n) l.bands;
     }
+
+abbrev pub ghost-analyse_next : goal.ghost-analyse_next
+ghost-analyse_next g a = grid_of g.T.Number.value g.T.Number.none a.plane.now

@@ -1,9 +1,13 @@
-use Rattle.std.proofs.Common.{◌≡◌, ◌∙◌, sym, subst, ℕ, ◌*◌, ◌^◌, ◌<◌, arith}
+use Rattle.std.proofs.Common.{◌≡◌, ◌∙◌, ap, sym, subst, ℕ, ◌+◌, ◌-◌, ◌*◌, ◌^◌, ◌<◌, arith}
 use Rattle.std.proofs.lemmas.Int.{ints}
 use Rattle.std.proofs.lemmas.Grind.{common_steps}
 use Rattle.std.proofs.lemmas.Bool.{eqb-true}
 use Rattle.planes.specs.Numbers.{Within}
+use Rattle.planes.specs.Raster.{height}
+use Rattle.planes.specs.Valued.{grid_of}
 use Rattle.lifting.specs.Bands.{lowest}
+use Rattle.lifting.specs.Clipping.{sample_of}
+use Rattle.lifting.specs.LowerSamples.{rounded}
 use Rattle.lifting.specs.SampleRoom.{IsShownArea}
 use Rattle.lifting.proofs.Levels.{all_levels, all_levels_fit}
 use Rattle.lifting.proofs.lower_samples.synth_lower_samples_of.Goals.{then-level-depth, else-level-depth}
@@ -47,9 +51,22 @@ round_plane-requires-clause-small G c y x ly lx =
     let b = c.args.bands.now in
     let n : ℕ = c.args.at.level.levels in
     let q = c.synth_levels_of.ensures in
+    let p = c.synth_levels_of.new.plane in
     let y_in : y < lowest b.depth c.args.at.size.h * 2 ^ n = omega (arith, ly, q.same_size.1, c.requires.rows) in
     let x_in : x < lowest b.depth c.args.at.size.w * 2 ^ n = omega (arith, lx, q.same_size.0, c.requires.columns) in
-    subst (Within G.T.Number.reach) (sym (q.levels y x y_in x_in)) (c.requires.made y x y_in x_in)
+    let place : height p - lowest b.depth c.args.at.size.h * 2 ^ n + y ≡ y = omega (arith, q.same_size.1, c.requires.rows) in
+    subst (λ (j : ℕ). Within G.T.Number.reach (grid_of G.T.Number.value G.T.Number.none p j x)) place (subst (Within G.T.Number.reach) (sym (q.levels y x y_in x_in)) (c.requires.made y x y_in x_in))
 
 pub returns-clause-samples : goal.returns-clause-samples
-returns-clause-samples c = grind (arith, common_steps)
+returns-clause-samples G c y x ly lx =
+    let b = c.args.bands.now in
+    let n : ℕ = c.args.at.level.levels in
+    let q = c.synth_levels_of.ensures in
+    let p = c.synth_levels_of.new.plane in
+    let y_in : y < lowest b.depth c.args.at.size.h * 2 ^ n = omega (arith, ly, c.requires.shown.down) in
+    let x_in : x < lowest b.depth c.args.at.size.w * 2 ^ n = omega (arith, lx, c.requires.shown.across) in
+    let place : y ≡ height p - lowest b.depth c.args.at.size.h * 2 ^ n + y = omega (arith, q.same_size.1, c.requires.rows) in
+    c.sample_lowest.ensures.samples y x ly lx
+    ∙ ap (sample_of c.args.area.depth)
+    (c.round_plane.ensures.rounded y x (omega (arith, y_in, q.same_size.1, c.requires.rows)) (omega (arith, x_in, q.same_size.0, c.requires.columns))
+    ∙ ap (rounded c.args.at.level.shift) (ap (λ (j : ℕ). grid_of G.T.Number.value G.T.Number.none p j x) place ∙ q.levels y x y_in x_in))
