@@ -1,5 +1,5 @@
 -- A slice that was encoded, after the slices before it.
-use Rattle.std.proofs.Common.{◌≡◌, ◌∙◌, ℕ, List, Bool, ℤ, length, sym, ap}
+use Rattle.std.proofs.Common.{◌≡◌, ◌∙◌, ℕ, List, ◌++◌, Bool, ℤ, length, take, sym, ap, subst}
 use Rattle.planes.specs.declared.ThreePlanes.{ThreePlanes}
 use Rattle.bounded_blocks.specs.Writing.{need}
 use Rattle.slice_geometry.specs.declared.SliceHead.{SliceHead}
@@ -37,9 +37,19 @@ encoded_after j indices sx sy bytes head old new ready slice tries next kept =
     }
 
 -- what a trial answers of the lists that it holds
-pub trial_is : (n bytes : ℕ) (l : Lists) (t : Trying) (lumas colours : List ℤ) → n ≡ bytes → HoldsLists l n t lumas colours
+pub trial_is : (n bytes : ℕ) (l high : Lists) (t : Trying) (lumas colours : List ℤ) → n ≡ bytes → HoldsLists l high n t lumas colours
     → record { luma_need = t.luma_need; colour_need = t.colour_need; fits = t.fits } ≡ trial_of bytes l
-trial_is n bytes l t lumas colours is holds =
+trial_is n bytes l high t lumas colours is holds =
     ap (λ (u : ℕ). record { luma_need = u; colour_need = t.colour_need; fits = t.fits }) holds.luma_need
     ∙ ap (λ (u : ℕ). record { luma_need = need l.luma; colour_need = u; fits = t.fits }) holds.colour_need
     ∙ ap (λ (b : Bool). record { luma_need = need l.luma; colour_need = need l.colour; fits = b }) (holds.fit ∙ ap (λ (k : ℕ). fits k l) is)
+
+-- the lists that are held
+pub held : (l high : Lists) (bytes : ℕ) (t : Trying) (lumas colours : List ℤ) → HoldsLists l high bytes t lumas colours
+    → record { luma = take t.luma lumas ++ high.luma; colour = take t.colour colours ++ high.colour } ≡ l
+held l high bytes t lumas colours h =
+    ap (λ (vs : List ℤ). record { luma = vs; colour = take t.colour colours ++ high.colour }) h.luma ∙ ap (λ (vs : List ℤ). record { luma = l.luma; colour = vs }) h.colour
+
+pub holds_own : (l high : Lists) (bytes : ℕ) (t : Trying) (lumas colours : List ℤ) → HoldsLists l high bytes t lumas colours
+    → HoldsLists (record { luma = take t.luma lumas ++ high.luma; colour = take t.colour colours ++ high.colour }) high bytes t lumas colours
+holds_own l high bytes t lumas colours h = subst (λ (m : Lists). HoldsLists m high bytes t lumas colours) (sym (held l high bytes t lumas colours h)) h

@@ -1,20 +1,22 @@
 -- What is listed of gathered coefficients are the lists of the slice, and what they need is bounded so.
-use Rattle.std.proofs.Common.{◌≡◌, ◌∙◌, refl, sym, ap, subst, ℕ, ◌+◌, ◌-◌, ◌*◌, ◌<◌, ◌≤◌, Bool, true, false, List, [], ◌∷◌, ◌++◌, length, take, arith, ℤ}
+use Rattle.std.proofs.Common.{◌≡◌, ◌∙◌, refl, sym, ap, subst, ℕ, ◌+◌, ◌-◌, ◌*◌, ◌<◌, ◌≤◌, Bool, true, false, List, [], ◌∷◌, length, arith, ℤ}
 use Rattle.std.specs.Prelude.{slice_index}
 use Rattle.std.specs.List.{flat_map, range_with_len}
-use Rattle.planes.specs.Raster.{Raster, Grid, at}
+use Rattle.planes.specs.Raster.{at}
 use Rattle.planes.specs.declared.Rect.{Rect}
 use Rattle.quant_factors.specs.Weights.{Weights, band_quantiser}
 use Rattle.slice_geometry.specs.SliceOrder.{level_rect, area, place_count, level_of, orient_of, numbered}
 use Rattle.slice_encoder.specs.declared.bounding.Lower.{Lower}
 use Rattle.slice_encoder.specs.declared.gathered.GatheredSlice.{GatheredSlice}
-use Rattle.slice_encoder.specs.Trials.{CodedComponent, luma_list, colour_list, CodedPicture, luma_of, c1_of, c2_of, lists}
+use Rattle.slice_encoder.specs.Trials.{CodedComponent, CodedPicture, luma_of, c1_of, c2_of}
 use Rattle.slice_encoder.specs.Choice.{needs_fit, fits}
 use Rattle.slice_encoder.specs.LowNeeds.{may_fit}
-use Rattle.slice_encoder.specs.Listing.{band_part, pair_part}
-use Rattle.slice_encoder.specs.Gathering.{raw_part, raw_before, GatheredSeen, AreGathered, piece_of, quantised, quantised_piece, in_turn, high_part, high_reach, high_pair, high_pairs_reach, quantised_pair, gathered_reach, gathered_pairs_reach, behind_lowest, reach}
-use Rattle.slice_encoder.specs.GatheredSlices.{AreAllGathered, HasRoomFor, gathered_low}
-use Rattle.slice_encoder.specs.Buffers.{HasListRoom}
+use Rattle.slice_encoder.specs.Gathering.{raw_part, raw_before, GatheredSeen, AreGathered, piece_of, quantised, quantised_piece, in_turn, high_part, high_reach, high_pair, high_pairs_reach, quantised_pair, gathered_pairs, gathered_reach, gathered_pairs_reach, behind_lowest, reach}
+use Rattle.slice_encoder.specs.GatheredSlices.{AreAllGathered, lowest_luma, lowest_colour, gathered_low}
+use Rattle.slice_encoder.specs.Tries.{tried_lists}
+use Rattle.slice_encoder.specs.FirstResiduals.{AreFirst, bits_beyond_one}
+use Rattle.planes.specs.declared.ThreePlanes.{ThreePlanes}
+use Rattle.slice_encoder.specs.declared.first_residuals.FirstResiduals.{FirstResiduals}
 use Rattle.slice_encoder.proofs.Parts.{reach_of}
 use Rattle.std.proofs.lemmas.List.{length-append}
 use Rattle.planes.specs.Subbands.{BandStack}
@@ -23,7 +25,8 @@ use Rattle.slice_geometry.specs.Slicing.{Slicing}
 use Rattle.slice_encoder.proofs.BandParts.{length_rect}
 use Rattle.slice_encoder.proofs.LowBounds.{less_fits, more_does_not_fit}
 use Rattle.slice_encoder.proofs.Gathers.{first_count, raw_count, raw_within}
-use Rattle.slice_encoder.proofs.Reaches.{flat_same, bands_fall, pairs_fall, lowest_rises, luma_parts, colour_parts, reach_no_greater}
+use Rattle.slice_encoder.proofs.Reaches.{flat_same, bands_fall, pairs_fall, lowest_rises}
+use Rattle.slice_encoder.proofs.FirstPlaces.{both, beyond_falls, reach_no_greater}
 
 module _ (c : CodedComponent) (index sx sy : ℕ) (g : GatheredSeen) (gathered : AreGathered c.slicing c.size c.bands sx sy g) where
   pub first_end : slice_index g.ends 0 ≡ area (level_rect c.slicing c.size sx sy 0)
@@ -52,16 +55,6 @@ module _ (c : CodedComponent) (index sx sy : ℕ) (g : GatheredSeen) (gathered :
   pub reach_is : gathered_reach g c.matrix index ≡ high_reach c index sx sy
   reach_is = ap (λ (t : List ℤ). reach t 0) pieces_are
 
--- the lowest subband's values, and what is listed behind them
-pub luma_listed : (c : CodedComponent) (index sx sy : ℕ) (g : GatheredSeen) (kept : Raster ℤ) (all lowest out : List ℤ) (count : ℕ) → AreGathered c.slicing c.size c.bands sx sy g → all ≡ take (slice_index g.ends 0) out ++ flat_map (quantised_piece g c.matrix index) (range_with_len 1 (3 * g.depth))
-    → count ≡ slice_index g.ends 0 → take count out ≡ lowest → lowest ≡ band_part c kept index sx sy 0 → all ≡ luma_list c (at kept) index sx sy
-luma_listed c index sx sy g kept all lowest out count gathered all_is count_is front lowest_is =
-    all_is
-    ∙ ap (λ (n : ℕ). take n out ++ flat_map (quantised_piece g c.matrix index) (range_with_len 1 (3 * g.depth))) (sym count_is)
-    ∙ ap (λ (t : List ℤ). t ++ flat_map (quantised_piece g c.matrix index) (range_with_len 1 (3 * g.depth))) (front ∙ lowest_is)
-    ∙ ap (λ (t : List ℤ). band_part c kept index sx sy 0 ++ t) (pieces_are c index sx sy g gathered)
-    ∙ sym (luma_parts c kept index sx sy)
-
 same_lengths : (s : Slicing) (size : Size) (a b : BandStack) (sx sy : ℕ) (ks : List ℕ) → length (flat_map (raw_part s size a sx sy) ks) ≡ length (flat_map (raw_part s size b sx sy) ks)
 same_lengths s size a b sx sy [] = refl
 same_lengths s size a b sx sy (k ∷ ks) =
@@ -89,43 +82,42 @@ module _ (j : CodedPicture) (index sx sy : ℕ) (one two : GatheredSeen) (gather
       ap (λ (t : List ℤ). in_turn t (quantised_piece two j.matrix index k)) (piece_here (c1_of j) index sx sy one gathered1 k some lt)
       ∙ ap (in_turn (high_part (c1_of j) index sx sy k)) (piece_here (c2_of j) index sx sy two gathered2 k some lt)
 
-  pub colour_listed : (kept1 kept2 : Raster ℤ) (all lowest out : List ℤ) (count : ℕ) → all ≡ take (2 * slice_index one.ends 0) out ++ flat_map (λ k. in_turn (quantised_piece one j.matrix index k) (quantised_piece two j.matrix index k)) (range_with_len 1 (3 * one.depth))
-      → count ≡ 2 * slice_index one.ends 0 → take count out ≡ lowest → lowest ≡ pair_part (c1_of j) (c2_of j) kept1 kept2 index sx sy 0 → all ≡ colour_list (c1_of j) (c2_of j) (at kept1) (at kept2) index sx sy
-  colour_listed kept1 kept2 all lowest out count all_is count_is front lowest_is =
-      let p = λ (k : ℕ). in_turn (quantised_piece one j.matrix index k) (quantised_piece two j.matrix index k) in
-      all_is
-      ∙ ap (λ (n : ℕ). take n out ++ flat_map p (range_with_len 1 (3 * one.depth))) (sym count_is)
-      ∙ ap (λ (t : List ℤ). t ++ flat_map p (range_with_len 1 (3 * one.depth))) (front ∙ lowest_is)
-      ∙ ap (λ (n : ℕ). pair_part (c1_of j) (c2_of j) kept1 kept2 index sx sy 0 ++ flat_map p (range_with_len 1 (3 * n))) gathered1.depth
-      ∙ ap (λ (t : List ℤ). pair_part (c1_of j) (c2_of j) kept1 kept2 index sx sy 0 ++ t) (flat_same p (high_pair j index sx sy) 1 (3 * j.slicing.depth) pairs_here)
-      ∙ sym (colour_parts j kept1 kept2 index sx sy)
+  pub pairs_are_high : gathered_pairs one two j.matrix index ≡ flat_map (high_pair j index sx sy) (range_with_len 1 (3 * j.slicing.depth))
+  pairs_are_high =
+      ap (λ (n : ℕ). flat_map (quantised_pair one two j.matrix index) (range_with_len 1 (3 * n))) gathered1.depth
+      ∙ flat_same (quantised_pair one two j.matrix index) (high_pair j index sx sy) 1 (3 * j.slicing.depth) pairs_here
 
   pub pairs_reach_is : gathered_pairs_reach one two j.matrix index ≡ high_pairs_reach j index sx sy
-  pairs_reach_is =
-      ap (λ (n : ℕ). reach (flat_map (quantised_pair one two j.matrix index) (range_with_len 1 (3 * n))) 0) gathered1.depth
-      ∙ ap (λ (t : List ℤ). reach t 0) (flat_same (quantised_pair one two j.matrix index) (high_pair j index sx sy) 1 (3 * j.slicing.depth) pairs_here)
+  pairs_reach_is = ap (λ (t : List ℤ). reach t 0) pairs_are_high
 
 -- ---- bounds
 
 module _ (j : CodedPicture) (sx sy : ℕ) (g : GatheredSlice) (gathered : AreAllGathered j sx sy g) where
-  pub low_is : (index : ℕ) → gathered_low g j.matrix index ≡ reach_of j sx sy index
-  low_is index =
-      ap (λ (n : ℕ). record { luma = behind_lowest n (gathered_reach g.luma j.matrix index) - 3; colour = behind_lowest (2 * slice_index g.c1.ends 0) (gathered_pairs_reach g.c1 g.c2 j.matrix index) - 3 }) (first_end (luma_of j) index sx sy g.luma gathered.luma)
-      ∙ ap (λ (n : ℕ). record { luma = behind_lowest (area (level_rect j.slicing j.frame.luma sx sy 0)) n - 3; colour = behind_lowest (2 * slice_index g.c1.ends 0) (gathered_pairs_reach g.c1 g.c2 j.matrix index) - 3 }) (reach_is (luma_of j) index sx sy g.luma gathered.luma)
-      ∙ ap (λ (n : ℕ). record { luma = (reach_of j sx sy index).luma; colour = behind_lowest (2 * n) (gathered_pairs_reach g.c1 g.c2 j.matrix index) - 3 }) (first_end (c1_of j) index sx sy g.c1 gathered.c1)
-      ∙ ap (λ (n : ℕ). record { luma = (reach_of j sx sy index).luma; colour = behind_lowest (2 * area (level_rect j.slicing j.frame.colour sx sy 0)) n - 3 }) (pairs_reach_is j index sx sy g.c1 g.c2 gathered.c1 gathered.c2)
+  pub low_is : (f : FirstResiduals) (index : ℕ) → gathered_low g f j.matrix index ≡ reach_of j f sx sy index
+  low_is f index =
+      let q : ℕ = band_quantiser j.matrix index 0 0 in
+      let one = area (level_rect j.slicing j.frame.luma sx sy 0) in
+      let two = area (level_rect j.slicing j.frame.colour sx sy 0) in
+      let more = bits_beyond_one f.c1 q + bits_beyond_one f.c2 q in
+      let more_luma = bits_beyond_one f.luma q in
+      both (gathered_low g f j.matrix index).luma (reach_of j f sx sy index).luma (gathered_low g f j.matrix index).colour (reach_of j f sx sy index).colour
+      (ap (λ (n : ℕ). behind_lowest (n + more_luma) (gathered_reach g.luma j.matrix index) - 3) (first_end (luma_of j) index sx sy g.luma gathered.luma)
+      ∙ ap (λ (n : ℕ). behind_lowest (one + more_luma) n - 3) (reach_is (luma_of j) index sx sy g.luma gathered.luma))
+      (ap (λ (n : ℕ). behind_lowest (2 * n + more) (gathered_pairs_reach g.c1 g.c2 j.matrix index) - 3) (first_end (c1_of j) index sx sy g.c1 gathered.c1)
+      ∙ ap (λ (n : ℕ). behind_lowest (2 * two + more) n - 3) (pairs_reach_is j index sx sy g.c1 g.c2 gathered.c1 gathered.c2))
 
-  -- an index that fits may fit
-  pub fit_may : (bytes index : ℕ) (luma c1 c2 : Grid) → fits bytes (lists j luma c1 c2 index sx sy) ≡ true → may_fit bytes (gathered_low g j.matrix index) ≡ true
-  fit_may bytes index luma c1 c2 fit =
-      let low = reach_no_greater j luma c1 c2 index sx sy in
-      subst (λ (l : Lower). may_fit bytes l ≡ true) (sym (low_is index)) (less_fits bytes _ _ _ _ low.0 low.1 fit)
+  module _ (kept : ThreePlanes) (f : FirstResiduals) (first : AreFirst j sx sy kept f) where
+    -- an index that fits may fit
+    pub fit_may : (bytes index : ℕ) → fits bytes (tried_lists j kept sx sy index) ≡ true → may_fit bytes (gathered_low g f j.matrix index) ≡ true
+    fit_may bytes index fit =
+        let low = reach_no_greater j kept f sx sy first index in
+        subst (λ (l : Lower). may_fit bytes l ≡ true) (sym (low_is f index)) (less_fits bytes _ _ _ _ low.0 low.1 fit)
 
-  -- and one that may not doesn't
-  pub low_refutes : (bytes index : ℕ) (luma c1 c2 : Grid) → may_fit bytes (gathered_low g j.matrix index) ≡ false → fits bytes (lists j luma c1 c2 index sx sy) ≡ false
-  low_refutes bytes index luma c1 c2 refused =
-      let low = reach_no_greater j luma c1 c2 index sx sy in
-      more_does_not_fit bytes _ _ _ _ low.0 low.1 (subst (λ (l : Lower). may_fit bytes l ≡ false) (low_is index) refused)
+    -- and one that may not doesn't
+    pub low_refutes : (bytes index : ℕ) → may_fit bytes (gathered_low g f j.matrix index) ≡ false → fits bytes (tried_lists j kept sx sy index) ≡ false
+    low_refutes bytes index refused =
+        let low = reach_no_greater j kept f sx sy first index in
+        more_does_not_fit bytes _ _ _ _ low.0 low.1 (subst (λ (l : Lower). may_fit bytes l ≡ false) (low_is f index) refused)
 
 -- ---- whatever is gathered, the bounds don't rise with the index
 
@@ -135,18 +127,17 @@ reach_below g matrix i k le most = bands_fall matrix (piece_of g) i k le most (r
 pairs_below : (g h : GatheredSeen) (matrix : Weights) (i k : ℕ) → i ≤ k → k ≤ 127 → gathered_pairs_reach g h matrix k ≤ gathered_pairs_reach g h matrix i
 pairs_below g h matrix i k le most = pairs_fall matrix (piece_of g) (piece_of h) i k le most (range_with_len 1 (3 * g.depth)) 0 0 (omega arith)
 
-pub low_refuted_below : (g : GatheredSlice) (matrix : Weights) (bytes i k : ℕ) → i ≤ k → k ≤ 127 → may_fit bytes (gathered_low g matrix k) ≡ false → may_fit bytes (gathered_low g matrix i) ≡ false
-low_refuted_below g matrix bytes i k le most refused =
-    more_does_not_fit bytes _ _ _ _ (omega (arith, lowest_rises (slice_index g.luma.ends 0) _ _ (reach_below g.luma matrix i k le most)))
-    (omega (arith, lowest_rises (2 * slice_index g.c1.ends 0) _ _ (pairs_below g.c1 g.c2 matrix i k le most))) refused
+pub low_refuted_below : (g : GatheredSlice) (f : FirstResiduals) (matrix : Weights) (bytes i k : ℕ) → i ≤ k → k ≤ 127 → may_fit bytes (gathered_low g f matrix k) ≡ false → may_fit bytes (gathered_low g f matrix i) ≡ false
+low_refuted_below g f matrix bytes i k le most refused =
+    let p : ℕ = band_quantiser matrix i 0 0 in
+    let q : ℕ = band_quantiser matrix k 0 0 in
+    let below : q ≤ 127 = omega (arith, most) in
+    let rises : p ≤ q = omega (arith, le) in
+    let fall = λ (r : ℤ). beyond_falls r p q rises below in
+    more_does_not_fit bytes _ _ _ _
+    (omega (arith, lowest_rises (lowest_luma g f q) (lowest_luma g f p) _ _ (omega (arith, fall f.luma)) (reach_below g.luma matrix i k le most)))
+    (omega (arith, lowest_rises (lowest_colour g f q) (lowest_colour g f p) _ _ (omega (arith, fall f.c1, fall f.c2)) (pairs_below g.c1 g.c2 matrix i k le most)))
+    refused
 
 pub gathered_may : (bytes : ℕ) (found low : Lower) (b : Bool) → found ≡ low → needs_fit bytes found.luma found.colour ≡ b → may_fit bytes low ≡ b
 gathered_may bytes found low b e fit = subst (λ (l : Lower). may_fit bytes l ≡ b) e fit
-
--- ---- room for the values
-
-pub has_room : (j : CodedPicture) (sx sy : ℕ) (g : GatheredSlice) (lumas colours : ℕ) → AreAllGathered j sx sy g → HasListRoom j sx sy lumas colours → HasRoomFor g lumas colours
-has_room j sx sy g lumas colours gathered room = record {
-  luma = omega (arith, last_end (luma_of j) 0 sx sy g.luma gathered.luma, room.luma);
-  colour = omega (arith, last_end (c1_of j) 0 sx sy g.c1 gathered.c1, room.colour);
-}

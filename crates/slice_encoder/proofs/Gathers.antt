@@ -227,24 +227,12 @@ module _ (s : Slicing) (size : Size) (bands : BandStack) (sx sy : ℕ) (g : Gath
   }
 
 -- a vector's items that were written over
-pub written_over : (n : ℕ) (xs ys : List ℤ) → n ≡ length xs → take n (xs ++ ys) ≡ xs
+pub written_over : {X : Type 0} (n : ℕ) (xs ys : List X) → n ≡ length xs → take n (xs ++ ys) ≡ xs
 written_over n xs ys e = ap (λ (k : ℕ). take k (xs ++ ys)) e ∙ take-append_seam xs ys
 
 -- ---- one band of values after another
 
 module _ (p : ℕ → List ℤ) where
-  -- from the last to the first
-  pub reach_band : (n passed bits more : ℕ) → passed < n → bits ≡ reach (flat_map p (range_with_len (n + 1 - passed) passed)) 0 → more ≡ reach (p (n - passed)) bits → more ≡ reach (flat_map p (range_with_len (n + 1 - (passed + 1)) (passed + 1))) 0
-  reach_band n passed bits more lt so_far is =
-      let here : n + 1 - (passed + 1) ≡ n - passed = omega arith in
-      let one : passed + 1 ≡ suc passed = omega arith in
-      let next : n - passed + 1 ≡ n + 1 - passed = omega arith in
-      let rest : List ℤ = flat_map p (range_with_len (n - passed + 1) passed) in
-      is
-      ∙ ap (reach (p (n - passed))) (so_far ∙ sym (ap (λ (k : ℕ). reach (flat_map p (range_with_len k passed)) 0) next))
-      ∙ sym (reach_append (p (n - passed)) rest 0)
-      ∙ sym (ap (λ (k : ℕ). reach (flat_map p (range_with_len k (passed + 1))) 0) here ∙ ap (λ (k : ℕ). reach (flat_map p (range_with_len (n - passed) k)) 0) one)
-
   -- from the first to the last
   pub band_listed : (k : ℕ) (front : List ℤ) (all more new : List ℤ) → 1 ≤ k → all ≡ front ++ flat_map p (range_with_len 1 (k - 1)) → new ≡ p k → more ≡ all ++ new → more ≡ front ++ flat_map p (range_with_len 1 (k + 1 - 1))
   band_listed k front all more new some so_far new_is is =

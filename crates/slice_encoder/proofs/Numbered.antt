@@ -1,7 +1,6 @@
 -- The number of a place in a slice's order.
 use Rattle.std.proofs.Common.{◌≡◌, ◌∙◌, subst, ap, ℕ, zero, suc, ◌+◌, ◌-◌, ◌*◌, ◌<◌, ◌≤◌, List, ◌++◌, length, get_or, arith, inl, inr}
 use Rattle.std.specs.List.{flat_map, range_with_len}
-use Rattle.std.proofs.lemmas.Nat.{mul-add-lt}
 use Rattle.std.proofs.lemmas.Bool.{cases_lt}
 use Rattle.std.proofs.lemmas.List.{get_or_append_left, get_or-append-add}
 use Rattle.std.proofs.lemmas.List.FromFn.{get_or-map-range_with_len, length-map-range_with_len}
@@ -12,6 +11,7 @@ use Rattle.slice_geometry.specs.Slicing.{Slicing}
 use Rattle.slice_geometry.specs.SliceOrder.{level_rect, area, places_to, number_in, place_number}
 use Rattle.slice_encoder.specs.Order.{Place, row_places, rect_places, places_of}
 use Rattle.slice_encoder.proofs.Listed.{next_row}
+use Rattle.slice_encoder.proofs.RectLists.{number_less}
 use Rattle.slice_encoder.proofs.WholeTrial.{length_rect_places, length_places}
 
 abbrev place : ℕ → ℕ → ℕ → ℕ → Place
@@ -41,9 +41,6 @@ rect_at level orient r y x d h =
     (λ j. length-map-range_with_len (λ i. place level orient j i) r.x0 (r.x1 - r.x0)) (omega (arith, h.top, h.bottom)) (omega (arith, h.left, h.right))
     ∙ get_or-map-range_with_len (λ i. place level orient (r.y0 + (y - r.y0)) i) r.x0 (r.x1 - r.x0) (x - r.x0) x d (omega (arith, h.left, h.right)) (omega (arith, h.left))
     ∙ ap (λ j. place level orient j x) row
-
-number_less : (r : Rect) (y x : ℕ) → IsInRect r y x → number_in r y x < area r
-number_less r y x h = mul-add-lt (y - r.y0) (r.x1 - r.x0) (x - r.x0) (r.y1 - r.y0) (omega (arith, h.top, h.bottom)) (omega (arith, h.left, h.right))
 
 -- the three bands of a level
 three_at : (level orient : ℕ) (r : Rect) (y x : ℕ) (d : Place) → 1 ≤ orient → orient ≤ 3 → IsInRect r y x

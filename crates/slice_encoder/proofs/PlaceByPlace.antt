@@ -85,13 +85,9 @@ looked_wider m n g y x le l = record {
   corner = λ some more. wider m n _ le (l.corner some more);
 }
 
-module _ (g : Grid) (q : ℕ) (r : Rect) (y x : ℕ) (old new : Raster ℤ) (v : ℤ) (s : TriedSoFar g q r y x old new) (here : IsInRect r y x) (lt : y < height new)
-    (is : v ≡ restored_value (g y x) q (prediction (at new) y x)) (small : Within (3 * 2 ^ 27 + 2) v) (written : at (with_place new y x v) y x ≡ v) where
-  abbrev next : Raster ℤ
-  next = with_place new y x v
-
+module _ (y x : ℕ) where
   -- a place before the next one is this one or one before
-  here_or_before : (j i : ℕ) → Before y (x + 1) j i → ((j ≡ y) × (i ≡ x)) ⊎ (Before y x j i × ((j ≢ y) ⊎ (i ≢ x)))
+  pub here_or_before : (j i : ℕ) → Before y (x + 1) j i → ((j ≡ y) × (i ≡ x)) ⊎ (Before y x j i × ((j ≢ y) ⊎ (i ≢ x)))
   here_or_before j i before = elim before [
     | inl less ↦ inr (inl less, inl (omega arith))
     | inr row ↦ elim (cases_eq i x) [
@@ -100,19 +96,24 @@ module _ (g : Grid) (q : ℕ) (r : Rect) (y x : ℕ) (old new : Raster ℤ) (v :
     ]
   ]
 
-  up_to : (j i : ℕ) → Before y x j i → (j < y) ⊎ ((j ≡ y) × (i ≤ x))
+  pub up_to : (j i : ℕ) → Before y x j i → (j < y) ⊎ ((j ≡ y) × (i ≤ x))
   up_to j i before = elim before [ inl less ↦ inl less | inr row ↦ inr (row.0, omega (arith, row.1)) ]
 
+module _ (g : Grid) (q : ℕ) (r : Rect) (y x : ℕ) (old new : Raster ℤ) (v : ℤ) (s : TriedSoFar g q r y x old new) (here : IsInRect r y x) (lt : y < height new)
+    (is : v ≡ restored_value (g y x) q (prediction (at new) y x)) (small : Within (3 * 2 ^ 27 + 2) v) (written : at (with_place new y x v) y x ≡ v) where
+  abbrev next : Raster ℤ
+  next = with_place new y x v
+
   done_at : (j i : ℕ) → IsInRect r j i → Before y (x + 1) j i → at next j i ≡ restored_value (g j i) q (prediction (at next) j i)
-  done_at j i h before = elim (here_or_before j i before) as (λ _. at next j i ≡ restored_value (g j i) q (prediction (at next) j i)) [
+  done_at j i h before = elim (here_or_before y x j i before) as (λ _. at next j i ≡ restored_value (g j i) q (prediction (at next) j i)) [
     | inl e ↦
         rw (e.0, e.1) (written ∙ is ∙ sym (ap (λ p. restored_value (g y x) q p) (predicted_on new y x v lt y x (inr (refl, omega arith)))))
     | inr b ↦
-        at_elsewhere new y x v lt j i b.1 ∙ s.done j i h b.0 ∙ sym (ap (λ p. restored_value (g j i) q p) (predicted_on new y x v lt j i (up_to j i b.0)))
+        at_elsewhere new y x v lt j i b.1 ∙ s.done j i h b.0 ∙ sym (ap (λ p. restored_value (g j i) q p) (predicted_on new y x v lt j i (up_to y x j i b.0)))
   ]
 
   small_at : (j i : ℕ) → IsInRect r j i → Before y (x + 1) j i → Within (3 * 2 ^ 27 + 2) (at next j i)
-  small_at j i h before = elim (here_or_before j i before) as (λ _. Within (3 * 2 ^ 27 + 2) (at next j i)) [
+  small_at j i h before = elim (here_or_before y x j i before) as (λ _. Within (3 * 2 ^ 27 + 2) (at next j i)) [
     | inl e ↦ rw (e.0, e.1) (subst (λ v. Within (3 * 2 ^ 27 + 2) v) (sym written) small)
     | inr b ↦ subst (λ v. Within (3 * 2 ^ 27 + 2) v) (sym (at_elsewhere new y x v lt j i b.1)) (s.small j i h b.0)
   ]

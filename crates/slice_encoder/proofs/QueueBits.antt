@@ -1,13 +1,13 @@
 -- Bits that are put into bytes one after another.
-use Rattle.std.proofs.Common.{◌≡◌, ◌∙◌, refl, sym, ap, subst, ℕ, zero, suc, ◌+◌, ◌-◌, ◌*◌, ◌/◌, ◌%◌, ◌^◌, ◌<◌, ◌≤◌, min, Bool, true, false, List, [], ◌∷◌, ◌++◌, length, take, drop, replicate, bit_and, slice_set, append_assoc, arith, inl, inr}
+use Rattle.std.proofs.Common.{◌≡◌, ◌∙◌, refl, sym, ap, subst, ℕ, zero, suc, ◌+◌, ◌-◌, ◌*◌, ◌/◌, ◌%◌, ◌^◌, ◌<◌, ◌≤◌, min, Bool, true, false, List, [], ◌∷◌, ◌++◌, length, take, drop, replicate, bit_and, append_assoc, arith, inl, inr}
 use Rattle.std.specs.Int.{bit_at, byte_at, bytes_high_first}
 use Rattle.std.specs.Prelude.{◌==◌}
 use Rattle.std.proofs.lemmas.Bool.{cases_lt}
-use Rattle.std.proofs.lemmas.Nat.{pow-add, pow_pos, shr_split, div_below, mul-add-lt}
+use Rattle.std.proofs.lemmas.Nat.{pow-add, pow_pos, shr_split, div_below, mul-add-lt, mod-mul-add}
 use Rattle.std.proofs.lemmas.Nat.Bits.{bit_at_cat_low, bit_at_cat_high, bit_at_ones, bit_at-lt, shr_and_one}
-use Rattle.std.proofs.lemmas.List.{take_all, take_more_set, take_at, take-append-le, drop_at, length-take-le}
+use Rattle.std.proofs.lemmas.List.{take_all, take_at, take-append-le, drop_at, length-take-le}
 use Rattle.std.proofs.Math.Seq.{take-append_seam, take-add}
-use Rattle.std.proofs.Math.Nat.{pow-le-pow_right, mul_assoc, mul_comm}
+use Rattle.std.proofs.Math.Nat.{pow-le-pow_right, mul_assoc, mul_comm, mul-add}
 use Rattle.bit_codes.specs.Bits.{bit, bits_of, digits_below}
 use Rattle.bit_codes.proofs.Numbers.{bits_of-append, bits_of-take}
 use Rattle.bit_codes.proofs.CodeOf.{length-digits_below}
@@ -35,6 +35,10 @@ digits_join (suc a) c q r lt =
 -- and apart again
 pub digits_split : (a c n : ℕ) → digits_below (a + c) n ≡ digits_below a (n / 2 ^ c) ++ digits_below c (n % 2 ^ c)
 digits_split a c n = ap (λ (m : ℕ). digits_below (a + c) m) (sym (shr_split n c)) ∙ digits_join a c (n / 2 ^ c) (n % 2 ^ c) (let some = pow_pos c in omega (arith, some))
+
+-- what stands above them is of no meaning
+digits_mod : (k m n : ℕ) → k ≤ m → digits_below k (n % 2 ^ m) ≡ digits_below k n
+digits_mod k m n le = sym (digits_low m (n / 2 ^ m) (n % 2 ^ m) k le) ∙ ap (digits_below k) (shr_split n m)
 
 -- the first digits alone
 pub digits_cut : (n fit left number unit : ℕ) → fit ≡ min n left → unit ≡ 2 ^ (n - fit) → digits_below fit (number / unit) ≡ take left (digits_below n number)
@@ -89,21 +93,7 @@ joined_fits a c q r high low =
     let turned : c + a ≡ a + c = omega arith in
     subst (λ (m : ℕ). q * 2 ^ c + r < m) (sym (pow-add 2 c a) ∙ ap (λ (n : ℕ). 2 ^ n) turned) (mul-add-lt q (2 ^ c) r (2 ^ a) high low)
 
--- ---- a byte
-
-pub byte_stored : (bytes : List ℕ) (whole count number : ℕ) → whole < length bytes → 8 ≤ count
-    → bits_so_far (slice_set bytes whole (number / 2 ^ (count - 8))) (record { whole = whole + 1; count = count - 8; number = number % 2 ^ (count - 8) }) ≡ bits_so_far bytes (record { whole = whole; count = count; number = number })
-byte_stored bytes whole count number lt eight =
-    let k : ℕ = count - 8 in
-    let q : ℕ = number / 2 ^ k in
-    let low = digits_below k (number % 2 ^ k) in
-    let all : count ≡ 8 + k = omega arith in
-    ap (λ (t : List ℕ). bits_of t ++ low) (take_more_set bytes whole q lt)
-    ∙ ap (λ (t : List Bool). t ++ low) (bits_of-append (take whole bytes) (q ∷ []))
-    ∙ append_assoc (bits_of (take whole bytes)) (digits_below 8 q) low
-    ∙ ap (λ (t : List Bool). bits_of (take whole bytes) ++ t) (sym (ap (λ (n : ℕ). digits_below n number) all ∙ digits_split 8 k number))
-
--- ---- four bytes
+-- ---- bytes
 
 byte_low : (m : ℕ) → digits_below 8 (m % 256) ≡ digits_below 8 m
 byte_low m = sym (digits_low 8 (m / 256) (m % 256) 8 (omega arith)) ∙ ap (digits_below 8) (shr_split m 8)
@@ -134,76 +124,66 @@ word_bits (suc k) n =
     ∙ ap (λ (t : List Bool). digits_below 8 (n / 2 ^ (8 * k)) ++ t) (sym low)
     ∙ sym (ap (λ (j : ℕ). digits_below j n) more ∙ digits_split 8 (8 * k) n)
 
-pub four_stored : (bytes unit rest : List ℕ) (whole count number : ℕ) → whole ≤ length bytes → 32 ≤ count
-    → unit ≡ bytes_high_first 4 (number / 2 ^ (count - 32))
-    → bits_so_far (take whole bytes ++ (unit ++ rest)) (record { whole = whole + 4; count = count - 32; number = number % 2 ^ (count - 32) })
-    ≡ bits_so_far bytes (record { whole = whole; count = count; number = number })
-four_stored bytes unit rest whole count number inside many is =
-    let k : ℕ = count - 32 in
-    let q : ℕ = number / 2 ^ k in
-    let low = digits_below k (number % 2 ^ k) in
-    let all : count ≡ 32 + k = omega arith in
-    let four : length unit ≡ 4 = ap (λ (t : List ℕ). length t) is in
-    let front : take (whole + 4) (take whole bytes ++ (unit ++ rest)) ≡ take whole bytes ++ unit =
-    take-add whole 4 (take whole bytes ++ (unit ++ rest))
-    ∙ ap (λ (t : List ℕ). t ++ take 4 (drop whole (take whole bytes ++ (unit ++ rest)))) (take_at (take whole bytes) (unit ++ rest) whole (length-take-le whole bytes inside))
-    ∙ ap (λ (t : List ℕ). take whole bytes ++ take 4 t) (drop_at (take whole bytes) (unit ++ rest) whole (length-take-le whole bytes inside))
-    ∙ ap (λ (t : List ℕ). take whole bytes ++ t) (take_at unit rest 4 four)
-    in
-    ap (λ (t : List ℕ). bits_of t ++ low) (front ∙ ap (λ (t : List ℕ). take whole bytes ++ t) is)
-    ∙ ap (λ (t : List Bool). t ++ low) (bits_of-append (take whole bytes) (bytes_high_first 4 q))
-    ∙ append_assoc (bits_of (take whole bytes)) (bits_of (bytes_high_first 4 q)) low
-    ∙ ap (λ (t : List Bool). bits_of (take whole bytes) ++ (t ++ low)) (word_bits 4 q)
-    ∙ ap (λ (t : List Bool). bits_of (take whole bytes) ++ t) (sym (ap (λ (n : ℕ). digits_below n number) all ∙ digits_split 32 k number))
-
 -- ---- as many bytes of eight as are whole
 
--- the bits that wait, with zeros up to 64 of them
-pub word_is : (count number : ℕ) → count < 64 → 2 * number * 2 ^ (63 - count) ≡ number * 2 ^ (64 - count) + 0
-word_is count number lt =
-    let up : 64 - count ≡ 1 + (63 - count) = omega (arith, lt) in
-    let u : ℕ = 2 ^ (63 - count) in
-    let twice : 2 ^ (64 - count) ≡ 2 * u = ap (λ (n : ℕ). 2 ^ n) up ∙ pow-add 2 1 (63 - count) in
-    let turned : number * (2 * u) ≡ 2 * number * u = sym (mul_assoc number 2 u) ∙ ap (λ (n : ℕ). n * u) (mul_comm number 2) in
-    omega (arith, turned, ap (λ (n : ℕ). number * n) twice)
+-- the word that is stored
+abbrev pub word_of : ℕ → ℕ → ℕ
+word_of count number = number * 2 ^ 1 % 18446744073709551616 * 2 ^ (63 - count) % 18446744073709551616
 
-pub word_fits : (count number : ℕ) → count < 64 → number < 2 ^ count → 2 * number * 2 ^ (63 - count) < 2 ^ 64
-word_fits count number lt small =
-    let all : count + (64 - count) ≡ 64 = omega (arith, lt) in
-    let some = pow_pos (64 - count) in
-    omega (arith, word_is count number lt, subst (λ (n : ℕ). number * 2 ^ (64 - count) + 0 < 2 ^ n) all (joined_fits count (64 - count) number 0 small some))
+-- the bits that wait stand first in it, and behind them zeros
+word_digits : (count number : ℕ) → count < 64 → digits_below 64 (word_of count number) ≡ digits_below count number ++ (digits_below 1 0 ++ digits_below (63 - count) 0)
+word_digits count number lt =
+    let twice : ℕ = number * 2 ^ 1 % 18446744073709551616 in
+    let k : ℕ = 63 - count in
+    let all : 64 ≡ count + 1 + k = omega (arith, lt) in
+    digits_mod 64 64 (twice * 2 ^ k) (omega arith)
+    ∙ ap (λ (n : ℕ). digits_below 64 n) (let more : twice * 2 ^ k ≡ twice * 2 ^ k + 0 = omega arith in more)
+    ∙ ap (λ (n : ℕ). digits_below n (twice * 2 ^ k + 0)) all
+    ∙ digits_join (count + 1) k twice 0 (pow_pos k)
+    ∙ ap (λ (t : List Bool). t ++ digits_below k 0)
+    (digits_mod (count + 1) 64 (number * 2 ^ 1) (omega (arith, lt))
+    ∙ ap (digits_below (count + 1)) (let more : number * 2 ^ 1 ≡ number * 2 ^ 1 + 0 = omega arith in more)
+    ∙ digits_join count 1 number 0 (omega arith))
+    ∙ append_assoc (digits_below count number) (digits_below 1 0) (digits_below k 0)
 
 -- the first of its bits
-word_front : (count number : ℕ) → count < 64 → take (8 * (count / 8)) (digits_below 64 (2 * number * 2 ^ (63 - count))) ≡ digits_below (8 * (count / 8)) (number / 2 ^ (count % 8))
+word_front : (count number : ℕ) → count < 64 → take (8 * (count / 8)) (digits_below 64 (word_of count number)) ≡ digits_below (8 * (count / 8)) (number / 2 ^ (count % 8))
 word_front count number lt =
     let k : ℕ = 8 * (count / 8) in
     let r : ℕ = count % 8 in
-    let all : 64 ≡ count + (64 - count) = omega (arith, lt) in
     let parts : count ≡ k + r = omega arith in
     let high = digits_below k (number / 2 ^ r) in
     let low = digits_below r (number % 2 ^ r) in
-    let rest = digits_below (64 - count) 0 in
-    let is : digits_below 64 (2 * number * 2 ^ (63 - count)) ≡ high ++ (low ++ rest) =
-    ap (digits_below 64) (word_is count number lt)
-    ∙ ap (λ (n : ℕ). digits_below n (number * 2 ^ (64 - count) + 0)) all
-    ∙ digits_join count (64 - count) number 0 (pow_pos (64 - count))
+    let rest = digits_below 1 0 ++ digits_below (63 - count) 0 in
+    let is : digits_below 64 (word_of count number) ≡ high ++ (low ++ rest) =
+    word_digits count number lt
     ∙ ap (λ (n : ℕ). digits_below n number ++ rest) parts
     ∙ ap (λ (t : List Bool). t ++ rest) (digits_split k r number)
     ∙ append_assoc high low rest
     in
     ap (take k) is ∙ take_at high (low ++ rest) k (length-digits_below k (number / 2 ^ r))
 
-pub whole_stored : (bytes unit rest : List ℕ) (whole count number : ℕ) → whole ≤ length bytes → count < 64
-    → unit ≡ bytes_high_first 8 (2 * number * 2 ^ (63 - count))
-    → bits_so_far (take whole bytes ++ (unit ++ rest)) (record { whole = whole + count / 8; count = count % 8; number = number % 2 ^ (count % 8) })
+length_word : (word : ℕ) → length (bytes_high_first 8 word) ≡ 8
+length_word word = refl
+
+-- the first of the first
+pub shorter : {X : Type 0} (n m : ℕ) (xs : List X) → n ≤ m → take n (take m xs) ≡ take n xs
+shorter zero m xs le = refl
+shorter (suc n) zero xs le = absurd (omega (arith, le))
+shorter (suc n) (suc m) [] le = refl
+shorter (suc n) (suc m) (x ∷ xs) le = ap (λ t. x ∷ t) (shorter n m xs (omega (arith, le)))
+
+pub whole_stored : (bytes unit rest : List ℕ) (whole count number most : ℕ) → whole ≤ length bytes → count < 64
+    → count / 8 ≤ most → most ≤ 8 → unit ≡ take most (bytes_high_first 8 (word_of count number))
+    → bits_so_far (take whole bytes ++ (unit ++ rest)) (record { whole = whole + count / 8; count = count % 8; number = number })
     ≡ bits_so_far bytes (record { whole = whole; count = count; number = number })
-whole_stored bytes unit rest whole count number inside lt is =
+whole_stored bytes unit rest whole count number most inside lt few eight_most is =
     let n : ℕ = count / 8 in
     let r : ℕ = count % 8 in
-    let word : ℕ = 2 * number * 2 ^ (63 - count) in
-    let low = digits_below r (number % 2 ^ r) in
+    let word : ℕ = word_of count number in
+    let low = digits_below r number in
     let parts : count ≡ 8 * n + r = omega arith in
-    let eight : length unit ≡ 8 = ap (λ (t : List ℕ). length t) is in
+    let eight : length unit ≡ most = ap (λ (t : List ℕ). length t) is ∙ length-take-le most (bytes_high_first 8 word) (omega (arith, eight_most, length_word word)) in
     let front : take (whole + n) (take whole bytes ++ (unit ++ rest)) ≡ take whole bytes ++ take n unit =
     take-add whole n (take whole bytes ++ (unit ++ rest))
     ∙ ap (λ (t : List ℕ). t ++ take n (drop whole (take whole bytes ++ (unit ++ rest)))) (take_at (take whole bytes) (unit ++ rest) whole (length-take-le whole bytes inside))
@@ -211,13 +191,56 @@ whole_stored bytes unit rest whole count number inside lt is =
     ∙ ap (λ (t : List ℕ). take whole bytes ++ t) (take-append-le n unit rest (omega (arith, eight, lt)))
     in
     let stored : bits_of (take n unit) ≡ digits_below (8 * n) (number / 2 ^ r) =
-    bits_of-take n unit
-    ∙ ap (λ (t : List ℕ). take (8 * n) (bits_of t)) is
+    ap (λ (t : List ℕ). bits_of (take n t)) is
+    ∙ ap bits_of (shorter n most (bytes_high_first 8 word) few)
+    ∙ bits_of-take n (bytes_high_first 8 word)
     ∙ ap (take (8 * n)) (word_bits 8 word)
     ∙ word_front count number lt
+    in
+    let both : digits_below (8 * n) (number / 2 ^ r) ++ low ≡ digits_below count number =
+    sym
+    (ap (λ (m : ℕ). digits_below m number) parts
+    ∙ digits_split (8 * n) r number
+    ∙ ap (λ (t : List Bool). digits_below (8 * n) (number / 2 ^ r) ++ t) (digits_mod r r number (omega arith)))
     in
     ap (λ (t : List ℕ). bits_of t ++ low) front
     ∙ ap (λ (t : List Bool). t ++ low) (bits_of-append (take whole bytes) (take n unit))
     ∙ append_assoc (bits_of (take whole bytes)) (bits_of (take n unit)) low
     ∙ ap (λ (t : List Bool). bits_of (take whole bytes) ++ (t ++ low)) stored
-    ∙ ap (λ (t : List Bool). bits_of (take whole bytes) ++ t) (sym (ap (λ (m : ℕ). digits_below m number) parts ∙ digits_split (8 * n) r number))
+    ∙ ap (λ (t : List Bool). bits_of (take whole bytes) ++ t) both
+
+-- ---- bits behind those that wait
+
+-- what is left of a number in 64 bits that goes up by some
+shifted_is : (number n : ℕ) → n < 64 → number * 2 ^ n % 18446744073709551616 ≡ number % 2 ^ (64 - n) * 2 ^ n
+shifted_is number n lt =
+    let u : ℕ = 2 ^ n in
+    let w : ℕ = 2 ^ (64 - n) in
+    let a : ℕ = number / w in
+    let b : ℕ = number % w in
+    let all : 64 - n + n ≡ 64 = omega (arith, lt) in
+    let whole : w * u ≡ 2 ^ 64 = sym (pow-add 2 (64 - n) n) ∙ ap (λ (k : ℕ). 2 ^ k) all in
+    let up : number * u ≡ a * (w * u) + b * u =
+    mul_comm number u
+    ∙ ap (λ (k : ℕ). u * k) (sym (shr_split number (64 - n)))
+    ∙ mul-add u (a * w) b
+    ∙ ap (λ (k : ℕ). k + u * b) (mul_comm u (a * w) ∙ mul_assoc a w u)
+    ∙ ap (λ (k : ℕ). a * (w * u) + k) (mul_comm u b)
+    in
+    let small : b * u + 0 < 2 ^ (64 - n + n) = joined_fits (64 - n) n b 0 (let some = pow_pos (64 - n) in omega (arith, some)) (pow_pos n) in
+    let below : b * u < 2 ^ 64 = omega (arith, small, ap (λ (k : ℕ). 2 ^ k) all) in
+    ap (λ (k : ℕ). k % 18446744073709551616) (up ∙ ap (λ (k : ℕ). a * k + b * u) whole) ∙ mod-mul-add a 18446744073709551616 (b * u) below
+
+pub shifted_fits : (number n text : ℕ) → n < 64 → text < 2 ^ n → number * 2 ^ n % 18446744073709551616 + text < 2 ^ 64
+shifted_fits number n text lt small =
+    let all : 64 - n + n ≡ 64 = omega (arith, lt) in
+    let b : ℕ = number % 2 ^ (64 - n) in
+    let fits : b * 2 ^ n + text < 2 ^ (64 - n + n) = joined_fits (64 - n) n b text (let some = pow_pos (64 - n) in omega (arith, some)) small in
+    omega (arith, fits, ap (λ (k : ℕ). 2 ^ k) all, shifted_is number n lt)
+
+pub shifted_digits : (count n number text : ℕ) → count + n < 64 → text < 2 ^ n → digits_below (count + n) (number * 2 ^ n % 18446744073709551616 + text) ≡ digits_below count number ++ digits_below n text
+shifted_digits count n number text lt small =
+    let b : ℕ = number % 2 ^ (64 - n) in
+    ap (λ (k : ℕ). digits_below (count + n) (k + text)) (shifted_is number n (omega (arith, lt)))
+    ∙ digits_join count n b text small
+    ∙ ap (λ (t : List Bool). t ++ digits_below n text) (digits_mod count (64 - n) number (omega (arith, lt)))

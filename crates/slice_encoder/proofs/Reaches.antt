@@ -14,24 +14,26 @@ use Rattle.std.proofs.lemmas.List.FromFn.{length-map-range_with_len}
 use Rattle.bounded_blocks.specs.Blocks.{AreOnes, need_of}
 use Rattle.bounded_blocks.specs.Writing.{codes_of, need}
 use Rattle.bounded_blocks.proofs.Needs.{need-append, need-append-ones, ones-beyond, code-zero}
+use Rattle.dc_prediction.specs.Prediction.{prediction}
 use Rattle.quant_factors.specs.Factors.{forward_of}
 use Rattle.quant_factors.specs.Weights.{Weights, band_quantiser}
 use Rattle.quant_factors.proofs.QuantLemmas.{coarser}
-use Rattle.slice_geometry.specs.SliceOrder.{level_rect, area, level_of, orient_of, numbered}
+use Rattle.slice_geometry.specs.SliceOrder.{level_rect, level_of, orient_of, numbered}
 use Rattle.std.proofs.Math.Seq.{drop-append_seam}
 use Rattle.std.proofs.lemmas.Grind.{flat_map-append}
 use Rattle.std.proofs.lemmas.List.Concat.{flat_map_single}
 use Rattle.slice_geometry.specs.declared.Size.{Size}
 use Rattle.slice_geometry.specs.Slicing.{Slicing}
 use Rattle.slice_encoder.specs.Order.{Place, row_places, rect_places, places_of}
-use Rattle.slice_encoder.specs.Trials.{CodedComponent, value_of, luma_list, colour_list, CodedPicture, luma_of, c1_of, c2_of, lists}
-use Rattle.slice_encoder.specs.Listing.{band_value, row_values, pair_row, pair_values}
+use Rattle.slice_encoder.specs.Loop.{residual_of}
+use Rattle.slice_encoder.specs.Trials.{CodedComponent, coefficient, value_of, luma_list, colour_list, CodedPicture, c1_of, c2_of}
+use Rattle.slice_encoder.specs.Listing.{band_value, row_values, rect_values, pair_row, pair_values}
 use Rattle.slice_encoder.specs.LowNeeds.{counted_bits}
 use Rattle.slice_encoder.specs.Listing.{band_part, pair_part}
 use Rattle.slice_encoder.specs.Gathering.{quantised, in_turn, with_code, reach, high_part, high_pair, behind_lowest}
-use Rattle.slice_encoder.proofs.Parts.{parts_before, pairs_before, reach_of}
+use Rattle.slice_encoder.proofs.Parts.{parts_before, pairs_before}
 use Rattle.slice_encoder.proofs.CountedBits.{counted-rises, NeedsMost, one_code}
-use Rattle.slice_encoder.proofs.BandParts.{bands_listed, pairs_listed, length_rect, length_pairs, map_joined, map_map, rect_listed, either_same, joined_joined, joined_map, pair_here}
+use Rattle.slice_encoder.proofs.BandParts.{bands_listed, pairs_listed, map_joined, map_map, rect_listed, either_same, joined_joined, joined_map, pair_here}
 use Rattle.slice_encoder.proofs.Gathers.{reach_append, turn_append}
 
 -- ---- one value
@@ -79,12 +81,6 @@ with_some v b some = grind (arith, nat_tests)
 with_most : (v : ℤ) (b : ℕ) → with_code v b ≤ length (signed_code_of v) + b
 with_most v b = elim (cases_eq (unsigned_abs v + b) 0) [
   | inl none ↦ omega (arith, with_none v b none)
-  | inr some ↦ omega (arith, with_some v b (omega arith))
-]
-
-with_least : (v : ℤ) (b : ℕ) → b ≤ with_code v b
-with_least v b = elim (cases_eq (unsigned_abs v + b) 0) [
-  | inl none ↦ omega (arith, none)
   | inr some ↦ omega (arith, with_some v b (omega arith))
 ]
 
@@ -146,10 +142,10 @@ lowest_none n b none = grind (arith, nat_tests)
 pub lowest_some : (n b : ℕ) → 1 ≤ b → behind_lowest n b ≡ n + b
 lowest_some n b some = grind (arith, nat_tests)
 
-pub lowest_rises : (n a b : ℕ) → a ≤ b → behind_lowest n a ≤ behind_lowest n b
-lowest_rises n a b le = elim (cases_eq a 0) [
-  | inl none ↦ omega (arith, lowest_none n a none)
-  | inr some ↦ omega (arith, lowest_some n a (omega arith), lowest_some n b (omega arith))
+pub lowest_rises : (m n a b : ℕ) → m ≤ n → a ≤ b → behind_lowest m a ≤ behind_lowest n b
+lowest_rises m n a b more le = elim (cases_eq a 0) [
+  | inl none ↦ omega (arith, lowest_none m a none)
+  | inr some ↦ omega (arith, more, lowest_some m a (omega arith), lowest_some n b (omega arith))
 ]
 
 -- ---- what is reached is needed, but for the ones at the end of the last code
@@ -179,17 +175,17 @@ reach_needs (v ∷ vs) =
     with_nothing (pos (suc n)) = with_some (pos (suc n)) 0 (omega arith) ∙ plain (length (signed_code_of (pos (suc n))))
     with_nothing (negsuc n) = with_some (negsuc n) 0 (omega arith) ∙ plain (length (signed_code_of (negsuc n)))
 
--- values in front take a bit each at least
-some_in_front : (ll : List ℤ) (b : ℕ) → 1 ≤ b → length ll + b ≤ reach ll b
-some_in_front [] b some = omega arith
-some_in_front (v ∷ ll) b some =
-    let later = some_in_front ll b some in
-    omega (arith, later, with_some v (reach ll b) (omega (arith, later, some)), code_some v)
+-- the codes of values in front are counted whole where something behind them is
+all_in_front : (ll : List ℤ) (b : ℕ) → 1 ≤ b → length (codes_of ll) + b ≤ reach ll b
+all_in_front [] b some = omega arith
+all_in_front (v ∷ ll) b some =
+    let later = all_in_front ll b some in
+    omega (arith, later, length-append (signed_code_of v) (codes_of ll), with_some v (reach ll b) (omega (arith, later, some)))
 
-in_front : (ll : List ℤ) (b : ℕ) → behind_lowest (length ll) b ≤ reach ll b
-in_front ll b = elim (cases_eq b 0) [
-  | inl none ↦ omega (arith, lowest_none (length ll) b none)
-  | inr some ↦ omega (arith, lowest_some (length ll) b (omega arith), some_in_front ll b (omega arith))
+in_front : (ll : List ℤ) (n b : ℕ) → n ≤ length (codes_of ll) → behind_lowest n b ≤ reach ll b
+in_front ll n b le = elim (cases_eq b 0) [
+  | inl none ↦ omega (arith, lowest_none n b none)
+  | inr some ↦ omega (arith, lowest_some n b (omega arith), all_in_front ll b (omega arith))
 ]
 
 -- ---- the lists of a slice
@@ -300,17 +296,15 @@ suffix a b c e = sym (drop-append_seam a b) ∙ ap (drop (length a)) e ∙ drop-
 value_same : (c : CodedComponent) (g h : Grid) (index level orient y x : ℕ) → value_of c g index (record { level = suc level; orient = orient; y = y; x = x }) ≡ value_of c h index (record { level = suc level; orient = orient; y = y; x = x })
 value_same c g h index level orient y x = either_same (eqb (suc level) 0) _ _ _ _ (λ e. let none : suc level ≡ 0 = eqb→eq (suc level) 0 (subst T (sym e) tt) in absurd (omega arith)) refl
 
--- a component's list: values of the lowest subband, as many as it has places, and then the others
-pub record SplitList (all : List ℤ) (places : ℕ) (high : List ℤ) : Type 0 where
-  pub lowest : List ℤ
-  pub count : length lowest ≡ places
-  pub is : all ≡ lowest ++ high
+-- a place of the lowest subband has its residual, over these restored values
+abbrev pub lowest_value : CodedComponent → Grid → ℕ → Grid
+lowest_value c g index y x = residual_of (coefficient c 0 0 y x) (band_quantiser c.matrix index 0 0) (prediction g y x)
 
 module _ (c : CodedComponent) (g : Grid) (index sx sy : ℕ) where
   one_list : (h : Grid) → luma_list c h index sx sy ≡ flat_map (λ p. value_of c h index p ∷ []) (places_of c.slicing c.size sx sy c.slicing.depth)
   one_list h = sym (flat_map_single (value_of c h index) (places_of c.slicing c.size sx sy c.slicing.depth))
 
-  pub luma_split : SplitList (luma_list c g index sx sy) (area (level_rect c.slicing c.size sx sy 0)) (flat_map (high_part c index sx sy) (range_with_len 1 (3 * c.slicing.depth)))
+  pub luma_split : luma_list c g index sx sy ≡ rect_values (lowest_value c g index) (level_rect c.slicing c.size sx sy 0) ++ flat_map (high_part c index sx sy) (range_with_len 1 (3 * c.slicing.depth))
   luma_split =
       let kept : Raster ℤ = numbered c.bands 0 in
       let f = λ (p : Place). value_of c g index p ∷ [] in
@@ -322,15 +316,15 @@ module _ (c : CodedComponent) (g : Grid) (index sx sy : ℕ) where
       let split = λ (q : Place → List ℤ). ap (flat_map q) (places_split c.slicing c.size sx sy c.slicing.depth) ∙ flat_map-append q first higher in
       let front : flat_map h first ≡ band_part c kept index sx sy 0 = flat_map_single (value_of c (at kept) index) first ∙ rect_listed (value_of c (at kept) index) (band_value (numbered c.bands 0) kept 0 (band_quantiser c.matrix index 0 0)) 0 0 r (λ y x. refl) in
       let rest : flat_map h higher ≡ high = suffix (band_part c kept index sx sy 0) (flat_map h higher) high (ap (λ (t : List ℤ). t ++ flat_map h higher) (sym front) ∙ sym (split h) ∙ sym (one_list (at kept)) ∙ luma_parts c kept index sx sy) in
-      let size : length (flat_map f first) ≡ area r = ap (λ (t : List ℤ). length t) (flat_map_single (value_of c g index) first ∙ rect_listed (value_of c g index) (λ y x. value_of c g index (record { level = 0; orient = 0; y = y; x = x })) 0 0 r (λ y x. refl)) ∙ length_rect _ r in
-      record {
-        lowest = flat_map f first;
-        count = size;
-        is = one_list g ∙ split f ∙ ap (λ (t : List ℤ). flat_map f first ++ t) (higher_same f h (λ level orient y x. ap (λ v. v ∷ []) (value_same c g (at kept) index level orient y x)) c.slicing c.size sx sy c.slicing.depth ∙ rest);
-      }
+      let lowest : flat_map f first ≡ rect_values (lowest_value c g index) r = flat_map_single (value_of c g index) first ∙ rect_listed (value_of c g index) (lowest_value c g index) 0 0 r (λ y x. refl) in
+      one_list g
+      ∙ split f
+      ∙ ap (λ (t : List ℤ). flat_map f first ++ t) (higher_same f h (λ level orient y x. ap (λ v. v ∷ []) (value_same c g (at kept) index level orient y x)) c.slicing c.size sx sy c.slicing.depth ∙ rest)
+      ∙ ap (λ (t : List ℤ). t ++ high) lowest
 
 module _ (j : CodedPicture) (g1 g2 : Grid) (index sx sy : ℕ) where
-  pub colour_split : SplitList (colour_list (c1_of j) (c2_of j) g1 g2 index sx sy) (2 * area (level_rect j.slicing j.frame.colour sx sy 0)) (flat_map (high_pair j index sx sy) (range_with_len 1 (3 * j.slicing.depth)))
+  pub colour_split : colour_list (c1_of j) (c2_of j) g1 g2 index sx sy
+      ≡ pair_values (lowest_value (c1_of j) g1 index) (lowest_value (c2_of j) g2 index) (level_rect j.slicing j.frame.colour sx sy 0) ++ flat_map (high_pair j index sx sy) (range_with_len 1 (3 * j.slicing.depth))
   colour_split =
       let c1 = c1_of j in
       let c2 = c2_of j in
@@ -349,30 +343,22 @@ module _ (j : CodedPicture) (g1 g2 : Grid) (index sx sy : ℕ) where
       let xs = range_with_len r.x0 (r.x1 - r.x0) in
       let ys = range_with_len r.y0 (r.y1 - r.y0) in
       let place : ℕ → ℕ → Place = λ y x. record { level = 0; orient = 0; y = y; x = x } in
-      let pairs : flat_map f first ≡ pair_values (λ y x. value_of c1 g1 index (place y x)) (λ y x. value_of c2 g2 index (place y x)) r =
+      let pairs : flat_map f first ≡ pair_values (lowest_value c1 g1 index) (lowest_value c2 g2 index) r =
       joined_joined f (row_places 0 0 r) (λ y. flat_map (λ x. f (place y x)) xs) (λ y. joined_map f (place y) (λ x. f (place y x)) (λ x. refl) xs) ys
       in
-      record {
-        lowest = flat_map f first;
-        count = ap (λ (t : List ℤ). length t) pairs ∙ length_pairs _ _ r;
-        is =
-            split f
-            ∙ ap (λ (t : List ℤ). flat_map f first ++ t)
-            (higher_same f h (λ level orient y x. ap (λ v. v ∷ value_of c2 g2 index (record { level = suc level; orient = orient; y = y; x = x }) ∷ []) (value_same c1 g1 (at kept1) index level orient y x) ∙ ap (λ v. value_of c1 (at kept1) index (record { level = suc level; orient = orient; y = y; x = x }) ∷ v ∷ []) (value_same c2 g2 (at kept2) index level orient y x)) j.slicing j.frame.colour sx sy j.slicing.depth
-            ∙ rest);
-      }
+      split f
+      ∙ ap (λ (t : List ℤ). flat_map f first ++ t)
+      (higher_same f h (λ level orient y x. ap (λ v. v ∷ value_of c2 g2 index (record { level = suc level; orient = orient; y = y; x = x }) ∷ []) (value_same c1 g1 (at kept1) index level orient y x) ∙ ap (λ v. value_of c1 (at kept1) index (record { level = suc level; orient = orient; y = y; x = x }) ∷ v ∷ []) (value_same c2 g2 (at kept2) index level orient y x)) j.slicing j.frame.colour sx sy j.slicing.depth
+      ∙ rest)
+      ∙ ap (λ (t : List ℤ). t ++ high) pairs
 
-split_reach : (all : List ℤ) (places : ℕ) (high : List ℤ) → SplitList all places high → behind_lowest places (reach high 0) ≤ need all + 3
-split_reach all places high s =
+-- what is reached behind values in front is needed
+pub split_reach : (all lowest high : List ℤ) (places : ℕ) → all ≡ lowest ++ high → places ≤ length (codes_of lowest) → behind_lowest places (reach high 0) ≤ need all + 3
+split_reach all lowest high places is le =
     omega (
       arith,
       (reach_needs all).most,
-      ap (λ (t : List ℤ). reach t 0) s.is,
-      reach_append s.lowest high 0,
-      in_front s.lowest (reach high 0),
-      ap (λ (n : ℕ). behind_lowest n (reach high 0)) s.count,
+      ap (λ (t : List ℤ). reach t 0) is,
+      reach_append lowest high 0,
+      in_front lowest places (reach high 0) le,
     )
-
-pub reach_no_greater : (j : CodedPicture) (luma c1 c2 : Grid) (index sx sy : ℕ) → ((reach_of j sx sy index).luma ≤ need (lists j luma c1 c2 index sx sy).luma) × ((reach_of j sx sy index).colour ≤ need (lists j luma c1 c2 index sx sy).colour)
-reach_no_greater j luma c1 c2 index sx sy =
-    (omega (arith, split_reach _ _ _ (luma_split (luma_of j) luma index sx sy)), omega (arith, split_reach _ _ _ (colour_split j c1 c2 index sx sy)))

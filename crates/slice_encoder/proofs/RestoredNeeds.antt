@@ -1,35 +1,17 @@
--- What a slice needs that is restored: the codes in its lowest subbands, and how far those behind them reach.
-use Rattle.std.proofs.Common.{◌≡◌, ◌∙◌, sym, ap, subst, ℕ, ◌+◌, ◌-◌, ◌*◌, ◌≤◌, List, ◌++◌, length, arith, inl, inr, ℤ}
+-- The values in the lowest subbands of a restored slice.
+use Rattle.std.proofs.Common.{◌≡◌, ◌∙◌, sym, ap, subst, ℕ, ◌+◌, ◌*◌, ◌≤◌, List, ◌++◌, length, arith, ℤ}
 use Rattle.std.specs.List.{flat_map, range_with_len}
-use Rattle.std.proofs.lemmas.Bool.{cases_eq}
 use Rattle.std.proofs.lemmas.List.Elements.{All-take}
 use Rattle.std.proofs.Math.Seq.{take-append_seam}
 use Rattle.planes.specs.Raster.{Raster, Grid, at}
 use Rattle.slice_geometry.specs.SliceOrder.{level_rect, area, place_count}
 use Rattle.bounded_blocks.specs.Parts.{IsSmall}
-use Rattle.bounded_blocks.specs.Writing.{codes_of, need}
 use Rattle.slice_encoder.specs.Trials.{CodedComponent, CodedPicture, luma_list, colour_list, c1_of, c2_of}
 use Rattle.slice_encoder.specs.TrialLaws.{AreSmallValues}
 use Rattle.slice_encoder.specs.Listing.{band_part, pair_part}
-use Rattle.slice_encoder.specs.Gathering.{behind_lowest, reach, high_part, high_reach, high_pair, high_pairs_reach}
-use Rattle.slice_encoder.proofs.Gathers.{reach_append, first_count, raw_count, raw_within}
-use Rattle.slice_encoder.proofs.Reaches.{lowest_none, lowest_some, reach_needs, luma_parts, colour_parts}
-use Rattle.slice_encoder.proofs.ReachSums.{reach_all}
-
-pub front_needs : (front high all : List ℤ) (bits : ℕ) → bits ≡ length (codes_of front) → all ≡ front ++ high → behind_lowest bits (reach high 0) - 3 ≤ need all
-front_needs front high all bits is all_is = elim (cases_eq (reach high 0) 0) as (λ _. behind_lowest bits (reach high 0) - 3 ≤ need all) [
-  | inl none ↦ omega (arith, lowest_none bits (reach high 0) none)
-  | inr some ↦
-      omega (
-        arith,
-        is,
-        lowest_some bits (reach high 0) (omega arith),
-        reach_all front (reach high 0) (omega arith),
-        reach_append front high 0,
-        ap (λ (t : List ℤ). reach t 0) all_is,
-        (reach_needs all).most,
-      )
-]
+use Rattle.slice_encoder.specs.Gathering.{high_part, high_pair}
+use Rattle.slice_encoder.proofs.Gathers.{first_count, raw_count, raw_within}
+use Rattle.slice_encoder.proofs.Reaches.{luma_parts, colour_parts}
 
 front_small : (front high all : List ℤ) → all ≡ front ++ high → AreSmallValues all → AreSmallValues front
 front_small front high all all_is small =
@@ -53,9 +35,6 @@ module _ (c : CodedComponent) (index sx sy : ℕ) (kept : Raster ℤ) (restored 
   pub lowest_luma_small : AreSmallValues (luma_list c restored index sx sy) → AreSmallValues (band_part c kept index sx sy 0)
   lowest_luma_small = front_small (band_part c kept index sx sy 0) (flat_map (high_part c index sx sy) (range_with_len 1 (3 * c.slicing.depth))) (luma_list c restored index sx sy) luma_is
 
-  pub luma_needs : (bits : ℕ) → bits ≡ length (codes_of (band_part c kept index sx sy 0)) → behind_lowest bits (high_reach c index sx sy) - 3 ≤ need (luma_list c restored index sx sy)
-  luma_needs bits bits_is = front_needs (band_part c kept index sx sy 0) (flat_map (high_part c index sx sy) (range_with_len 1 (3 * c.slicing.depth))) (luma_list c restored index sx sy) bits bits_is luma_is
-
 -- ---- of colour
 
 module _ (j : CodedPicture) (index sx sy : ℕ) (kept1 kept2 : Raster ℤ) (restored1 restored2 : Grid) (is1 : at kept1 ≡ restored1) (is2 : at kept2 ≡ restored2) where
@@ -75,6 +54,3 @@ module _ (j : CodedPicture) (index sx sy : ℕ) (kept1 kept2 : Raster ℤ) (rest
 
   pub lowest_colour_small : AreSmallValues (colour_list (c1_of j) (c2_of j) restored1 restored2 index sx sy) → AreSmallValues (pair_part (c1_of j) (c2_of j) kept1 kept2 index sx sy 0)
   lowest_colour_small = front_small front high all colour_is
-
-  pub colour_needs : (bits : ℕ) → bits ≡ length (codes_of (pair_part (c1_of j) (c2_of j) kept1 kept2 index sx sy 0)) → behind_lowest bits (high_pairs_reach j index sx sy) - 3 ≤ need (colour_list (c1_of j) (c2_of j) restored1 restored2 index sx sy)
-  colour_needs bits bits_is = front_needs front high all bits bits_is colour_is

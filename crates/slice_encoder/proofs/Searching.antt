@@ -9,7 +9,7 @@ use Rattle.slice_encoder.specs.Trials.{CodedComponent, CodedPicture, luma_of, c1
 use Rattle.slice_encoder.specs.Tries.{tried_lists}
 use Rattle.slice_encoder.specs.Choice.{fits}
 use Rattle.slice_encoder.specs.TrialLaws.{most_coefficient}
-use Rattle.slice_encoder.specs.Buffers.{HoldsLists}
+use Rattle.slice_encoder.specs.Buffers.{HoldsLists, HoldsTrial, high_lists}
 use Rattle.slice_encoder.specs.Ready.{IsReadyToWrite, AreReadyToWrite}
 use Rattle.slice_encoder.proofs.Others.{KeepsOthers, AllKeepOthers}
 use Rattle.slice_encoder.proofs.Again.{lists_again}
@@ -40,9 +40,9 @@ ready_again j sx sy old mid r k = record {
   c2 = one_ready (c2_of j) j.frame.colour_depth sx sy old.c2 mid.c2 r.c2 k.c2;
 }
 
-module _ (j : CodedPicture) (bytes sx sy index : ℕ) (old mid : ThreePlanes) (t : Trying) (luma colour : List ℤ) (k : AllKeepOthers j sx sy old mid) (h : HoldsLists (tried_lists j mid sx sy index) bytes t luma colour) where
-  pub holds_again : HoldsLists (tried_lists j old sx sy index) bytes t luma colour
-  holds_again = subst (λ (l : Lists). HoldsLists l bytes t luma colour) (lists_again j sx sy index old mid k) h
+module _ (j : CodedPicture) (bytes sx sy index : ℕ) (old mid : ThreePlanes) (t : Trying) (luma colour : List ℤ) (k : AllKeepOthers j sx sy old mid) (h : HoldsTrial j mid sx sy index bytes t luma colour) where
+  pub holds_again : HoldsTrial j old sx sy index bytes t luma colour
+  holds_again = subst (λ (l : Lists). HoldsLists l (high_lists j index sx sy) bytes t luma colour) (lists_again j sx sy index old mid k) h
 
   pub fit_again : (b : Bool) → t.fits ≡ b → fits bytes (tried_lists j old sx sy index) ≡ b
   fit_again b e = sym holds_again.fit ∙ e

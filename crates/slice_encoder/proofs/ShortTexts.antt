@@ -5,9 +5,9 @@ use Rattle.std.proofs.Math.Dec.{T, leb→le}
 use Rattle.std.proofs.lemmas.Bool.{cases_eq}
 use Rattle.bit_codes.specs.Bits.{digits_below}
 use Rattle.bit_codes.specs.Codes.{code_of, signed_code_of}
-use Rattle.slice_encoder.specs.declared.short_texts.ShortText.{ShortText}
+use Rattle.slice_encoder.specs.declared.code_texts.Text.{Text}
 use Rattle.slice_encoder.specs.declared.short_texts.TheConstants.{SHORT_TEXTS}
-use Rattle.slice_encoder.specs.BitQueues.{IsTextOf}
+use Rattle.slice_encoder.specs.ShortTexts.{IsTextOf}
 
 abbrev same_bits : List Bool → List Bool → Bool
 same_bits [] [] = true
@@ -29,7 +29,7 @@ both : (a b : Bool) → T (a && b) → T a × T b
 both true b h = (tt, h)
 both false b h = absurd h
 
-abbrev no_text : ShortText
+abbrev no_text : Text
 no_text = record { number = 0; length = 0 }
 
 abbrev is_right : ℕ → Bool

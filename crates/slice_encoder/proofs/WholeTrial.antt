@@ -7,32 +7,27 @@ use Rattle.std.proofs.Math.Dec.{T, eqb→eq}
 use Rattle.std.proofs.lemmas.List.{length-append}
 use Rattle.std.proofs.lemmas.List.FromFn.{length-range_with_len}
 use Rattle.std.proofs.lemmas.List.Elements.{All-nil, All-cons, All-weaker, All-map}
-use Rattle.planes.specs.Numbers.{Within}
 use Rattle.planes.specs.declared.Rect.{Rect}
-use Rattle.planes.specs.Raster.{Grid, Raster, height, at}
+use Rattle.planes.specs.Raster.{Grid, Raster, at}
 use Rattle.planes.specs.Rect.{IsInRect}
 use Rattle.planes.specs.Subbands.{BandExists}
-use Rattle.planes.proofs.Floors.{wider}
-use Rattle.dc_prediction.specs.Prediction.{prediction, AllLookedAt}
+use Rattle.dc_prediction.specs.Prediction.{prediction}
 use Rattle.slice_geometry.specs.declared.Size.{Size}
 use Rattle.slice_geometry.specs.Slicing.{Slicing}
-use Rattle.slice_geometry.specs.Geometry.{band_size}
 use Rattle.quant_factors.specs.Weights.{band_quantiser}
-use Rattle.slice_geometry.specs.SliceOrder.{level_rect, area, places_to, place_count, level_of, orient_of, numbered}
-use Rattle.slice_geometry.proofs.NumberedBands.{band-exists, index-numbered}
-use Rattle.slice_geometry.proofs.RectsInBands.{fits, FitsIn, end_inside}
+use Rattle.slice_geometry.specs.SliceOrder.{level_rect, area, places_to, place_count, numbered}
+use Rattle.slice_geometry.proofs.RectsInBands.{fits, FitsIn}
 use Rattle.slice_encoder.specs.Order.{Place, row_places, rect_places, places_of}
 use Rattle.slice_encoder.specs.Trials.{CodedComponent, coefficient, value_of, luma_list, colour_list}
 use Rattle.slice_encoder.specs.Tries.{tried, IsTried}
 use Rattle.slice_encoder.specs.TrialLaws.{most_coefficient, AreSmallValues}
-use Rattle.slice_encoder.specs.Buffers.{CanListAll}
 use Rattle.slice_encoder.specs.Ready.{IsReadyToWrite}
 use Rattle.slice_encoder.proofs.Near.{within_abs, difference_within}
 use Rattle.slice_encoder.proofs.Coarsest.{places_exist, all_joined}
 use Rattle.slice_encoder.proofs.Continues.{lowest_inside}
-use Rattle.slice_encoder.proofs.PlaceByPlace.{forward_small, looked_wider}
+use Rattle.slice_encoder.proofs.PlaceByPlace.{forward_small}
 use Rattle.slice_encoder.proofs.Tried.{coefficient_most}
-use Rattle.slice_encoder.proofs.Again.{looked, small_so_far, predicted_small, all_both}
+use Rattle.slice_encoder.proofs.Again.{predicted_small, all_both}
 
 -- ---- how many places a slice has
 
@@ -116,35 +111,15 @@ module _ (c : CodedComponent) (d sx sy index : ℕ) (kept : Raster ℤ) (le : in
   pub luma_small : AreSmallValues (luma_list c (tried c sx sy index (at kept)) index sx sy)
   luma_small = All-map (λ v. unsigned_abs v ≤ 2 ^ 36) (value_of c (tried c sx sy index (at kept)) index) (places_of c.slicing c.size sx sy c.slicing.depth) all_small
 
-  -- ---- the bands can be listed, once the lowest one was tried
+  -- ---- the grid, once the lowest band was tried
   module _ (new : Raster ℤ) (t : IsTried c sx sy index kept new) where
     pub grid_is : at new ≡ tried c sx sy index (at kept)
     grid_is = fun_ext (λ y. fun_ext (λ x. t.places y x))
 
-    kept_small : (y x : ℕ) → IsInRect (level_rect c.slicing c.size sx sy 0) y x → AllLookedAt (λ j i. Within (3 * 2 ^ 27 + 2) (at new j i)) y x
-    kept_small y x here =
-        let most = coefficient_most c.slicing.depth d shallow few in
-        let around = looked c d sx sy index kept le ready y x here (λ k i less inside. small_so_far c d sx sy index kept le ready (y + x) k i (omega arith) inside) in
-        subst (λ (g : Grid). AllLookedAt (λ j i. Within (3 * 2 ^ 27 + 2) (g j i)) y x) (sym grid_is)
-        (looked_wider (3 * most_coefficient c.slicing.depth d + 2) (3 * 2 ^ 27 + 2) (tried c sx sy index (at kept)) y x (omega (arith, most)) around)
-
-    pub can_list_all : sx < c.slicing.slices_x → sy < c.slicing.slices_y → CanListAll c sx sy new
-    can_list_all across down k lt =
-        let inside : FitsIn (level_rect c.slicing c.size sx sy (level_of k)) (numbered c.bands k) = fits c.slicing c.size sx sy k (level_rect c.slicing c.size sx sy (level_of k)) c.bands (numbered c.bands k) refl refl lt ready.depth across down ready.sizes in
-        let lowest : FitsIn (level_rect c.slicing c.size sx sy 0) (numbered c.bands 0) = fits c.slicing c.size sx sy 0 (level_rect c.slicing c.size sx sy 0) c.bands (numbered c.bands 0) refl refl (omega arith) ready.depth across down ready.sizes in
-        let most = coefficient_most c.slicing.depth d shallow few in
-        record {
-          across = inside.across;
-          down = inside.down;
-          x_inside = inside.x_inside;
-          y_inside = inside.y_inside;
-          small = λ y x here.
-              subst (λ (j : ℕ). Within (2 ^ 27) (at (numbered c.bands j) y x)) (index-numbered k)
-              (wider (most_coefficient c.slicing.depth d) (2 ^ 27) _ most (ready.small (level_of k) (orient_of k) y x (band-exists c.slicing.depth k lt)));
-          kept_x = λ zero_level. subst (λ (n : ℕ). (level_rect c.slicing c.size sx sy n).x1 ≤ new.w) (sym zero_level) (omega (arith, end_inside (band_size c.slicing.depth 0 c.size).w c.slicing.slices_x sx across, ready.kept_size.0, t.same_width));
-          kept_y = λ zero_level. subst (λ (n : ℕ). (level_rect c.slicing c.size sx sy n).y1 ≤ height new) (sym zero_level) (omega (arith, end_inside (band_size c.slicing.depth 0 c.size).h c.slicing.slices_y sy down, ready.kept_size.1, t.same_height));
-          kept_small = λ zero_level y x here. kept_small y x (subst (λ (n : ℕ). IsInRect (level_rect c.slicing c.size sx sy n) y x) zero_level here);
-        }
+-- the slice's places of the lowest subband lie in it
+pub lowest_fits : (c : CodedComponent) (d sx sy : ℕ) (kept : Raster ℤ) → IsReadyToWrite c d sx sy kept → sx < c.slicing.slices_x → sy < c.slicing.slices_y → FitsIn (level_rect c.slicing c.size sx sy 0) (numbered c.bands 0)
+lowest_fits c d sx sy kept ready across down =
+    fits c.slicing c.size sx sy 0 (level_rect c.slicing c.size sx sy 0) c.bands (numbered c.bands 0) refl refl (omega arith) ready.depth across down ready.sizes
 
 pub colour_small : (c1 c2 : CodedComponent) (g h : Grid) (index sx sy : ℕ) → All (λ p. unsigned_abs (value_of c1 g index p) ≤ 2 ^ 36) (places_of c1.slicing c1.size sx sy c1.slicing.depth)
     → All (λ p. unsigned_abs (value_of c2 h index p) ≤ 2 ^ 36) (places_of c1.slicing c1.size sx sy c1.slicing.depth) → AreSmallValues (colour_list c1 c2 g h index sx sy)

@@ -1,34 +1,44 @@
 -- Worked entries of the encoder's tables, by evaluation.
-use Rattle.std.proofs.Common.{List, get_or, refl, pos, negsuc, arith}
-use Rattle.bit_codes.specs.Codes.{code_of}
+use Rattle.std.proofs.Common.{◌≡◌, ℕ, ◌+◌, ◌*◌, List, ◌++◌, get_or, refl, pos, negsuc, arith}
+use Rattle.bit_codes.specs.Codes.{code_of, signed_code_of}
 use Rattle.quant_factors.specs.Factors.{factor_of}
-use Rattle.slice_encoder.specs.declared.short_texts.PairText.{PairText}
-use Rattle.slice_encoder.specs.PairTexts.{IsPairText, no_text, ArePairTexts}
+use Rattle.slice_encoder.specs.CodeTables.{IsEntry, IsPairEntry, ArePairs, AreSingles, place_of}
 use Rattle.slice_encoder.specs.Scales.{IsScaleOf}
 
--- ---- the codes of two values
+-- ---- entries: a text, times 256, and its length
 
-zeros : IsPairText (record { number = 0b11; length = 2 }) (pos 0) (pos 0)
+zero : IsEntry (0b1 * 256 + 1) (signed_code_of (pos 0))
 unfolding code_of
-zeros = record { text = refl; few = omega arith; number = omega arith }
+zero = record { digits = refl; few = omega arith; number = omega arith }
 
-mixed : IsPairText (record { number = 0b00100111; length = 8 }) (pos 1) (negsuc 1)
+zeros : IsPairEntry (0b11 * 256 + 2) 32 32
 unfolding code_of
-mixed = record { text = refl; few = omega arith; number = omega arith }
+zeros = record { digits = refl; few = omega arith; number = omega arith }
 
-longest : IsPairText (record { number = 0b000000000111000000000111; length = 24 }) (negsuc 31) (negsuc 31)
+mixed : IsPairEntry (0b00100111 * 256 + 8) 33 30
 unfolding code_of
-longest = record { text = refl; few = omega arith; number = omega arith }
+mixed = record { digits = refl; few = omega arith; number = omega arith }
 
--- the places of some pairs in the table
-first_place : (texts : List PairText) → ArePairTexts texts → IsPairText (get_or texts 0 no_text) (negsuc 31) (negsuc 31)
-first_place texts are = are.each 0 (omega arith)
+longest : IsPairEntry (0b000000000011000000000011 * 256 + 24) 1 1
+unfolding code_of
+longest = record { digits = refl; few = omega arith; number = omega arith }
 
-mixed_place : (texts : List PairText) → ArePairTexts texts → IsPairText (get_or texts 2142 no_text) (pos 1) (negsuc 1)
-mixed_place texts are = are.each 2142 (omega arith)
+-- a value past 31 has no place, and so no pair
+past : place_of (pos 32) ≡ 0
+past = refl
 
-last_place : (texts : List PairText) → ArePairTexts texts → IsPairText (get_or texts 4095 no_text) (pos 31) (pos 31)
-last_place texts are = are.each 4095 (omega arith)
+none : IsPairEntry 255 (place_of (pos 32)) (place_of (negsuc 1))
+none = refl
+
+-- the places of some pairs and values in the tables
+mixed_place : (entries : List ℕ) → ArePairs entries → IsEntry (get_or entries 2142 0) (signed_code_of (pos 1) ++ signed_code_of (negsuc 1))
+mixed_place entries are = are.each 2142 (omega arith)
+
+last_place : (entries : List ℕ) → ArePairs entries → IsEntry (get_or entries 4095 0) (signed_code_of (pos 31) ++ signed_code_of (pos 31))
+last_place entries are = are.each 4095 (omega arith)
+
+first_single : (entries : List ℕ) → AreSingles entries → IsEntry (get_or entries 0 0) (signed_code_of (negsuc 511))
+first_single entries are = are.each 0 (omega arith)
 
 -- ---- four over the factors 4, 5, 6 and 13
 

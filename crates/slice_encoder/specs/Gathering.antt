@@ -36,6 +36,10 @@ pub record GatheredSeen : Type 0 where
 abbrev pub piece_of : GatheredSeen → ℕ → List ℤ
 piece_of g k = take (slice_index g.ends k - slice_index g.ends (k - 1)) (drop (slice_index g.ends (k - 1)) g.values)
 
+-- the values outside the lowest subband as they were gathered
+abbrev pub outside_of : GatheredSeen → List ℤ
+outside_of g = take (slice_index g.ends (3 * g.depth) - slice_index g.ends 0) (drop (slice_index g.ends 0) g.values)
+
 -- Its bands' values stand one behind the other, and each is that of a picture.
 pub record IsGatheredSound (g : GatheredSeen) : Type 0 where
   pub shallow : g.depth ≤ 4

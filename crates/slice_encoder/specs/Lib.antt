@@ -1,5 +1,8 @@
 pub mod BitQueues
-pub mod PairTexts
+pub mod CodeTexts
+pub mod CodeTables
+pub mod BlockValues
+pub mod ShortTexts
 pub mod Scales
 pub mod Loop
 pub mod Order
@@ -11,9 +14,12 @@ pub mod Listing
 pub mod TrialLaws
 pub mod LowNeeds
 pub mod Counted
-pub mod CodeLengths
-pub mod Keys
+pub mod Looks
+pub mod Limits
+pub mod ScaleRows
+pub mod Sizes
 pub mod Gathering
+pub mod FirstResiduals
 pub mod GatheredSlices
 pub mod Ready
 pub mod Buffers

@@ -1,11 +1,9 @@
 -- The values of a slice in one band, as the code lists them.
-use Rattle.std.specs.Prelude.{◌≡◌, ℕ, ◌+◌, ◌-◌, ◌*◌, ◌^◌, ◌≤◌, ◌==◌, List, [], ◌∷◌, map, if◌then◌else◌, ℤ}
+use Rattle.std.specs.Prelude.{ℕ, ◌-◌, ◌==◌, List, [], ◌∷◌, map, if◌then◌else◌, ℤ}
 use Rattle.std.specs.List.{flat_map, range_with_len}
 use Rattle.planes.specs.declared.Rect.{Rect}
-use Rattle.planes.specs.Numbers.{Within}
-use Rattle.planes.specs.Raster.{Grid, Raster, height, at}
-use Rattle.planes.specs.Rect.{IsInRect}
-use Rattle.dc_prediction.specs.Prediction.{prediction, AllLookedAt}
+use Rattle.planes.specs.Raster.{Grid, Raster, at}
+use Rattle.dc_prediction.specs.Prediction.{prediction}
 use Rattle.quant_factors.specs.Factors.{forward_of}
 use Rattle.quant_factors.specs.Weights.{band_quantiser}
 use Rattle.slice_geometry.specs.SliceOrder.{level_rect, level_of, orient_of, numbered}
@@ -45,14 +43,3 @@ pair_part c1 c2 kept1 kept2 index sx sy k =
     pair_values (band_value (numbered c1.bands k) kept1 (level_of k) (band_quantiser c1.matrix index (level_of k) (orient_of k)))
     (band_value (numbered c2.bands k) kept2 (level_of k) (band_quantiser c2.matrix index (level_of k) (orient_of k)))
     (level_rect c1.slicing c1.size sx sy (level_of k))
-
--- What listing a rectangle asks for.
-pub record CanList (r : Rect) (level : ℕ) (coefficients kept : Raster ℤ) : Type 0 where
-  pub across : r.x0 ≤ r.x1
-  pub down : r.y0 ≤ r.y1
-  pub x_inside : r.x1 ≤ coefficients.w
-  pub y_inside : r.y1 ≤ height coefficients
-  pub small : (y x : ℕ) → IsInRect r y x → Within (2 ^ 27) (at coefficients y x)
-  pub kept_x : level ≡ 0 → r.x1 ≤ kept.w
-  pub kept_y : level ≡ 0 → r.y1 ≤ height kept
-  pub kept_small : level ≡ 0 → (y x : ℕ) → IsInRect r y x → AllLookedAt (λ j i. Within (3 * 2 ^ 27 + 2) (at kept j i)) y x

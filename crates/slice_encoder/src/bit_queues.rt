@@ -1,10 +1,12 @@
-// Bits put into bytes one after another, whole bytes at a time.
+// Bits put into a room one after another, whole bytes at a time.
 
-ghost use Rattle.std.specs.Prelude.{◌≡◌, ◌+◌, ◌*◌, ◌^◌, ◌<◌, ◌≤◌, ◌++◌, length};
-ghost use Rattle.bit_codes.specs.Bits.{bits_of, digits_below};
-ghost use Rattle.slice_encoder.specs.BitQueues.{bits_so_far, IsQueue};
+ghost use Rattle.std.specs.Prelude.{◌≡◌, ◌+◌, ◌-◌, ◌*◌, ◌^◌, ◌<◌, ◌≤◌, ◌++◌, length, take};
+ghost use Rattle.std.specs.Int.{bytes_high_first};
+ghost use Rattle.bit_codes.specs.Bits.{digits_below};
+ghost use Rattle.slice_encoder.specs.BitQueues.{bits_so_far, HasRoom, IsSent};
 
-/// How far some bytes are written: whole bytes, and the bits behind them that wait in a number until they fill some.
+/// How far a room is written: whole bytes, and the bits behind them, which wait as the last digits of a number until they
+/// fill some. What stands above them in the number is of no meaning.
 #[derive(Clone, Copy)]
 pub struct BitQueue {
     pub whole: usize,
@@ -12,116 +14,64 @@ pub struct BitQueue {
     pub number: u64,
 }
 
-// Stores the first eight of the bits that wait.
-#[inline(always)]
-fn store_byte(bytes: &mut [u8], queue: BitQueue) -> BitQueue
-    requires eight { 8 ≤ queue.count }
-    requires queue { IsQueue (length bytes.old) queue }
-    ensures queue { IsQueue (length bytes.old) result }
-    ensures count { result.count + 8 ≡ queue.count }
-    ensures place { 8 * result.whole + result.count ≡ 8 * queue.whole + queue.count }
-    ensures text { bits_so_far bytes.new result ≡ bits_so_far bytes.old queue }
+// Stores as many of a word's bytes as there is room for. It is rare, and so stays out of the loops.
+#[inline(never)]
+fn store_tail(room: &mut [u8], whole: usize, word: u64)
+    requires inside { whole ≤ length room.old }
+    requires few { length room.old - whole < 8 }
+    ensures { room.new ≡ take whole room.old
+        ++ take (length room.old - whole) (bytes_high_first 8 word) }
 {
-    let count = queue.count - 8;
-    let unit = 1 << count;
-    bytes[queue.whole] = (queue.number / unit) as u8;
-    BitQueue {
-        whole: queue.whole + 1,
-        count,
-        number: queue.number % unit,
-    }
+    let few = room.len() - whole;
+    room[whole..].copy_from_slice(&word.to_be_bytes()[..few]);
 }
 
-// Stores the first 32 of them.
+// Stores the whole bytes of those that wait, by a word of eight bytes: what it leaves behind them is stored over later.
 #[inline(always)]
-fn store_four(bytes: &mut [u8], queue: BitQueue) -> BitQueue
-    requires many { 32 ≤ queue.count }
-    requires queue { IsQueue (length bytes.old) queue }
-    ensures queue { IsQueue (length bytes.old) result }
-    ensures count { result.count + 32 ≡ queue.count }
-    ensures place { 8 * result.whole + result.count ≡ 8 * queue.whole + queue.count }
-    ensures text { bits_so_far bytes.new result ≡ bits_so_far bytes.old queue }
-{
-    let count = queue.count - 32;
-    let unit = 1 << count;
-    let word = (queue.number / unit) as u32;
-    let whole = queue.whole + 4;
-    bytes[queue.whole..whole].copy_from_slice(&word.to_be_bytes());
-    BitQueue {
-        whole,
-        count,
-        number: queue.number % unit,
-    }
-}
-
-/// Stores the whole bytes of those that wait, by a word of eight bytes: what it leaves behind them is stored over later.
-#[inline(always)]
-pub fn store_whole(bytes: &mut [u8], queue: BitQueue) -> BitQueue
-    requires room { queue.whole + 8 ≤ length bytes.old }
-    requires queue { IsQueue (length bytes.old) queue }
-    ensures queue { IsQueue (length bytes.old) result }
+fn store_whole(room: &mut [u8], queue: BitQueue) -> BitQueue
+    requires few { queue.count < 64 }
+    requires room { 8 * queue.whole + queue.count ≤ 8 * length room.old }
     ensures waits { result.count < 8 }
     ensures place { 8 * result.whole + result.count ≡ 8 * queue.whole + queue.count }
-    ensures text { bits_so_far bytes.new result ≡ bits_so_far bytes.old queue }
+    ensures text { bits_so_far room.new result ≡ bits_so_far room.old queue }
 {
-    let word = 2 * queue.number * (1 << (63 - queue.count));
-    bytes[queue.whole..queue.whole + 8].copy_from_slice(&word.to_be_bytes());
-    let count = queue.count % 8;
+    let word = queue.number << 1 << (63 - queue.count);
+    if room.len() - queue.whole >= 8 {
+        room[queue.whole..queue.whole + 8].copy_from_slice(&word.to_be_bytes());
+    } else {
+        store_tail(room, queue.whole, word);
+    }
     BitQueue {
         whole: queue.whole + (queue.count / 8) as usize,
-        count,
-        number: queue.number % (1 << count),
+        count: queue.count % 8,
+        number: queue.number,
     }
 }
 
-/// Puts the last `n` binary digits of a number behind those that wait.
+// Puts the last `n` binary digits of a number behind those that wait.
 #[inline(always)]
-pub fn waiting(queue: BitQueue, number: u64, n: u32) -> BitQueue
+fn waiting(queue: BitQueue, number: u64, n: u32) -> BitQueue
     requires few { queue.count + n < 64 }
     requires small { number < 2 ^ n }
-    requires waits { queue.number < 2 ^ queue.count }
     ensures whole { result.whole ≡ queue.whole }
     ensures count { result.count ≡ queue.count + n }
-    ensures number { result.number < 2 ^ result.count }
     ensures text { digits_below result.count result.number
         ≡ digits_below queue.count queue.number ++ digits_below n number }
 {
     BitQueue {
         whole: queue.whole,
         count: queue.count + n,
-        number: queue.number * (1 << n) + number,
+        number: (queue.number << n) + number,
     }
 }
 
-/// Puts the last `n` binary digits of a number into the queue.
+/// Puts the last `n` binary digits of a number into the room.
 #[inline(always)]
-pub fn put_bits(bytes: &mut [u8], queue: BitQueue, number: u64, n: u32) -> BitQueue
-    requires few { n ≤ 32 }
+pub fn put_bits(room: &mut [u8], queue: BitQueue, number: u64, n: u32) -> BitQueue
+    requires few { n ≤ 56 }
     requires small { number < 2 ^ n }
-    requires queue { IsQueue (length bytes.old) queue }
-    requires waits { queue.count < 32 }
-    requires room { 8 * queue.whole + queue.count + n ≤ 8 * length bytes.old }
-    ensures queue { IsQueue (length bytes.old) result }
-    ensures waits { result.count < 32 }
-    ensures place { 8 * result.whole + result.count ≡ 8 * queue.whole + queue.count + n }
-    ensures text { bits_so_far bytes.new result
-        ≡ bits_so_far bytes.old queue ++ digits_below n number }
+    requires room { HasRoom (length room.old) queue n }
+    ensures { IsSent room.old queue room.new result (digits_below n number) }
 {
-    let more = waiting(queue, number, n);
-    if more.count < 32 {
-        return more;
-    }
-    store_four(bytes, more)
-}
-
-/// Stores all the bits that wait, where these are the last ones of the bytes.
-pub fn store_rest(bytes: &mut [u8], queue: BitQueue)
-    requires queue { IsQueue (length bytes.old) queue }
-    requires all { 8 * queue.whole + queue.count ≡ 8 * length bytes.old }
-    ensures { bits_of bytes.new ≡ bits_so_far bytes.old queue }
-{
-    let mut queue = queue;
-    while queue.count > 0 {
-        queue = store_byte(bytes, queue);
-    }
+    store_whole(room, waiting(queue, number, n))
 }

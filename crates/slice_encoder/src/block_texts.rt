@@ -1,337 +1,291 @@
-// Codes put into a block, as far as it reaches.
+// Codes put into a block, and ones up to its end.
 
-ghost use Rattle.bit_codes.specs.declared.TheConstants.{MAX_MAGNITUDE};
-ghost use Rattle.std.specs.Prelude.{◌≡◌, ◌+◌, ◌*◌, ◌/◌, ◌%◌, ◌^◌, ◌<◌, ◌≤◌, ◌++◌, length, take, replicate, true, unsigned_abs};
+ghost use Rattle.std.specs.Prelude.{◌≡◌, ◌≢◌, ◌+◌, ◌-◌, ◌*◌, ◌/◌, ◌%◌, ◌^◌, ◌<◌, ◌≤◌, ◌++◌, List, ℤ, pos, slice_index_or, length, take, replicate, true};
 ghost use Rattle.std.specs.List.{All};
 ghost use Rattle.bit_codes.specs.Bits.{digits_below};
-ghost use Rattle.bit_codes.specs.Codes.{code_of, signed_code_of};
+ghost use Rattle.bit_codes.specs.Codes.{signed_code_of};
 ghost use Rattle.bounded_blocks.specs.Parts.{IsSmall};
-ghost use Rattle.bounded_blocks.specs.Writing.{codes_of};
-ghost use Rattle.slice_encoder.specs.BitQueues.{bits_so_far, IsBlock, IsPut};
-ghost use Rattle.slice_encoder.specs.PairTexts.{ArePairTexts};
+ghost use Rattle.bounded_blocks.specs.Writing.{codes_of, need, filled};
+ghost use Rattle.slice_encoder.specs.BitQueues.{HasRoom, IsSent};
+ghost use Rattle.slice_encoder.specs.CodeTexts.{text_bits};
+ghost use Rattle.slice_encoder.specs.CodeTables.{ArePlaces, AreSingles};
+ghost use Rattle.slice_encoder.specs.BlockValues.{block_list, IsIn32, AreBlockValues};
 
-use crate::bit_queues::{BitQueue, put_bits, store_whole, waiting};
-use crate::short_texts::{PairText, middle_text, pair_text, short_text};
+use crate::bit_queues::{BitQueue, put_bits};
+use crate::code_tables::{Texts, pair_entry, single_entry};
+use crate::code_texts::{Text, split_text};
+use crate::needs::count_to_last;
 
-/// A block that is filled through a queue, and how many of its bits are left.
+/// A block's values: those of the lowest subbands, and behind them the others. `places` has the place of each of the
+/// others in a row of the table of pairs.
 #[derive(Clone, Copy)]
-pub struct Block {
-    pub queue: BitQueue,
-    pub left: u64,
+pub struct BlockValues<'a> {
+    pub lowest: &'a [i64],
+    pub high: &'a [i32],
+    pub places: &'a [u8],
 }
 
-// Puts those of the last `n` binary digits of a number that fit. It is rare, and so stays out of the loops.
+// Puts the code of any value. It is rare, and so stays out of the loops.
 #[inline(never)]
-fn put_cut(bytes: &mut [u8], block: Block, number: u64, n: u32) -> Block
-    requires few { n ≤ 32 }
-    requires small { number < 2 ^ n }
-    requires block { IsBlock (length bytes.old) block }
-    ensures { IsPut bytes.old block bytes.new result (digits_below n number) }
+fn put_long(room: &mut [u8], queue: BitQueue, v: i64) -> BitQueue
+    requires small { IsSmall v }
+    requires room { HasRoom (length room.old) queue (length (signed_code_of v)) }
+    ensures { IsSent room.old queue room.new result (signed_code_of v) }
 {
-    let fit = u64::from(n).min(block.left) as u32;
-    let queue = put_bits(bytes, block.queue, number / (1 << (n - fit)), fit);
-    Block {
-        queue,
-        left: block.left - u64::from(fit),
-    }
+    let text = split_text(v);
+    let queue = put_bits(room, queue, text.front.number, text.front.length);
+    put_bits(room, queue, text.back.number, text.back.length)
 }
 
-// Puts the last `n` binary digits of a number, which fit.
+// Puts the code of a value, by a look-up where it has an entry.
 #[inline(always)]
-fn put_whole(bytes: &mut [u8], block: Block, number: u64, n: u32) -> Block
-    requires few { n ≤ 32 }
-    requires small { number < 2 ^ n }
-    requires block { IsBlock (length bytes.old) block }
-    requires fits { n ≤ block.left }
-    ensures { IsPut bytes.old block bytes.new result (digits_below n number) }
+fn put_value(room: &mut [u8], queue: BitQueue, v: i64, singles: &[u32]) -> BitQueue
+    requires singles { AreSingles singles.now }
+    requires small { IsSmall v }
+    requires room { HasRoom (length room.old) queue (length (signed_code_of v)) }
+    ensures { IsSent room.old queue room.new result (signed_code_of v) }
 {
-    let queue = put_bits(bytes, block.queue, number, n);
-    Block {
-        queue,
-        left: block.left - u64::from(n),
+    if v <= -512 || 512 <= v {
+        return put_long(room, queue, v);
     }
+    let entry = single_entry(singles, v);
+    put_bits(room, queue, u64::from(entry / 256), entry % 256)
 }
 
-// Puts the last `n` binary digits of a number.
-#[inline(always)]
-fn put_digits(bytes: &mut [u8], block: Block, number: u64, n: u32) -> Block
-    requires few { n ≤ 32 }
-    requires small { number < 2 ^ n }
-    requires block { IsBlock (length bytes.old) block }
-    ensures { IsPut bytes.old block bytes.new result (digits_below n number) }
-{
-    if u64::from(n) > block.left {
-        return put_cut(bytes, block, number, n);
-    }
-    put_whole(bytes, block, number, n)
-}
-
-// Puts the code of a number below 2^37.
-#[inline(always)]
-fn put_code(bytes: &mut [u8], block: Block, v: u64) -> Block
-    requires small { v < 2 ^ 37 }
-    requires block { IsBlock (length bytes.old) block }
-    ensures { IsPut bytes.old block bytes.new result (code_of v) }
-{
-    let mut block = block;
-    let number = v + 1;
-    let mut left = number.ilog2();
-    while left > 0 {
-        left -= 1;
-        block = put_digits(bytes, block, number >> left & 1, 2);
-    }
-    put_digits(bytes, block, 1, 1)
-}
-
-// Puts the code of a value, of a magnitude of at most 2^36.
-#[inline(always)]
-fn put_long(bytes: &mut [u8], block: Block, v: i64) -> Block
-    requires small { unsigned_abs v ≤ MAX_MAGNITUDE }
-    requires block { IsBlock (length bytes.old) block }
-    ensures { IsPut bytes.old block bytes.new result (signed_code_of v) }
-{
-    let block = put_code(bytes, block, v.unsigned_abs());
-    if v == 0 {
-        return block;
-    }
-    put_digits(bytes, block, u64::from(v < 0), 1)
-}
-
-// The last digit of the code of a value that isn't 0.
-#[inline(always)]
-fn sign_digit(v: i64) -> u64
-    requires { 1 ≤ unsigned_abs v }
-    ensures small { result < 2 }
-    ensures digit { code_of (unsigned_abs v) ++ digits_below 1 result ≡ signed_code_of v }
-{
-    if v < 0 { 1 } else { 0 }
-}
-
-// The same of a magnitude below 2^14: its code is put at once.
-fn put_middle(bytes: &mut [u8], block: Block, v: i64) -> Block
-    requires some { 1 ≤ unsigned_abs v }
-    requires small { unsigned_abs v < 2 ^ 14 }
-    requires block { IsBlock (length bytes.old) block }
-    ensures { IsPut bytes.old block bytes.new result (signed_code_of v) }
-{
-    let text = middle_text(v.unsigned_abs());
-    let number = 2 * text.number + sign_digit(v);
-    put_digits(bytes, block, number, text.length + 1)
-}
-
-// The same of any magnitude, by a look-up for small ones.
-#[inline(always)]
-fn put_value(bytes: &mut [u8], block: Block, v: i64) -> Block
-    requires small { unsigned_abs v ≤ MAX_MAGNITUDE }
-    requires block { IsBlock (length bytes.old) block }
-    ensures { IsPut bytes.old block bytes.new result (signed_code_of v) }
-{
-    if v.unsigned_abs() < 32 {
-        let text = short_text(v);
-        return put_digits(bytes, block, text.number, text.length);
-    }
-    if v.unsigned_abs() < 1 << 14 {
-        return put_middle(bytes, block, v);
-    }
-    put_long(bytes, block, v)
-}
-
-// Puts the codes of two values one after the other.
-#[inline(never)]
-fn put_apart(bytes: &mut [u8], block: Block, first: i64, second: i64) -> Block
-    requires first_small { unsigned_abs first ≤ MAX_MAGNITUDE }
-    requires second_small { unsigned_abs second ≤ MAX_MAGNITUDE }
-    requires block { IsBlock (length bytes.old) block }
-    ensures { IsPut bytes.old block bytes.new result
-        (signed_code_of first ++ signed_code_of second) }
-{
-    let between = put_value(bytes, block, first);
-    put_value(bytes, between, second)
-}
-
-/// How many values were put, and the block behind their codes.
-#[derive(Clone, Copy)]
-struct Run {
-    count: usize,
-    block: Block,
-}
-
-// Puts the texts of two pairs, which fit, where eight bytes are left for the word that is stored.
-#[inline(always)]
-fn put_four(bytes: &mut [u8], block: Block, front: PairText, back: PairText) -> Block
-    requires front { front.length ≤ 24 }
-    requires back { back.length ≤ 24 }
-    requires front_number { front.number < 2 ^ front.length }
-    requires back_number { back.number < 2 ^ back.length }
-    requires block { IsBlock (length bytes.old) block }
-    requires waits { block.queue.count < 8 }
-    requires fit { front.length + back.length ≤ block.left }
-    requires room { block.queue.whole + 8 ≤ length bytes.old }
-    ensures waits { result.queue.count < 8 }
-    ensures puts { IsPut bytes.old block bytes.new result
-        (digits_below front.length front.number ++ digits_below back.length back.number) }
-{
-    let queue = waiting(block.queue, u64::from(front.number), front.length);
-    let queue = waiting(queue, u64::from(back.number), back.length);
-    Block {
-        queue: store_whole(bytes, queue),
-        left: block.left - u64::from(front.length + back.length),
-    }
-}
-
-// Whether two values are small.
-#[inline(always)]
-fn are_small(first: i64, second: i64) -> bool
-    ensures first { result ≡ true → unsigned_abs first < 32 }
-    ensures second { result ≡ true → unsigned_abs second < 32 }
-{
-    -32 < first && first < 32 && -32 < second && second < 32
-}
-
-// Puts the codes of values four by four, up to the first four of which one isn't small, whose codes don't fit, or for which
-// there is no room to store a word. There is no branch but on these.
-fn put_small_fours(bytes: &mut [u8], block: Block, values: &[i64], texts: &[PairText]) -> Run
-    requires texts { ArePairTexts texts.now }
+// Puts the codes of values of the lowest subbands.
+fn put_lowest(room: &mut [u8], queue: BitQueue, values: &[i64], texts: &Texts) -> BitQueue
     requires small { All IsSmall values.now }
-    requires block { IsBlock (length bytes.old) block }
-    ensures most { result.count ≤ length values.now }
-    ensures even { result.count % 2 ≡ 0 }
-    ensures puts { IsPut bytes.old block bytes.new result.block
-        (codes_of (take result.count values.now)) }
+    requires room { HasRoom (length room.old) queue (length (codes_of values.now)) }
+    ensures { IsSent room.old queue room.new result (codes_of values.now) }
 {
-    if bytes.len() - block.queue.whole < 8 {
-        return Run { count: 0, block };
+    let singles = texts.singles();
+    let mut queue = queue;
+    for k in 0..values.len() {
+        queue = put_value(room, queue, values[k], singles);
     }
-    let last = bytes.len() - 8;
-    let mut block = Block {
-        queue: store_whole(bytes, block.queue),
-        left: block.left,
-    };
+    queue
+}
+
+// Puts the codes of other values, one by one. It is rare, and so stays out of the loop over fours.
+#[inline(never)]
+fn put_apart(room: &mut [u8], queue: BitQueue, values: &[i32], texts: &Texts) -> BitQueue
+    requires small { All IsIn32 values.now }
+    requires room { HasRoom (length room.old) queue (length (codes_of values.now)) }
+    ensures { IsSent room.old queue room.new result (codes_of values.now) }
+{
+    let singles = texts.singles();
+    let mut queue = queue;
+    for k in 0..values.len() {
+        queue = put_value(room, queue, i64::from(values[k]), singles);
+    }
+    queue
+}
+
+// Puts the texts of two entries.
+#[inline(always)]
+fn put_two(room: &mut [u8], queue: BitQueue, front: u32, back: u32) -> BitQueue
+    requires front_few { front % 256 ≤ 24 }
+    requires back_few { back % 256 ≤ 24 }
+    requires front_number { front / 256 < 2 ^ (front % 256) }
+    requires back_number { back / 256 < 2 ^ (back % 256) }
+    requires room { HasRoom (length room.old) queue (front % 256 + back % 256) }
+    ensures { IsSent room.old queue room.new result
+        (digits_below (front % 256) (front / 256) ++ digits_below (back % 256) (back / 256)) }
+{
+    let n = back % 256;
+    let text = u64::from(front / 256) * (1 << n) + u64::from(back / 256);
+    put_bits(room, queue, text, front % 256 + n)
+}
+
+// Puts the codes of values four by four, by the entries of their pairs, and one by one where one of them has no place. That
+// call takes and gives copies, so that the queue itself stays in registers.
+#[inline(never)]
+fn put_fours(
+    room: &mut [u8],
+    queue: BitQueue,
+    values: &[i32],
+    places: &[u8],
+    texts: &Texts,
+) -> BitQueue
+    requires small { All IsIn32 values.now }
+    requires places { ArePlaces values.now places.now }
+    requires room { HasRoom (length room.old) queue (length (codes_of values.now)) }
+    ensures { IsSent room.old queue room.new result
+        (codes_of (take (length values.now / 4 * 4) values.now)) }
+{
+    let pairs = texts.pairs();
+    let mut queue = queue;
     for four in 0..values.len() / 4 {
-        let count = 4 * four;
-        let first = values[count];
-        let second = values[count + 1];
-        let third = values[count + 2];
-        let fourth = values[count + 3];
-        if !are_small(first, second) || !are_small(third, fourth) {
-            return Run { count, block };
+        let k = 4 * four;
+        let front = pair_entry(pairs, places[k], places[k + 1]);
+        let back = pair_entry(pairs, places[k + 2], places[k + 3]);
+        if front % 256 + back % 256 < 255 {
+            queue = put_two(room, queue, front, back);
+        } else {
+            let before = queue;
+            let next = put_apart(room, before, &values[k..k + 4], texts);
+            queue = next;
         }
-        let front = pair_text(texts, first, second);
-        let back = pair_text(texts, third, fourth);
-        if u64::from(front.length + back.length) > block.left || last < block.queue.whole {
-            return Run { count, block };
-        }
-        block = put_four(bytes, block, front, back);
     }
-    Run {
-        count: values.len() / 4 * 4,
-        block,
-    }
+    queue
 }
 
-// Puts the codes of values two by two, up to the first two of which one isn't small or whose codes don't fit. With a call in
-// this loop the block would leave the registers.
-fn put_small_pairs(bytes: &mut [u8], block: Block, values: &[i64], texts: &[PairText]) -> Run
-    requires texts { ArePairTexts texts.now }
+// Puts the codes of values outside the lowest subbands.
+fn put_high(
+    room: &mut [u8],
+    queue: BitQueue,
+    values: &[i32],
+    places: &[u8],
+    texts: &Texts,
+) -> BitQueue
+    requires small { All IsIn32 values.now }
+    requires places { ArePlaces values.now places.now }
+    requires room { HasRoom (length room.old) queue (length (codes_of values.now)) }
+    ensures { IsSent room.old queue room.new result (codes_of values.now) }
+{
+    let queue = put_fours(room, queue, values, places, texts);
+    put_apart(room, queue, &values[values.len() / 4 * 4..], texts)
+}
+
+// Puts so many ones.
+fn put_ones(room: &mut [u8], queue: BitQueue, count: u64) -> BitQueue
+    requires { HasRoom (length room.old) queue count }
+    ensures { IsSent room.old queue room.new result (replicate count true) }
+{
+    let mut queue = queue;
+    let mut left = count;
+    while left > 0 {
+        let n = left.min(48) as u32;
+        queue = put_bits(room, queue, (1 << n) - 1, n);
+        left -= u64::from(n);
+    }
+    queue
+}
+
+// Puts those of a text's first digits that fit.
+fn put_front(room: &mut [u8], queue: BitQueue, text: Text, left: u64) -> BitQueue
+    requires few { text.length ≤ 50 }
+    requires small { text.number < 2 ^ text.length }
+    requires room { HasRoom (length room.old) queue left }
+    ensures { IsSent room.old queue room.new result (take left (text_bits text)) }
+{
+    let fit = u64::from(text.length).min(left) as u32;
+    put_bits(room, queue, text.number / (1 << (text.length - fit)), fit)
+}
+
+// Puts the code of any last value of a block, as far as the block reaches, and ones up to its end. It is rare.
+#[inline(never)]
+fn put_long_last(room: &mut [u8], queue: BitQueue, left: u64, v: i64) -> BitQueue
+    requires small { IsSmall v }
+    requires room { HasRoom (length room.old) queue left }
+    ensures { IsSent room.old queue room.new result (filled left (signed_code_of v)) }
+{
+    let text = split_text(v);
+    let queue = put_front(room, queue, text.front, left);
+    let left = left.saturating_sub(u64::from(text.front.length));
+    let queue = put_front(room, queue, text.back, left);
+    put_ones(
+        room,
+        queue,
+        left.saturating_sub(u64::from(text.back.length)),
+    )
+}
+
+// The same, by a look-up where the value has an entry.
+fn put_last(room: &mut [u8], queue: BitQueue, left: u64, v: i64, texts: &Texts) -> BitQueue
+    requires small { IsSmall v }
+    requires room { HasRoom (length room.old) queue left }
+    ensures { IsSent room.old queue room.new result (filled left (signed_code_of v)) }
+{
+    if v <= -512 || 512 <= v {
+        return put_long_last(room, queue, left, v);
+    }
+    let entry = single_entry(texts.singles(), v);
+    let text = Text {
+        number: u64::from(entry / 256),
+        length: entry % 256,
+    };
+    let queue = put_front(room, queue, text, left);
+    put_ones(room, queue, left.saturating_sub(u64::from(text.length)))
+}
+
+// How many values there are up to the last one that isn't 0. What they need behind others doesn't change.
+fn high_to_last(values: &[i32]) -> usize
+    requires { All IsIn32 values.now }
+    ensures most { result ≤ length values.now }
+    ensures need { (lowest : List ℤ)
+        → need (lowest ++ take result values.now) ≡ need (lowest ++ values.now) }
+    ensures last { 0 < result → slice_index_or values.now (result - 1) (pos 0) ≢ pos 0 }
+{
+    for passed in 0..values.len() {
+        let count = values.len() - passed;
+        if values[count - 1] != 0 {
+            return count;
+        }
+    }
+    0
+}
+
+// How many bits are put.
+fn bits_put(queue: BitQueue) -> u64
+    requires whole { queue.whole < 2 ^ 60 }
+    requires waits { queue.count < 8 }
+    ensures { result ≡ 8 * queue.whole + queue.count }
+{
+    8 * queue.whole as u64 + u64::from(queue.count)
+}
+
+// Puts values of the lowest subbands into a block in which all others are 0.
+fn put_lowest_block(
+    room: &mut [u8],
+    queue: BitQueue,
+    bits: u64,
+    values: &[i64],
+    texts: &Texts,
+) -> BitQueue
     requires small { All IsSmall values.now }
-    requires block { IsBlock (length bytes.old) block }
-    ensures most { result.count ≤ 2 * (length values.now / 2) }
-    ensures even { result.count % 2 ≡ 0 }
-    ensures puts { IsPut bytes.old block bytes.new result.block
-        (codes_of (take result.count values.now)) }
+    requires most { 8 * queue.whole + bits ≤ 2 ^ 40 }
+    requires need { need values.now ≤ bits }
+    requires room { HasRoom (length room.old) queue bits }
+    ensures { IsSent room.old queue room.new result (filled bits (codes_of values.now)) }
 {
-    let mut block = block;
-    for pair in 0..values.len() / 2 {
-        let count = 2 * pair;
-        let first = values[count];
-        let second = values[count + 1];
-        if first <= -32 || 32 <= first || second <= -32 || 32 <= second {
-            return Run { count, block };
-        }
-        let text = pair_text(texts, first, second);
-        if u64::from(text.length) > block.left {
-            return Run { count, block };
-        }
-        block = put_whole(bytes, block, u64::from(text.number), text.length);
+    let count = count_to_last(values);
+    if count == 0 {
+        return put_ones(room, queue, bits);
     }
-    Run {
-        count: values.len() / 2 * 2,
-        block,
-    }
+    let end = bits_put(queue) + bits;
+    let queue = put_lowest(room, queue, &values[..count - 1], texts);
+    put_last(room, queue, end - bits_put(queue), values[count - 1], texts)
 }
 
-// Puts the codes of small values: four by four where there is room to store words, and else two by two.
-fn put_small(bytes: &mut [u8], block: Block, values: &[i64], texts: &[PairText]) -> Run
-    requires texts { ArePairTexts texts.now }
-    requires small { All IsSmall values.now }
-    requires block { IsBlock (length bytes.old) block }
-    ensures most { result.count ≤ 2 * (length values.now / 2) }
-    ensures even { result.count % 2 ≡ 0 }
-    ensures puts { IsPut bytes.old block bytes.new result.block
-        (codes_of (take result.count values.now)) }
+/// Puts values into a block of so many bits, which is filled with ones: these are the codes of the zeros at their end, too.
+pub fn put_block(
+    room: &mut [u8],
+    queue: BitQueue,
+    bits: u64,
+    values: BlockValues<'_>,
+    texts: &Texts,
+) -> BitQueue
+    requires values { AreBlockValues values }
+    requires most { 8 * queue.whole + bits ≤ 2 ^ 40 }
+    requires need { need (block_list values) ≤ bits }
+    requires room { HasRoom (length room.old) queue bits }
+    ensures { IsSent room.old queue room.new result
+        (filled bits (codes_of (block_list values.entry))) }
 {
-    let fours = put_small_fours(bytes, block, values, texts);
-    let rest = &values[fours.count..];
-    let has_room = bytes.len() - fours.block.queue.whole >= 8;
-    let most = if has_room { 4 } else { rest.len() };
-    let next = &rest[..most.min(rest.len())];
-    let pairs = put_small_pairs(bytes, fours.block, next, texts);
-    Run {
-        count: fours.count + pairs.count,
-        block: pairs.block,
+    let count = high_to_last(values.high);
+    if count == 0 {
+        return put_lowest_block(room, queue, bits, values.lowest, texts);
     }
-}
-
-// Puts the codes of values two by two, but for the last one of an odd number of them.
-fn put_pairs(bytes: &mut [u8], block: Block, values: &[i64], texts: &[PairText]) -> Block
-    requires texts { ArePairTexts texts.now }
-    requires small { All IsSmall values.now }
-    requires block { IsBlock (length bytes.old) block }
-    ensures { IsPut bytes.old block bytes.new result
-        (codes_of (take (2 * (length values.now / 2)) values.now)) }
-{
-    let mut block = block;
-    let mut done = 0;
-    let end = values.len() / 2 * 2;
-    while done < end {
-        let run = put_small(bytes, block, &values[done..], texts);
-        block = run.block;
-        done += run.count;
-        if done < end {
-            block = put_apart(bytes, block, values[done], values[done + 1]);
-            done += 2;
-        }
-    }
-    block
-}
-
-/// Puts the codes of values.
-pub fn put_values(bytes: &mut [u8], block: Block, values: &[i64], texts: &[PairText]) -> Block
-    requires texts { ArePairTexts texts.now }
-    requires small { All IsSmall values.now }
-    requires block { IsBlock (length bytes.old) block }
-    ensures { IsPut bytes.old block bytes.new result (codes_of values.now) }
-{
-    let block = put_pairs(bytes, block, values, texts);
-    if values.len() % 2 == 0 {
-        return block;
-    }
-    put_value(bytes, block, values[values.len() - 1])
-}
-
-/// Fills the rest of a block with ones.
-pub fn put_ones(bytes: &mut [u8], block: Block) -> BitQueue
-    requires { IsBlock (length bytes.old) block }
-    ensures block { IsBlock (length bytes.old) (record { queue = result; left = 0 }) }
-    ensures place { 8 * result.whole + result.count
-        ≡ 8 * block.queue.whole + block.queue.count + block.left }
-    ensures text { bits_so_far bytes.new result
-        ≡ bits_so_far bytes.old block.queue ++ replicate block.left true }
-{
-    let mut block = block;
-    while block.left > 0 {
-        let n = block.left.min(32) as u32;
-        block = put_digits(bytes, block, (1 << n) - 1, n);
-    }
-    block.queue
+    let end = bits_put(queue) + bits;
+    let queue = put_lowest(room, queue, values.lowest, texts);
+    let last = i64::from(values.high[count - 1]);
+    let queue = put_high(
+        room,
+        queue,
+        &values.high[..count - 1],
+        &values.places[..count - 1],
+        texts,
+    );
+    put_last(room, queue, end - bits_put(queue), last, texts)
 }

@@ -3,15 +3,24 @@
 ghost use Rattle.std.specs.Prelude.{◌≡◌, ℕ, ◌+◌, ◌*◌, ◌^◌, ◌<◌, ◌≤◌, max, true, length, slice_index};
 ghost use Rattle.slice_encoder.specs.TrialLaws.{IsSteepOk};
 ghost use Rattle.slice_encoder.specs.LowNeeds.{lower_of, may_fit, IsFirstCandidate};
-ghost use Rattle.slice_encoder.specs.GatheredSlices.{HasKeys, HasRoomFor, gathered_reaches, gathered_low};
+ghost use Rattle.slice_encoder.specs.FirstResiduals.{AreSmallFirsts};
+ghost use Rattle.slice_encoder.specs.GatheredSlices.{HasSizes, AreLooks, gathered_low};
 ghost use Rattle.slice_encoder.specs.Ready.{coded_picture, AreGiven};
 
 use crate::bounding::lower_at;
+use crate::first_residuals::FirstResiduals;
 use crate::fitting::do_fit;
-use crate::gathered::{GatheredSlice, Reaches};
+use crate::gathered::{GatheredSlice, Looks, SliceLimits};
+use crate::looks::NO_LOOK;
 use planes::Trio;
 use quant_factors::Matrix;
 use slice_geometry::{Layout, PictureShape};
+
+// What stands in for looks that weren't taken.
+const NO_LOOKS: Looks = Looks {
+    luma: NO_LOOK,
+    colour: NO_LOOK,
+};
 
 // Halves the range of indices: none below its start may fit, and its end may.
 pub fn find_candidate(
@@ -74,13 +83,13 @@ fn longer(step: u32) -> u32
     if step > 16 { step } else { 2 * step }
 }
 
-/// The first index that may fit, how far codes reach there, and how far at the next index, where that was found too.
+/// The first index that may fit, the looks there, and those at the next index, where they were taken too.
 #[derive(Clone, Copy)]
 pub struct First {
     pub index: u32,
-    pub reaches: Reaches,
+    pub looks: Looks,
     pub has_next: bool,
-    pub next: Reaches,
+    pub next: Looks,
 }
 
 // Whether the end is known, and just behind an index.
@@ -92,15 +101,16 @@ fn is_next(known: bool, end: u32, index: u32) -> bool
     known && end - index == 1
 }
 
-// The first index that may fit by how far the codes of what was gathered reach. It is looked for from an index near it,
-// in steps of 1, 1, 2, 4 and 8, and then by halves: none below the start may fit, and the end may.
+// The first index that may fit by how far the codes of what was gathered reach, and by the first residuals. It is looked
+// for from an index near it, in steps of 1, 1, 2, 4 and 8, and then by halves: none below the start may fit, and the end
+// may.
 pub fn find_first(
     gathered: &GatheredSlice,
     matrix: &Matrix,
     bytes: u32,
     near: u32,
-    luma: &mut [i64],
-    colour: &mut [i64],
+    firsts: FirstResiduals,
+    limits: &mut SliceLimits,
 ) -> First
     requires some { 1 ≤ bytes }
     requires most { bytes ≤ 2 ^ 28 }
@@ -110,38 +120,35 @@ pub fn find_first(
     requires c2 { matrix.now.depth ≡ gathered.now.c2.depth }
     requires ends { (k : ℕ) → k ≤ 3 * gathered.now.c1.depth
         → slice_index gathered.now.c2.ends k ≡ slice_index gathered.now.c1.ends k }
-    requires keys { HasKeys gathered.now matrix.now }
-    requires room { HasRoomFor gathered.now (length luma.old) (length colour.old) }
-    requires last { may_fit bytes (gathered_low gathered.now matrix.now 127) ≡ true }
-    ensures first { IsFirstCandidate bytes (gathered_low gathered.now matrix.now) result.index }
-    ensures reaches { result.reaches ≡ gathered_reaches gathered.now matrix.now result.index }
-    ensures few_luma { result.reaches.luma ≤ 2 ^ 38 }
-    ensures few_colour { result.reaches.colour ≤ 2 ^ 39 }
+    requires sizes { HasSizes gathered.now matrix.now }
+    requires small { AreSmallFirsts firsts }
+    requires last { may_fit bytes (gathered_low gathered.now firsts matrix.now 127) ≡ true }
+    ensures first { IsFirstCandidate bytes (gathered_low gathered.now firsts matrix.now)
+        result.index }
+    ensures looks { AreLooks result.looks gathered.now matrix.now result.index }
     ensures next { result.has_next ≡ true
-        → result.next ≡ gathered_reaches gathered.now matrix.now (result.index + 1) }
-    ensures few_next_luma { result.next.luma ≤ 2 ^ 38 }
-    ensures few_next_colour { result.next.colour ≤ 2 ^ 39 }
+        → AreLooks result.next gathered.now matrix.now (result.index + 1) }
 {
     let mut start = 0;
     let mut end = 127;
     let mut wanted = near;
     let mut step = 1;
     let mut known = false;
-    let mut reaches = Reaches { luma: 0, colour: 0 };
+    let mut looks = NO_LOOKS;
     let mut has_next = false;
-    let mut next = reaches;
+    let mut next = looks;
     while start < end {
         let index = probe(start, end, wanted, step);
-        let here = gathered.reaches(matrix, index, luma, colour);
-        let low = gathered.low(here);
+        let here = gathered.looks(matrix, index, limits);
+        let low = gathered.low(matrix, index, here, firsts);
         let may = do_fit(bytes, low.luma, low.colour);
         let taken = (step + 1) / 2;
         step = longer(step);
         if may {
             has_next = is_next(known, end, index);
-            next = reaches;
+            next = looks;
             end = index;
-            reaches = here;
+            looks = here;
             known = true;
             wanted = index.saturating_sub(taken);
         } else {
@@ -150,11 +157,11 @@ pub fn find_first(
         }
     }
     if !known {
-        reaches = gathered.reaches(matrix, start, luma, colour);
+        looks = gathered.looks(matrix, start, limits);
     }
     First {
         index: start,
-        reaches,
+        looks,
         has_next,
         next,
     }

@@ -12,13 +12,13 @@ ghost use Rattle.slice_encoder.specs.Encoded.{IsEncoded, IsEncodedAfter, trial_o
 
 use crate::bounding::{Lower, lower_at};
 use crate::candidates::find_candidate;
-use crate::gathered::GatheredSlice;
+use crate::gathered::{GatheredSlice, SliceLimits};
 use crate::jobs::SliceJob;
-use crate::packing::put_slice;
 use crate::room::most_places;
 use crate::search::{find_least, share_of, try_at};
-use crate::short_texts::PairTexts;
 use crate::sources::TrioSource;
+use crate::trying::low_rects;
+use crate::writer::SliceWriter;
 use planes::{NarrowTrio, NoMemory, ThreePlanes, Trio};
 use quant_factors::Matrix;
 use slice_geometry::{Layout, PictureShape, SliceHead};
@@ -42,11 +42,13 @@ pub struct SliceEncoder {
     layout: Layout,
     shape: PictureShape,
     gathered: GatheredSlice,
+    limits: SliceLimits,
     // The first index that might have fitted the slice before, from which that of the next one is looked for.
     near: u32,
+    // The values of the lowest subbands.
     luma: Vec<i64>,
     colour: Vec<i64>,
-    texts: PairTexts,
+    writer: SliceWriter,
 }
 
 impl Model for SliceEncoder {
@@ -57,7 +59,7 @@ impl Model for SliceEncoder {
 
     ghost view = { λ e. record { slicing = e.layout; shape = e.shape } };
 
-    ghost invariant = { λ e. IsUsable e.layout e.shape e.gathered e.near e.luma e.colour };
+    ghost invariant = { λ e. IsUsable e.layout e.shape e.gathered e.near e.luma e.colour e.writer };
 }
 
 impl SliceEncoder {
@@ -71,16 +73,18 @@ impl SliceEncoder {
     {
         let luma = Vec::from_elem(alloc, 0i64, most_places(layout, shape.luma))?;
         let colour = Vec::from_elem(alloc, 0i64, 2 * most_places(layout, shape.colour))?;
-        let texts = PairTexts::new(alloc)?;
+        let writer = SliceWriter::new(alloc, layout, shape)?;
+        let limits = SliceLimits::new(alloc, layout, shape)?;
         let gathered = GatheredSlice::new(alloc, layout, shape)?;
         Ok(SliceEncoder {
             layout: *layout,
             shape: *shape,
             gathered,
+            limits,
             near: 0,
             luma,
             colour,
-            texts,
+            writer,
         })
     }
 
@@ -129,10 +133,13 @@ impl SliceEncoder {
             bytes: share_of(&self.layout, sx, sy),
         };
         self.gathered.gather(job);
+        let looks = self.gathered.looks(matrix, qindex, &mut self.limits);
         let trying = try_at(
             job,
+            low_rects(job),
             qindex,
             &self.gathered,
+            looks,
             kept,
             &mut self.luma,
             &mut self.colour,
@@ -314,19 +321,13 @@ impl SliceEncoder {
             job,
             &self.gathered,
             self.near,
+            &mut self.limits,
             kept,
             &mut self.luma,
             &mut self.colour,
         );
         self.near = found.first;
-        put_slice(
-            bytes,
-            found.index,
-            found.trying.luma_need,
-            &self.luma[..found.trying.luma],
-            &self.colour[..found.trying.colour],
-            self.texts.all(),
-        );
+        self.writer.put(job, &self.gathered, found, &self.luma, &self.colour, bytes);
         SliceHead {
             qindex: found.index,
             luma_bits: found.trying.luma_need as u32,

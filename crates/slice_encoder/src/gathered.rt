@@ -1,6 +1,6 @@
 // The coefficients of a slice in one component, gathered once for all the indices that are tried.
 
-ghost use Rattle.std.specs.Prelude.{◌≡◌, ℕ, ◌+◌, ◌-◌, ◌*◌, ◌^◌, ◌<◌, ◌≤◌, ◌++◌, length, take, slice_index, IfOk, pos, unsigned_abs, true};
+ghost use Rattle.std.specs.Prelude.{◌≡◌, ℕ, ◌+◌, ◌-◌, ◌*◌, ◌^◌, ◌<◌, ◌≤◌, ◌++◌, length, take, get_or, slice_index, IfOk, pos, unsigned_abs, true};
 ghost use Rattle.std.specs.List.{All, flat_map, range_with_len};
 ghost use Rattle.planes.specs.Numbers.{Within};
 ghost use Rattle.quant_factors.specs.Factors.{forward_of, signed};
@@ -11,24 +11,26 @@ ghost use Rattle.slice_geometry.specs.Shape.{IsSize};
 ghost use Rattle.slice_geometry.specs.SliceOrder.{level_rect, level_of, area, place_count};
 ghost use Rattle.slice_bands.specs.ShortBands.{short_stack};
 ghost use Rattle.slice_encoder.specs.Listing.{rect_values};
-ghost use Rattle.slice_encoder.specs.Gathering.{raw_before, piece_of, quantised, quantised_piece, in_turn, CanGather, CanGatherAll, AreGathered, gathered_values, gathered_pairs, gathered_reach, gathered_pairs_reach, behind_lowest};
-ghost use Rattle.slice_encoder.specs.GatheredSlices.{AreAllGathered, HasKeys, HasRoomFor, gathered_reaches, low_by, CanHoldAll};
-ghost use Rattle.slice_encoder.specs.Keys.{AreKeys};
+ghost use Rattle.slice_encoder.specs.Gathering.{raw_before, piece_of, quantised, quantised_piece, outside_of, in_turn, IsGatheredSound, CanGather, CanGatherAll, AreGathered, gathered_values, gathered_pairs, behind_lowest};
+ghost use Rattle.slice_encoder.specs.GatheredSlices.{AreAllGathered, HasSizes, AreLooks, gathered_low, CanHoldAll};
+ghost use Rattle.slice_encoder.specs.FirstResiduals.{AreSmallFirsts};
+ghost use Rattle.slice_encoder.specs.BlockValues.{IsIn32};
+ghost use Rattle.slice_encoder.specs.CodeTables.{place_of, places_of_values};
 ghost use Rattle.slice_encoder.specs.Scales.{IsScaleOf};
 ghost use Rattle.slice_encoder.specs.Jobs.{picture_of};
 ghost use Rattle.slice_encoder.specs.Ready.{AreGiven};
 ghost use Rattle.slice_encoder.specs.Sources.{band_seen, stack_seen, HasBand, IsCut, IsStackCut, IsTrioCut};
 
 use crate::bounding::Lower;
-use crate::code_lengths::CodeLengths;
+use crate::first_residuals::{FirstResiduals, bits_beyond};
 use crate::jobs::SliceJob;
-use crate::keys::{ENTRIES, Keyed, Keys, put_band_at, put_bands_at};
-use crate::needs::reach_of_values;
+use crate::looks::Look;
 use crate::room::most_places;
 use crate::scales::{Scale, quantised_magnitude, scale_of};
+use crate::sizes::{ListLimits, Sizes};
 use crate::sources::{BandSource, Coefficient, StackSource};
-use crate::trying::{entry_of, quantiser_at};
-use planes::{NoMemory, Plane, Rect};
+use crate::trying::quantiser_at;
+use planes::{NoMemory, Orient, Plane, Rect};
 use quant_factors::Matrix;
 use slice_bands::ShortBands;
 use slice_geometry::{Layout, PictureShape, Size, band_numbered};
@@ -60,19 +62,38 @@ pub struct GatheredSlice {
     pub luma: Gathered,
     pub c1: Gathered,
     pub c2: Gathered,
-    /// The keys of its luma values.
-    pub luma_keys: Keys,
+    /// The magnitudes of its luma values.
+    pub luma_sizes: Sizes,
     /// Those of its colour values, of both components in turn.
-    pub colour_keys: Keys,
-    /// How long the codes of its values are.
-    pub lengths: CodeLengths,
+    pub colour_sizes: Sizes,
 }
 
-/// How far the codes of a slice's luma values and of its colour values reach, but for its lowest subbands.
+/// What a slice's luma values and its colour values hold, but for its lowest subbands.
 #[derive(Clone, Copy)]
-pub struct Reaches {
-    pub luma: u64,
-    pub colour: u64,
+pub struct Looks {
+    pub luma: Look,
+    pub colour: Look,
+}
+
+/// The limits that a slice's magnitudes are held against.
+#[derive(Drop)]
+pub struct SliceLimits {
+    luma: ListLimits,
+    colour: ListLimits,
+}
+
+impl SliceLimits {
+    /// Limits for the slices of a picture.
+    pub fn new(
+        alloc: Global,
+        layout: &Layout,
+        shape: &PictureShape,
+    ) -> Result<SliceLimits, NoMemory> {
+        Ok(SliceLimits {
+            luma: ListLimits::new(alloc, most_places(layout, shape.luma))?,
+            colour: ListLimits::new(alloc, 2 * most_places(layout, shape.colour))?,
+        })
+    }
 }
 
 // Copies the coefficients of a rectangle, row by row, from a place on.
@@ -214,59 +235,113 @@ fn quantised_value(coefficient: i32, scale: Scale, index: u32) -> i64
     sign * magnitude
 }
 
-// Quantises coefficients.
-fn quantise(coefficients: &[i32], index: u32, out: &mut [i64])
+// The same in 32 bits.
+#[inline(always)]
+fn quantised_number(coefficient: i32, scale: Scale, index: u32) -> i32
+    requires index { index ≤ 127 }
+    requires small { Within (2 ^ 27) coefficient }
+    requires scale { IsScaleOf scale index }
+    ensures { result ≡ forward_of coefficient index }
+{
+    quantised_value(coefficient, scale, index) as i32
+}
+
+/// The place of a value in a row of the table of pairs: 0 for one that is none of those. It has no branch, since the loops over
+/// values go on several at a time.
+#[inline(always)]
+pub fn pair_place(value: i32) -> u8
+    ensures { result ≡ place_of value }
+{
+    (value.clamp(-32, 32) + 32) as u8 % 64
+}
+
+// Quantises coefficients, and tells the places of their values in the table of pairs.
+fn quantise(coefficients: &[i32], index: u32, out: &mut [i32], places: &mut [u8])
     requires index { index ≤ 127 }
     requires same { length out.old ≡ length coefficients.now }
+    requires same_places { length places.old ≡ length coefficients.now }
     requires small { All (Within (2 ^ 27)) coefficients.now }
-    ensures { out.new ≡ quantised index coefficients.now }
+    ensures values { out.new ≡ quantised index coefficients.now }
+    ensures places { places.new ≡ places_of_values out.new }
 {
     let scale = scale_of(index);
     for place in 0..coefficients.len() {
-        out[place] = quantised_value(coefficients[place], scale, index);
+        let value = quantised_number(coefficients[place], scale, index);
+        out[place] = value;
+        places[place] = pair_place(value);
     }
 }
 
 // Quantises those of two components in turn.
-fn quantise_pair(first: &[i32], second: &[i32], index: u32, out: &mut [i64])
+fn quantise_pair(first: &[i32], second: &[i32], index: u32, out: &mut [i32], places: &mut [u8])
     requires index { index ≤ 127 }
     requires same { length second.now ≡ length first.now }
     requires room { length out.old ≡ 2 * length first.now }
+    requires room_places { length places.old ≡ 2 * length first.now }
     requires first_small { All (Within (2 ^ 27)) first.now }
     requires second_small { All (Within (2 ^ 27)) second.now }
-    ensures { out.new ≡ in_turn (quantised index first.now) (quantised index second.now) }
+    ensures values { out.new ≡ in_turn (quantised index first.now) (quantised index second.now) }
+    ensures places { places.new ≡ places_of_values out.new }
 {
     let scale = scale_of(index);
     for place in 0..first.len() {
-        out[2 * place] = quantised_value(first[place], scale, index);
-        out[2 * place + 1] = quantised_value(second[place], scale, index);
+        let one = quantised_number(first[place], scale, index);
+        let two = quantised_number(second[place], scale, index);
+        out[2 * place] = one;
+        out[2 * place + 1] = two;
+        places[2 * place] = pair_place(one);
+        places[2 * place + 1] = pair_place(two);
     }
 }
 
 // The same from a place on.
-fn quantise_at(coefficients: &[i32], index: u32, out: &mut [i64], from: usize)
+fn quantise_at(coefficients: &[i32], index: u32, out: &mut [i32], places: &mut [u8], from: usize)
     requires index { index ≤ 127 }
     requires room { from + length coefficients.now ≤ length out.old }
+    requires room_places { from + length coefficients.now ≤ length places.old }
     requires small { All (Within (2 ^ 27)) coefficients.now }
-    ensures { take (from + length coefficients.now) out.new
+    ensures values { take (from + length coefficients.now) out.new
         ≡ take from out.old ++ quantised index coefficients.now }
+    ensures places { take (from + length coefficients.now) places.new
+        ≡ take from places.old ++ places_of_values (quantised index coefficients.now) }
 {
     let end = from + coefficients.len();
-    quantise(coefficients, index, &mut out[from..end]);
+    quantise(
+        coefficients,
+        index,
+        &mut out[from..end],
+        &mut places[from..end],
+    );
 }
 
-fn quantise_pair_at(first: &[i32], second: &[i32], index: u32, out: &mut [i64], from: usize)
+fn quantise_pair_at(
+    first: &[i32],
+    second: &[i32],
+    index: u32,
+    out: &mut [i32],
+    places: &mut [u8],
+    from: usize,
+)
     requires index { index ≤ 127 }
     requires same { length second.now ≡ length first.now }
     requires few { length first.now ≤ 2 ^ 31 }
     requires room { from + 2 * length first.now ≤ length out.old }
+    requires room_places { from + 2 * length first.now ≤ length places.old }
     requires first_small { All (Within (2 ^ 27)) first.now }
     requires second_small { All (Within (2 ^ 27)) second.now }
-    ensures { take (from + 2 * length first.now) out.new
+    ensures values { take (from + 2 * length first.now) out.new
         ≡ take from out.old ++ in_turn (quantised index first.now) (quantised index second.now) }
+    ensures places { take (from + 2 * length first.now) places.new ≡ take from places.old
+        ++ places_of_values (in_turn (quantised index first.now) (quantised index second.now)) }
 {
     let end = from + 2 * first.len();
-    quantise_pair(first, second, index, &mut out[from..end]);
+    quantise_pair(
+        first,
+        second,
+        index,
+        &mut out[from..end],
+        &mut places[from..end],
+    );
 }
 
 /// The bits of codes that reach so far, with so many in front of them.
@@ -371,95 +446,70 @@ impl Gathered {
         &self.values[self.ends[k - 1]..self.ends[k]]
     }
 
-    /// Puts the keys of its values outside the lowest subband, where there is room.
-    pub fn put_keys(&self, matrix: &Matrix, out: &mut [u16]) -> Keyed
-        requires entries { matrix.now.depth ≡ self.now.depth }
-        ensures inside { result.count ≤ length out.old }
-        ensures keys { result.small ≡ true → AreKeys (take result.count out.new) (2 ^ 31)
-            (gathered_values self.now matrix.now) }
+    /// The depth of the transform.
+    pub fn depth(&self) -> u32
+        ensures value { result ≡ self.now.depth }
+        ensures most { result ≤ 4 }
+        ensures sound { IsGatheredSound self.now }
     {
-        if out.len() < self.values.len() {
-            return Keyed {
-                count: 0,
-                small: false,
-            };
-        }
-        let mut count = 0;
-        let mut top = 0;
-        for k in 1..3 * self.depth + 1 {
-            let band = self.band(k);
-            let most = put_band_at(band, entry_of(matrix, k), out, count);
-            top = most.max(top);
-            count += band.len();
-        }
-        Keyed {
-            count,
-            small: top < ENTRIES,
-        }
+        // The contract alone names these.
+        let _ = &self.ends;
+        let _ = &self.values;
+        self.depth
     }
 
-    /// Puts those of two components in turn.
-    pub fn put_pair_keys(&self, second: &Gathered, matrix: &Matrix, out: &mut [u16]) -> Keyed
-        requires entries { matrix.now.depth ≡ self.now.depth }
-        requires depth { second.now.depth ≡ self.now.depth }
-        requires ends { (k : ℕ) → k ≤ 3 * self.now.depth
-            → slice_index second.now.ends k ≡ slice_index self.now.ends k }
-        ensures inside { result.count ≤ length out.old }
-        ensures keys { result.small ≡ true → AreKeys (take result.count out.new) (2 ^ 32)
-            (gathered_pairs self.now second.now matrix.now) }
+    /// Where the values of band number k end.
+    pub fn end(&self, k: u32) -> usize
+        requires { k ≤ 3 * self.now.depth }
+        ensures value { result ≡ slice_index self.now.ends k }
+        ensures few { result ≤ 2 ^ 31 }
     {
-        // The contract alone names it.
-        let _ = &second.depth;
-        if out.len() < 2 * self.values.len() {
-            return Keyed {
-                count: 0,
-                small: false,
-            };
-        }
-        let mut count = 0;
-        let mut top = 0;
-        for k in 1..3 * self.depth + 1 {
-            let band = self.band(k);
-            let other = second.band(k);
-            let most = put_bands_at(band, other, entry_of(matrix, k), out, count);
-            top = most.max(top);
-            count += 2 * band.len();
-        }
-        Keyed {
-            count,
-            small: top < ENTRIES,
-        }
+        // The contract alone names these.
+        let _ = &self.depth;
+        let _ = &self.values;
+        self.ends[k as usize]
     }
 
-    /// Lists the slice's values behind those of the lowest subband, and tells how many there are with these.
-    pub fn list(&self, matrix: &Matrix, index: u32, out: &mut [i64]) -> usize
+    /// The coefficients outside the lowest subband.
+    pub fn outside(&self) -> &[i32]
+        ensures value { result.now ≡ outside_of self.now }
+        ensures count { length result.now ≡ slice_index self.now.ends (3 * self.now.depth)
+            - slice_index self.now.ends 0 }
+        ensures small { All (Within (2 ^ 27)) result.now }
+    {
+        &self.values[self.ends[0]..self.ends[3 * self.depth as usize]]
+    }
+
+    /// Lists the slice's values outside the lowest subband and their places in the table of pairs, and tells how many there are.
+    pub fn list(&self, matrix: &Matrix, index: u32, out: &mut [i32], places: &mut [u8]) -> usize
         requires index { index ≤ 127 }
         requires entries { matrix.now.depth ≡ self.now.depth }
         requires room { slice_index self.now.ends (3 * self.now.depth) ≤ length out.old }
-        ensures count { result ≡ slice_index self.now.ends (3 * self.now.depth) }
-        ensures listed { take result out.new
-            ≡ take (slice_index self.now.ends 0) out.old
-            ++ flat_map (quantised_piece self.now matrix.now index)
-            (range_with_len 1 (3 * self.now.depth)) }
+        requires room_places { slice_index self.now.ends (3 * self.now.depth) ≤ length places.old }
+        ensures most { result ≤ slice_index self.now.ends (3 * self.now.depth) }
+        ensures listed { take result out.new ≡ gathered_values self.now matrix.now index }
+        ensures places { take result places.new
+            ≡ places_of_values (gathered_values self.now matrix.now index) }
+        ensures small { All IsIn32 (gathered_values self.now matrix.now index) }
     {
-        let mut place = self.ends[0];
+        let mut place = 0;
         for k in 1..3 * self.depth + 1 {
             let quantiser = quantiser_at(matrix, index, k);
             let band = self.band(k);
-            quantise_at(band, quantiser, out, place);
+            quantise_at(band, quantiser, out, places, place);
             place += band.len();
         }
         place
     }
 
-    /// Lists the values of two components in turn behind those of the lowest subbands, and tells how many there are with
-    /// these.
+    /// Lists those of two components in turn.
     pub fn list_pair(
         &self,
         second: &Gathered,
         matrix: &Matrix,
         index: u32,
-        out: &mut [i64],
+        out: &mut [i32],
+        places: &mut [u8],
     ) -> usize
         requires index { index ≤ 127 }
         requires entries { matrix.now.depth ≡ self.now.depth }
@@ -467,59 +517,85 @@ impl Gathered {
         requires ends { (k : ℕ) → k ≤ 3 * self.now.depth
             → slice_index second.now.ends k ≡ slice_index self.now.ends k }
         requires room { 2 * slice_index self.now.ends (3 * self.now.depth) ≤ length out.old }
-        ensures count { result ≡ 2 * slice_index self.now.ends (3 * self.now.depth) }
-        ensures listed { take result out.new ≡ take (2 * slice_index self.now.ends 0) out.old
-            ++ flat_map (λ k. in_turn (quantised_piece self.now matrix.now index k)
-            (quantised_piece second.now matrix.now index k))
-            (range_with_len 1 (3 * self.now.depth)) }
+        requires room_places { 2 * slice_index self.now.ends (3 * self.now.depth)
+            ≤ length places.old }
+        ensures most { result ≤ 2 * slice_index self.now.ends (3 * self.now.depth) }
+        ensures listed { take result out.new
+            ≡ gathered_pairs self.now second.now matrix.now index }
+        ensures places { take result places.new
+            ≡ places_of_values (gathered_pairs self.now second.now matrix.now index) }
+        ensures small { All IsIn32 (gathered_pairs self.now second.now matrix.now index) }
     {
         // The contract alone names it.
         let _ = &second.depth;
-        let mut place = 2 * self.ends[0];
+        let mut place = 0;
         for k in 1..3 * self.depth + 1 {
             let quantiser = quantiser_at(matrix, index, k);
             let band = self.band(k);
-            quantise_pair_at(band, second.band(k), quantiser, out, place);
+            quantise_pair_at(band, second.band(k), quantiser, out, places, place);
             place += 2 * band.len();
         }
         place
     }
-    /// How far the codes of the slice's values reach at an index, but for its lowest subband. The values are listed, which is
-    /// rare, and so stays out of the loops over keys.
-    #[inline(never)]
-    pub fn listed_reach(&self, matrix: &Matrix, index: u32, out: &mut [i64]) -> u64
+
+    // The value in a place of those outside the lowest subband, and 0 behind them.
+    fn value_at(&self, matrix: &Matrix, index: u32, place: usize) -> i32
         requires index { index ≤ 127 }
         requires entries { matrix.now.depth ≡ self.now.depth }
-        requires room { slice_index self.now.ends (3 * self.now.depth) ≤ length out.old }
-        ensures value { result ≡ gathered_reach self.now matrix.now index }
-        ensures most { result ≤ 2 ^ 38 }
+        ensures { result ≡ get_or (gathered_values self.now matrix.now index) place (pos 0) }
     {
-        let count = self.list(matrix, index, out);
-        reach_of_values(&out[self.ends[0]..count])
+        let mut left = place;
+        for k in 1..3 * self.depth + 1 {
+            let band = self.band(k);
+            if left < band.len() {
+                let quantiser = quantiser_at(matrix, index, k);
+                return quantised_number(band[left], scale_of(quantiser), quantiser);
+            }
+            left -= band.len();
+        }
+        0
     }
 
-    /// How far the codes of two components in turn reach at an index, but for their lowest subbands.
-    #[inline(never)]
-    pub fn listed_pairs_reach(
+    /// The value with this number of those outside the lowest subband, counted from 1.
+    pub fn value_numbered(&self, matrix: &Matrix, index: u32, number: u64) -> i32
+        requires index { index ≤ 127 }
+        requires entries { matrix.now.depth ≡ self.now.depth }
+        ensures { 0 < number
+            → result ≡ get_or (gathered_values self.now matrix.now index) (number - 1) (pos 0) }
+    {
+        if number == 0 {
+            return 0;
+        }
+        self.value_at(matrix, index, number as usize - 1)
+    }
+
+    /// The same of those of two components in turn.
+    pub fn pair_value_numbered(
         &self,
         second: &Gathered,
         matrix: &Matrix,
         index: u32,
-        out: &mut [i64],
-    ) -> u64
+        number: u64,
+    ) -> i32
         requires index { index ≤ 127 }
         requires entries { matrix.now.depth ≡ self.now.depth }
         requires depth { second.now.depth ≡ self.now.depth }
         requires ends { (k : ℕ) → k ≤ 3 * self.now.depth
             → slice_index second.now.ends k ≡ slice_index self.now.ends k }
-        requires room { 2 * slice_index self.now.ends (3 * self.now.depth) ≤ length out.old }
-        ensures value { result ≡ gathered_pairs_reach self.now second.now matrix.now index }
-        ensures most { result ≤ 2 ^ 39 }
+        ensures { 0 < number → result
+            ≡ get_or (gathered_pairs self.now second.now matrix.now index) (number - 1) (pos 0) }
     {
-        // The contract alone names it.
+        // The contract alone names these.
+        let _ = &self.depth;
         let _ = &second.depth;
-        let count = self.list_pair(second, matrix, index, out);
-        reach_of_values(&out[2 * self.ends[0]..count])
+        if number == 0 {
+            return 0;
+        }
+        let place = number as usize - 1;
+        if place % 2 == 0 {
+            return self.value_at(matrix, index, place / 2);
+        }
+        second.value_at(matrix, index, place / 2)
     }
 }
 
@@ -536,26 +612,33 @@ impl GatheredSlice {
             luma: Gathered::new(alloc, layout, shape.luma)?,
             c1: Gathered::new(alloc, layout, shape.colour)?,
             c2: Gathered::new(alloc, layout, shape.colour)?,
-            luma_keys: Keys::new(alloc, most_places(layout, shape.luma))?,
-            colour_keys: Keys::new(alloc, 2 * most_places(layout, shape.colour))?,
-            lengths: CodeLengths::new(alloc)?,
+            luma_sizes: Sizes::new(alloc, most_places(layout, shape.luma))?,
+            colour_sizes: Sizes::new(alloc, 2 * most_places(layout, shape.colour))?,
         })
     }
 
-    // Takes the keys, where all magnitudes are small.
-    fn take_keys(&mut self, matrix: &Matrix)
+    // Takes the magnitudes.
+    fn take_sizes(&mut self, matrix: &Matrix)
         requires luma { matrix.now.depth ≡ self.old.luma.depth }
         requires c1 { matrix.now.depth ≡ self.old.c1.depth }
         requires c2 { matrix.now.depth ≡ self.old.c2.depth }
         requires ends { (k : ℕ) → k ≤ 3 * self.old.c1.depth
             → slice_index self.old.c2.ends k ≡ slice_index self.old.c1.ends k }
+        requires luma_room { slice_index self.old.luma.ends (3 * self.old.luma.depth)
+            ≤ length self.old.luma_sizes.values }
+        requires colour_room { 2 * slice_index self.old.c1.ends (3 * self.old.c1.depth)
+            ≤ length self.old.colour_sizes.values }
         ensures luma { self.new.luma ≡ self.old.luma }
         ensures c1 { self.new.c1 ≡ self.old.c1 }
         ensures c2 { self.new.c2 ≡ self.old.c2 }
-        ensures keys { HasKeys self.new matrix.now }
+        ensures luma_room { length self.new.luma_sizes.values
+            ≡ length self.old.luma_sizes.values }
+        ensures colour_room { length self.new.colour_sizes.values
+            ≡ length self.old.colour_sizes.values }
+        ensures sizes { HasSizes self.new matrix.now }
     {
-        self.luma_keys.take_one(&self.luma, matrix);
-        self.colour_keys.take_two(&self.c1, &self.c2, matrix);
+        self.luma_sizes.take_one(&self.luma, matrix);
+        self.colour_sizes.take_two(&self.c1, &self.c2, matrix);
     }
 
     /// Gathers the coefficients of a slice.
@@ -581,78 +664,45 @@ impl GatheredSlice {
             .gather(layout, shape.colour, sx, sy, coefficients.c1());
         self.c2
             .gather(layout, shape.colour, sx, sy, coefficients.c2());
-        self.take_keys(job.matrix);
+        self.take_sizes(job.matrix);
     }
 
-    // How far the codes of its luma values reach at an index. Where their keys aren't known, the values are listed.
-    fn luma_reach(&self, matrix: &Matrix, index: u32, out: &mut [i64]) -> u64
-        requires index { index ≤ 127 }
-        requires luma { matrix.now.depth ≡ self.now.luma.depth }
-        requires keys { HasKeys self.now matrix.now }
-        requires room { slice_index self.now.luma.ends (3 * self.now.luma.depth) ≤ length out.old }
-        ensures value { result ≡ gathered_reach self.now.luma matrix.now index }
-        ensures few { result ≤ 2 ^ 38 }
-    {
-        if self.luma_keys.are_known() {
-            return self.luma_keys.reach(index, &self.lengths);
-        }
-        self.luma.listed_reach(matrix, index, out)
-    }
-
-    // How far those of its colour values reach.
-    fn colour_reach(&self, matrix: &Matrix, index: u32, out: &mut [i64]) -> u64
-        requires index { index ≤ 127 }
-        requires c1 { matrix.now.depth ≡ self.now.c1.depth }
-        requires c2 { matrix.now.depth ≡ self.now.c2.depth }
-        requires ends { (k : ℕ) → k ≤ 3 * self.now.c1.depth
-            → slice_index self.now.c2.ends k ≡ slice_index self.now.c1.ends k }
-        requires keys { HasKeys self.now matrix.now }
-        requires room { 2 * slice_index self.now.c1.ends (3 * self.now.c1.depth) ≤ length out.old }
-        ensures value { result ≡ gathered_pairs_reach self.now.c1 self.now.c2 matrix.now index }
-        ensures few { result ≤ 2 ^ 39 }
-    {
-        if self.colour_keys.are_known() {
-            return self.colour_keys.reach(index, &self.lengths);
-        }
-        self.c1.listed_pairs_reach(&self.c2, matrix, index, out)
-    }
-
-    /// How far the codes of its values reach at an index. Two buffers have room for its values.
-    pub fn reaches(
-        &self,
-        matrix: &Matrix,
-        index: u32,
-        luma: &mut [i64],
-        colour: &mut [i64],
-    ) -> Reaches
+    /// What its values hold at an index.
+    pub fn looks(&self, matrix: &Matrix, index: u32, limits: &mut SliceLimits) -> Looks
         requires index { index ≤ 127 }
         requires luma { matrix.now.depth ≡ self.now.luma.depth }
         requires c1 { matrix.now.depth ≡ self.now.c1.depth }
         requires c2 { matrix.now.depth ≡ self.now.c2.depth }
         requires ends { (k : ℕ) → k ≤ 3 * self.now.c1.depth
             → slice_index self.now.c2.ends k ≡ slice_index self.now.c1.ends k }
-        requires keys { HasKeys self.now matrix.now }
-        requires room { HasRoomFor self.now (length luma.old) (length colour.old) }
-        ensures value { result ≡ gathered_reaches self.now matrix.now index }
-        ensures few_luma { result.luma ≤ 2 ^ 38 }
-        ensures few_colour { result.colour ≤ 2 ^ 39 }
+        requires sizes { HasSizes self.now matrix.now }
+        ensures { AreLooks result self.now matrix.now index }
     {
-        Reaches {
-            luma: self.luma_reach(matrix, index, luma),
-            colour: self.colour_reach(matrix, index, colour),
+        // The rules of what was gathered; the contract alone names the matrix.
+        let _ = (self.luma.depth(), self.c1.depth(), self.c2.depth());
+        let _ = matrix;
+        Looks {
+            luma: self.luma_sizes.look(index, &mut limits.luma),
+            colour: self.colour_sizes.look(index, &mut limits.colour),
         }
     }
 
-    /// What the slice needs at least where the codes of its values reach so far, whatever is restored of it.
-    pub fn low(&self, reaches: Reaches) -> Lower
-        requires few_luma { reaches.luma ≤ 2 ^ 38 }
-        requires few_colour { reaches.colour ≤ 2 ^ 39 }
-        ensures value { result ≡ low_by self.now reaches }
+    /// What the slice needs at least at an index by the looks at its values and the first residuals, whatever is restored
+    /// of it.
+    pub fn low(&self, matrix: &Matrix, index: u32, looks: Looks, firsts: FirstResiduals) -> Lower
+        requires index { index ≤ 127 }
+        requires looks { AreLooks looks self.now matrix.now index }
+        requires small { AreSmallFirsts firsts }
+        ensures value { result ≡ gathered_low self.now firsts matrix.now index }
         ensures few_luma { result.luma ≤ 2 ^ 40 }
         ensures few_colour { result.colour ≤ 2 ^ 40 }
     {
-        let luma = behind(self.luma.lowest(), reaches.luma);
-        let colour = behind(2 * self.c1.lowest(), reaches.colour);
+        let quantiser = matrix.quantiser(index, 0, Orient::Ll);
+        let more = bits_beyond(firsts.c1, quantiser) + bits_beyond(firsts.c2, quantiser);
+        let lumas = self.luma.lowest() + bits_beyond(firsts.luma, quantiser);
+        let colours = 2 * self.c1.lowest() + more;
+        let luma = behind(lumas, looks.luma.reach());
+        let colour = behind(colours, looks.colour.reach());
         Lower {
             luma: luma.saturating_sub(3),
             colour: colour.saturating_sub(3),

@@ -1,12 +1,14 @@
 // What values need, by the length of their codes up to the last one that isn't 0.
 
 ghost use Rattle.bit_codes.specs.declared.TheConstants.{MAX_MAGNITUDE};
-ghost use Rattle.std.specs.Prelude.{◌≡◌, ◌≢◌, ◌-◌, ◌*◌, ◌^◌, ◌<◌, ◌≤◌, length, pos, slice_index_or, take, drop, unsigned_abs};
+ghost use Rattle.std.specs.Prelude.{◌≡◌, ◌≢◌, ℤ, ◌+◌, ◌-◌, ◌*◌, ◌^◌, ◌<◌, ◌≤◌, List, [], ◌∷◌, ◌++◌, get_or, length, pos, slice_index_or, take, unsigned_abs};
 ghost use Rattle.bit_codes.specs.Codes.{signed_code_of};
 ghost use Rattle.bounded_blocks.specs.Writing.{codes_of, need};
 ghost use Rattle.slice_encoder.specs.Gathering.{reach};
+ghost use Rattle.slice_encoder.specs.Looks.{IsLook, IsFew};
 ghost use Rattle.slice_encoder.specs.TrialLaws.{AreSmallValues};
 
+use crate::looks::Look;
 use crate::short_texts::short_text;
 use bit_codes::sint_len;
 use bounded_blocks::Need;
@@ -64,17 +66,6 @@ pub fn total_length(values: &[i64]) -> u64
     bits
 }
 
-/// How far the codes of values reach.
-pub fn reach_of_values(values: &[i64]) -> u64
-    requires few { length values.now ≤ 2 ^ 32 }
-    requires small { AreSmallValues values.now }
-    ensures value { result ≡ reach values.now 0 }
-    ensures most { result ≤ 75 * length values.now }
-{
-    let count = count_to_last(values);
-    total_length(&values[..count])
-}
-
 // The need of values.
 pub fn need_of_values(values: &[i64]) -> u64
     requires few { length values.now ≤ 2 ^ 32 }
@@ -89,34 +80,26 @@ pub fn need_of_values(values: &[i64]) -> u64
     front + Need::of(&values[count - 1..count]).bits()
 }
 
-// The need of values by how far their codes reach: all of that but what isn't needed of the last code.
-fn need_within(values: &[i64], bits: u64) -> u64
-    requires few { length values.now ≤ 2 ^ 32 }
-    requires small { AreSmallValues values.now }
-    requires reach { bits ≡ reach values.now 0 }
-    requires some { 1 ≤ bits }
-    ensures { result ≡ need values.now }
+// How many bits of a value's code aren't needed where it is the last: the ones at its end.
+fn bits_not_needed(last: i32) -> u64
+    ensures { result + need (last ∷ []) ≡ length (codes_of (last ∷ [])) }
 {
-    let count = count_to_last(values);
-    if count == 0 {
-        return 0;
-    }
-    let end = &values[count - 1..count];
-    bits - total_length(end) + Need::of(end).bits()
+    let code = [i64::from(last)];
+    total_length(&code) - Need::of(&code).bits()
 }
 
-/// The need of values of which it is known how far the codes reach behind the first so many.
-pub fn need_behind(values: &[i64], lowest: usize, behind: u64) -> u64
-    requires few { length values.now ≤ 2 ^ 32 }
-    requires small { AreSmallValues values.now }
-    requires inside { lowest ≤ length values.now }
-    requires most { behind ≤ 2 ^ 39 }
-    requires behind { behind ≡ reach (drop lowest values.now) 0 }
-    ensures { result ≡ need values.now }
+/// The need of values, by those in front, a look at the others, and the last of these that isn't 0.
+pub fn need_by_look(front: &[i64], look: Look, last: i32) -> u64
+    requires few { length front.now ≤ 2 ^ 32 }
+    requires small { AreSmallValues front.now }
+    requires look { IsFew look }
+    ensures { (behind : List ℤ) → IsLook look behind
+        → (0 < look.last → last ≡ get_or behind (look.last - 1) (pos 0))
+        → result ≡ need (front.now ++ behind) }
 {
-    if behind == 0 {
-        return need_of_values(values);
+    if look.last == 0 {
+        return need_of_values(front);
     }
-    let front = total_length(&values[..lowest]);
-    need_within(values, front + behind)
+    let bits = total_length(front) + look.reach();
+    bits.saturating_sub(bits_not_needed(last))
 }

@@ -1,14 +1,39 @@
-use Rattle.std.proofs.Common.{subst, ℤ}
+use Rattle.std.proofs.Common.{◌∙◌, ℤ, length, get_or, subst, sym, ap, arith, pos}
+use Rattle.std.specs.Prelude.{unsigned_abs}
+use Rattle.std.proofs.lemmas.List.Elements.{All-get_or}
 use Rattle.bit_codes.specs.Codes.{signed_code_of}
-use Rattle.slice_encoder.specs.BitQueues.{IsPut}
-use Rattle.slice_encoder.proofs.BlockTexts.{put_join, told}
+use Rattle.slice_encoder.specs.BitQueues.{HasRoom, IsSent}
+use Rattle.slice_encoder.specs.BlockValues.{IsIn32}
+use Rattle.slice_encoder.proofs.BlockTexts.{widened, room_one, sent_one}
 use Rattle.slice_encoder.proofs.block_texts.put_apart.Goals as goal
 
-pub returns : goal.returns
-returns c =
+pub put_value-queue-requires-clause-small : goal.put_value-queue-requires-clause-small
+put_value-queue-requires-clause-small c =
+    let vs = c.args.values.now in
+    let v = get_or vs c.loop-k.k (pos 0) in
+    let narrow = All-get_or IsIn32 vs c.loop-k.k (pos 0) c.loop-k-test.true c.requires.small in
+    omega (arith, narrow, ap unsigned_abs (widened v c.from.result narrow c.from.ensures))
+
+pub put_value-queue-requires-clause-room : goal.put_value-queue-requires-clause-room
+put_value-queue-requires-clause-room c =
     let a = c.args in
-    let one = c.put_value-between in
-    let two = c.put_value in
-    put_join a.bytes.now a.block one.new.bytes one.result two.new.bytes two.result (signed_code_of a.first) (signed_code_of a.second)
-    (subst (λ (z : ℤ). IsPut a.bytes.now a.block one.new.bytes one.result (signed_code_of z)) (told a.first c.requires.first_small) one.ensures)
-    (subst (λ (z : ℤ). IsPut one.new.bytes one.result two.new.bytes two.result (signed_code_of z)) (told a.second c.requires.second_small) two.ensures)
+    let l = c.loop-k in
+    let vs = a.values.now in
+    let lt = c.loop-k-test.true in
+    let v = get_or vs l.k (pos 0) in
+    let is = widened v c.from.result (All-get_or IsIn32 vs l.k (pos 0) lt c.requires.small) c.from.ensures in
+    subst (λ (z : ℤ). HasRoom (length l.room) l.queue (length (signed_code_of z))) (sym is) (room_one vs l.k a.room.now a.queue l.room l.queue l.invariant.sent lt c.requires.room)
+
+pub loop-k-preserved : goal.loop-k-preserved
+loop-k-preserved c =
+    let a = c.args in
+    let l = c.loop-k in
+    let vs = a.values.now in
+    let lt = c.loop-k-test.true in
+    let v = get_or vs l.k (pos 0) in
+    let put = c.put_value-queue in
+    let is = widened v c.from.result (All-get_or IsIn32 vs l.k (pos 0) lt c.requires.small) c.from.ensures in
+    record {
+      same_length = put.ensures.same_length ∙ l.invariant.same_length;
+      sent = sent_one vs l.k a.room.now a.queue l.room l.queue l.invariant.sent lt put.new.room put.result (subst (λ (z : ℤ). IsSent l.room l.queue put.new.room put.result (signed_code_of z)) is put.ensures);
+    }

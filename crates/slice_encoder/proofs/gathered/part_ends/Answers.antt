@@ -1,10 +1,9 @@
-use Rattle.std.proofs.Common.{◌≡◌, ◌∙◌, ℕ, ◌+◌, ◌*◌, ◌<◌, ◌≤◌, length, set, sym, ap, arith, inl, inr}
+use Rattle.std.proofs.Common.{◌≡◌, ◌∙◌, ℕ, ◌+◌, ◌*◌, ◌<◌, length, set, sym, ap, arith, inl, inr}
 use Rattle.std.specs.Prelude.{slice_index}
 use Rattle.std.proofs.lemmas.Bool.{cases_eq}
 use Rattle.std.proofs.lemmas.List.{get_or-set_same, get_or-set_other, length-set}
 use Rattle.planes.specs.Subbands.{BandStack}
 use Rattle.slice_bands.specs.Places.{part_w, part_h}
-use Rattle.slice_bands.specs.Slices.{slice_size}
 use Rattle.slice_bands.specs.ShortBands.{short_stack}
 use Rattle.slice_geometry.specs.SliceOrder.{level_of}
 use Rattle.slice_encoder.specs.Gathering.{raw_before}

@@ -1,45 +1,64 @@
-use Rattle.std.proofs.Common.{◌≡◌, ◌∙◌, sym, ap, subst, refl, ◌<◌, ◌+◌, ◌*◌, ◌^◌, arith, ℤ, to_z, of_z, w64}
+use Rattle.std.proofs.Common.{◌≡◌, ◌∙◌, sym, ap, subst, ◌<◌, ◌+◌, ◌-◌, ◌*◌, ◌^◌, length, set, arith, to_z, of_z, w64}
+use Rattle.std.proofs.lemmas.Int.{to_z-of_z}
 use Rattle.planes.specs.Numbers.{Within}
 use Rattle.planes.specs.Raster.{Raster, height, at, with_place}
 use Rattle.planes.specs.Rect.{IsInRect}
 use Rattle.dc_prediction.specs.Prediction.{prediction}
 use Rattle.dc_prediction.proofs.PredictionLemmas.{fits}
-use Rattle.slice_encoder.specs.Loop.{restored_value}
+use Rattle.slice_geometry.specs.SliceOrder.{number_in}
+use Rattle.slice_encoder.specs.Loop.{residual_of, restored_value}
 use Rattle.slice_encoder.specs.Sources.{band_seen}
-use Rattle.slice_encoder.proofs.RectSoFar.{TriedSoFar}
-use Rattle.slice_encoder.proofs.PlaceByPlace.{looked_small, looked_wider, prediction_looked, tried_next}
+use Rattle.slice_encoder.proofs.RectSoFar.{TriedSoFar, ListedSoFar}
+use Rattle.slice_encoder.proofs.PlaceByPlace.{looked_small, tried_next}
+use Rattle.slice_encoder.proofs.RectLists.{number_turned, row_end, stepped, slot_inside, listed_next, tried_row, listed_row}
 use Rattle.slice_encoder.proofs.rect_trials.try_rect.Goals as goal
 
-pub predict-prediction-requires-clause-small : goal.predict-prediction-requires-clause-small
-predict-prediction-requires-clause-small c =
+pub try_place-requires-clause-looked : goal.try_place-requires-clause-looked
+try_place-requires-clause-looked c =
     let here : IsInRect c.args.rect c.loop-y.y c.loop-x.x = record { left = omega arith; right = c.loop-x-test.true; top = omega arith; bottom = c.loop-y-test.true } in
-    looked_wider (3 * 2 ^ 27 + 2) (2 ^ 50) (at c.loop-x.kept) c.loop-y.y c.loop-x.x (omega arith)
-    (looked_small c.args.rect (band_seen c.args.coefficients) c.args.kept.now c.loop-x.kept c.args.index c.loop-y.y c.loop-x.x c.requires.can c.loop-x.invariant here)
-
-pub restored-value-requires-clause-prediction_small : goal.restored-value-requires-clause-prediction_small
-restored-value-requires-clause-prediction_small c =
-    let here : IsInRect c.args.rect c.loop-y.y c.loop-x.x = record { left = omega arith; right = c.loop-x-test.true; top = omega arith; bottom = c.loop-y-test.true } in
-    let looked = looked_small c.args.rect (band_seen c.args.coefficients) c.args.kept.now c.loop-x.kept c.args.index c.loop-y.y c.loop-x.x c.requires.can c.loop-x.invariant here in
-    let small : Within (3 * 2 ^ 27 + 2) c.predict-prediction.result = subst (λ v. Within (3 * 2 ^ 27 + 2) v) (sym c.predict-prediction.ensures) (prediction_looked (3 * 2 ^ 27 + 2) (at c.loop-x.kept) c.loop-y.y c.loop-x.x looked) in
-    subst (λ v. Within (3 * 2 ^ 27 + 2) v) (sym (fits (3 * 2 ^ 27 + 2) c.predict-prediction.result (omega arith) small)) small
+    looked_small c.args.rect (band_seen c.args.coefficients) c.args.kept.now c.loop-x.kept c.args.index c.loop-y.y c.loop-x.x c.requires.can c.loop-x.invariant.tried here
 
 pub loop-x-preserved : goal.loop-x-preserved
 loop-x-preserved c =
+    let a = c.args in
+    let r = a.rect in
     let y = c.loop-y.y in
-    let x = c.loop-x.x in
-    let kept = c.loop-x.kept in
-    let here : IsInRect c.args.rect y x = record { left = omega arith; right = c.loop-x-test.true; top = omega arith; bottom = c.loop-y-test.true } in
-    let lt : y < height kept = omega (arith, c.loop-x.invariant.same_height, c.requires.can.y_inside) in
-    let v = to_z w64 (of_z w64 c.restored-value.result) in
-    let v_is : v ≡ c.restored-value.result = fits (3 * 2 ^ 27 + 2) c.restored-value.result (omega arith) c.restored-value.ensures.small in
-    let looked = looked_small c.args.rect (band_seen c.args.coefficients) c.args.kept.now kept c.args.index y x c.requires.can c.loop-x.invariant here in
-    let p_small = prediction_looked (3 * 2 ^ 27 + 2) (at kept) y x looked in
-    let p_is : to_z w64 (of_z w64 c.predict-prediction.result) ≡ prediction (at kept) y x =
-    ap (λ t. to_z w64 (of_z w64 t)) c.predict-prediction.ensures ∙ fits (3 * 2 ^ 27 + 2) (prediction (at kept) y x) (omega arith) p_small in
-    let g_is : to_z w64 (of_z w64 c.get.result) ≡ at (band_seen c.args.coefficients) y x =
-    ap (λ t. to_z w64 (of_z w64 t)) c.get.ensures ∙ fits (2 ^ 27) (at (band_seen c.args.coefficients) y x) (omega arith) (c.requires.can.small y x here) in
-    let is : v ≡ restored_value (at (band_seen c.args.coefficients) y x) c.args.index (prediction (at kept) y x) = v_is ∙ c.restored-value.ensures.value ∙ rw (g_is, p_is) refl in
-    let written : at (with_place kept y x v) y x ≡ v = subst (λ (p : Raster ℤ). at p y x ≡ v) c.set.ensures.whole c.set.ensures.here in
-    subst (λ (p : Raster ℤ). TriedSoFar (at (band_seen c.args.coefficients)) c.args.index c.args.rect y (x + 1) c.args.kept.now p) (sym c.set.ensures.whole)
-    (tried_next (at (band_seen c.args.coefficients)) c.args.index c.args.rect y x c.args.kept.now kept v c.loop-x.invariant here lt is
-    (subst (λ t. Within (3 * 2 ^ 27 + 2) t) (sym v_is) c.restored-value.ensures.small) written)
+    let l = c.loop-x in
+    let g = at (band_seen a.coefficients) in
+    let here : IsInRect r y l.x = record { left = omega arith; right = c.loop-x-test.true; top = omega arith; bottom = c.loop-y-test.true } in
+    let lt : y < height l.kept = omega (arith, l.invariant.tried.same_height, c.requires.can.y_inside) in
+    let p = prediction (at l.kept) y l.x in
+    let v = restored_value (to_z w64 (of_z w64 c.get.result)) a.index p in
+    let g_is : to_z w64 (of_z w64 c.get.result) ≡ g y l.x =
+    ap (λ t. to_z w64 (of_z w64 t)) c.get.ensures ∙ fits (2 ^ 27) (g y l.x) (omega arith) (c.requires.can.small y l.x here) in
+    let v_is : v ≡ restored_value (g y l.x) a.index p = ap (λ t. restored_value t a.index p) g_is in
+    let u = to_z w64 (of_z w64 c.try_place.result) in
+    let u_is : u ≡ residual_of (g y l.x) a.index p =
+    to_z-of_z w64 c.try_place.result (record { sfits = c.try_place.type_inv }) ∙ c.try_place.ensures.value ∙ ap (λ t. residual_of t a.index p) g_is in
+    let written : at (with_place l.kept y l.x v) y l.x ≡ v = subst (λ (p : Raster _). at p y l.x ≡ v) c.try_place.ensures.whole c.try_place.ensures.here in
+    let small : Within (3 * 2 ^ 27 + 2) v = subst (λ t. Within (3 * 2 ^ 27 + 2) t) c.try_place.ensures.here c.try_place.ensures.near in
+    let room : l.place < length l.out =
+    slot_inside r a.from a.step y l.x l.place (length l.out) here c.requires.from (omega (arith, c.requires.room, l.invariant.listed.same_length)) l.invariant.place in
+    record {
+      none = λ le. omega arith;
+      place = omega (arith, l.invariant.place, stepped a.from a.step r y l.x here.left);
+      tried = subst (λ (p : Raster _). TriedSoFar g a.index r y (l.x + 1) a.kept.now p) (sym c.try_place.ensures.whole) (tried_next g a.index r y l.x a.kept.now l.kept v l.invariant.tried here lt v_is small written);
+      listed =
+          subst (λ (p : Raster _). ListedSoFar g a.index r y (l.x + 1) p a.from a.step a.out.now (set l.out l.place u)) (sym c.try_place.ensures.whole)
+          (listed_next g a.index r a.from a.step y l.x l.place l.kept v u a.out.now l.out l.invariant.listed here lt c.requires.from l.invariant.place room u_is);
+    }
+
+pub loop-y-preserved : goal.loop-y-preserved
+loop-y-preserved c =
+    let a = c.args in
+    let r = a.rect in
+    let y = c.loop-y.y in
+    let l = c.loop-x in
+    let g = at (band_seen a.coefficients) in
+    let end : l.x - r.x0 ≡ r.x1 - r.x0 = row_end r l.x l.auto.x-end l.invariant.none (omega arith) in
+    let turned : number_in r (y + 1) r.x0 ≡ number_in r y l.x = number_turned r y l.x (omega arith) end in
+    record {
+      place = l.invariant.place ∙ sym (ap (λ (n : _). a.from + a.step * n) turned);
+      tried = tried_row g a.index r y l.x a.kept.now l.kept end l.invariant.tried;
+      listed = listed_row g a.index r y l.x l.kept a.from a.step a.out.now l.out end l.invariant.listed;
+    }

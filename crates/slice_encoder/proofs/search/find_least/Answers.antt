@@ -1,11 +1,11 @@
-use Rattle.std.proofs.Common.{◌∙◌, true, arith}
-use Rattle.planes.specs.Raster.{at}
-use Rattle.slice_encoder.specs.Trials.{CodedPicture, luma_of, c1_of, c2_of}
-use Rattle.slice_encoder.specs.Tries.{tried, tried_lists}
+use Rattle.std.proofs.Common.{◌≡◌, ◌∙◌, ℕ, refl, sym, subst, true, arith}
+use Rattle.slice_encoder.specs.GatheredSlices.{AreLooks}
+use Rattle.slice_encoder.specs.Trials.{CodedPicture}
+use Rattle.slice_encoder.specs.Tries.{tried_lists}
 use Rattle.slice_encoder.specs.Choice.{fits}
 use Rattle.slice_encoder.specs.Jobs.{picture_of}
 use Rattle.slice_encoder.proofs.Again.{all_tried_again, all_tried_keep, all_keep_nothing, coarsest_tried}
-use Rattle.slice_encoder.proofs.GatheredLists.{ends_same, fit_may, low_refutes, has_room}
+use Rattle.slice_encoder.proofs.GatheredLists.{ends_same, fit_may, low_refutes}
 use Rattle.slice_encoder.proofs.Searching.{ready_again, holds_again, fit_again, refused_again, refuted_more}
 use Rattle.slice_encoder.proofs.search.find_least.Goals as goal
 
@@ -15,8 +15,8 @@ find_first-first-requires-clause-ends c = λ k le.
     let j : CodedPicture = picture_of a.job in
     ends_same j 0 a.job.sx a.job.sy a.gathered.now.c1 a.gathered.now.c2 c.requires.gathered.c1 c.requires.gathered.c2 k le
 
-pub reaches_behind-reaches-requires-clause-ends : goal.reaches_behind-reaches-requires-clause-ends
-reaches_behind-reaches-requires-clause-ends c = λ k le.
+pub looks_behind-looks-requires-clause-ends : goal.looks_behind-looks-requires-clause-ends
+looks_behind-looks-requires-clause-ends c = λ k le.
     let a = c.args in
     let j : CodedPicture = picture_of a.job in
     ends_same j 0 a.job.sx a.job.sy a.gathered.now.c1 a.gathered.now.c2 c.requires.gathered.c1 c.requires.gathered.c2 k le
@@ -25,7 +25,7 @@ pub find_first-first-requires-clause-last : goal.find_first-first-requires-claus
 find_first-first-requires-clause-last c =
     let a = c.args in
     let j : CodedPicture = picture_of a.job in
-    fit_may j a.job.sx a.job.sy a.gathered.now c.requires.gathered a.job.bytes 127 (tried (luma_of j) a.job.sx a.job.sy 127 (at a.kept.now.luma)) (tried (c1_of j) a.job.sx a.job.sy 127 (at a.kept.now.c1)) (tried (c2_of j) a.job.sx a.job.sy 127 (at a.kept.now.c2))
+    fit_may j a.job.sx a.job.sy a.gathered.now c.requires.gathered a.kept.now c.first_residuals-firsts.result c.first_residuals-firsts.ensures.first a.job.bytes 127
     (coarsest_tried j a.job.bytes a.job.sx a.job.sy a.kept.now a.job.shape.now.luma_depth_fits a.job.shape.now.colour_depth_fits c.requires.ready c.requires.steep)
 
 pub loop-index-init : goal.loop-index-init
@@ -33,30 +33,19 @@ loop-index-init c =
     let a = c.args in
     let j : CodedPicture = picture_of a.job in
     record {
-      luma_length = c.find_first-first.auto.luma;
-      colour_length = c.find_first-first.auto.colour;
-      reaches = c.find_first-first.ensures.reaches;
-      few_luma = c.find_first-first.ensures.few_luma;
-      few_colour = c.find_first-first.ensures.few_colour;
+      luma_length = refl;
+      colour_length = refl;
+      looks = c.find_first-first.ensures.looks;
       keeps = all_keep_nothing j a.job.sx a.job.sy a.kept.now;
       refuted = λ i lt.
-          low_refutes j a.job.sx a.job.sy a.gathered.now c.requires.gathered a.job.bytes i (tried (luma_of j) a.job.sx a.job.sy i (at a.kept.now.luma)) (tried (c1_of j) a.job.sx a.job.sy i (at a.kept.now.c1)) (tried (c2_of j) a.job.sx a.job.sy i (at a.kept.now.c2)) (c.find_first-first.ensures.first.least i lt);
+          low_refutes j a.job.sx a.job.sy a.gathered.now c.requires.gathered a.kept.now c.first_residuals-firsts.result c.first_residuals-firsts.ensures.first a.job.bytes i (c.find_first-first.ensures.first.least i lt);
     }
 
-pub try_if_may-trying-requires-clause-ready : goal.try_if_may-trying-requires-clause-ready
-try_if_may-trying-requires-clause-ready c =
+pub try_at-trying-requires-clause-ready : goal.try_at-trying-requires-clause-ready
+try_at-trying-requires-clause-ready c =
     let a = c.args in
     let j : CodedPicture = picture_of a.job in
     ready_again j a.job.sx a.job.sy a.kept.now c.loop-index.kept c.requires.ready c.loop-index.invariant.keeps
-
-pub try_if_may-trying-requires-clause-reaches : goal.try_if_may-trying-requires-clause-reaches
-try_if_may-trying-requires-clause-reaches c = c.loop-index.invariant.reaches
-
-pub try_if_may-trying-requires-clause-few_luma : goal.try_if_may-trying-requires-clause-few_luma
-try_if_may-trying-requires-clause-few_luma c = c.loop-index.invariant.few_luma
-
-pub try_if_may-trying-requires-clause-few_colour : goal.try_if_may-trying-requires-clause-few_colour
-try_if_may-trying-requires-clause-few_colour c = c.loop-index.invariant.few_colour
 
 pub returns-then-trying-clause-least : goal.returns-then-trying-clause-least
 returns-then-trying-clause-least c =
@@ -65,7 +54,7 @@ returns-then-trying-clause-least c =
     let l = c.loop-index in
     record {
       most = omega arith;
-      fit = fit_again j a.job.bytes a.job.sx a.job.sy l.index a.kept.now l.kept c.try_if_may-trying.result c.try_if_may-trying.new.luma c.try_if_may-trying.new.colour l.invariant.keeps (c.try_if_may-trying.ensures.holds c.if-trying.true) true c.if-trying.true;
+      fit = fit_again j a.job.bytes a.job.sx a.job.sy l.index a.kept.now l.kept c.try_at-trying.result c.try_at-trying.new.luma c.try_at-trying.new.colour l.invariant.keeps c.try_at-trying.ensures.holds true c.if-trying.true;
       least = l.invariant.refuted;
     }
 
@@ -74,14 +63,14 @@ returns-then-trying-clause-holds c =
     let a = c.args in
     let j : CodedPicture = picture_of a.job in
     let l = c.loop-index in
-    holds_again j a.job.bytes a.job.sx a.job.sy l.index a.kept.now l.kept c.try_if_may-trying.result c.try_if_may-trying.new.luma c.try_if_may-trying.new.colour l.invariant.keeps (c.try_if_may-trying.ensures.holds c.if-trying.true)
+    holds_again j a.job.bytes a.job.sx a.job.sy l.index a.kept.now l.kept c.try_at-trying.result c.try_at-trying.new.luma c.try_at-trying.new.colour l.invariant.keeps c.try_at-trying.ensures.holds
 
 pub returns-then-trying-clause-kept : goal.returns-then-trying-clause-kept
 returns-then-trying-clause-kept c =
     let a = c.args in
     let j : CodedPicture = picture_of a.job in
     let l = c.loop-index in
-    all_tried_again j a.job.sx a.job.sy l.index a.kept.now l.kept c.try_if_may-trying.new.kept l.invariant.keeps c.try_if_may-trying.ensures.kept
+    all_tried_again j a.job.sx a.job.sy l.index a.kept.now l.kept c.try_at-trying.new.kept l.invariant.keeps c.try_at-trying.ensures.kept
 
 pub loop-index-preserved : goal.loop-index-preserved
 loop-index-preserved c =
@@ -89,19 +78,17 @@ loop-index-preserved c =
     let j : CodedPicture = picture_of a.job in
     let l = c.loop-index in
     record {
-      luma_length = c.reaches_behind-reaches.auto.luma ∙ c.try_if_may-trying.auto.luma ∙ l.invariant.luma_length;
-      colour_length = c.reaches_behind-reaches.auto.colour ∙ c.try_if_may-trying.auto.colour ∙ l.invariant.colour_length;
-      reaches = c.reaches_behind-reaches.ensures.value;
-      few_luma = c.reaches_behind-reaches.ensures.few_luma;
-      few_colour = c.reaches_behind-reaches.ensures.few_colour;
-      keeps = all_tried_keep j a.job.sx a.job.sy l.index a.kept.now c.try_if_may-trying.new.kept (all_tried_again j a.job.sx a.job.sy l.index a.kept.now l.kept c.try_if_may-trying.new.kept l.invariant.keeps c.try_if_may-trying.ensures.kept);
+      luma_length = c.try_at-trying.auto.luma ∙ l.invariant.luma_length;
+      colour_length = c.try_at-trying.auto.colour ∙ l.invariant.colour_length;
+      looks = c.looks_behind-looks.ensures;
+      keeps = all_tried_keep j a.job.sx a.job.sy l.index a.kept.now c.try_at-trying.new.kept (all_tried_again j a.job.sx a.job.sy l.index a.kept.now l.kept c.try_at-trying.new.kept l.invariant.keeps c.try_at-trying.ensures.kept);
       refuted =
           refuted_more (λ i. fits a.job.bytes (tried_lists j a.kept.now a.job.sx a.job.sy i)) l.index l.invariant.refuted
-          (refused_again j a.job.bytes a.job.sx a.job.sy l.index a.kept.now l.kept l.invariant.keeps (c.try_if_may-trying.ensures.refused c.if-trying.false));
+          (refused_again j a.job.bytes a.job.sx a.job.sy l.index a.kept.now l.kept l.invariant.keeps (sym c.try_at-trying.ensures.holds.fit ∙ c.if-trying.false));
     }
 
-pub try_at-trying-requires-clause-ready : goal.try_at-trying-requires-clause-ready
-try_at-trying-requires-clause-ready c =
+pub try_at-coarsest-requires-clause-ready : goal.try_at-coarsest-requires-clause-ready
+try_at-coarsest-requires-clause-ready c =
     let a = c.args in
     let j : CodedPicture = picture_of a.job in
     ready_again j a.job.sx a.job.sy a.kept.now c.loop-index.kept c.requires.ready c.loop-index.invariant.keeps
@@ -122,14 +109,14 @@ returns-clause-holds c =
     let a = c.args in
     let j : CodedPicture = picture_of a.job in
     let l = c.loop-index in
-    holds_again j a.job.bytes a.job.sx a.job.sy 127 a.kept.now l.kept c.try_at-trying.result c.try_at-trying.new.luma c.try_at-trying.new.colour l.invariant.keeps c.try_at-trying.ensures.holds
+    holds_again j a.job.bytes a.job.sx a.job.sy 127 a.kept.now l.kept c.try_at-coarsest.result c.try_at-coarsest.new.luma c.try_at-coarsest.new.colour l.invariant.keeps c.try_at-coarsest.ensures.holds
 
 pub returns-clause-kept : goal.returns-clause-kept
 returns-clause-kept c =
     let a = c.args in
     let j : CodedPicture = picture_of a.job in
     let l = c.loop-index in
-    all_tried_again j a.job.sx a.job.sy 127 a.kept.now l.kept c.try_at-trying.new.kept l.invariant.keeps c.try_at-trying.ensures.kept
+    all_tried_again j a.job.sx a.job.sy 127 a.kept.now l.kept c.try_at-coarsest.new.kept l.invariant.keeps c.try_at-coarsest.ensures.kept
 
 pub returns-then-trying-clause-near : goal.returns-then-trying-clause-near
 returns-then-trying-clause-near c = c.find_first-first.ensures.first.most
@@ -137,16 +124,20 @@ returns-then-trying-clause-near c = c.find_first-first.ensures.first.most
 pub returns-clause-near : goal.returns-clause-near
 returns-clause-near c = c.find_first-first.ensures.first.most
 
-pub find_first-first-requires-clause-room : goal.find_first-first-requires-clause-room
-find_first-first-requires-clause-room c =
-    let a = c.args in
-    has_room (picture_of a.job) a.job.sx a.job.sy a.gathered.now _ _ c.requires.gathered c.requires.room
+pub try_at-coarsest-requires-clause-looks : goal.try_at-coarsest-requires-clause-looks
+try_at-coarsest-requires-clause-looks c =
+    let l = c.loop-index in
+    let end : l.index ≡ 127 = omega (arith, c.loop-index-test.false, l.auto.index-end, c.find_first-first.ensures.first.most) in
+    subst (λ (i : ℕ). AreLooks l.looks c.args.gathered.now c.args.job.matrix.now i) end l.invariant.looks
 
-pub reaches_behind-reaches-requires-clause-room : goal.reaches_behind-reaches-requires-clause-room
-reaches_behind-reaches-requires-clause-room c =
-    let a = c.args in
-    let all = has_room (picture_of a.job) a.job.sx a.job.sy a.gathered.now _ _ c.requires.gathered c.requires.room in
-    record {
-      luma = omega (arith, all.luma, c.try_if_may-trying.auto.luma, c.loop-index.invariant.luma_length);
-      colour = omega (arith, all.colour, c.try_if_may-trying.auto.colour, c.loop-index.invariant.colour_length);
-    }
+pub low_rects-rects-requires-clause-across : goal.low_rects-rects-requires-clause-across
+low_rects-rects-requires-clause-across c = c.requires.ready.across
+
+pub low_rects-rects-requires-clause-down : goal.low_rects-rects-requires-clause-down
+low_rects-rects-requires-clause-down c = c.requires.ready.down
+
+pub try_at-trying-requires-clause-rects : goal.try_at-trying-requires-clause-rects
+try_at-trying-requires-clause-rects c = c.low_rects-rects.ensures
+
+pub try_at-coarsest-requires-clause-rects : goal.try_at-coarsest-requires-clause-rects
+try_at-coarsest-requires-clause-rects c = c.low_rects-rects.ensures

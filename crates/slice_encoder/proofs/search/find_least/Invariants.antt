@@ -1,6 +1,6 @@
-use Rattle.std.proofs.Common.{◌≡◌, ℕ, ◌^◌, ◌<◌, ◌≤◌, length, false}
+use Rattle.std.proofs.Common.{◌≡◌, ℕ, ◌<◌, length, false}
 use Rattle.slice_encoder.specs.Choice.{fits}
-use Rattle.slice_encoder.specs.GatheredSlices.{gathered_reaches}
+use Rattle.slice_encoder.specs.GatheredSlices.{AreLooks}
 use Rattle.slice_encoder.specs.Jobs.{picture_of}
 use Rattle.slice_encoder.specs.Tries.{tried_lists}
 use Rattle.slice_encoder.proofs.Others.{AllKeepOthers}
@@ -10,9 +10,7 @@ abbrev pub invariant-loop-index : goal.invariant-loop-index
 invariant-loop-index l = record {
   luma_length : length l.luma ≡ length l.fn.luma;
   colour_length : length l.colour ≡ length l.fn.colour;
-  reaches : l.reaches ≡ gathered_reaches l.gathered l.job.matrix.now l.index;
-  few_luma : l.reaches.luma ≤ 2 ^ 38;
-  few_colour : l.reaches.colour ≤ 2 ^ 39;
+  looks : AreLooks l.looks l.gathered l.job.matrix.now l.index;
   keeps : AllKeepOthers (picture_of l.job) l.job.sx l.job.sy l.fn.kept l.kept;
   refuted : (i : ℕ) → i < l.index → fits l.job.bytes (tried_lists (picture_of l.job) l.fn.kept l.job.sx l.job.sy i) ≡ false;
 }

@@ -5,7 +5,7 @@ use Rattle.slice_encoder.specs.Sources.{trio_seen}
 use Rattle.slice_encoder.specs.Buffers.{coded_component}
 use Rattle.slice_encoder.specs.Jobs.{picture_of}
 use Rattle.slice_encoder.specs.Gathering.{CanGatherAll, AreGathered}
-use Rattle.slice_encoder.proofs.GatheredLists.{ends_same}
+use Rattle.slice_encoder.proofs.GatheredLists.{ends_same, last_end}
 use Rattle.slice_encoder.proofs.Gathers.{given_gathers}
 use Rattle.slice_encoder.proofs.gathered.GatheredSlice.gather.Goals as goal
 
@@ -30,8 +30,8 @@ gather-requires-3-clause-can c =
     subst (λ (b : BandStack). CanGatherAll a.job.layout.now a.job.shape.now.colour b) (sym c.c2.ensures.seen)
     (given_gathers (coded_component a.job.layout.now a.job.shape.now.colour a.job.matrix.now (trio_seen a.job.coefficients).c2) a.job.shape.now.colour_depth c.depth-depth.ensures.allowed.depth given.colour_bits.most given.c2)
 
-pub take_keys-requires-clause-ends : goal.take_keys-requires-clause-ends
-take_keys-requires-clause-ends c =
+pub take_sizes-requires-clause-ends : goal.take_sizes-requires-clause-ends
+take_sizes-requires-clause-ends c =
     let a = c.args in
     let s = a.job.layout.now in
     let size = a.job.shape.now.colour in
@@ -50,3 +50,21 @@ gather-requires-3-clause-cut c = c.c2.ensures.cut c.args.job.layout.now c.args.j
 
 pub returns-clause-room : goal.returns-clause-room
 returns-clause-room c = grind (arith, common_steps)
+
+pub take_sizes-requires-clause-luma_room : goal.take_sizes-requires-clause-luma_room
+take_sizes-requires-clause-luma_room c =
+    let a = c.args in
+    let s = a.job.layout.now in
+    let size = a.job.shape.now.luma in
+    let gathered = subst (λ (b : BandStack). AreGathered s size b a.job.sx a.job.sy c.gather.new.self) c.luma.ensures.seen c.gather.ensures.gathered in
+    let count = last_end (coded_component s size a.job.matrix.now (trio_seen a.job.coefficients).luma) 0 a.job.sx a.job.sy c.gather.new.self gathered in
+    omega (arith, count, c.requires.room.luma_sizes a.job.sx a.job.sy c.requires.across c.requires.down)
+
+pub take_sizes-requires-clause-colour_room : goal.take_sizes-requires-clause-colour_room
+take_sizes-requires-clause-colour_room c =
+    let a = c.args in
+    let s = a.job.layout.now in
+    let size = a.job.shape.now.colour in
+    let gathered = subst (λ (b : BandStack). AreGathered s size b a.job.sx a.job.sy c.gather-2.new.self) c.c1.ensures.seen c.gather-2.ensures.gathered in
+    let count = last_end (coded_component s size a.job.matrix.now (trio_seen a.job.coefficients).c1) 0 a.job.sx a.job.sy c.gather-2.new.self gathered in
+    omega (arith, count, c.requires.room.colour_sizes a.job.sx a.job.sy c.requires.across c.requires.down)

@@ -1,0 +1,69 @@
+// The residuals of the first places of a slice's lowest subbands, before they are quantised.
+
+ghost use Rattle.bit_codes.specs.declared.TheConstants.{MAX_MAGNITUDE};
+ghost use Rattle.std.specs.Prelude.{◌≡◌, ◌≤◌, unsigned_abs};
+ghost use Rattle.planes.specs.Raster.{at};
+ghost use Rattle.slice_encoder.specs.FirstResiduals.{first_in, bits_beyond_one, AreFirst, AreSmallFirsts};
+ghost use Rattle.slice_encoder.specs.Jobs.{picture_of};
+ghost use Rattle.slice_encoder.specs.RectTrials.{CanTryRect};
+ghost use Rattle.slice_encoder.specs.Ready.{AreReadyToWrite};
+ghost use Rattle.slice_encoder.specs.Sources.{band_seen};
+
+use crate::jobs::SliceJob;
+use crate::sources::BandSource;
+use bit_codes::sint_len;
+use dc_prediction::predict;
+use planes::{Plane, Rect, ThreePlanes};
+use quant_factors::forward;
+
+/// The residual of the first place of the lowest subband in each component, before it is quantised. It is the same at
+/// each index, since what the place is predicted from lies outside the slice. It is 0 where the slice has no such place.
+#[derive(Clone, Copy)]
+pub struct FirstResiduals {
+    pub luma: i64,
+    pub c1: i64,
+    pub c2: i64,
+}
+
+// That of one component, where the slice's places are those of a rectangle.
+fn first_of(coefficients: BandSource<'_>, kept: &Plane, rect: Rect) -> i64
+    requires can { CanTryRect rect (band_seen coefficients) kept.now }
+    ensures value { result ≡ first_in rect (at (band_seen coefficients.entry)) (at kept.now) }
+    ensures small { unsigned_abs result ≤ MAX_MAGNITUDE }
+{
+    if rect.x0 < rect.x1 && rect.y0 < rect.y1 {
+        coefficients.get(rect.y0, rect.x0) - predict(kept, rect.y0, rect.x0)
+    } else {
+        0
+    }
+}
+
+/// Those of a slice, where the planes hold what is restored before it.
+pub fn first_residuals(job: SliceJob<'_>, kept: &ThreePlanes) -> FirstResiduals
+    requires ready { AreReadyToWrite (picture_of job) job.sx job.sy kept.now }
+    ensures first { AreFirst (picture_of job.entry) job.entry.sx job.entry.sy kept.now result }
+    ensures small { AreSmallFirsts result }
+{
+    let _depth = job.layout.depth();
+    let luma = job.layout.band_rect(job.shape.luma, 0, job.sx, job.sy);
+    let colour = job.layout.band_rect(job.shape.colour, 0, job.sx, job.sy);
+    let coefficients = job.coefficients;
+    let lumas = coefficients.luma().band(0, 0);
+    let firsts = coefficients.c1().band(0, 0);
+    let seconds = coefficients.c2().band(0, 0);
+    FirstResiduals {
+        luma: first_of(lumas, &kept.luma, luma),
+        c1: first_of(firsts, &kept.c1, colour),
+        c2: first_of(seconds, &kept.c2, colour),
+    }
+}
+
+/// How many bits beyond one the code of a residual takes, quantised.
+pub fn bits_beyond(residual: i64, quantiser: u32) -> u64
+    requires index { quantiser ≤ 127 }
+    requires small { unsigned_abs residual ≤ MAX_MAGNITUDE }
+    ensures value { result ≡ bits_beyond_one residual quantiser }
+    ensures few { result ≤ 74 }
+{
+    u64::from(sint_len(forward(residual, quantiser))) - 1
+}
