@@ -35,6 +35,12 @@ few_more LeGall h n y made = (grind (arith, nat_tests), grind (arith, nat_tests)
 few_more HaarFlat h n y made = (omega arith, omega arith)
 few_more HaarShift h n y made = (omega arith, omega arith)
 
+-- where a row more doesn't wait, it is the last one that the next pair needs
+pub due_now : (k : Wavelet) (h n y : ℕ) → y ≡ pairs_whole k h n → n < 2 * h → rows_for k h (y + 1) ≤ n + 1 → (y < h) × (n + 1 ≡ rows_for k h (y + 1))
+due_now LeGall h n y made more due = (grind (arith, nat_tests), grind (arith, nat_tests))
+due_now HaarFlat h n y made more due = (omega arith, omega arith)
+due_now HaarShift h n y made more due = (omega arith, omega arith)
+
 -- ---- a row more
 
 -- a row that holds the numbers of the grid's, lifted

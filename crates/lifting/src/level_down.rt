@@ -4,7 +4,7 @@
 ghost use Rattle.std.specs.Prelude.{◌≡◌, ◌≢◌, ℕ, min, ◌+◌, ◌*◌, ◌%◌, ◌^◌, ◌<◌, ◌≤◌, length, true, false};
 ghost use Rattle.planes.specs.Valued.{valued};
 ghost use Rattle.lifting.specs.declared.PairStep.TheVariants.{OddDown, EvenUp};
-ghost use Rattle.lifting.specs.LevelRows.{rows_for, lifted_row, made_row, HasRows, IsReady, IsSameLevel};
+ghost use Rattle.lifting.specs.LevelRows.{rows_for, pairs_whole, lifted_row, made_row, HoldsRows, HasRows, IsReady, IsSameLevel};
 ghost use Rattle.lifting.specs.Lines.{before};
 ghost use Rattle.lifting.specs.Places.{side_place, row_grid};
 ghost use Rattle.lifting.specs.Ranges.{LineWithin, GridWithin};
@@ -98,6 +98,59 @@ fn finish_two<T: Analysed>(ring: &mut [T], y: u32, below: u32, w: u32, wavelet: 
     lift_row_between(ring, even, above, odd, n, wavelet, PairStep::EvenUp);
 }
 
+// Row `came` of a level, its halves side by side, in its place in a ring of four rows.
+fn put_sides<T: Analysed>(ring: &mut [T], row: &[T], w: u32, wavelet: Wavelet, came: u32)
+    ghost g: { Grid }
+    requires some { 1 ≤ w }
+    requires short { w ≤ 4104 }
+    requires inside { (came % 4) * (2 * w) + 2 * w ≤ length ring.old }
+    requires wide { 2 * w ≤ length row.now }
+    requires is_row { (x : ℕ) → x < 2 * w → valued T.value T.none row.now x ≡ g came x }
+    requires small { LineWithin (2 * w) (2 ^ 25) (g came) }
+    ensures row { (x : ℕ) → x < 2 * w → row_grid T.value T.none (2 * w) ring.new (came % 4) x
+        ≡ lifted_row wavelet w g came (side_place w x) }
+    ensures others { let grid = row_grid T.value T.none (2 * w) in
+        (k x : ℕ) → k ≢ came % 4 → x < 2 * w → grid ring.new k x ≡ grid ring.old k x }
+{
+    let n = w as usize;
+    let start = start_of(came % 4, 2 * n);
+    analyse_sides(&mut ring[start..start + 2 * n], row, n, wavelet);
+}
+
+/// Takes row `came` of a level of 2h rows into its ring, where `made` pairs of rows of the bands were whole, and says how many are
+/// whole with it.
+pub(crate) fn take_row<T: Analysed>(
+    ring: &mut [T],
+    row: &[T],
+    w: u32,
+    h: u32,
+    wavelet: Wavelet,
+    came: u32,
+    made: u32,
+) -> u32
+    ghost g: { Grid }
+    requires some { 1 ≤ w }
+    requires short { w ≤ 4104 }
+    requires low { h ≤ 4104 }
+    requires ring { min 4 (2 * h) * (2 * w) ≤ length ring.old }
+    requires more { came < 2 * h }
+    requires made { made ≡ pairs_whole wavelet h came }
+    requires wide { 2 * w ≤ length row.now }
+    requires is_row { (x : ℕ) → x < 2 * w → valued T.value T.none row.now x ≡ g came x }
+    requires small { GridWithin (2 * h) (2 * w) (2 ^ 25) g }
+    requires before { HoldsRows wavelet h w came made g (row_grid T.value T.none (2 * w) ring.old) }
+    ensures whole { result ≡ pairs_whole wavelet h (came + 1) }
+    ensures few { (made ≤ result) × (result ≤ made + 1) }
+    ensures after { HoldsRows wavelet h w (came + 1) result g (row_grid T.value T.none (2 * w) ring.new) }
+{
+    put_sides(ring, row, w, wavelet, came);
+    if came + 1 < rows_for(wavelet, h, made + 1) {
+        return made;
+    }
+    finish_two(ring, made, row_below(came + 1, made), w, wavelet);
+    made + 1
+}
+
 impl<'a, T: Analysed> LevelDown<'a, T> {
     /// A level of which no row has come.
     pub fn new(ring: &'a mut [T], w: u32, h: u32, wavelet: Wavelet) -> LevelDown<'a, T>
@@ -123,49 +176,6 @@ impl<'a, T: Analysed> LevelDown<'a, T> {
         }
     }
 
-    // Row `came`, its halves side by side.
-    fn put_sides(&mut self, row: &[T])
-        ghost g: { Grid }
-        requires ready { IsReady self.old }
-        requires more { self.old.came < 2 * self.old.h }
-        requires wide { 2 * self.old.w ≤ length row.now }
-        requires is_row { (x : ℕ) → x < 2 * self.old.w
-            → valued T.value T.none row.now x ≡ g self.old.came x }
-        requires small { LineWithin (2 * self.old.w) (2 ^ 25) (g self.old.came) }
-        ensures same_level { IsSameLevel self.old self.new }
-        ensures counts { (self.new.came ≡ self.old.came) × (self.new.made ≡ self.old.made) }
-        ensures row { (x : ℕ) → x < 2 * self.old.w
-            → row_grid T.value T.none (2 * self.old.w) self.new.ring.now (self.old.came % 4) x
-            ≡ lifted_row self.old.wavelet self.old.w g self.old.came (side_place self.old.w x) }
-        ensures others { let grid = row_grid T.value T.none (2 * self.old.w) in
-            (k x : ℕ) → k ≢ self.old.came % 4 → x < 2 * self.old.w
-            → grid self.new.ring.now k x ≡ grid self.old.ring.now k x }
-    {
-        let (w, wavelet) = (self.w as usize, self.wavelet);
-        let start = start_of(self.came % 4, 2 * w);
-        analyse_sides(&mut self.ring[start..start + 2 * w], row, w, wavelet);
-    }
-
-    // The next pair, for which its rows have come.
-    fn finish(&mut self)
-        ghost g: { Grid }
-        requires short { self.old.w ≤ 4104 }
-        requires low { self.old.h ≤ 4104 }
-        requires ring { min 4 (2 * self.old.h) * (2 * self.old.w) ≤ length self.old.ring.now }
-        requires more { self.old.made < self.old.h }
-        requires due { self.old.came ≡ rows_for self.old.wavelet self.old.h (self.old.made + 1) }
-        requires small { GridWithin (2 * self.old.h) (2 * self.old.w) (2 ^ 25) g }
-        requires before { HasRows T.value T.none g self.old }
-        ensures same_level { IsSameLevel self.old self.new }
-        ensures counts { (self.new.came ≡ self.old.came) × (self.new.made ≡ self.old.made + 1) }
-        ensures after { HasRows T.value T.none g self.new }
-    {
-        let (y, w, wavelet) = (self.made, self.w, self.wavelet);
-        let below = row_below(self.came, y);
-        finish_two(self.ring, y, below, w, wavelet);
-        self.made += 1;
-    }
-
     /// Takes the next row. The answer is whether a pair of rows of the bands is whole with it.
     pub fn put_row(&mut self, row: &[T]) -> bool
         ghost g: { Grid }
@@ -183,13 +193,19 @@ impl<'a, T: Analysed> LevelDown<'a, T> {
         ensures waits { result ≡ false → self.new.made ≡ self.old.made }
         ensures after { HasRows T.value T.none g self.new }
     {
-        self.put_sides(row);
+        let made = take_row(
+            self.ring,
+            row,
+            self.w,
+            self.h,
+            self.wavelet,
+            self.came,
+            self.made,
+        );
+        let is_whole = self.made < made;
         self.came += 1;
-        if self.came < rows_for(self.wavelet, self.h, self.made + 1) {
-            return false;
-        }
-        self.finish();
-        true
+        self.made = made;
+        is_whole
     }
 
     /// The rows of the bands that were made last.

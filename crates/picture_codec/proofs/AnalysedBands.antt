@@ -23,7 +23,7 @@ use Rattle.lifting.proofs.GivenBack.{held_bounded}
 use Rattle.transform_params.specs.Params.{Params}
 use Rattle.picture_codec.specs.Samples.{SamplesSeen}
 use Rattle.picture_codec.specs.Encoding.{centred, raster_from, level_bands, bands_from, analysed_bands}
-use Rattle.picture_codec.specs.EncoderInside.{AreRowsWhole, AreWhole, HaveBandSizes, HoldAnalysed}
+use Rattle.picture_codec.specs.EncoderInside.{AreRowsWhole, AreWhole}
 use Rattle.slice_encoder.proofs.Made.{zero_within}
 use Rattle.picture_codec.proofs.Sizes.{padded_whole}
 
@@ -95,7 +95,7 @@ module _ (depth : ℕ) (size : Size) (c : Coefficients) (b : BandStack) (same : 
 -- ---- the range
 
 -- nothing lies outside a whole plane
-outside_within : (m : ℕ) (p : Raster ℤ) → AreRowsWhole p → ((y x : ℕ) → y < height p → x < p.w → Within m (at p y x)) → (y x : ℕ) → Within m (at p y x)
+pub outside_within : (m : ℕ) (p : Raster ℤ) → AreRowsWhole p → ((y x : ℕ) → y < height p → x < p.w → Within m (at p y x)) → (y x : ℕ) → Within m (at p y x)
 outside_within m p whole inside y x = elim (cases_lt y (height p)) as (λ _. Within m (at p y x)) [
   | inr below ↦
       let none : row_of p y ≡ [] = get_or_past p.rows y [] (omega arith) in
@@ -208,42 +208,7 @@ module _ (wavelet : Wavelet) (size : Size) (d : ℕ) (s : SamplesSeen) (b : Band
   pub each_small : (level orient y x : ℕ) → BandExists b.depth level orient → Within (2 ^ (d - 1 + 3 * b.depth)) (at (band_of b level orient) y x)
   each_small level orient y x exists = outside_within (2 ^ (d - 1 + 3 * b.depth)) (band_of b level orient) (whole level orient exists) (inside_small level orient exists) y x
 
--- ---- what stays of bands when they are written anew
-
-pub sizes_stay : (s : Slicing) (size : Size) (old new : BandStack) → HaveBandSizes s size old → SameSizes old new → HaveBandSizes s size new
-sizes_stay s size old new have same = record {
-  depth = same.depth ∙ have.depth;
-  sizes = record {
-    widths = λ level orient exists. same.widths level orient ∙ (have.sizes.widths level orient (subst (λ (n : ℕ). BandExists n level orient) same.depth exists) ∙ ap (λ (n : ℕ). subband_length n level (padded_length s.depth size.w)) (sym same.depth));
-    heights = λ level orient exists. same.heights level orient ∙ (have.sizes.heights level orient (subst (λ (n : ℕ). BandExists n level orient) same.depth exists) ∙ ap (λ (n : ℕ). subband_length n level (padded_length s.depth size.h)) (sym same.depth));
-  };
-}
-
-pub holds_component : (p : Params) (size : Size) (d : ℕ) (s : SamplesSeen) (b : BandStack) (plane : Raster ℤ) → p.slicing.depth ≤ 4 → 1 ≤ d → HaveBandSizes p.slicing size b
-    → plane.w ≡ padded_length p.slicing.depth size.w → height plane ≡ padded_length p.slicing.depth size.h → HoldAnalysis p.wavelet b plane
-    → SameInside (height plane) plane.w (at plane) (centred d size s) → GridWithin (height plane) plane.w (2 ^ (d - 1)) (at plane) → AreWhole b → HoldAnalysed p size d s b
-holds_component p size d s b plane low some have columns rows held values small whole =
-    let depth : b.depth ≡ p.slicing.depth = have.depth in
-    let few : b.depth ≤ 4 = omega (arith, depth, low) in
-    let wide : plane.w ≡ padded_length b.depth size.w = columns ∙ ap (λ (n : ℕ). padded_length n size.w) (sym depth) in
-    let high : height plane ≡ padded_length b.depth size.h = rows ∙ ap (λ (n : ℕ). padded_length n size.h) (sym depth) in
-    let sizes : HaveSizes b (padded_length b.depth size.w) (padded_length b.depth size.h) = subst (λ (n : ℕ). HaveSizes b (padded_length n size.w) (padded_length n size.h)) (sym depth) have.sizes in
-    record {
-      sizes = have;
-      values = subst (λ (n : ℕ). (level orient y x : ℕ) → BandExists n level orient → y < (band_size n level size).h → x < (band_size n level size).w → at (band_of b level orient) y x ≡ at (band_of (analysed_bands p.wavelet n size d s) level orient) y x) depth
-          (each_value p.wavelet size d s b plane few some wide high held values small sizes whole);
-      small = subst (λ (n : ℕ). (level orient y x : ℕ) → BandExists n level orient → Within (2 ^ (d - 1 + 3 * n)) (at (band_of b level orient) y x)) depth
-          (each_small p.wavelet size d s b plane few some wide high held values small sizes whole);
-    }
-
--- the samples of a component, as cells
-pub centred_cells : (d d' : ℕ) (size size' : Size) (cells : List ℕ) (s : SamplesSeen) → d' ≡ d → size' ≡ size → s.w ≡ size.w → cells ≡ s.cells
-    → (y x : ℕ) → centred d' size' (record { w = size'.w; h = size'.h; cells = cells }) y x ≡ centred d size s y x
-centred_cells d d' size size' cells s same_d same_size width same y x =
-    ap (λ (k : ℕ). centred k size' (record { w = size'.w; h = size'.h; cells = cells }) y x) same_d
-    ∙ ap (λ (z : Size). centred d z (record { w = z.w; h = z.h; cells = cells }) y x) same_size
-    ∙ ap (λ (l : List ℕ). pos (get_or l (min y (size.h - 1) * size.w + min x (size.w - 1)) 0) -ℤ pos (2 ^ (d - 1))) same
-    ∙ ap (λ (n : ℕ). pos (get_or s.cells (min y (size.h - 1) * n + min x (size.w - 1)) 0) -ℤ pos (2 ^ (d - 1))) (sym width)
+-- ---- bits
 
 pub shift_small : (d : ℕ) → d ≤ 16 → 2 ^ (d - 1) ≤ 2 ^ 15
 shift_small d most =

@@ -1,11 +1,11 @@
 -- The slices of a picture, each at its least index after those before it.
-use Rattle.std.proofs.Common.{◌≡◌, ℕ, zero, suc, ◌+◌, ◌*◌, ◌/◌, ◌%◌, ◌<◌, ◌≤◌, Bool, true, false, cond, List, [], ◌∷◌, ◌++◌, length, get_or, take, map, inl, inr, refl, sym, ap, subst, ◌∙◌, arith, add-one}
+use Rattle.std.proofs.Common.{◌≡◌, ℕ, zero, suc, ◌+◌, ◌-◌, ◌*◌, ◌/◌, ◌%◌, ◌<◌, ◌≤◌, Bool, true, false, cond, List, [], ◌∷◌, ◌++◌, length, get_or, take, drop, map, inl, inr, refl, sym, ap, subst, ◌∙◌, arith, add-one}
 use Rattle.std.specs.List.{All, concat, flat_map, range_with_len}
 use borrow.Rule.Slice.PartMut.{put_mid, post_of}
 use Rattle.std.proofs.lemmas.Slice.{take-put_mid}
 use Rattle.std.proofs.Math.Path.{fun_ext}
 use Rattle.std.proofs.lemmas.Bool.{cases_lt, cases_eq}
-use Rattle.std.proofs.lemmas.List.{length-append, length-take-le, get_or-append-add, get_or_append_left, get_or_past}
+use Rattle.std.proofs.lemmas.List.{length-append, length-take-le, length-take, length-drop, get_or-append-add, get_or_append_left, get_or_past}
 use Rattle.std.proofs.lemmas.List.Elements.{All-nil, All-cons, All-append}
 use Rattle.bit_codes.specs.Bits.{bytes_of}
 use Rattle.field_rows.proofs.Filled.{bytes_by_bits}
@@ -191,6 +191,10 @@ kept_none j kept = subst (λ l. AreKept j l kept) (sym (chosen_none j)) (record 
   c1 = λ y x hy hx none. absurd (omega (arith, none));
   c2 = λ y x hy hx none. absurd (omega (arith, none));
 })
+
+-- a part has as many bytes as it was cut for
+pub part_length : (p k : ℕ) (xs : List ℕ) → p + k ≤ length xs → length (take (p + k - p) (drop p xs)) ≡ k
+part_length p k xs fits = omega (arith, length-take (p + k - p) (drop p xs), length-drop p xs, fits)
 
 -- the bytes of a part are bytes
 pub part_fits : (a k : ℕ) (xs ys : List ℕ) → a ≤ length xs → ((i : ℕ) → get_or (put_mid a k xs ys) i 0 < 256) → (i : ℕ) → get_or ys i 0 < 256

@@ -6,7 +6,6 @@ pub mod BothWidths
 pub mod Steps
 pub mod Whole
 pub mod WorkedPictures
-pub mod WorkedDealt
 pub mod ReadBack
 pub mod WrittenValues
 pub mod WrittenBands
@@ -16,6 +15,8 @@ pub mod ChosenSlices
 pub mod WrittenPasses
 pub mod WrittenChosen
 pub mod CodedBands
+pub mod StoredBands
+pub mod LineSamples
 pub mod Lossless
 pub mod MadeOrLeft
 pub mod Runs
@@ -24,4 +25,3 @@ pub mod Gathered
 pub mod SameShown
 pub mod TakenRows
 pub mod ShortShown
-pub mod Dealt

@@ -110,13 +110,6 @@ HoldComponent f p slices c b =
 abbrev pub HoldUnit : Frame → Params → List (List ℕ) → Trio → Type 0
 HoldUnit f p slices bands = (c : Component) → HoldComponent f p slices c (stack_of bands c)
 
--- the room for a component's analysis: a plane of its padded size, and four rows of it
-pub record HaveAnalysisRows (s : Slicing) (size : Size) (plane scratch : Raster ℤ) : Type 0 where
-  pub columns : plane.w ≡ padded_length s.depth size.w
-  pub rows : height plane ≡ padded_length s.depth size.h
-  pub scratch_columns : scratch.w ≡ padded_length s.depth size.w
-  pub scratch_rows : height scratch ≡ 4
-
 -- the room for a component's synthesis: half of its padded size each way, rows of that size, and three more
 pub record HaveHalfRoom {X : Type 0} (s : Slicing) (size : Size) (plane scratch : Raster X) : Type 0 where
   pub columns : plane.w ≡ padded_length s.depth size.w / 2

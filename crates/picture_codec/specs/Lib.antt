@@ -9,4 +9,3 @@ pub mod EncoderInside
 pub mod Lossless
 pub mod LeastIndices
 pub mod ShortSlices
-pub mod DealtBands

@@ -3,7 +3,7 @@
 
 mod centring;
 pub mod closed_loop;
-mod dealt_bands;
+mod component_lines;
 mod decoded_bands;
 mod decoder;
 mod encoder;
@@ -14,6 +14,7 @@ mod row_bands;
 mod samples;
 mod short_slices;
 mod showing;
+mod stored_bands;
 mod synthesised;
 mod wide_bands;
 mod workspace;

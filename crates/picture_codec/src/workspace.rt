@@ -5,14 +5,11 @@ ghost use Rattle.slice_geometry.specs.Shape.{IsSize, IsDepth};
 ghost use Rattle.planes.specs.Subbands.{AreZeroBands};
 ghost use Rattle.picture_codec.specs.Pictures as pictures;
 ghost use Rattle.slice_geometry.specs.Frames.{frame_of};
-ghost use Rattle.picture_codec.specs.Decoding.{HaveAnalysisRows, HaveHalfRoom, AreNewBands, AreNewBandsOf, IsRowless, HasLateRoom, HasGatherRoom, IsGatherRowless, HasSynthesisRoom};
+ghost use Rattle.picture_codec.specs.Decoding.{HaveHalfRoom, AreNewBandsOf, IsRowless, HasLateRoom, HasGatherRoom, IsGatherRowless, HasSynthesisRoom};
 ghost use Rattle.slice_geometry.specs.Slicing.{Slicing};
 ghost use Rattle.slice_geometry.specs.declared.Size.{Size};
 
-use planes::{
-    Bands, LateBands, LatePlane, LateTrio, NarrowBands, NarrowPlane, NarrowTrio, NoMemory, Number,
-    Plane,
-};
+use planes::{Bands, LateBands, LatePlane, LateTrio, NarrowTrio, NoMemory, Number, Plane};
 use slice_geometry::{Component, Layout, PictureShape, Size};
 use std::alloc::Global;
 
@@ -70,32 +67,6 @@ impl<T: Number> LateWorkspace<T> {
         self.late_plane.make(&mut self.room.plane);
         self.late_scratch.make(&mut self.room.scratch);
         self.is_made = true;
-    }
-}
-
-/// The room for analysis: the plane that is analysed, and four of its rows beside it.
-#[derive(Drop)]
-pub(crate) struct AnalysisWorkspace {
-    pub(crate) plane: NarrowPlane,
-    pub(crate) scratch: NarrowPlane,
-}
-
-impl AnalysisWorkspace {
-    pub(crate) fn new(
-        alloc: Global,
-        layout: &Layout,
-        size: Size,
-    ) -> Result<AnalysisWorkspace, NoMemory>
-        requires { IsSize size.w size.h }
-        ensures { IfOk result (λ w. HaveAnalysisRows layout.now size w.plane w.scratch) }
-    {
-        // The rules of a layout.
-        let _ = layout.depth();
-        let padded = layout.padded_size(size);
-        Ok(AnalysisWorkspace {
-            plane: NarrowPlane::new(alloc, padded.w, padded.h)?,
-            scratch: NarrowPlane::new(alloc, padded.w, 4)?,
-        })
     }
 }
 
@@ -284,33 +255,6 @@ pub(crate) fn rowless_narrow_trio(alloc: Global, depth: u32) -> Result<NarrowTri
         Bands::new(alloc, depth, 0, 0),
         Bands::new(alloc, depth, 0, 0),
         Bands::new(alloc, depth, 0, 0),
-    )?;
-    Ok(NarrowTrio { luma, c1, c2 })
-}
-
-// The bands of a component in 32 bits, all zero.
-fn narrow_zero_bands(alloc: Global, layout: &Layout, size: Size) -> Result<NarrowBands, NoMemory>
-    requires { IsSize size.w size.h }
-    ensures { IfOk result (AreNewBands layout.now size) }
-{
-    let padded = layout.padded_size(size);
-    NarrowBands::new(alloc, layout.depth(), padded.w, padded.h)
-}
-
-/// The bands of the three components in 32 bits, all zero.
-pub(crate) fn narrow_zero_trio(
-    alloc: Global,
-    layout: &Layout,
-    shape: &PictureShape,
-) -> Result<NarrowTrio, NoMemory>
-    ensures { IfOk result (λ bands. AreNewBands layout.now shape.now.luma bands.luma
-        × AreNewBands layout.now shape.now.colour bands.c1
-        × AreNewBands layout.now shape.now.colour bands.c2) }
-{
-    let (luma, c1, c2) = all_made(
-        narrow_zero_bands(alloc, layout, shape.luma),
-        narrow_zero_bands(alloc, layout, shape.colour),
-        narrow_zero_bands(alloc, layout, shape.colour),
     )?;
     Ok(NarrowTrio { luma, c1, c2 })
 }

@@ -7,6 +7,4 @@ pub mod Every
 pub mod Past
 pub mod Strips
 pub mod Lowest
-pub mod Apart
-pub mod Deals
 pub mod WorkedSlices

@@ -9,13 +9,13 @@ use Rattle.planes.specs.Subbands.{subband_length, BandExists}
 use Rattle.slice_bands.specs.Slices.{Slices, slice_size}
 use Rattle.slice_bands.specs.Places.{place_in, slice_at, place_of, part_w, part_h}
 
-pub half_div : (p q : ℕ) → 0 < q → p / (2 * q) + p / (2 * q) ≤ p
+half_div : (p q : ℕ) → 0 < q → p / (2 * q) + p / (2 * q) ≤ p
 half_div p q some =
     let e : p / (2 * q) * (2 * q) + p % (2 * q) ≡ p = div-add-mod' p (2 * q) in
     let le : p / (2 * q) * 2 ≤ p / (2 * q) * (2 * q) = mul-le (p / (2 * q)) 2 (p / (2 * q)) (2 * q) (omega arith) (omega arith) in
     omega (arith, e, le)
 
-pub whole_div : (p q : ℕ) → 0 < q → p / q ≤ p
+whole_div : (p q : ℕ) → 0 < q → p / q ≤ p
 whole_div p q some =
     let e : p / q * q + p % q ≡ p = div-add-mod' p q in
     let le : p / q * 1 ≤ p / q * q = mul-le (p / q) 1 (p / q) q (omega arith) (omega arith) in
@@ -35,7 +35,7 @@ upper_half depth level p some =
 pub lowest_part : (depth level p : ℕ) → level ≡ 0 → subband_length depth level p ≤ p
 lowest_part depth level p e = rw e (whole_div p (2 ^ depth) (pow_pos depth))
 
-pub four_parts : (w h sw sh : ℕ) → w + w ≤ sw → h + h ≤ sh → 4 * (w * h) ≤ sw * sh
+four_parts : (w h sw sh : ℕ) → w + w ≤ sw → h + h ≤ sh → 4 * (w * h) ≤ sw * sh
 four_parts w h sw sh lw lh =
     let le : (2 * w) * (2 * h) ≤ sw * sh = mul-le (2 * w) (2 * h) sw sh (omega arith) (omega arith) in
     let e : (2 * w) * (2 * h) ≡ 4 * (w * h) = omega arith in

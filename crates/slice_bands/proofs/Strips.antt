@@ -115,7 +115,7 @@ module _ (s : Slices ℤ) (b : BandStack) (depth : b.depth ≡ s.depth) (strips 
 index_above : (k : ℕ) → 1 ≤ k → band_index (level_at k) (orient_at k) ≡ k
 index_above k one = grind (arith, nat_tests)
 
-pub index_at : (k : ℕ) → band_index (level_at k) (orient_at k) ≡ k
+index_at : (k : ℕ) → band_index (level_at k) (orient_at k) ≡ k
 index_at zero = refl
 index_at (suc k) = index_above (suc k) (omega arith)
 
@@ -125,7 +125,7 @@ exists_above depth k one lt =
     let high : orient_at k ≤ 3 = grind (arith, nat_tests) in
     inr (omega arith, omega arith, low, high)
 
-pub exists_at : (depth k : ℕ) → k < 3 * depth + 1 → BandExists depth (level_at k) (orient_at k)
+exists_at : (depth k : ℕ) → k < 3 * depth + 1 → BandExists depth (level_at k) (orient_at k)
 exists_at depth zero lt = inl (refl, refl)
 exists_at depth (suc k) lt = exists_above depth (suc k) (omega arith) lt
 

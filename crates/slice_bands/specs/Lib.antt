@@ -4,4 +4,3 @@ pub mod Stack
 pub mod Lending
 pub mod Short
 pub mod ShortBands
-pub mod Dealing

@@ -51,7 +51,7 @@ fn take_row<T: Gathered>(to: &mut [T], row: &[i16])
 }
 
 // Gives a row of 16 bits the numbers of a row of 32, which fit.
-pub(crate) fn narrow_row(to: &mut [i16], row: &[i32])
+fn narrow_row(to: &mut [i16], row: &[i32])
     requires len { length row.now ≡ length to.old }
     requires short { (k : ℕ) → k < length row.now
         → IsWithin MAX_SHORT (slice_index_or row.now k (pos 0)) }
@@ -71,7 +71,7 @@ fn is_short(v: i32) -> bool
 }
 
 // Whether no magnitude passes `MAX_SHORT`. All are looked at, with no branch for each.
-pub(crate) fn are_short(values: &[i32]) -> bool
+fn are_short(values: &[i32]) -> bool
     ensures { (result ≡ true)
         ↔ ((k : ℕ) → k < length values.now
         → IsWithin MAX_SHORT (slice_index_or values.now k (pos 0))) }

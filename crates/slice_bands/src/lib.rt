@@ -10,7 +10,6 @@ ghost use Rattle.slice_bands.specs.Places.{place_in, part_w, part_h};
 ghost use Rattle.slice_bands.specs.Stack.{number_at, stack_of, AreSlicesSound};
 ghost use Rattle.slice_bands.specs.Lending.{LendsNumbers};
 
-mod dealing;
 mod gathered;
 mod short;
 mod short_bands;

@@ -30,7 +30,7 @@ pub struct ShortTrio {
 }
 
 // Gives a plane the numbers of another of its size.
-pub(crate) fn copy_plane(from: &NarrowPlane, to: &mut NarrowPlane)
+fn copy_plane(from: &NarrowPlane, to: &mut NarrowPlane)
     requires same_width { from.now.w ≡ to.old.w }
     requires same_height { height from.now ≡ height to.old }
     ensures { to.new ≡ from.now }

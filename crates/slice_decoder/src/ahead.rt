@@ -49,8 +49,8 @@ fn read_bands(bands: &NarrowBands, layout: &Layout, size: Size, sy: u32) -> i32
     all
 }
 
-/// Reads the rows of row `sy` of slices, if slice `sx` is its first one and many follow.
-pub fn read_ahead(
+// Reads the rows of row `sy` of slices, if slice `sx` is its first one and many follow.
+pub(crate) fn read_ahead(
     bands: &NarrowTrio,
     layout: &Layout,
     shape: &PictureShape,

@@ -32,7 +32,6 @@ mod short_room;
 mod short_slice;
 mod step_rows;
 
-pub use ahead::read_ahead;
 use bit_codes::BitReader;
 use bounded_blocks::Block;
 use components::{read_colour, read_luma};

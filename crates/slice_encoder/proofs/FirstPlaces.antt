@@ -20,7 +20,7 @@ use Rattle.dc_prediction.proofs.PredictionLemmas.{prediction_same, fits}
 use Rattle.quant_factors.specs.Factors.{factor_of, forward_of}
 use Rattle.quant_factors.specs.Weights.{band_quantiser}
 use Rattle.quant_factors.proofs.QuantLemmas.{coarser}
-use Rattle.slice_geometry.specs.SliceOrder.{level_rect, area}
+use Rattle.slice_geometry.specs.SliceOrder.{level_rect, area, number_in}
 use Rattle.slice_encoder.specs.declared.bounding.Lower.{Lower}
 use Rattle.slice_encoder.specs.declared.first_residuals.FirstResiduals.{FirstResiduals}
 use Rattle.slice_encoder.specs.Trials.{CodedComponent, coefficient, CodedPicture, luma_of, c1_of, c2_of}
@@ -94,6 +94,20 @@ none_across r g kept none = rw (le-ltb r.x0 r.x1 none) refl
 
 none_down : (r : Rect) (g kept : Grid) → r.x0 < r.x1 → r.y1 ≤ r.y0 → first_in r g kept ≡ pos 0
 none_down r g kept across none = rw (lt-ltb r.x0 r.x1 across, le-ltb r.y0 r.y1 none) refl
+
+-- the same of the same coefficients
+pub first_same : (r : Rect) (g h kept : Grid) → ((y x : ℕ) → IsInRect r y x → g y x ≡ h y x) → first_in r g kept ≡ first_in r h kept
+first_same r g h kept same = elim (cases_lt r.x0 r.x1) as (λ _. first_in r g kept ≡ first_in r h kept) [
+  | inr none ↦ none_across r g kept none ∙ sym (none_across r h kept none)
+  | inl across ↦ elim (cases_lt r.y0 r.y1) as (λ _. first_in r g kept ≡ first_in r h kept) [
+    | inr none ↦ none_down r g kept across none ∙ sym (none_down r h kept across none)
+    | inl down ↦
+        let here : IsInRect r r.y0 r.x0 = record { left = omega arith; right = across; top = omega arith; bottom = down } in
+        first_there r g kept across down
+        ∙ ap (λ (v : ℤ). v -ℤ prediction kept r.y0 r.x0) (same r.y0 r.x0 here)
+        ∙ sym (first_there r h kept across down)
+  ]
+]
 
 beyond_zero : (q : ℕ) → bits_beyond_one (pos 0) q ≡ 0
 unfolding forward_of
@@ -193,7 +207,7 @@ reach_no_greater j kept f sx sy first index =
 
 -- ---- taking the first residual
 
-module _ (r : Rect) (coefficients kept : Raster ℤ) (can : CanTryRect r coefficients kept) (across : r.x0 < r.x1) (down : r.y0 < r.y1) where
+module _ (r : Rect) (coefficients : Grid) (kept : Raster ℤ) (can : CanTryRect r coefficients kept) (across : r.x0 < r.x1) (down : r.y0 < r.y1) where
   place_in : IsInRect r r.y0 r.x0
   place_in = record { left = omega arith; right = across; top = omega arith; bottom = down }
 
@@ -212,8 +226,15 @@ module _ (r : Rect) (coefficients kept : Raster ℤ) (can : CanTryRect r coeffic
   pub first_predicted : Within (3 * 2 ^ 27 + 2) (prediction (at kept) r.y0 r.x0)
   first_predicted = prediction_looked (3 * 2 ^ 27 + 2) (at kept) r.y0 r.x0 first_looked
 
-  pub first_coefficient : Within (2 ^ 27) (at coefficients r.y0 r.x0)
+  pub first_coefficient : Within (2 ^ 27) (coefficients r.y0 r.x0)
   first_coefficient = can.small r.y0 r.x0 place_in
+
+-- it stands first in its list
+pub first_number : (r : Rect) → 0 ≡ number_in r r.y0 r.x0
+first_number r =
+    let top : r.y0 - r.y0 ≡ 0 = omega arith in
+    let left : r.x0 - r.x0 ≡ 0 = omega arith in
+    sym (ap (λ (n : ℕ). n * (r.x1 - r.x0) + (r.x0 - r.x0)) top ∙ omega (arith, left))
 
 -- a difference of such numbers in 64 bits
 module _ (c p a b : ℤ) (c_is : a ≡ c) (p_is : b ≡ p) (hc : Within (2 ^ 27) c) (hp : Within (3 * 2 ^ 27 + 2) p) where

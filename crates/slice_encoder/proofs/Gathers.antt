@@ -1,5 +1,5 @@
 -- Coefficients that were gathered, and what is made of them place by place.
-use Rattle.std.proofs.Common.{◌≡◌, ◌∙◌, refl, sym, ap, subst, ℕ, zero, suc, ◌+◌, ◌-◌, ◌*◌, ◌^◌, ◌<◌, ◌≤◌, List, [], ◌∷◌, ◌++◌, length, take, drop, set, get_or, append_assoc, append-nil, arith, ℤ, pos}
+use Rattle.std.proofs.Common.{◌≡◌, ◌∙◌, refl, sym, ap, subst, ℕ, zero, suc, ◌+◌, ◌-◌, ◌*◌, ◌^◌, ◌<◌, ◌≤◌, List, [], ◌∷◌, ◌++◌, length, take, drop, set, get_or, append_assoc, append-nil, arith, ℤ}
 use Rattle.std.specs.Prelude.{unsigned_abs, slice_index}
 use Rattle.std.specs.List.{All, flat_map, range_with_len}
 use Rattle.std.proofs.Math.Seq.{take-append_seam, drop-append_seam}
@@ -106,7 +106,7 @@ module _ (s : Slicing) (size : Size) (bands : BandStack) (sx sy : ℕ) where
   part_length : (k level : ℕ) → level_of k ≡ level → length (raw_part s size bands sx sy k) ≡ area (level_rect s size sx sy level)
   part_length k level e = length_rect (at (numbered bands k)) (level_rect s size sx sy (level_of k)) ∙ ap (λ (l : ℕ). area (level_rect s size sx sy l)) e
 
-  more_length : (k level : ℕ) → level_of k ≡ level → length (raw_before s size bands sx sy (k + 1)) ≡ length (raw_before s size bands sx sy k) + area (level_rect s size sx sy level)
+  pub more_length : (k level : ℕ) → level_of k ≡ level → length (raw_before s size bands sx sy (k + 1)) ≡ length (raw_before s size bands sx sy k) + area (level_rect s size sx sy level)
   more_length k level e = ap (λ (t : List ℤ). length t) (raw_more k) ∙ length-append (raw_before s size bands sx sy k) (raw_part s size bands sx sy k) ∙ ap (λ (n : ℕ). length (raw_before s size bands sx sy k) + n) (part_length k level e)
 
   pub first_count : length (raw_before s size bands sx sy 1) ≡ area (level_rect s size sx sy 0)
@@ -169,7 +169,7 @@ module _ (s : Slicing) (size : Size) (bands : BandStack) (sx sy : ℕ) where
 
 -- each band can be gathered
 pub can_gather : (s : Slicing) (size : Size) (bands : BandStack) (sx sy k : ℕ) (rect : Rect) (band : Raster ℤ) → rect ≡ level_rect s size sx sy (level_of k) → band ≡ numbered bands k → k < 3 * s.depth + 1 → sx < s.slices_x → sy < s.slices_y
-    → CanGatherAll s size bands → CanGather (λ z. z) (pos 0) rect band
+    → CanGatherAll s size bands → CanGather rect band
 can_gather s size bands sx sy k rect band rect_is band_is lt across down can =
     let inside : FitsIn rect band = fits s size sx sy k rect bands band rect_is band_is lt can.depth across down can.sizes in
     record {
@@ -220,6 +220,10 @@ module _ (s : Slicing) (size : Size) (bands : BandStack) (sx sy : ℕ) (g : Gath
   filled_gathers all = record {
     depth = depth_is;
     ends = ends_are;
+    lowest =
+        let R = raw_before s size bands sx sy in
+        let none : length (R (0 + 1)) - length (R 0) ≡ length (R (0 + 1)) = omega arith in
+        ap (λ (n : ℕ). take n g.values) (ends_are 0 (omega arith) ∙ sym none) ∙ piece_is s size bands sx sy 0 (3 * s.depth + 1) g.values (omega arith) room all;
     pieces = λ k some lt.
         ap (λ (n : ℕ). take (n - slice_index g.ends (k - 1)) (drop (slice_index g.ends (k - 1)) g.values)) (ends_are k lt)
         ∙ ap (λ (n : ℕ). take (length (raw_before s size bands sx sy (k + 1)) - n) (drop n g.values)) (end_before k some (omega arith))

@@ -19,6 +19,10 @@ pub mod Onward
 pub mod PlaceByPlace
 pub mod Listed
 pub mod Gathers
+pub mod SliceRuns
+pub mod LowestLists
+pub mod SliceTables
+pub mod WorkedLists
 pub mod SliceBits
 pub mod Filled
 pub mod Again
@@ -53,7 +57,6 @@ pub mod WorkedLowNeeds
 pub mod WorkedTables
 pub mod Counting
 pub mod FirstCandidates
-pub mod ShortParts
 pub mod Cuts
 pub mod RowLooks
 pub mod ShortScales

@@ -78,3 +78,7 @@ inverse_small r m q le h = elim (is_zero_or_not (forward_of r q)) as (λ _. unsi
 -- a coefficient is kept in 32 bits
 pub fits_narrow : (v : ℤ) → Within (2 ^ 27) v → to_z w32 (of_z w32 v) ≡ v
 fits_narrow v near = omega (arith, ints)
+
+-- a number of 32 bits that was read out of a list
+pub number_read : (list : List ℤ) (n m : ℕ) → n ≡ m → Within (2 ^ 27) (get_or list m (pos 0)) → to_z w32 (of_z w32 (get_or list n (pos 0))) ≡ get_or list m (pos 0)
+number_read list n m is small = ap (λ (k : ℕ). to_z w32 (of_z w32 (get_or list k (pos 0)))) is ∙ fits_narrow (get_or list m (pos 0)) small

@@ -62,7 +62,7 @@ module _ (p : Raster ℤ) (y x : ℕ) (v : ℤ) (lt : y < height p) where
 
 -- ---- the places so far
 
-module _ (r : Rect) (coefficients old new : Raster ℤ) (q y x : ℕ) (can : CanTryRect r coefficients old) (s : TriedSoFar (at coefficients) q r y x old new) (here : IsInRect r y x) where
+module _ (r : Rect) (coefficients : Grid) (old new : Raster ℤ) (q y x : ℕ) (can : CanTryRect r coefficients old) (s : TriedSoFar coefficients q r y x old new) (here : IsInRect r y x) where
   one_looked : (j i : ℕ) → Before y x j i → ((IsInRect r j i → ⊥) → Within (3 * 2 ^ 27 + 2) (at old j i)) → Within (3 * 2 ^ 27 + 2) (at new j i)
   one_looked j i before outside = elim (in_rect_or_not r j i) as (λ _. Within (3 * 2 ^ 27 + 2) (at new j i)) [
     | inl inside ↦ s.small j i inside before

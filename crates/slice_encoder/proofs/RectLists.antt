@@ -52,6 +52,12 @@ slot_inside r from step y x place had here lt room is =
     let n : ℕ = number_in r y x in
     omega (arith, is, lt, room, one_more step n, mul-le-mul_left {m = n + 1} {n = area r} step (omega (arith, number_less r y x here)))
 
+-- a step is no longer than the list
+pub step_inside : (r : Rect) (step y x had : ℕ) → IsInRect r y x → step * area r ≤ had → step ≤ had
+step_inside r step y x had here room =
+    let n : ℕ = number_in r y x in
+    omega (arith, room, one_more step n, mul-le-mul_left {m = n + 1} {n = area r} step (omega (arith, number_less r y x here)))
+
 -- ---- one place listed
 
 module _ (g : Grid) (q : ℕ) (r : Rect) (from step y x place : ℕ) (kept : Raster ℤ) (v u : ℤ) (old new : List ℤ) (s : ListedSoFar g q r y x kept from step old new) (here : IsInRect r y x) (lt : y < height kept)

@@ -1,14 +1,14 @@
 -- The code's way of trying gives what is tried.
-use Rattle.std.proofs.Common.{◌≡◌, ◌∙◌, sym, ap, subst, refl, ℕ, ◌+◌, ◌-◌, ◌*◌, ◌/◌, ◌^◌, ◌<◌, ◌≤◌, cond, arith, inl, inr, ℤ}
+use Rattle.std.proofs.Common.{◌≡◌, ◌∙◌, sym, ap, subst, refl, ℕ, ◌+◌, ◌-◌, ◌*◌, ◌^◌, ◌<◌, ◌≤◌, cond, arith, inl, inr, ℤ}
 use Rattle.std.proofs.Math.Nat.{pow-le-pow_right}
 use Rattle.planes.specs.Numbers.{Within}
 use Rattle.planes.specs.declared.Rect.{Rect}
-use Rattle.planes.specs.Raster.{Raster, height, at}
-use Rattle.planes.specs.Subbands.{band_of}
+use Rattle.planes.specs.Raster.{Grid, Raster, at}
+use Rattle.planes.specs.Rect.{IsInRect}
 use Rattle.planes.proofs.Floors.{wider}
 use Rattle.dc_prediction.specs.Prediction.{prediction}
 use Rattle.dc_prediction.proofs.Rectangles.{in_rect_or_not}
-use Rattle.slice_geometry.specs.Geometry.{padded_length, band_size}
+use Rattle.slice_geometry.specs.Geometry.{band_size}
 use Rattle.quant_factors.specs.Weights.{band_quantiser}
 use Rattle.slice_geometry.specs.SliceOrder.{level_rect}
 use Rattle.slice_geometry.proofs.RectsInBands.{end_inside}
@@ -43,20 +43,16 @@ rect_is_tried c sx sy index q rect old new rect_is q_is n0 =
           ]);
     }
 
-pub can_try_rect : (c : CodedComponent) (d sx sy : ℕ) (rect : Rect) (coefficients kept : Raster ℤ) → c.slicing.depth ≤ 4 → d ≤ 16 → sx < c.slicing.slices_x → sy < c.slicing.slices_y
-    → rect ≡ level_rect c.slicing c.size sx sy 0 → coefficients ≡ band_of c.bands 0 0 → IsReadyToWrite c d sx sy kept → CanTryRect rect coefficients kept
-can_try_rect c d sx sy rect coefficients kept shallow few across down rect_is band_is ready =
+pub can_try_rect : (c : CodedComponent) (d sx sy : ℕ) (rect : Rect) (g : Grid) (kept : Raster ℤ) → c.slicing.depth ≤ 4 → d ≤ 16 → sx < c.slicing.slices_x → sy < c.slicing.slices_y
+    → rect ≡ level_rect c.slicing c.size sx sy 0 → ((y x : ℕ) → IsInRect rect y x → g y x ≡ coefficient c 0 0 y x) → IsReadyToWrite c d sx sy kept → CanTryRect rect g kept
+can_try_rect c d sx sy rect g kept shallow few across down rect_is same ready =
     let band = band_size c.slicing.depth 0 c.size in
-    let r = level_rect c.slicing c.size sx sy 0 in
     let most = coefficient_most c.slicing.depth d shallow few in
-    let width : coefficients.w ≡ band.w = ap (λ (p : Raster ℤ). p.w) band_is ∙ ready.sizes.widths 0 0 (inl (refl, refl)) ∙ ap (λ (n : ℕ). padded_length c.slicing.depth c.size.w / 2 ^ n) ready.depth in
-    let tall : height coefficients ≡ band.h = ap (λ (p : Raster ℤ). height p) band_is ∙ ready.sizes.heights 0 0 (inl (refl, refl)) ∙ ap (λ (n : ℕ). padded_length c.slicing.depth c.size.h / 2 ^ n) ready.depth in
-    subst (λ (r : Rect). CanTryRect r coefficients kept) (sym rect_is) (record {
+    let same_here = λ (y x : ℕ) (here : IsInRect (level_rect c.slicing c.size sx sy 0) y x). same y x (subst (λ (r : Rect). IsInRect r y x) (sym rect_is) here) in
+    subst (λ (r : Rect). CanTryRect r g kept) (sym rect_is) (record {
       x_inside = omega (arith, end_inside band.w c.slicing.slices_x sx across, ready.kept_size.0);
       y_inside = omega (arith, end_inside band.h c.slicing.slices_y sy down, ready.kept_size.1);
-      same_width = width ∙ sym ready.kept_size.0;
-      same_height = tall ∙ sym ready.kept_size.1;
-      small = λ y x here. subst (λ (p : Raster ℤ). Within (2 ^ 27) (at p y x)) (sym band_is) (wider (most_coefficient c.slicing.depth d) (2 ^ 27) _ most (ready.small 0 0 y x (inl (refl, refl))));
+      small = λ y x here. subst (λ (v : ℤ). Within (2 ^ 27) v) (sym (same_here y x here)) (wider (most_coefficient c.slicing.depth d) (2 ^ 27) _ most (ready.small 0 0 y x (inl (refl, refl))));
       outside = λ y x here. record {
         left = λ some not. wider (3 * most_coefficient c.slicing.depth d + 2) (3 * 2 ^ 27 + 2) _ (omega (arith, most)) ((ready.outside y x here).left some not);
         above = λ some not. wider (3 * most_coefficient c.slicing.depth d + 2) (3 * 2 ^ 27 + 2) _ (omega (arith, most)) ((ready.outside y x here).above some not);

@@ -1,5 +1,5 @@
 -- The coefficients of a slice in all three components, gathered.
-use Rattle.std.specs.Prelude.{ℕ, ◌+◌, ◌-◌, ◌*◌, ◌<◌, ◌≤◌, length, slice_index}
+use Rattle.std.specs.Prelude.{◌≡◌, ℕ, ◌+◌, ◌-◌, ◌*◌, ◌<◌, ◌≤◌, length, slice_index}
 use Rattle.quant_factors.specs.Weights.{Weights, band_quantiser}
 use Rattle.slice_geometry.specs.declared.PictureShape.{PictureShape}
 use Rattle.slice_geometry.specs.Slicing.{Slicing}
@@ -12,6 +12,7 @@ use Rattle.slice_encoder.specs.Trials.{CodedPicture}
 use Rattle.slice_encoder.specs.Looks.{IsLook, IsFew}
 use Rattle.slice_encoder.specs.Sizes.{AreSizes}
 use Rattle.slice_encoder.specs.FirstResiduals.{bits_beyond_one}
+use Rattle.slice_encoder.specs.RestoredSlice.{AreLowRects}
 use Rattle.slice_encoder.specs.Gathering.{AreGathered, gathered_values, gathered_pairs, gathered_reach, gathered_pairs_reach, behind_lowest}
 
 -- Its magnitudes are those of its coefficients outside the lowest subbands, under this matrix.
@@ -24,6 +25,7 @@ pub record AreAllGathered (j : CodedPicture) (sx sy : ℕ) (g : GatheredSlice) :
   pub luma : AreGathered j.slicing j.frame.luma j.coefficients.luma sx sy g.luma
   pub c1 : AreGathered j.slicing j.frame.colour j.coefficients.c1 sx sy g.c1
   pub c2 : AreGathered j.slicing j.frame.colour j.coefficients.c2 sx sy g.c2
+  pub lowest : AreLowRects j sx sy g.lowest
   pub sizes : HasSizes g j.matrix
 
 -- These are the looks at its luma and colour values outside the lowest subbands, at an index.
@@ -48,8 +50,10 @@ gathered_low g f matrix index = let q = band_quantiser matrix index 0 0 in recor
   colour = behind_lowest (lowest_colour g f q) (gathered_pairs_reach g.c1 g.c2 matrix index) - 3;
 }
 
--- there is room for each slice of a picture
+-- there is room for each slice of a picture, and the tables are those of its layout
 pub record CanHoldAll (s : Slicing) (shape : PictureShape) (g : GatheredSlice) : Type 0 where
+  pub luma_rects : g.luma_rects ≡ record { slicing = s; size = shape.luma }
+  pub colour_rects : g.colour_rects ≡ record { slicing = s; size = shape.colour }
   pub luma : (sx sy : ℕ) → sx < s.slices_x → sy < s.slices_y → place_count s shape.luma sx sy ≤ length g.luma.values
   pub c1 : (sx sy : ℕ) → sx < s.slices_x → sy < s.slices_y → place_count s shape.colour sx sy ≤ length g.c1.values
   pub c2 : (sx sy : ℕ) → sx < s.slices_x → sy < s.slices_y → place_count s shape.colour sx sy ≤ length g.c2.values

@@ -4,7 +4,6 @@ use Rattle.std.specs.List.{All, flat_map, range_with_len}
 use Rattle.planes.specs.Numbers.{Within}
 use Rattle.planes.specs.Raster.{Raster, height, at}
 use Rattle.planes.specs.Subbands.{BandStack, HaveSizes}
-use Rattle.planes.specs.Valued.{grid_of}
 use Rattle.planes.specs.declared.Rect.{Rect}
 use Rattle.bit_codes.specs.Codes.{signed_code_of}
 use Rattle.quant_factors.specs.Factors.{forward_of}
@@ -36,6 +35,10 @@ pub record GatheredSeen : Type 0 where
 abbrev pub piece_of : GatheredSeen → ℕ → List ℤ
 piece_of g k = take (slice_index g.ends k - slice_index g.ends (k - 1)) (drop (slice_index g.ends (k - 1)) g.values)
 
+-- those of the lowest subband
+abbrev pub lowest_of : GatheredSeen → List ℤ
+lowest_of g = take (slice_index g.ends 0) g.values
+
 -- the values outside the lowest subband as they were gathered
 abbrev pub outside_of : GatheredSeen → List ℤ
 outside_of g = take (slice_index g.ends (3 * g.depth) - slice_index g.ends 0) (drop (slice_index g.ends 0) g.values)
@@ -49,19 +52,24 @@ pub record IsGatheredSound (g : GatheredSeen) : Type 0 where
   pub small : All (Within (2 ^ 27)) g.values
   pub few : length g.values ≤ 2 ^ 31
 
+-- Here the values of each band end in a slice of a component, whatever its bands hold.
+abbrev pub AreEnds : Slicing → Size → ℕ → ℕ → List ℕ → Type 0
+AreEnds s size sx sy ends = (bands : BandStack) (k : ℕ) → k < 3 * s.depth + 1 → slice_index ends k ≡ length (raw_before s size bands sx sy (k + 1))
+
 -- It holds the slice's coefficients in these bands.
 pub record AreGathered (s : Slicing) (size : Size) (bands : BandStack) (sx sy : ℕ) (g : GatheredSeen) : Type 0 where
   pub depth : g.depth ≡ s.depth
   pub ends : (k : ℕ) → k < 3 * s.depth + 1 → slice_index g.ends k ≡ length (raw_before s size bands sx sy (k + 1))
+  pub lowest : lowest_of g ≡ raw_part s size bands sx sy 0
   pub pieces : (k : ℕ) → 1 ≤ k → k < 3 * s.depth + 1 → piece_of g k ≡ raw_part s size bands sx sy k
 
 -- what gathering a rectangle asks for
-pub record CanGather {X : Type 0} (value : X → ℤ) (none : X) (r : Rect) (coefficients : Raster X) : Type 0 where
+pub record CanGather (r : Rect) (coefficients : Raster ℤ) : Type 0 where
   pub across : r.x0 ≤ r.x1
   pub down : r.y0 ≤ r.y1
   pub x_inside : r.x1 ≤ coefficients.w
   pub y_inside : r.y1 ≤ height coefficients
-  pub small : (y x : ℕ) → Within (2 ^ 27) (grid_of value none coefficients y x)
+  pub small : (y x : ℕ) → Within (2 ^ 27) (at coefficients y x)
 
 -- and gathering all bands of a slice
 pub record CanGatherAll (s : Slicing) (size : Size) (bands : BandStack) : Type 0 where

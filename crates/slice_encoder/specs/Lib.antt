@@ -18,6 +18,8 @@ pub mod Looks
 pub mod Limits
 pub mod ScaleRows
 pub mod Sizes
+pub mod SliceRects
+pub mod SliceLists
 pub mod Gathering
 pub mod FirstResiduals
 pub mod GatheredSlices
@@ -27,5 +29,4 @@ pub mod RestoredSlice
 pub mod Encoded
 pub mod Room
 pub mod Chosen
-pub mod Sources
 pub mod Jobs

@@ -6,9 +6,6 @@ use Rattle.planes.specs.Raster.{Raster, at}
 use Rattle.planes.specs.Subbands.{HaveSizes}
 use Rattle.planes.specs.declared.ThreePlanes.{ThreePlanes}
 use Rattle.planes.specs.declared.Trio.{Trio}
-use Rattle.planes.specs.declared.NarrowTrio.{NarrowTrio}
-use Rattle.slice_bands.specs.declared.short_bands.ShortTrio.{ShortTrio}
-use Rattle.slice_bands.specs.ShortBands.{short_stack}
 use Rattle.quant_factors.specs.Weights.{Weights}
 use Rattle.slice_geometry.specs.declared.PictureShape.{PictureShape}
 use Rattle.slice_geometry.specs.Frames.{frame_of}
@@ -59,14 +56,6 @@ pub record AreGiven (j : CodedPicture) : Type 0 where
 abbrev pub coded_picture : Slicing → PictureShape → Weights → Trio → CodedPicture
 coded_picture s shape matrix coefficients =
     record { slicing = s; frame = frame_of shape; matrix = matrix; coefficients = coefficients }
-
--- the same of coefficients in 32 bits
-abbrev pub narrow_picture : Slicing → PictureShape → Weights → NarrowTrio → CodedPicture
-narrow_picture s shape matrix c = coded_picture s shape matrix (record { luma = c.luma; c1 = c.c1; c2 = c.c2 })
-
--- the same of coefficients in 16 bits
-abbrev pub short_picture : Slicing → PictureShape → Weights → ShortTrio → CodedPicture
-short_picture s shape matrix c = coded_picture s shape matrix (record { luma = short_stack c.luma; c1 = short_stack c.c1; c2 = short_stack c.c2 })
 
 -- ---- from slice to slice
 

@@ -10,13 +10,15 @@ use Rattle.dc_prediction.specs.Restoring.{AllLookedAtOutside}
 use Rattle.slice_geometry.specs.SliceOrder.{number_in}
 use Rattle.slice_encoder.specs.Loop.{residual_of, restored_value}
 
+-- the numbers of a rectangle, which stand in a list row by row
+abbrev pub grid_in : Rect → List ℤ → Grid
+grid_in r list y x = get_or list (number_in r y x) (pos 0)
+
 -- What trying a rectangle asks for.
-pub record CanTryRect (r : Rect) (coefficients kept : Raster ℤ) : Type 0 where
+pub record CanTryRect (r : Rect) (coefficients : Grid) (kept : Raster ℤ) : Type 0 where
   pub x_inside : r.x1 ≤ kept.w
   pub y_inside : r.y1 ≤ height kept
-  pub same_width : coefficients.w ≡ kept.w
-  pub same_height : height coefficients ≡ height kept
-  pub small : (y x : ℕ) → IsInRect r y x → Within (2 ^ 27) (at coefficients y x)
+  pub small : (y x : ℕ) → IsInRect r y x → Within (2 ^ 27) (coefficients y x)
   pub outside : AllLookedAtOutside (λ y x. Within (3 * 2 ^ 27 + 2) (at kept y x)) r
 
 -- All places of the rectangle are restored, and all else stays.

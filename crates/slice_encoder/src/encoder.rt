@@ -1,12 +1,13 @@
 //! A slice written at the least index at which it fits.
 
 ghost use Rattle.std.specs.Prelude.{◌≡◌, ℕ, ◌^◌, ◌<◌, ◌≤◌, max, List, length, IfOk};
+ghost use Rattle.planes.specs.declared.Trio.{Trio};
 ghost use Rattle.slice_encoder.specs.TrialLaws.{IsSteepOk};
 ghost use Rattle.slice_encoder.specs.Trials.{AreKept};
 ghost use Rattle.slice_encoder.specs.Tries.{AreTried, IsNext, tried_lists};
 ghost use Rattle.slice_encoder.specs.LowNeeds.{lower_of, IsFirstCandidate};
-ghost use Rattle.slice_encoder.specs.Ready.{coded_picture, narrow_picture, AreReadyToWrite, AreGiven};
-ghost use Rattle.slice_encoder.specs.Sources.{trio_seen, IsTrioCut};
+ghost use Rattle.slice_encoder.specs.Ready.{coded_picture, AreReadyToWrite, AreGiven};
+ghost use Rattle.slice_encoder.specs.SliceLists.{HoldsSlice};
 ghost use Rattle.slice_encoder.specs.Encoded as encoded;
 ghost use Rattle.slice_encoder.specs.Encoded.{IsEncoded, IsEncodedAfter, trial_of, IsTriedAfter};
 
@@ -15,11 +16,10 @@ use crate::candidates::find_candidate;
 use crate::gathered::{GatheredSlice, SliceLimits};
 use crate::jobs::SliceJob;
 use crate::room::most_places;
-use crate::search::{find_least, share_of, try_at};
-use crate::sources::TrioSource;
-use crate::trying::low_rects;
+use crate::search::share_of;
+use crate::slices::{encode_gathered, encode_rows, try_rows};
 use crate::writer::SliceWriter;
-use planes::{NarrowTrio, NoMemory, ThreePlanes, Trio};
+use planes::{NoMemory, ThreePlanes, Trio};
 use quant_factors::Matrix;
 use slice_geometry::{Layout, PictureShape, SliceHead};
 use std::alloc::Global;
@@ -127,19 +127,16 @@ impl SliceEncoder {
             layout: &self.layout,
             shape: &self.shape,
             matrix,
-            coefficients: TrioSource::Wide(coefficients),
             sx,
             sy,
             bytes: share_of(&self.layout, sx, sy),
         };
-        self.gathered.gather(job);
-        let looks = self.gathered.looks(matrix, qindex, &mut self.limits);
-        let trying = try_at(
+        let trying = try_rows(
             job,
-            low_rects(job),
+            coefficients,
             qindex,
-            &self.gathered,
-            looks,
+            &mut self.gathered,
+            &mut self.limits,
             kept,
             &mut self.luma,
             &mut self.colour,
@@ -235,89 +232,78 @@ impl SliceEncoder {
             → IsEncodedAfter (coded_picture self.old.slicing self.old.shape matrix.now
             coefficients.now) indices sx sy bytes.new result kept.new }
     {
-        self.encode_slice_of(matrix, sx, sy, TrioSource::Wide(coefficients), kept, bytes)
-    }
-
-    /// Writes a slice as `encode_slice` does, of coefficients in 32 bits.
-    pub fn encode_slice_narrow(
-        &mut self,
-        matrix: &Matrix,
-        sx: u32,
-        sy: u32,
-        coefficients: &NarrowTrio,
-        kept: &mut ThreePlanes,
-        bytes: &mut [u8],
-    ) -> SliceHead
-        requires some { 1 ≤ length bytes.old }
-        requires most { length bytes.old ≤ 2 ^ 28 }
-        requires ready { AreReadyToWrite (narrow_picture self.old.slicing self.old.shape matrix.now
-            coefficients.now) sx sy kept.old }
-        requires steep { IsSteepOk self.old.slicing.depth
-            (max self.old.shape.luma_depth self.old.shape.colour_depth) matrix.now }
-        ensures same { self.new ≡ self.old }
-        ensures slice { IsEncoded (tried_lists (narrow_picture self.old.slicing self.old.shape
-            matrix.now coefficients.now) kept.old sx sy) bytes.new result }
-        ensures kept { AreTried (narrow_picture self.old.slicing self.old.shape matrix.now
-            coefficients.now) sx sy result.qindex kept.old kept.new }
-        ensures after { (indices : List ℕ)
-            → IsNext (narrow_picture self.old.slicing self.old.shape matrix.now coefficients.now)
-            indices sx sy
-            → AreKept (narrow_picture self.old.slicing self.old.shape matrix.now coefficients.now)
-            indices kept.old
-            → IsEncodedAfter (narrow_picture self.old.slicing self.old.shape matrix.now
-            coefficients.now) indices sx sy bytes.new result kept.new }
-    {
-        self.encode_slice_of(
+        let job = SliceJob {
+            layout: &self.layout,
+            shape: &self.shape,
             matrix,
             sx,
             sy,
-            TrioSource::Narrow(coefficients),
+            bytes: bytes.len() as u32,
+        };
+        let written = encode_rows(
+            job,
+            coefficients,
+            &mut self.gathered,
+            self.near,
+            &mut self.limits,
             kept,
+            &mut self.luma,
+            &mut self.colour,
+            &mut self.writer,
             bytes,
-        )
+        );
+        self.near = written.first;
+        written.head
     }
 
-    /// Writes a slice as `encode_slice` does, of coefficients of any width.
-    pub fn encode_slice_of(
+    /// Writes a slice as `encode_slice` does, of coefficients that stand in lists, in the order of the stream.
+    pub fn encode_lists(
         &mut self,
         matrix: &Matrix,
         sx: u32,
         sy: u32,
-        coefficients: TrioSource<'_>,
+        luma: &[i32],
+        c1: &[i32],
+        c2: &[i32],
         kept: &mut ThreePlanes,
         bytes: &mut [u8],
     ) -> SliceHead
+        ghost coefficients: { Trio }
         requires some { 1 ≤ length bytes.old }
         requires most { length bytes.old ≤ 2 ^ 28 }
-        requires cut { IsTrioCut self.old.slicing self.old.shape coefficients }
+        requires luma { HoldsSlice self.old.slicing self.old.shape.luma coefficients.luma sx sy
+            luma.now }
+        requires c1 { HoldsSlice self.old.slicing self.old.shape.colour coefficients.c1 sx sy
+            c1.now }
+        requires c2 { HoldsSlice self.old.slicing self.old.shape.colour coefficients.c2 sx sy
+            c2.now }
         requires ready { AreReadyToWrite (coded_picture self.old.slicing self.old.shape matrix.now
-            (trio_seen coefficients)) sx sy kept.old }
+            coefficients) sx sy kept.old }
         requires steep { IsSteepOk self.old.slicing.depth
             (max self.old.shape.luma_depth self.old.shape.colour_depth) matrix.now }
         ensures same { self.new ≡ self.old }
         ensures slice { IsEncoded (tried_lists (coded_picture self.old.slicing self.old.shape
-            matrix.now (trio_seen coefficients.entry)) kept.old sx sy) bytes.new result }
+            matrix.now coefficients) kept.old sx sy) bytes.new result }
         ensures kept { AreTried (coded_picture self.old.slicing self.old.shape matrix.now
-            (trio_seen coefficients.entry)) sx sy result.qindex kept.old kept.new }
+            coefficients) sx sy result.qindex kept.old kept.new }
         ensures after { (indices : List ℕ)
-            → IsNext (coded_picture self.old.slicing self.old.shape matrix.now
-            (trio_seen coefficients.entry)) indices sx sy
-            → AreKept (coded_picture self.old.slicing self.old.shape matrix.now
-            (trio_seen coefficients.entry)) indices kept.old
+            → IsNext (coded_picture self.old.slicing self.old.shape matrix.now coefficients)
+            indices sx sy
+            → AreKept (coded_picture self.old.slicing self.old.shape matrix.now coefficients)
+            indices kept.old
             → IsEncodedAfter (coded_picture self.old.slicing self.old.shape matrix.now
-            (trio_seen coefficients.entry)) indices sx sy bytes.new result kept.new }
+            coefficients) indices sx sy bytes.new result kept.new }
     {
         let job = SliceJob {
             layout: &self.layout,
             shape: &self.shape,
             matrix,
-            coefficients,
             sx,
             sy,
             bytes: bytes.len() as u32,
         };
-        self.gathered.gather(job);
-        let found = find_least(
+        self.gathered.take_lists(job, luma, c1, c2);
+        let written = encode_gathered(
             job,
             &self.gathered,
             self.near,
@@ -325,12 +311,10 @@ impl SliceEncoder {
             kept,
             &mut self.luma,
             &mut self.colour,
+            &mut self.writer,
+            bytes,
         );
-        self.near = found.first;
-        self.writer.put(job, &self.gathered, found, &self.luma, &self.colour, bytes);
-        SliceHead {
-            qindex: found.index,
-            luma_bits: found.trying.luma_need as u32,
-        }
+        self.near = written.first;
+        written.head
     }
 }

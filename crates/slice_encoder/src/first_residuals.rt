@@ -1,16 +1,18 @@
 // The residuals of the first places of a slice's lowest subbands, before they are quantised.
 
 ghost use Rattle.bit_codes.specs.declared.TheConstants.{MAX_MAGNITUDE};
-ghost use Rattle.std.specs.Prelude.{◌≡◌, ◌≤◌, unsigned_abs};
+ghost use Rattle.std.specs.Prelude.{◌≡◌, ◌≤◌, length, unsigned_abs};
 ghost use Rattle.planes.specs.Raster.{at};
+ghost use Rattle.planes.specs.declared.Trio.{Trio};
+ghost use Rattle.slice_geometry.specs.SliceOrder.{area};
 ghost use Rattle.slice_encoder.specs.FirstResiduals.{first_in, bits_beyond_one, AreFirst, AreSmallFirsts};
 ghost use Rattle.slice_encoder.specs.Jobs.{picture_of};
-ghost use Rattle.slice_encoder.specs.RectTrials.{CanTryRect};
+ghost use Rattle.slice_encoder.specs.RectTrials.{CanTryRect, grid_in};
 ghost use Rattle.slice_encoder.specs.Ready.{AreReadyToWrite};
-ghost use Rattle.slice_encoder.specs.Sources.{band_seen};
+ghost use Rattle.slice_encoder.specs.GatheredSlices.{AreAllGathered};
 
+use crate::gathered::GatheredSlice;
 use crate::jobs::SliceJob;
-use crate::sources::BandSource;
 use bit_codes::sint_len;
 use dc_prediction::predict;
 use planes::{Plane, Rect, ThreePlanes};
@@ -25,36 +27,39 @@ pub struct FirstResiduals {
     pub c2: i64,
 }
 
-// That of one component, where the slice's places are those of a rectangle.
-fn first_of(coefficients: BandSource<'_>, kept: &Plane, rect: Rect) -> i64
-    requires can { CanTryRect rect (band_seen coefficients) kept.now }
-    ensures value { result ≡ first_in rect (at (band_seen coefficients.entry)) (at kept.now) }
+// That of one component, where the slice's places are those of a rectangle, whose coefficients stand row by row.
+fn first_of(coefficients: &[i32], kept: &Plane, rect: Rect) -> i64
+    requires count { length coefficients.now ≡ area rect }
+    requires can { CanTryRect rect (grid_in rect coefficients.now) kept.now }
+    ensures value { result ≡ first_in rect (grid_in rect coefficients.now) (at kept.now) }
     ensures small { unsigned_abs result ≤ MAX_MAGNITUDE }
 {
     if rect.x0 < rect.x1 && rect.y0 < rect.y1 {
-        coefficients.get(rect.y0, rect.x0) - predict(kept, rect.y0, rect.x0)
+        i64::from(coefficients[0]) - predict(kept, rect.y0, rect.x0)
     } else {
         0
     }
 }
 
 /// Those of a slice, where the planes hold what is restored before it.
-pub fn first_residuals(job: SliceJob<'_>, kept: &ThreePlanes) -> FirstResiduals
-    requires ready { AreReadyToWrite (picture_of job) job.sx job.sy kept.now }
-    ensures first { AreFirst (picture_of job.entry) job.entry.sx job.entry.sy kept.now result }
+pub fn first_residuals(
+    job: SliceJob<'_>,
+    gathered: &GatheredSlice,
+    kept: &ThreePlanes,
+) -> FirstResiduals
+    ghost coefficients: { Trio }
+    requires ready { AreReadyToWrite (picture_of job coefficients) job.sx job.sy kept.now }
+    requires gathered { AreAllGathered (picture_of job coefficients) job.sx job.sy gathered.now }
+    ensures first { AreFirst (picture_of job.entry coefficients) job.entry.sx job.entry.sy kept.now
+        result }
     ensures small { AreSmallFirsts result }
 {
     let _depth = job.layout.depth();
-    let luma = job.layout.band_rect(job.shape.luma, 0, job.sx, job.sy);
-    let colour = job.layout.band_rect(job.shape.colour, 0, job.sx, job.sy);
-    let coefficients = job.coefficients;
-    let lumas = coefficients.luma().band(0, 0);
-    let firsts = coefficients.c1().band(0, 0);
-    let seconds = coefficients.c2().band(0, 0);
+    let rects = gathered.lowest;
     FirstResiduals {
-        luma: first_of(lumas, &kept.luma, luma),
-        c1: first_of(firsts, &kept.c1, colour),
-        c2: first_of(seconds, &kept.c2, colour),
+        luma: first_of(gathered.luma.lowest_values(), &kept.luma, rects.luma),
+        c1: first_of(gathered.c1.lowest_values(), &kept.c1, rects.colour),
+        c2: first_of(gathered.c2.lowest_values(), &kept.c2, rects.colour),
     }
 }
 

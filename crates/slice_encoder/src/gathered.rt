@@ -5,13 +5,12 @@ ghost use Rattle.std.specs.List.{All, flat_map, range_with_len};
 ghost use Rattle.planes.specs.Numbers.{Within};
 ghost use Rattle.quant_factors.specs.Factors.{forward_of, signed};
 ghost use Rattle.planes.specs.Raster.{at};
-ghost use Rattle.planes.specs.Valued.{grid_of};
 ghost use Rattle.planes.specs.Subbands.{BandStack};
+ghost use Rattle.planes.specs.declared.Trio.{Trio};
 ghost use Rattle.slice_geometry.specs.Shape.{IsSize};
-ghost use Rattle.slice_geometry.specs.SliceOrder.{level_rect, level_of, area, place_count};
-ghost use Rattle.slice_bands.specs.ShortBands.{short_stack};
+ghost use Rattle.slice_geometry.specs.SliceOrder.{area, place_count};
 ghost use Rattle.slice_encoder.specs.Listing.{rect_values};
-ghost use Rattle.slice_encoder.specs.Gathering.{raw_before, piece_of, quantised, quantised_piece, outside_of, in_turn, IsGatheredSound, CanGather, CanGatherAll, AreGathered, gathered_values, gathered_pairs, behind_lowest};
+ghost use Rattle.slice_encoder.specs.Gathering.{raw_before, piece_of, lowest_of, AreEnds, quantised, quantised_piece, outside_of, in_turn, IsGatheredSound, CanGather, CanGatherAll, AreGathered, gathered_values, gathered_pairs, behind_lowest};
 ghost use Rattle.slice_encoder.specs.GatheredSlices.{AreAllGathered, HasSizes, AreLooks, gathered_low, CanHoldAll};
 ghost use Rattle.slice_encoder.specs.FirstResiduals.{AreSmallFirsts};
 ghost use Rattle.slice_encoder.specs.BlockValues.{IsIn32};
@@ -19,7 +18,8 @@ ghost use Rattle.slice_encoder.specs.CodeTables.{place_of, places_of_values};
 ghost use Rattle.slice_encoder.specs.Scales.{IsScaleOf};
 ghost use Rattle.slice_encoder.specs.Jobs.{picture_of};
 ghost use Rattle.slice_encoder.specs.Ready.{AreGiven};
-ghost use Rattle.slice_encoder.specs.Sources.{band_seen, stack_seen, HasBand, IsCut, IsStackCut, IsTrioCut};
+ghost use Rattle.slice_encoder.specs.RestoredSlice.{AreLowRects};
+ghost use Rattle.slice_encoder.specs.SliceLists.{HoldsSlice};
 
 use crate::bounding::Lower;
 use crate::first_residuals::{FirstResiduals, bits_beyond};
@@ -28,11 +28,10 @@ use crate::looks::Look;
 use crate::room::most_places;
 use crate::scales::{Scale, quantised_magnitude, scale_of};
 use crate::sizes::{ListLimits, Sizes};
-use crate::sources::{BandSource, Coefficient, StackSource};
-use crate::trying::quantiser_at;
-use planes::{NoMemory, Orient, Plane, Rect};
+use crate::slice_rects::SliceRects;
+use crate::trying::{LowRects, NO_RECTS, quantiser_at};
+use planes::{Bands, NoMemory, Orient, Plane, Rect, Trio};
 use quant_factors::Matrix;
-use slice_bands::ShortBands;
 use slice_geometry::{Layout, PictureShape, Size, band_numbered};
 use std::alloc::Global;
 use std::marker::Model;
@@ -56,16 +55,20 @@ impl Model for Gathered {
     ghost invariant = { λ g. IsGatheredSound (record { depth = g.depth; ends = g.ends; values = g.values.items }) };
 }
 
-/// The coefficients of a slice in all three components.
+/// The coefficients of a slice in all three components, and where it lies in the lowest subbands.
 #[derive(Drop)]
 pub struct GatheredSlice {
     pub luma: Gathered,
     pub c1: Gathered,
     pub c2: Gathered,
+    pub lowest: LowRects,
     /// The magnitudes of its luma values.
     pub luma_sizes: Sizes,
     /// Those of its colour values, of both components in turn.
     pub colour_sizes: Sizes,
+    /// Where the slices lie in the subbands of luma, and in those of C1 and C2.
+    pub luma_rects: SliceRects,
+    pub colour_rects: SliceRects,
 }
 
 /// What a slice's luma values and its colour values hold, but for its lowest subbands.
@@ -97,121 +100,55 @@ impl SliceLimits {
 }
 
 // Copies the coefficients of a rectangle, row by row, from a place on.
-fn gather_rect<T: Coefficient>(coefficients: &Plane<T>, rect: Rect, out: &mut [i32], from: usize)
-    requires can { CanGather T.value T.none rect coefficients.now }
+fn gather_rect(coefficients: &Plane, rect: Rect, out: &mut [i32], from: usize)
+    requires can { CanGather rect coefficients.now }
     requires room { from + area rect ≤ length out.old }
     requires small { All (Within (2 ^ 27)) out.old }
     ensures gathered { take (from + area rect) out.new
-        ≡ take from out.old ++ rect_values (grid_of T.value T.none coefficients.now) rect }
+        ≡ take from out.old ++ rect_values (at coefficients.now) rect }
     ensures small { All (Within (2 ^ 27)) out.new }
 {
     let mut place = from;
     for y in rect.y0..rect.y1 {
         let row = coefficients.row(y);
         for x in rect.x0..rect.x1 {
-            out[place] = T::narrowed(row[x as usize]);
+            out[place] = row[x as usize] as i32;
             place += 1;
         }
     }
 }
 
-fn gather_band(coefficients: BandSource<'_>, rect: Rect, out: &mut [i32], from: usize)
-    requires can { CanGather (λ z. z) (pos 0) rect (band_seen coefficients) }
-    requires room { from + area rect ≤ length out.old }
+// Copies the slice's coefficients, band by band.
+fn gather_bands(rects: &SliceRects, sx: u32, sy: u32, bands: &Bands, out: &mut [i32])
+    requires across { sx < rects.now.slicing.slices_x }
+    requires down { sy < rects.now.slicing.slices_y }
+    requires can { CanGatherAll rects.now.slicing rects.now.size bands.now }
+    requires room { place_count rects.now.slicing rects.now.size sx sy ≤ length out.old }
     requires small { All (Within (2 ^ 27)) out.old }
-    ensures gathered { take (from + area rect) out.new
-        ≡ take from out.old ++ rect_values (at (band_seen coefficients.entry)) rect }
+    ensures gathered { take (length (raw_before rects.now.slicing rects.now.size bands.now sx sy
+        (3 * rects.now.slicing.depth + 1))) out.new
+        ≡ raw_before rects.now.slicing rects.now.size bands.now sx sy
+        (3 * rects.now.slicing.depth + 1) }
     ensures small { All (Within (2 ^ 27)) out.new }
 {
-    match coefficients {
-        BandSource::Wide(band) => gather_rect(band, rect, out, from),
-        BandSource::Narrow(band) => gather_rect(band, rect, out, from),
-    }
-}
-
-// The rectangle of band number k, by that of the band before it: those of a level have the same.
-#[inline(always)]
-fn next_rect(layout: &Layout, size: Size, sx: u32, sy: u32, k: u32, before: Rect) -> Rect
-    requires size { IsSize size.w size.h }
-    requires across { sx < layout.now.slices_x }
-    requires down { sy < layout.now.slices_y }
-    requires number { k < 3 * layout.now.depth + 1 }
-    requires before { before ≡ level_rect layout.now size sx sy (level_of (k - 1)) }
-    ensures { result ≡ level_rect layout.now size sx sy (level_of k) }
-{
-    let _depth = layout.depth();
-    let (level, orient) = band_numbered(k);
-    if orient == 1 {
-        layout.band_rect(size, level, sx, sy)
-    } else {
-        before
-    }
-}
-
-// Copies the slice's coefficients, and notes where each band's end.
-fn gather_bands(
-    layout: &Layout,
-    size: Size,
-    sx: u32,
-    sy: u32,
-    bands: StackSource<'_>,
-    out: &mut [i32],
-) -> [usize; 13]
-    requires size { IsSize size.w size.h }
-    requires across { sx < layout.now.slices_x }
-    requires down { sy < layout.now.slices_y }
-    requires can { CanGatherAll layout.now size (stack_seen bands) }
-    requires rows { (level : ℕ) → HasBand bands level }
-    requires room { place_count layout.now size sx sy ≤ length out.old }
-    requires small { All (Within (2 ^ 27)) out.old }
-    ensures ends { (k : ℕ) → k < 3 * layout.now.depth + 1
-        → slice_index result k
-        ≡ length (raw_before layout.now size (stack_seen bands.entry) sx sy (k + 1)) }
-    ensures gathered { take (length (raw_before layout.now size (stack_seen bands.entry) sx sy
-        (3 * layout.now.depth + 1))) out.new
-        ≡ raw_before layout.now size (stack_seen bands.entry) sx sy (3 * layout.now.depth + 1) }
-    ensures small { All (Within (2 ^ 27)) out.new }
-{
-    let mut ends = [0; 13];
     let mut place = 0;
-    let mut rect = layout.band_rect(size, 0, sx, sy);
-    for k in 0..3 * layout.depth() + 1 {
+    for k in 0..3 * rects.depth() + 1 {
         let (level, orient) = band_numbered(k);
-        rect = next_rect(layout, size, sx, sy, k, rect);
-        gather_band(bands.band(level, orient), rect, out, place);
+        let rect = rects.rect(level, sx, sy);
+        gather_rect(bands.band(level, orient), rect, out, place);
         place += (rect.x1 - rect.x0) as usize * (rect.y1 - rect.y0) as usize;
-        ends[k as usize] = place;
     }
-    ends
 }
 
-// The number of a slice.
-fn number_of(layout: &Layout, sx: u32, sy: u32) -> usize
-    requires across { sx < layout.now.slices_x }
-    requires down { sy < layout.now.slices_y }
-    ensures value { result ≡ sy * layout.now.slices_x + sx }
-    ensures inside { result < layout.now.slices_x * layout.now.slices_y }
+// Copies a list to the front of another.
+fn put_front(list: &[i32], out: &mut [i32])
+    requires room { length list.now ≤ length out.old }
+    requires list_small { All (Within (2 ^ 27)) list.now }
+    requires small { All (Within (2 ^ 27)) out.old }
+    ensures front { take (length list.now) out.new ≡ list.now }
+    ensures small { All (Within (2 ^ 27)) out.new }
 {
-    sy as usize * layout.slices_x() as usize + sx as usize
-}
-
-// Where the values of each band end in a slice whose numbers stand together.
-fn part_ends(layout: &Layout, size: Size, sx: u32, sy: u32, bands: &ShortBands) -> [usize; 13]
-    requires cut { IsCut layout.now size bands.now }
-    ensures { (stack : BandStack) (k : ℕ) → k < 3 * layout.now.depth + 1
-        → slice_index result k ≡ length (raw_before layout.now size stack sx sy (k + 1)) }
-{
-    // The contract alone names these.
-    let _ = (size, sx, sy);
-    bands.slices.shows();
-    let mut ends = [0; 13];
-    let mut place = 0;
-    for k in 0..3 * layout.depth() + 1 {
-        let (level, _) = band_numbered(k);
-        place += bands.slices.part_w(level) * bands.slices.part_h(level);
-        ends[k as usize] = place;
-    }
-    ends
+    out[..list.len()].copy_from_slice(list);
 }
 
 // 1 or -1, with the sign of a number.
@@ -370,53 +307,64 @@ impl Gathered {
         })
     }
 
-    // Takes the numbers of a slice that stand together in memory.
-    fn take_slice(&mut self, layout: &Layout, size: Size, sx: u32, sy: u32, bands: &ShortBands)
-        requires across { sx < layout.now.slices_x }
-        requires down { sy < layout.now.slices_y }
-        requires cut { IsCut layout.now size bands.now }
-        requires room { place_count layout.now size sx sy ≤ length self.old.values }
+    /// Takes the coefficients of a slice from a list.
+    pub fn take_list(
+        &mut self,
+        rects: &SliceRects,
+        sx: u32,
+        sy: u32,
+        ends: &[usize; 13],
+        list: &[i32],
+    )
+        requires count { length list.now ≡ place_count rects.now.slicing rects.now.size sx sy }
+        requires small { All (Within (2 ^ 27)) list.now }
+        requires ends { AreEnds rects.now.slicing rects.now.size sx sy ends.now }
+        requires room { place_count rects.now.slicing rects.now.size sx sy
+            ≤ length self.old.values }
         ensures room { length self.new.values ≡ length self.old.values }
-        ensures gathered { AreGathered layout.now size (short_stack bands.now) sx sy self.new }
+        ensures gathered { (bands : BandStack)
+            → HoldsSlice rects.now.slicing rects.now.size bands sx sy list.now
+            → AreGathered rects.now.slicing rects.now.size bands sx sy self.new }
     {
-        bands.slices.shows();
-        let n = number_of(layout, sx, sy);
-        bands.slices.copy_slice(n, &mut self.values);
-        self.ends = part_ends(layout, size, sx, sy, bands);
-        self.depth = layout.depth();
+        // The contract alone names these.
+        let _ = (sx, sy);
+        put_front(list, &mut self.values);
+        self.ends = *ends;
+        self.depth = rects.depth();
     }
 
-    // Gathers the coefficients of a slice from rows.
-    fn take_rects(&mut self, layout: &Layout, size: Size, sx: u32, sy: u32, bands: StackSource<'_>)
-        requires size { IsSize size.w size.h }
-        requires across { sx < layout.now.slices_x }
-        requires down { sy < layout.now.slices_y }
-        requires can { CanGatherAll layout.now size (stack_seen bands) }
-        requires rows { (level : ℕ) → HasBand bands level }
-        requires room { place_count layout.now size sx sy ≤ length self.old.values }
+    /// Gathers the coefficients of a slice from rows.
+    pub fn take_rects(
+        &mut self,
+        rects: &SliceRects,
+        sx: u32,
+        sy: u32,
+        ends: &[usize; 13],
+        bands: &Bands,
+    )
+        requires across { sx < rects.now.slicing.slices_x }
+        requires down { sy < rects.now.slicing.slices_y }
+        requires can { CanGatherAll rects.now.slicing rects.now.size bands.now }
+        requires ends { AreEnds rects.now.slicing rects.now.size sx sy ends.now }
+        requires room { place_count rects.now.slicing rects.now.size sx sy
+            ≤ length self.old.values }
         ensures room { length self.new.values ≡ length self.old.values }
-        ensures gathered { AreGathered layout.now size (stack_seen bands.entry) sx sy self.new }
+        ensures gathered { AreGathered rects.now.slicing rects.now.size bands.now sx sy self.new }
     {
-        self.ends = gather_bands(layout, size, sx, sy, bands, &mut self.values);
-        self.depth = layout.depth();
+        gather_bands(rects, sx, sy, bands, &mut self.values);
+        self.ends = *ends;
+        self.depth = rects.depth();
     }
 
-    /// Gathers the coefficients of a slice.
-    pub fn gather(&mut self, layout: &Layout, size: Size, sx: u32, sy: u32, bands: StackSource<'_>)
-        requires size { IsSize size.w size.h }
-        requires across { sx < layout.now.slices_x }
-        requires down { sy < layout.now.slices_y }
-        requires cut { IsStackCut layout.now size bands }
-        requires can { CanGatherAll layout.now size (stack_seen bands) }
-        requires room { place_count layout.now size sx sy ≤ length self.old.values }
-        ensures room { length self.new.values ≡ length self.old.values }
-        ensures gathered { AreGathered layout.now size (stack_seen bands.entry) sx sy self.new }
+    /// The coefficients in the lowest subband, row by row.
+    pub fn lowest_values(&self) -> &[i32]
+        ensures value { result.now ≡ lowest_of self.now }
+        ensures count { length result.now ≡ slice_index self.now.ends 0 }
+        ensures small { All (Within (2 ^ 27)) result.now }
     {
-        match bands {
-            StackSource::Short(short) => self.take_slice(layout, size, sx, sy, short),
-            StackSource::Wide(_) => self.take_rects(layout, size, sx, sy, bands),
-            StackSource::Narrow(_) => self.take_rects(layout, size, sx, sy, bands),
-        }
+        // The contract alone names it.
+        let _ = &self.depth;
+        &self.values[..self.ends[0]]
     }
 
     /// How many values the lowest subband has.
@@ -612,16 +560,25 @@ impl GatheredSlice {
             luma: Gathered::new(alloc, layout, shape.luma)?,
             c1: Gathered::new(alloc, layout, shape.colour)?,
             c2: Gathered::new(alloc, layout, shape.colour)?,
+            lowest: NO_RECTS,
             luma_sizes: Sizes::new(alloc, most_places(layout, shape.luma))?,
             colour_sizes: Sizes::new(alloc, 2 * most_places(layout, shape.colour))?,
+            luma_rects: SliceRects::new(alloc, layout, shape.luma)?,
+            colour_rects: SliceRects::new(alloc, layout, shape.colour)?,
         })
     }
 
-    // Takes the magnitudes.
-    fn take_sizes(&mut self, matrix: &Matrix)
-        requires luma { matrix.now.depth ≡ self.old.luma.depth }
-        requires c1 { matrix.now.depth ≡ self.old.c1.depth }
-        requires c2 { matrix.now.depth ≡ self.old.c2.depth }
+    // Takes the magnitudes, and notes where the slice lies.
+    fn take_sizes(&mut self, job: SliceJob<'_>)
+        requires across { job.sx < job.layout.now.slices_x }
+        requires down { job.sy < job.layout.now.slices_y }
+        requires luma_rects { self.old.luma_rects ≡ record
+            { slicing = job.layout.now; size = job.shape.now.luma } }
+        requires colour_rects { self.old.colour_rects ≡ record
+            { slicing = job.layout.now; size = job.shape.now.colour } }
+        requires luma { job.matrix.now.depth ≡ self.old.luma.depth }
+        requires c1 { job.matrix.now.depth ≡ self.old.c1.depth }
+        requires c2 { job.matrix.now.depth ≡ self.old.c2.depth }
         requires ends { (k : ℕ) → k ≤ 3 * self.old.c1.depth
             → slice_index self.old.c2.ends k ≡ slice_index self.old.c1.ends k }
         requires luma_room { slice_index self.old.luma.ends (3 * self.old.luma.depth)
@@ -631,40 +588,79 @@ impl GatheredSlice {
         ensures luma { self.new.luma ≡ self.old.luma }
         ensures c1 { self.new.c1 ≡ self.old.c1 }
         ensures c2 { self.new.c2 ≡ self.old.c2 }
+        ensures luma_rects { self.new.luma_rects ≡ self.old.luma_rects }
+        ensures colour_rects { self.new.colour_rects ≡ self.old.colour_rects }
         ensures luma_room { length self.new.luma_sizes.values
             ≡ length self.old.luma_sizes.values }
         ensures colour_room { length self.new.colour_sizes.values
             ≡ length self.old.colour_sizes.values }
-        ensures sizes { HasSizes self.new matrix.now }
+        ensures lowest { (c : Trio) → AreLowRects (picture_of job.entry c) job.entry.sx
+            job.entry.sy self.new.lowest }
+        ensures sizes { HasSizes self.new job.entry.matrix.now }
     {
-        self.luma_sizes.take_one(&self.luma, matrix);
-        self.colour_sizes.take_two(&self.c1, &self.c2, matrix);
+        self.lowest = LowRects {
+            luma: self.luma_rects.rect(0, job.sx, job.sy),
+            colour: self.colour_rects.rect(0, job.sx, job.sy),
+        };
+        self.luma_sizes.take_one(&self.luma, job.matrix);
+        self.colour_sizes.take_two(&self.c1, &self.c2, job.matrix);
     }
 
-    /// Gathers the coefficients of a slice.
-    pub fn gather(&mut self, job: SliceJob<'_>)
+    /// Gathers the coefficients of a slice from rows.
+    pub fn gather(&mut self, job: SliceJob<'_>, coefficients: &Trio)
         requires across { job.sx < job.layout.now.slices_x }
         requires down { job.sy < job.layout.now.slices_y }
-        requires cut { IsTrioCut job.layout.now job.shape.now job.coefficients }
-        requires given { AreGiven (picture_of job) }
+        requires given { AreGiven (picture_of job coefficients.now) }
         requires room { CanHoldAll job.layout.now job.shape.now self.old }
         ensures room { CanHoldAll job.entry.layout.now job.entry.shape.now self.new }
-        ensures gathered { AreAllGathered (picture_of job.entry) job.entry.sx job.entry.sy
-            self.new }
+        ensures gathered { AreAllGathered (picture_of job.entry coefficients.now) job.entry.sx
+            job.entry.sy self.new }
     {
-        let layout = job.layout;
-        let shape = job.shape;
-        let coefficients = job.coefficients;
-        let sx = job.sx;
-        let sy = job.sy;
-        let _depth = layout.depth();
+        let (sx, sy) = (job.sx, job.sy);
+        let _depth = job.layout.depth();
+        // What was gathered before, whose rules say how many values there are at most.
+        let _luma = self.luma.depth();
+        let _colour = self.c1.depth();
+        let luma_ends = self.luma_rects.ends(sx, sy);
+        let ends = self.colour_rects.ends(sx, sy);
         self.luma
-            .gather(layout, shape.luma, sx, sy, coefficients.luma());
+            .take_rects(&self.luma_rects, sx, sy, &luma_ends, &coefficients.luma);
         self.c1
-            .gather(layout, shape.colour, sx, sy, coefficients.c1());
+            .take_rects(&self.colour_rects, sx, sy, &ends, &coefficients.c1);
         self.c2
-            .gather(layout, shape.colour, sx, sy, coefficients.c2());
-        self.take_sizes(job.matrix);
+            .take_rects(&self.colour_rects, sx, sy, &ends, &coefficients.c2);
+        self.take_sizes(job);
+    }
+
+    /// Takes the coefficients of a slice from lists.
+    pub fn take_lists(&mut self, job: SliceJob<'_>, luma: &[i32], c1: &[i32], c2: &[i32])
+        ghost coefficients: { Trio }
+        requires across { job.sx < job.layout.now.slices_x }
+        requires down { job.sy < job.layout.now.slices_y }
+        requires given { AreGiven (picture_of job coefficients) }
+        requires luma { HoldsSlice job.layout.now job.shape.now.luma coefficients.luma job.sx
+            job.sy luma.now }
+        requires c1 { HoldsSlice job.layout.now job.shape.now.colour coefficients.c1 job.sx job.sy
+            c1.now }
+        requires c2 { HoldsSlice job.layout.now job.shape.now.colour coefficients.c2 job.sx job.sy
+            c2.now }
+        requires room { CanHoldAll job.layout.now job.shape.now self.old }
+        ensures room { CanHoldAll job.entry.layout.now job.entry.shape.now self.new }
+        ensures gathered { AreAllGathered (picture_of job.entry coefficients) job.entry.sx
+            job.entry.sy self.new }
+    {
+        let (sx, sy) = (job.sx, job.sy);
+        let _depth = job.layout.depth();
+        // What was gathered before, whose rules say how many values there are at most.
+        let _luma = self.luma.depth();
+        let _colour = self.c1.depth();
+        let luma_ends = self.luma_rects.ends(sx, sy);
+        let ends = self.colour_rects.ends(sx, sy);
+        self.luma
+            .take_list(&self.luma_rects, sx, sy, &luma_ends, luma);
+        self.c1.take_list(&self.colour_rects, sx, sy, &ends, c1);
+        self.c2.take_list(&self.colour_rects, sx, sy, &ends, c2);
+        self.take_sizes(job);
     }
 
     /// What its values hold at an index.

@@ -30,12 +30,12 @@ mod scales;
 mod search;
 mod short_texts;
 mod sizes;
-mod sources;
+mod slice_rects;
+mod slices;
 mod steep;
 mod trying;
 mod writer;
 
 pub use bounding::Lower;
 pub use encoder::{SliceEncoder, Trial};
-pub use sources::TrioSource;
 pub use steep::steep_ok;

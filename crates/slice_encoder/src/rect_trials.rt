@@ -7,10 +7,8 @@ ghost use Rattle.planes.specs.Raster.{height, at, with_place};
 ghost use Rattle.dc_prediction.specs.Prediction.{prediction, AllLookedAt};
 ghost use Rattle.slice_geometry.specs.SliceOrder.{area};
 ghost use Rattle.slice_encoder.specs.Loop.{residual_of, restored_value};
-ghost use Rattle.slice_encoder.specs.Sources.{band_seen};
-ghost use Rattle.slice_encoder.specs.RectTrials.{CanTryRect, TriesRect, ListsRect};
+ghost use Rattle.slice_encoder.specs.RectTrials.{CanTryRect, TriesRect, ListsRect, grid_in};
 
-use crate::sources::BandSource;
 use dc_prediction::predict;
 use planes::{Plane, Rect};
 use quant_factors::{Dequantised, forward, inverse};
@@ -75,10 +73,10 @@ fn try_place(kept: &mut Plane, y: u32, x: u32, coefficient: i64, index: u32) -> 
     place.value
 }
 
-// Restores the places of a rectangle in a kept band, row by row, and lists their values, each so many places behind the
-// one before.
+// Restores the places of a rectangle in a kept band, row by row, as their coefficients stand, and lists their values, each
+// so many places behind the one before.
 pub fn try_rect(
-    coefficients: BandSource<'_>,
+    coefficients: &[i32],
     kept: &mut Plane,
     rect: Rect,
     index: u32,
@@ -88,16 +86,19 @@ pub fn try_rect(
 )
     requires index { index ≤ 127 }
     requires from { from < step }
-    requires can { CanTryRect rect (band_seen coefficients) kept.old }
+    requires count { length coefficients.now ≡ area rect }
+    requires can { CanTryRect rect (grid_in rect coefficients.now) kept.old }
     requires room { step * area rect ≤ length out.old }
-    ensures tried { TriesRect (at (band_seen coefficients.entry)) index rect kept.old kept.new }
-    ensures listed { ListsRect (at (band_seen coefficients.entry)) index rect kept.new from step
+    ensures tried { TriesRect (grid_in rect coefficients.now) index rect kept.old kept.new }
+    ensures listed { ListsRect (grid_in rect coefficients.now) index rect kept.new from step
         out.old out.new }
 {
+    let mut number = 0;
     let mut place = from;
     for y in rect.y0..rect.y1 {
         for x in rect.x0..rect.x1 {
-            out[place] = try_place(kept, y, x, coefficients.get(y, x), index);
+            out[place] = try_place(kept, y, x, i64::from(coefficients[number]), index);
+            number += 1;
             place += step;
         }
     }

@@ -1,13 +1,14 @@
 // The least index at which a slice fits.
 
 ghost use Rattle.std.specs.Prelude.{◌≡◌, ℕ, ◌+◌, ◌*◌, ◌^◌, ◌<◌, ◌≤◌, max, true, length, slice_index};
+ghost use Rattle.planes.specs.declared.Trio.{Trio};
 ghost use Rattle.slice_encoder.specs.Choice.{IsLeastIndex};
 ghost use Rattle.slice_geometry.specs.Slicing.{slice_bytes, slice_number};
 ghost use Rattle.slice_encoder.specs.TrialLaws.{IsSteepOk};
 ghost use Rattle.slice_encoder.specs.Tries.{AreTried, tried_lists};
 ghost use Rattle.slice_encoder.specs.Buffers.{HasListRoom, HoldsTrial};
 ghost use Rattle.slice_encoder.specs.GatheredSlices.{AreAllGathered, HasSizes, AreLooks};
-ghost use Rattle.slice_encoder.specs.RestoredSlice.{AreLowRects, ListsLowest, WasTried, HoldsWhatWasTried};
+ghost use Rattle.slice_encoder.specs.RestoredSlice.{ListsLowest, WasTried, HoldsWhatWasTried};
 ghost use Rattle.slice_encoder.specs.Jobs.{picture_of};
 ghost use Rattle.slice_encoder.specs.Ready.{AreReadyToWrite};
 
@@ -17,7 +18,7 @@ use crate::fitting::do_fit;
 use crate::gathered::{GatheredSlice, Looks, SliceLimits};
 use crate::jobs::SliceJob;
 use crate::needs::need_by_look;
-use crate::trying::{LowRects, count_places, low_rects, try_lowest};
+use crate::trying::{count_places, try_lowest};
 use planes::ThreePlanes;
 use quant_factors::Matrix;
 use slice_geometry::Layout;
@@ -55,7 +56,6 @@ pub fn share_of(layout: &Layout, sx: u32, sy: u32) -> u32
 // Counts what all values of a restored slice need: those of the lowest subbands are listed, the others are known by looks.
 fn count_needs(
     job: SliceJob<'_>,
-    rects: LowRects,
     index: u32,
     gathered: &GatheredSlice,
     looks: Looks,
@@ -63,25 +63,26 @@ fn count_needs(
     luma: &[i64],
     colour: &[i64],
 ) -> Trying
+    ghost coefficients: { Trio }
     requires index { index ≤ 127 }
     requires some { 1 ≤ job.bytes }
     requires most { job.bytes ≤ 2 ^ 28 }
     requires looks { AreLooks looks gathered.now job.matrix.now index }
-    requires restored { WasTried (picture_of job) job.sx job.sy index kept.now }
-    requires gathered { AreAllGathered (picture_of job) job.sx job.sy gathered.now }
-    requires rects { AreLowRects (picture_of job) job.sx job.sy rects }
-    requires listed { ListsLowest (picture_of job) job.sx job.sy index kept.now rects luma.now
+    requires restored { WasTried (picture_of job coefficients) job.sx job.sy index kept.now }
+    requires gathered { AreAllGathered (picture_of job coefficients) job.sx job.sy gathered.now }
+    requires listed { ListsLowest (picture_of job coefficients) job.sx job.sy index kept.now gathered.now.lowest
+        luma.now
         colour.now }
-    requires room { HasListRoom (picture_of job) job.sx job.sy (length luma.now)
+    requires room { HasListRoom (picture_of job coefficients) job.sx job.sy (length luma.now)
         (length colour.now) }
-    ensures { HoldsWhatWasTried (picture_of job.entry) job.entry.sx job.entry.sy index kept.now
+    ensures { HoldsWhatWasTried (picture_of job.entry coefficients) job.entry.sx job.entry.sy index kept.now
         job.entry.bytes result luma.now colour.now }
 {
     // The contract alone names it.
     let _ = kept;
     let _depth = job.layout.depth();
-    let lumas = count_places(rects.luma);
-    let colours = 2 * count_places(rects.colour);
+    let lumas = count_places(gathered.lowest.luma);
+    let colours = 2 * count_places(gathered.lowest.colour);
     let (first, second) = (&gathered.c1, &gathered.c2);
     let last_luma = gathered
         .luma
@@ -102,7 +103,6 @@ fn count_needs(
 // Tries one index: its restored values are kept, and what its values need is counted.
 pub fn try_at(
     job: SliceJob<'_>,
-    rects: LowRects,
     index: u32,
     gathered: &GatheredSlice,
     looks: Looks,
@@ -110,22 +110,22 @@ pub fn try_at(
     luma: &mut [i64],
     colour: &mut [i64],
 ) -> Trying
+    ghost coefficients: { Trio }
     requires index { index ≤ 127 }
     requires some { 1 ≤ job.bytes }
     requires most { job.bytes ≤ 2 ^ 28 }
-    requires ready { AreReadyToWrite (picture_of job) job.sx job.sy kept.old }
-    requires gathered { AreAllGathered (picture_of job) job.sx job.sy gathered.now }
+    requires ready { AreReadyToWrite (picture_of job coefficients) job.sx job.sy kept.old }
+    requires gathered { AreAllGathered (picture_of job coefficients) job.sx job.sy gathered.now }
     requires looks { AreLooks looks gathered.now job.matrix.now index }
-    requires rects { AreLowRects (picture_of job) job.sx job.sy rects }
-    requires room { HasListRoom (picture_of job) job.sx job.sy (length luma.old)
+    requires room { HasListRoom (picture_of job coefficients) job.sx job.sy (length luma.old)
         (length colour.old) }
-    ensures holds { HoldsTrial (picture_of job.entry) kept.old job.entry.sx job.entry.sy index
+    ensures holds { HoldsTrial (picture_of job.entry coefficients) kept.old job.entry.sx job.entry.sy index
         job.entry.bytes result luma.new colour.new }
-    ensures kept { AreTried (picture_of job.entry) job.entry.sx job.entry.sy index kept.old
+    ensures kept { AreTried (picture_of job.entry coefficients) job.entry.sx job.entry.sy index kept.old
         kept.new }
 {
-    try_lowest(job, rects, index, kept, luma, colour);
-    count_needs(job, rects, index, gathered, looks, kept, luma, colour)
+    try_lowest(job, index, gathered, kept, luma, colour);
+    count_needs(job, index, gathered, looks, kept, luma, colour)
 }
 
 // The looks at the index behind one, which may have been taken with the first candidate's.
@@ -163,29 +163,29 @@ pub fn find_least(
     luma: &mut [i64],
     colour: &mut [i64],
 ) -> Found
+    ghost coefficients: { Trio }
     requires some { 1 ≤ job.bytes }
     requires most { job.bytes ≤ 2 ^ 28 }
-    requires ready { AreReadyToWrite (picture_of job) job.sx job.sy kept.old }
-    requires gathered { AreAllGathered (picture_of job) job.sx job.sy gathered.now }
+    requires ready { AreReadyToWrite (picture_of job coefficients) job.sx job.sy kept.old }
+    requires gathered { AreAllGathered (picture_of job coefficients) job.sx job.sy gathered.now }
     requires near { near ≤ 127 }
     requires steep { IsSteepOk job.layout.now.depth
         (max job.shape.now.luma_depth job.shape.now.colour_depth) job.matrix.now }
-    requires room { HasListRoom (picture_of job) job.sx job.sy (length luma.old)
+    requires room { HasListRoom (picture_of job coefficients) job.sx job.sy (length luma.old)
         (length colour.old) }
     ensures near { result.first ≤ 127 }
     ensures least { IsLeastIndex job.entry.bytes (tried_lists
-        (picture_of job.entry) kept.old job.entry.sx job.entry.sy) result.index }
-    ensures holds { HoldsTrial (picture_of job.entry) kept.old job.entry.sx job.entry.sy
+        (picture_of job.entry coefficients) kept.old job.entry.sx job.entry.sy) result.index }
+    ensures holds { HoldsTrial (picture_of job.entry coefficients) kept.old job.entry.sx job.entry.sy
         result.index job.entry.bytes result.trying luma.new colour.new }
-    ensures kept { AreTried (picture_of job.entry) job.entry.sx job.entry.sy result.index kept.old
+    ensures kept { AreTried (picture_of job.entry coefficients) job.entry.sx job.entry.sy result.index kept.old
         kept.new }
 {
-    let rects = low_rects(job);
-    let firsts = first_residuals(job, kept);
+    let firsts = first_residuals(job, gathered, kept);
     let first = find_first(gathered, job.matrix, job.bytes, near, firsts, limits);
     let mut looks = first.looks;
     for index in first.index..127 {
-        let trying = try_at(job, rects, index, gathered, looks, kept, luma, colour);
+        let trying = try_at(job, index, gathered, looks, kept, luma, colour);
         if trying.fits {
             return Found {
                 first: first.index,
@@ -195,7 +195,7 @@ pub fn find_least(
         }
         looks = looks_behind(gathered, job.matrix, first, index, limits);
     }
-    let coarsest = try_at(job, rects, 127, gathered, looks, kept, luma, colour);
+    let coarsest = try_at(job, 127, gathered, looks, kept, luma, colour);
     Found {
         first: first.index,
         index: 127,

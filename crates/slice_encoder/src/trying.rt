@@ -3,13 +3,16 @@
 ghost use Rattle.std.specs.Prelude.{◌≡◌, ◌*◌, ◌^◌, ◌<◌, ◌≤◌, length};
 ghost use Rattle.quant_factors.specs.Weights as weights;
 ghost use Rattle.quant_factors.specs.Weights.{band_quantiser};
+ghost use Rattle.planes.specs.declared.Trio.{Trio};
 ghost use Rattle.slice_geometry.specs.SliceOrder.{level_of, orient_of, area};
 ghost use Rattle.slice_encoder.specs.Jobs.{picture_of};
 ghost use Rattle.slice_encoder.specs.Buffers.{HasListRoom};
 ghost use Rattle.slice_encoder.specs.Tries.{AreTried};
-ghost use Rattle.slice_encoder.specs.RestoredSlice.{AreLowRects, ListsLowest};
+ghost use Rattle.slice_encoder.specs.GatheredSlices.{AreAllGathered};
+ghost use Rattle.slice_encoder.specs.RestoredSlice.{ListsLowest};
 ghost use Rattle.slice_encoder.specs.Ready.{AreReadyToWrite};
 
+use crate::gathered::GatheredSlice;
 use crate::jobs::SliceJob;
 use crate::rect_trials::try_rect;
 use planes::{Orient, Rect, ThreePlanes};
@@ -22,17 +25,19 @@ pub struct LowRects {
     pub colour: Rect,
 }
 
-// The places of a slice in the lowest subbands.
-pub fn low_rects(job: SliceJob<'_>) -> LowRects
-    requires across { job.sx < job.layout.now.slices_x }
-    requires down { job.sy < job.layout.now.slices_y }
-    ensures { AreLowRects (picture_of job.entry) job.entry.sx job.entry.sy result }
-{
-    LowRects {
-        luma: job.layout.band_rect(job.shape.luma, 0, job.sx, job.sy),
-        colour: job.layout.band_rect(job.shape.colour, 0, job.sx, job.sy),
-    }
-}
+// A rectangle without places.
+const NO_RECT: Rect = Rect {
+    x0: 0,
+    x1: 0,
+    y0: 0,
+    y1: 0,
+};
+
+/// Those of a slice without places.
+pub const NO_RECTS: LowRects = LowRects {
+    luma: NO_RECT,
+    colour: NO_RECT,
+};
 
 // How many places a rectangle has.
 #[inline(always)]
@@ -49,27 +54,29 @@ pub fn count_places(rect: Rect) -> usize
 // in turn.
 pub fn try_lowest(
     job: SliceJob<'_>,
-    rects: LowRects,
     index: u32,
+    gathered: &GatheredSlice,
     kept: &mut ThreePlanes,
     luma: &mut [i64],
     colour: &mut [i64],
 )
+    ghost coefficients: { Trio }
     requires index { index ≤ 127 }
-    requires rects { AreLowRects (picture_of job) job.sx job.sy rects }
-    requires ready { AreReadyToWrite (picture_of job) job.sx job.sy kept.old }
-    requires room { HasListRoom (picture_of job) job.sx job.sy (length luma.old)
+    requires ready { AreReadyToWrite (picture_of job coefficients) job.sx job.sy kept.old }
+    requires gathered { AreAllGathered (picture_of job coefficients) job.sx job.sy gathered.now }
+    requires room { HasListRoom (picture_of job coefficients) job.sx job.sy (length luma.old)
         (length colour.old) }
-    ensures tried { AreTried (picture_of job.entry) job.entry.sx job.entry.sy index kept.old
-        kept.new }
-    ensures listed { ListsLowest (picture_of job.entry) job.entry.sx job.entry.sy index kept.new
-        rects luma.new colour.new }
+    ensures tried { AreTried (picture_of job.entry coefficients) job.entry.sx job.entry.sy index
+        kept.old kept.new }
+    ensures listed { ListsLowest (picture_of job.entry coefficients) job.entry.sx job.entry.sy
+        index kept.new gathered.now.lowest luma.new colour.new }
 {
     let _depth = job.layout.depth();
     let quantiser = job.matrix.quantiser(index, 0, Orient::Ll);
-    let lowest = job.coefficients.luma().band(0, 0);
-    let first = job.coefficients.c1().band(0, 0);
-    let second = job.coefficients.c2().band(0, 0);
+    let rects = gathered.lowest;
+    let lowest = gathered.luma.lowest_values();
+    let first = gathered.c1.lowest_values();
+    let second = gathered.c2.lowest_values();
     try_rect(lowest, &mut kept.luma, rects.luma, quantiser, luma, 0, 1);
     try_rect(first, &mut kept.c1, rects.colour, quantiser, colour, 0, 2);
     try_rect(second, &mut kept.c2, rects.colour, quantiser, colour, 1, 2);

@@ -2,6 +2,7 @@
 
 ghost use Rattle.std.specs.Prelude.{◌≡◌, ◌^◌, ◌<◌, ◌≤◌, length, true, IfOk};
 ghost use Rattle.bit_codes.specs.Bits.{bits_of};
+ghost use Rattle.planes.specs.declared.Trio.{Trio};
 ghost use Rattle.slice_geometry.specs.Slicing.{Slicing};
 ghost use Rattle.slice_encoder.specs.Buffers.{HoldsLists, high_lists, lists_held};
 ghost use Rattle.slice_encoder.specs.Choice.{slice_bits};
@@ -70,22 +71,23 @@ impl SliceWriter {
         colour: &[i64],
         bytes: &mut [u8],
     )
+        ghost coefficients: { Trio }
         requires some { 1 ≤ length bytes.old }
         requires most { length bytes.old ≤ 2 ^ 28 }
         requires across { job.sx < job.layout.now.slices_x }
         requires down { job.sy < job.layout.now.slices_y }
         requires entries { job.matrix.now.depth ≡ job.layout.now.depth }
         requires index { found.index ≤ 127 }
-        requires gathered { AreAllGathered (picture_of job) job.sx job.sy gathered.now }
+        requires gathered { AreAllGathered (picture_of job coefficients) job.sx job.sy gathered.now }
         requires room { HasHighRoom job.layout.now job.shape.now self.old }
-        requires holds { HoldsLists (lists_held (picture_of job) job.sx job.sy found.index
-            found.trying luma.now colour.now) (high_lists (picture_of job) found.index job.sx
+        requires holds { HoldsLists (lists_held (picture_of job coefficients) job.sx job.sy found.index
+            found.trying luma.now colour.now) (high_lists (picture_of job coefficients) found.index job.sx
             job.sy) (length bytes.old) found.trying luma.now colour.now }
         requires fits { found.trying.fits ≡ true }
         ensures room { (s : Slicing) → HasHighRoom s job.entry.shape.now self.old
             → HasHighRoom s job.entry.shape.now self.new }
         ensures bits { bits_of bytes.new ≡ slice_bits (length bytes.old) found.index
-            (lists_held (picture_of job.entry) job.entry.sx job.entry.sy found.index found.trying
+            (lists_held (picture_of job.entry coefficients) job.entry.sx job.entry.sy found.index found.trying
             luma.now colour.now) }
     {
         let (index, trying) = (found.index, found.trying);

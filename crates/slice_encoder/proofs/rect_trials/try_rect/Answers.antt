@@ -7,16 +7,17 @@ use Rattle.dc_prediction.specs.Prediction.{prediction}
 use Rattle.dc_prediction.proofs.PredictionLemmas.{fits}
 use Rattle.slice_geometry.specs.SliceOrder.{number_in}
 use Rattle.slice_encoder.specs.Loop.{residual_of, restored_value}
-use Rattle.slice_encoder.specs.Sources.{band_seen}
+use Rattle.slice_encoder.specs.RectTrials.{grid_in}
+use Rattle.slice_encoder.proofs.Near.{number_read}
 use Rattle.slice_encoder.proofs.RectSoFar.{TriedSoFar, ListedSoFar}
 use Rattle.slice_encoder.proofs.PlaceByPlace.{looked_small, tried_next}
-use Rattle.slice_encoder.proofs.RectLists.{number_turned, row_end, stepped, slot_inside, listed_next, tried_row, listed_row}
+use Rattle.slice_encoder.proofs.RectLists.{number_turned, row_end, stepped, slot_inside, step_inside, listed_next, tried_row, listed_row}
 use Rattle.slice_encoder.proofs.rect_trials.try_rect.Goals as goal
 
 pub try_place-requires-clause-looked : goal.try_place-requires-clause-looked
 try_place-requires-clause-looked c =
     let here : IsInRect c.args.rect c.loop-y.y c.loop-x.x = record { left = omega arith; right = c.loop-x-test.true; top = omega arith; bottom = c.loop-y-test.true } in
-    looked_small c.args.rect (band_seen c.args.coefficients) c.args.kept.now c.loop-x.kept c.args.index c.loop-y.y c.loop-x.x c.requires.can c.loop-x.invariant.tried here
+    looked_small c.args.rect (grid_in c.args.rect c.args.coefficients.now) c.args.kept.now c.loop-x.kept c.args.index c.loop-y.y c.loop-x.x c.requires.can c.loop-x.invariant.tried here
 
 pub loop-x-preserved : goal.loop-x-preserved
 loop-x-preserved c =
@@ -24,13 +25,13 @@ loop-x-preserved c =
     let r = a.rect in
     let y = c.loop-y.y in
     let l = c.loop-x in
-    let g = at (band_seen a.coefficients) in
+    let g = grid_in r a.coefficients.now in
     let here : IsInRect r y l.x = record { left = omega arith; right = c.loop-x-test.true; top = omega arith; bottom = c.loop-y-test.true } in
     let lt : y < height l.kept = omega (arith, l.invariant.tried.same_height, c.requires.can.y_inside) in
     let p = prediction (at l.kept) y l.x in
-    let v = restored_value (to_z w64 (of_z w64 c.get.result)) a.index p in
-    let g_is : to_z w64 (of_z w64 c.get.result) ≡ g y l.x =
-    ap (λ t. to_z w64 (of_z w64 t)) c.get.ensures ∙ fits (2 ^ 27) (g y l.x) (omega arith) (c.requires.can.small y l.x here) in
+    let v = restored_value (to_z w64 (of_z w64 c.from.result)) a.index p in
+    let g_is : to_z w64 (of_z w64 c.from.result) ≡ g y l.x =
+    ap (λ t. to_z w64 (of_z w64 t)) (c.from.ensures ∙ number_read a.coefficients.now l.number (number_in r y l.x) l.invariant.number (c.requires.can.small y l.x here)) ∙ fits (2 ^ 27) (g y l.x) (omega arith) (c.requires.can.small y l.x here) in
     let v_is : v ≡ restored_value (g y l.x) a.index p = ap (λ t. restored_value t a.index p) g_is in
     let u = to_z w64 (of_z w64 c.try_place.result) in
     let u_is : u ≡ residual_of (g y l.x) a.index p =
@@ -41,6 +42,7 @@ loop-x-preserved c =
     slot_inside r a.from a.step y l.x l.place (length l.out) here c.requires.from (omega (arith, c.requires.room, l.invariant.listed.same_length)) l.invariant.place in
     record {
       none = λ le. omega arith;
+      number = omega (arith, l.invariant.number, here.left);
       place = omega (arith, l.invariant.place, stepped a.from a.step r y l.x here.left);
       tried = subst (λ (p : Raster _). TriedSoFar g a.index r y (l.x + 1) a.kept.now p) (sym c.try_place.ensures.whole) (tried_next g a.index r y l.x a.kept.now l.kept v l.invariant.tried here lt v_is small written);
       listed =
@@ -54,11 +56,39 @@ loop-y-preserved c =
     let r = a.rect in
     let y = c.loop-y.y in
     let l = c.loop-x in
-    let g = at (band_seen a.coefficients) in
+    let g = grid_in r a.coefficients.now in
     let end : l.x - r.x0 ≡ r.x1 - r.x0 = row_end r l.x l.auto.x-end l.invariant.none (omega arith) in
     let turned : number_in r (y + 1) r.x0 ≡ number_in r y l.x = number_turned r y l.x (omega arith) end in
     record {
+      number = l.invariant.number ∙ sym turned;
       place = l.invariant.place ∙ sym (ap (λ (n : _). a.from + a.step * n) turned);
       tried = tried_row g a.index r y l.x a.kept.now l.kept end l.invariant.tried;
       listed = listed_row g a.index r y l.x l.kept a.from a.step a.out.now l.out end l.invariant.listed;
     }
+
+pub offset_bounds-out-place : goal.offset_bounds-out-place
+offset_bounds-out-place c =
+    let a = c.args in
+    let l = c.loop-x in
+    let y = c.loop-y.y in
+    let here : IsInRect a.rect y l.x = record { left = omega arith; right = c.loop-x-test.true; top = omega arith; bottom = c.loop-y-test.true } in
+    let lt : l.place < length l.out = slot_inside a.rect a.from a.step y l.x l.place (length l.out) here c.requires.from (omega (arith, c.requires.room, l.invariant.listed.same_length)) l.invariant.place in
+    omega (arith, lt)
+
+pub bounds-out-place : goal.bounds-out-place
+bounds-out-place c =
+    let a = c.args in
+    let l = c.loop-x in
+    let y = c.loop-y.y in
+    let here : IsInRect a.rect y l.x = record { left = omega arith; right = c.loop-x-test.true; top = omega arith; bottom = c.loop-y-test.true } in
+    let lt : l.place < length l.out = slot_inside a.rect a.from a.step y l.x l.place (length l.out) here c.requires.from (omega (arith, c.requires.room, l.invariant.listed.same_length)) l.invariant.place in
+    lt
+
+pub overflow_add-place : goal.overflow_add-place
+overflow_add-place c =
+    let a = c.args in
+    let l = c.loop-x in
+    let y = c.loop-y.y in
+    let here : IsInRect a.rect y l.x = record { left = omega arith; right = c.loop-x-test.true; top = omega arith; bottom = c.loop-y-test.true } in
+    let lt : l.place < length l.out = slot_inside a.rect a.from a.step y l.x l.place (length l.out) here c.requires.from (omega (arith, c.requires.room, l.invariant.listed.same_length)) l.invariant.place in
+    omega (arith, lt, step_inside a.rect a.step y l.x (length l.out) here (omega (arith, c.requires.room, l.invariant.listed.same_length)))
