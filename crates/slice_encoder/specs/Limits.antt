@@ -76,10 +76,10 @@ pub record IsLimitRow {X : Type 0} (value : X → ℤ) (none : X) (numbers great
   pub least : IsFinest key index finest
   pub parts : (k : ℕ) → k < numbers → IsLimitPart (limits_in value none limits room k) greatest key index k
 
--- there are 32 rows, and each has room for so many places
-pub record HaveRoom (room : ℕ) (rows : List LimitRowSeen) : Type 0 where
+-- there are so many rows, and each has room for so many places
+pub record HaveRoom (many room : ℕ) (rows : List LimitRowSeen) : Type 0 where
   pub some : 16 ≤ room
   pub most : room ≤ 1024
   pub whole : room % 16 ≡ 0
-  pub count : length rows ≡ 32
+  pub count : length rows ≡ many
   pub each : (k : ℕ) → k < length rows → (slice_index_or rows k no_row).room ≡ room

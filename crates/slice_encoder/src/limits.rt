@@ -15,9 +15,6 @@ use quant_factors::factor;
 use std::alloc::Global;
 use std::marker::Model;
 
-// How many rows there are.
-const ROWS: usize = 32;
-
 /// What the limits of places follow from besides the index of the slice: how many bands there are, where each ends, and its
 /// entry in the matrix, or 127. There are sixteen of each, so that two keys are compared by a few vectors.
 #[derive(Clone, Copy)]
@@ -279,7 +276,7 @@ impl<T: Magnitude> Model for LimitRows<T> {
 
     ghost view = { λ r. r.room };
 
-    ghost invariant = { λ r. HaveRoom r.room r.rows.items };
+    ghost invariant = { λ r. HaveRoom T.ROWS r.room r.rows.items };
 }
 
 impl<T: Magnitude> LimitRows<T> {
@@ -291,7 +288,7 @@ impl<T: Magnitude> LimitRows<T> {
     {
         let room = padded(places.min(1024)).clamp(16, most);
         let mut rows = Vec::new(alloc);
-        for _ in 0..ROWS {
+        for _ in 0..T::ROWS {
             rows.push(LimitRow::new(alloc, room)?)?;
         }
         Ok(LimitRows { rows, room })
@@ -325,7 +322,7 @@ impl<T: Magnitude> LimitRows<T> {
         ensures last { result.last ≤ 1024 }
         ensures room { self.new ≡ self.old }
     {
-        let n = (index as usize + 7 * key.places()) % ROWS;
+        let n = (index as usize + 37 * key.places()) % T::ROWS;
         let row = &mut self.rows[n];
         if !row.is_for(key, index) {
             row.learn(key, index);

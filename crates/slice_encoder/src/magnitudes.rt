@@ -13,6 +13,11 @@ pub trait Magnitude: Number {
 
     ghost LIMITS: { ℕ };
 
+    /// How many rows of limits are kept, for slices of several sizes at several indices.
+    const ROWS: usize;
+
+    ghost ROWS: { ℕ };
+
     /// The greatest magnitude that is looked at in these numbers.
     const TOP: u32;
 
@@ -54,6 +59,8 @@ pub trait Magnitude: Number {
 
     ghost few_law: { LIMITS ≤ 27 };
 
+    ghost rows_law: { 1 ≤ ROWS };
+
     ghost top_law: { TOP + 1 < 2 * 2 ^ LIMITS };
 
     ghost near_law: { TOP ≤ 2 ^ 27 };
@@ -67,6 +74,10 @@ impl Magnitude for i16 {
     const LIMITS: usize = 14;
 
     ghost LIMITS = { 14 };
+
+    const ROWS: usize = 128;
+
+    ghost ROWS = { 128 };
 
     const TOP: u32 = 16383;
 
@@ -106,6 +117,8 @@ impl Magnitude for i16 {
 
     ghost few_law = { lit≤ tt };
 
+    ghost rows_law = { lit≤ tt };
+
     ghost top_law = { lit≤ tt };
 
     ghost near_law = { lit≤ tt };
@@ -119,6 +132,10 @@ impl Magnitude for i32 {
     const LIMITS: usize = 27;
 
     ghost LIMITS = { 27 };
+
+    const ROWS: usize = 32;
+
+    ghost ROWS = { 32 };
 
     const TOP: u32 = 134217728;
 
@@ -157,6 +174,8 @@ impl Magnitude for i32 {
     ghost some_law = { lit≤ tt };
 
     ghost few_law = { lit≤ tt };
+
+    ghost rows_law = { lit≤ tt };
 
     ghost top_law = { lit≤ tt };
 

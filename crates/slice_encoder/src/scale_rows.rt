@@ -209,7 +209,7 @@ impl Model for ScaleRows {
 
     ghost view = { λ r. r.room };
 
-    ghost invariant = { λ r. HaveRoom r.room r.rows.items };
+    ghost invariant = { λ r. HaveRoom 32 r.room r.rows.items };
 }
 
 impl ScaleRows {
