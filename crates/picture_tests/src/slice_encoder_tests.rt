@@ -348,7 +348,8 @@ fn bounds_of_one_level(rt: HostRuntime) {
 
 /// Tries the only slice of a picture at an index, and tells whether it fits.
 fn fits(rt: &impl Abort, alloc: Global, picture: &mut Picture, qindex: u32) -> bool {
-    assert!(rt; qindex <= 127 && can_write(picture, 0));
+    assert!(rt; qindex <= 127);
+    assert!(rt; can_write(picture, 0));
     let made = SliceEncoder::new(alloc, &picture.layout, &picture.shape);
     let mut encoder = made.expect(rt, "memory");
     let trial = encoder.trial(
