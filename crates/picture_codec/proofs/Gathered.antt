@@ -1,9 +1,6 @@
 -- Bands that show the same in another form.
-use Rattle.std.proofs.lemmas.Nat.{div-add-mod'}
-use Rattle.std.proofs.lemmas.Bool.{cases_lt}
-use Rattle.std.proofs.Common.{◌≡◌, ℕ, inr, ◌+◌, ◌-◌, ◌*◌, ◌/◌, ◌%◌, ◌≤◌, Result, Ok, Err, inl, refl, sym, ap, subst, ◌∙◌, arith, List, ℤ, ◌+ℤ◌, pos, Bool, true, false}
-use Rattle.std.proofs.Math.Nat.{mul_comm}
-use Rattle.std.specs.Prelude.{if◌then◌else◌, slice_index_or, ⊤, Option, None, Some, IfOk, MatchOption, MatchResult}
+use Rattle.std.proofs.Common.{◌≡◌, ℕ, ◌+◌, ◌-◌, ◌*◌, Result, Ok, Err, inl, refl, sym, ap, subst, ◌∙◌, List, ℤ, ◌+ℤ◌, pos, Bool, true, false}
+use Rattle.std.specs.Prelude.{if◌then◌else◌, slice_index_or, ⊤, Option, None, Some, MatchOption, MatchResult}
 use Rattle.planes.specs.Numbers.{Within}
 use Rattle.planes.specs.Raster.{Raster, height, at}
 use Rattle.planes.specs.Subbands.{BandStack, BandExists, band_of, AreZeroBands, AgreeInSizes}
@@ -17,10 +14,8 @@ use Rattle.slice_geometry.specs.declared.SliceHead.{SliceHead}
 use Rattle.slice_geometry.specs.Slicing.{Slicing}
 use Rattle.slice_geometry.specs.SliceOrder.{place_number}
 use Rattle.quant_factors.specs.Weights.{Weights}
-use Rattle.slice_bands.specs.declared.short_bands.ShortBands.{ShortBands}
-use Rattle.slice_bands.specs.declared.short_bands.ShortTrio.{ShortTrio}
-use Rattle.slice_bands.specs.ShortBands.{short_stack}
-use Rattle.slice_bands.specs.Short.{ShowTheSame}
+use Rattle.slice_store.specs.declared.short_bands.ShortTrio.{ShortTrio}
+use Rattle.slice_store.specs.Gathered.{ShowTheSame}
 use Rattle.slice_decoder.specs.Slice.{Slice}
 use Rattle.slice_decoder.specs.declared.SliceFault.{SliceFault}
 use Rattle.slice_decoder.specs.Decoded.{AreReady, HoldsSlice, KeepsOthers, AllKeepOthers, IsDecoded, IsRefused}
@@ -195,29 +190,3 @@ pub any-decoded : (s : Slicing) (shape : PictureShape) (sx sy : ℕ) (a b : Trio
     → MatchResult result (λ head. IsDecoded s shape sx sy matrix slice head b) (IsRefused s shape sx sy matrix slice)
 any-decoded s shape sx sy a b ready same matrix slice (Ok head) done = same-decoded s shape sx sy a b ready same matrix slice head done
 any-decoded s shape sx sy a b ready same matrix slice (Err fault) why = why
-
--- a part of what a number divides
-pub some-part : (p a : ℕ) → 1 ≤ p → p % a ≡ 0 → 1 ≤ p / a
-some-part p a some whole =
-    let e : p / a * a + p % a ≡ p = div-add-mod' p a in
-    elim (cases_lt (p / a) 1) [
-      | inl lt ↦
-          let none : p / a ≡ 0 = omega (arith, lt) in
-          let nothing : 0 * a ≡ 0 = omega arith in
-          let zero_is : p / a * a ≡ 0 = ap (λ (n : ℕ). n * a) none ∙ nothing in
-          absurd (omega (arith, e, zero_is, whole, some))
-      | inr le ↦ le
-    ]
-
--- parts that divide a number, all of them
-pub whole-part : (p a : ℕ) → p % a ≡ 0 → a * (p / a) ≡ p
-whole-part p a whole = omega (arith, div-add-mod' p a, whole, mul_comm a (p / a))
-
--- bands that are made are all zero, by other names of their sizes
-pub zero-moved : {E : Type 0} (r : Result ShortBands E) (d e w v h u : ℕ) → d ≡ e → w ≡ v → h ≡ u → (cut : Bool)
-    → IfOk r (λ b. AreZeroBands (short_stack b) d w h) → IfOk r (λ b. cut ≡ true → AreZeroBands (short_stack b) e v u)
-zero-moved (Ok b) d e w v h u deep wide high cut zero = λ is.
-    subst (λ (n : ℕ). AreZeroBands (short_stack b) n v u) deep
-    (subst (λ (n : ℕ). AreZeroBands (short_stack b) d n u) wide
-    (subst (λ (n : ℕ). AreZeroBands (short_stack b) d w n) high zero))
-zero-moved (Err fault) d e w v h u deep wide high cut zero = zero

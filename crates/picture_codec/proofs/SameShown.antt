@@ -8,7 +8,7 @@ use Rattle.dc_prediction.specs.Prediction.{reach}
 use Rattle.slice_geometry.specs.declared.Size.{Size}
 use Rattle.slice_geometry.specs.Slicing.{Slicing}
 use Rattle.slice_geometry.specs.Geometry.{padded_length, band_size}
-use Rattle.slice_bands.specs.Short.{ShowTheSame}
+use Rattle.slice_store.specs.Gathered.{ShowTheSame}
 use Rattle.lifting.specs.declared.Wavelet.{Wavelet}
 use Rattle.lifting.specs.Transform.{synthesis}
 use Rattle.lifting.specs.Bands.{coefficients_of}

@@ -2,7 +2,7 @@
 use Rattle.std.proofs.Common.{◌≡◌, ℕ, sym, ap, subst, ◌∙◌}
 use Rattle.std.specs.Prelude.{true}
 use Rattle.planes.specs.Raster.{Raster, height}
-use Rattle.planes.specs.Subbands.{BandStack, HaveSizes}
+use Rattle.planes.specs.Subbands.{BandStack, BandExists, subband_length, HaveSizes, AgreeInSizes}
 use Rattle.slice_geometry.specs.declared.Size.{Size}
 use Rattle.slice_geometry.specs.Slicing.{Slicing}
 use Rattle.slice_geometry.specs.Geometry.{padded_length}
@@ -35,3 +35,16 @@ made_room s size w plane scratch half made same_w same_h same_sw same_sh = recor
   };
   late = λ none. absurd cc;
 }
+
+-- ---- sizes
+
+-- bands of one depth whose sizes are those of one component agree
+pub sizes_agree : (a b : BandStack) (w h : ℕ) → a.depth ≡ b.depth → HaveSizes a w h → HaveSizes b w h → AgreeInSizes a b
+sizes_agree a b w h deep first second = record {
+  same_depth = deep;
+  widths = λ level orient e. first.widths level orient e ∙ ap (λ (d : ℕ). subband_length d level w) deep ∙ sym (second.widths level orient (there level orient e));
+  heights = λ level orient e. first.heights level orient e ∙ ap (λ (d : ℕ). subband_length d level h) deep ∙ sym (second.heights level orient (there level orient e));
+}
+  where
+    there : (level orient : ℕ) → BandExists a.depth level orient → BandExists b.depth level orient
+    there level orient e = subst (λ (d : ℕ). BandExists d level orient) deep e

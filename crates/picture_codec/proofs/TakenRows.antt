@@ -5,7 +5,7 @@ use Rattle.planes.specs.Subbands.{BandStack, BandExists, AgreeInSizes}
 use Rattle.planes.specs.declared.Trio.{Trio}
 use Rattle.planes.specs.declared.NarrowTrio.{NarrowTrio}
 use Rattle.planes.specs.declared.LateTrio.{LateTrio}
-use Rattle.slice_bands.specs.Short.{ShowTheSame}
+use Rattle.slice_store.specs.Gathered.{ShowTheSame}
 use Rattle.slice_decoder.specs.Narrow.{trio_of, AreNarrowBands}
 use Rattle.picture_codec.specs.DecodedBands.{AllAgree, IsLateNarrow, LateSeen, AreRowsKept}
 use Rattle.picture_codec.proofs.Gathered.{all-agree-on}

@@ -5,7 +5,7 @@ use Rattle.planes.specs.Subbands.{BandStack, AgreeInSizes, AreZeroBands}
 use Rattle.planes.specs.declared.LateTrio.{LateTrio}
 use Rattle.planes.specs.declared.Trio.{Trio}
 use Rattle.planes.specs.declared.NarrowTrio.{NarrowTrio}
-use Rattle.slice_bands.specs.ShortBands.{short_stack, IsShortSound}
+use Rattle.slice_store.specs.ShortBands.{short_stack, IsShortSound}
 use Rattle.slice_decoder.specs.Narrow.{trio_of, AreNarrowBands}
 use Rattle.picture_codec.specs.declared.decoded_bands.ShownBands.{ShownBands}
 use Rattle.picture_codec.specs.declared.decoded_bands.ShownBands.TheVariants.{Short, Wide, Narrow}

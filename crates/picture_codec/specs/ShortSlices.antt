@@ -1,23 +1,13 @@
 -- Bands of 16 bits slice by slice, and rows that show the same.
-use Rattle.std.specs.Prelude.{◌≡◌, ◌/◌, ◌%◌, ◌^◌, Bool, true, false, List, length, ℤ}
+use Rattle.std.specs.Prelude.{◌≡◌, Bool, true, false, List, length, ℤ}
 use Rattle.planes.specs.declared.Trio.{Trio}
-use Rattle.slice_geometry.specs.declared.Size.{Size}
-use Rattle.slice_geometry.specs.Slicing.{Slicing}
-use Rattle.slice_geometry.specs.Geometry.{padded_length}
-use Rattle.slice_bands.specs.declared.short_bands.ShortTrio.{ShortTrio}
-use Rattle.slice_bands.specs.Short.{ShowTheSame}
-use Rattle.slice_bands.specs.ShortBands.{IsShortSound}
+use Rattle.slice_store.specs.declared.short_bands.ShortTrio.{ShortTrio}
+use Rattle.slice_store.specs.Gathered.{ShowTheSame}
+use Rattle.slice_store.specs.ShortBands.{IsShortSound}
 use Rattle.slice_decoder.specs.Short.{shown_trio}
 use Rattle.picture_codec.specs.DecodedBands.{AllAgree, LateSeen, narrow_of}
 
--- All slices of a component have one size, and each level of the transform halves it.
-pub record HasSlicesOfOneSize (s : Slicing) (size : Size) : Type 0 where
-  pub across : padded_length s.depth size.w % s.slices_x ≡ 0
-  pub down : padded_length s.depth size.h % s.slices_y ≡ 0
-  pub columns : padded_length s.depth size.w / s.slices_x % 2 ^ s.depth ≡ 0
-  pub rows : padded_length s.depth size.h / s.slices_y % 2 ^ s.depth ≡ 0
-
--- the slices of each component cover its bands
+-- the slices of each component show its bands
 pub record AreShortSound (b : ShortTrio) : Type 0 where
   pub luma : IsShortSound b.luma
   pub c1 : IsShortSound b.c1

@@ -5,7 +5,7 @@ ghost use Rattle.slice_geometry.specs.Slicing.{IsAllowed, slice_count};
 ghost use Rattle.slice_geometry.specs.Frames.{frame_of};
 ghost use Rattle.slice_decoder.specs.Slice.{slice_at};
 ghost use Rattle.slice_decoder.specs.Decoded.{AreReady, AllKeepOthers, IsDecoded, IsRefused};
-ghost use Rattle.slice_bands.specs.ShortBands.{short_stack, IsShortSound};
+ghost use Rattle.slice_store.specs.ShortBands.{short_stack, IsShortSound};
 ghost use Rattle.slice_decoder.specs.Short.{shown_trio};
 ghost use Rattle.picture_codec.specs.ShortSlices.{AreShortSound};
 ghost use Rattle.picture_codec.specs.Pictures as pictures;
@@ -18,9 +18,9 @@ use crate::short_slices::{ShortSlices, are_short};
 use crate::showing::show_rows;
 use crate::workspace::{SynthesisRoom, depth_of};
 use planes::{Bands, NarrowBands, NoMemory};
-use slice_bands::{ShortBands, ShortTrio};
 use slice_decoder::SliceFault;
 use slice_geometry::{Component, Layout, PictureShape, SliceHead};
+use slice_store::{ShortBands, ShortTrio};
 use std::alloc::Global;
 use std::marker::Model;
 use transform_params::TransformParams;
@@ -88,8 +88,8 @@ fn show_in_16_bits(
     show_rows(params, &room.gathered.bands, &mut room.short, c, picture)
 }
 
-/// The bands of the three components. Those of 16 bits serve where all slices of a component have one size, until a slice has
-/// a greater number. From then on rows do, as long as the decoder lives: to bring these back slice by slice would take a copy
+/// The bands of the three components. Those of 16 bits serve where samples have at most 15 bits, until a slice has a greater
+/// number. From then on rows do, as long as the decoder lives: to bring these back slice by slice would take a copy
 /// that few streams gain by.
 #[derive(Drop)]
 pub struct DecodedBands {
@@ -123,7 +123,7 @@ impl DecodedBands {
             × AreNewBands layout.now shape.now.colour b.c1
             × AreNewBands layout.now shape.now.colour b.c2) }
     {
-        let is_short = are_short(layout, shape);
+        let is_short = are_short(shape);
         let row = Vec::from_elem(alloc, 0i16, LONGEST_ROW)?;
         let short = ShortSlices::new(alloc, layout, shape, is_short)?;
         let mut rows = match RowBands::new(alloc, layout, shape) {

@@ -2,8 +2,8 @@
 
 ghost use Rattle.std.specs.Prelude.{◌≡◌, ◌^◌, ◌<◌, ◌≤◌, length, pos, true, false, ⊤, IfOk, MatchResult, MatchOption};
 ghost use Rattle.planes.specs.Bounded.{AreBandsWithin};
-ghost use Rattle.slice_bands.specs.Short.{ShowTheSame};
-ghost use Rattle.slice_bands.specs.ShortBands.{short_stack, IsShortSound};
+ghost use Rattle.slice_store.specs.Gathered.{ShowTheSame};
+ghost use Rattle.slice_store.specs.ShortBands.{short_stack, IsShortSound};
 ghost use Rattle.slice_decoder.specs.Slice.{slice_at};
 ghost use Rattle.slice_decoder.specs.Decoded.{AreReady, AllKeepOthers, IsDecoded, IsRefused};
 ghost use Rattle.slice_decoder.specs.Narrow.{trio_of, AreNarrowBands};
@@ -16,9 +16,9 @@ use crate::workspace::{late_zero_trio, rowless_narrow_trio};
 use bounded_blocks::{CodeTable, SPARE};
 use planes::{LateTrio, NarrowTrio, NoMemory, Trio};
 use quant_factors::Matrix;
-use slice_bands::ShortTrio;
 use slice_decoder::{CodedSlice, SliceFault, decode_narrow};
 use slice_geometry::{Component, Layout, PictureShape, SliceHead};
+use slice_store::ShortTrio;
 use std::alloc::Global;
 use std::marker::Model;
 

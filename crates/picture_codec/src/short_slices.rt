@@ -1,72 +1,46 @@
-//! Bands of 16 bits slice by slice, where all slices of a component have one size.
+//! Bands of 16 bits slice by slice.
 
-ghost use Rattle.std.specs.Prelude.{◌≡◌, ◌*◌, ◌^◌, ◌<◌, ◌≤◌, length, true, ⊤, IfOk, MatchResult, MatchOption};
+ghost use Rattle.std.specs.Prelude.{◌≡◌, ◌↔◌, ◌^◌, ◌<◌, ◌≤◌, length, true, ⊤, IfOk, MatchResult, MatchOption};
 ghost use Rattle.planes.specs.declared.Trio.{Trio};
 ghost use Rattle.slice_geometry.specs.Shape.{IsSize};
-ghost use Rattle.slice_bands.specs.ShortBands.{short_stack, IsShortSound};
+ghost use Rattle.slice_store.specs.ShortBands.{short_stack, IsShortSound};
 ghost use Rattle.slice_decoder.specs.Slice.{slice_at};
 ghost use Rattle.slice_decoder.specs.Decoded.{AreReady, AllKeepOthers, IsDecoded, IsRefused};
 ghost use Rattle.slice_decoder.specs.Short.{shown_trio, IsCut, AreCut};
 ghost use Rattle.picture_codec.specs.Decoding.{AreNewBands};
-ghost use Rattle.picture_codec.specs.ShortSlices.{HasSlicesOfOneSize, AreShortSound, AreBeside};
+ghost use Rattle.picture_codec.specs.ShortSlices.{AreShortSound, AreBeside};
 
 use crate::late_narrow::MOST_VALUES;
 use crate::workspace::all_made;
 use bounded_blocks::CodeTable;
 use planes::NoMemory;
-use slice_bands::{ShortBands, ShortTrio};
 use slice_decoder::{CodedSlice, ShortRoom, SliceFault, decode_short};
 use slice_geometry::{Layout, PictureShape, Size, SliceHead};
+use slice_store::{ShortBands, ShortTrio};
 use std::alloc::Global;
 use std::marker::Model;
 use transform_params::TransformParams;
 
-// Whether all slices of a component have one size, which the levels of the transform divide.
-fn has_slices_of_one_size(layout: &Layout, size: Size) -> bool
-    requires { IsSize size.w size.h }
-    ensures { result ≡ true → HasSlicesOfOneSize layout.now size }
+/// Whether bands of 16 bits may serve: no sample has more than 15 bits.
+pub(crate) fn are_short(shape: &PictureShape) -> bool
+    ensures { (result ≡ true) ↔ ((shape.now.luma_depth ≤ 15) × (shape.now.colour_depth ≤ 15)) }
 {
-    let padded = layout.padded_size(size);
-    let (across, down) = (layout.slices_x(), layout.slices_y());
-    let step = 1 << layout.depth();
-    padded.w % across == 0
-        && padded.h % down == 0
-        && padded.w / across % step == 0
-        && padded.h / down % step == 0
+    shape.luma_depth <= 15 && shape.colour_depth <= 15
 }
 
-/// Whether all slices of each component have one size, and its samples have at most 15 bits.
-pub(crate) fn are_short(layout: &Layout, shape: &PictureShape) -> bool
-    ensures luma { result ≡ true → HasSlicesOfOneSize layout.now shape.now.luma }
-    ensures colour { result ≡ true → HasSlicesOfOneSize layout.now shape.now.colour }
-    ensures luma_depth { result ≡ true → shape.now.luma_depth ≤ 15 }
-    ensures colour_depth { result ≡ true → shape.now.colour_depth ≤ 15 }
-{
-    has_slices_of_one_size(layout, shape.luma)
-        && has_slices_of_one_size(layout, shape.colour)
-        && shape.luma_depth <= 15
-        && shape.colour_depth <= 15
-}
-
-// The bands of a component in 16 bits, all zero. Where its slices have other sizes they are those of one number.
+// The bands of a component in 16 bits, all zero. Where they don't serve they are those of one sample.
 fn short_zero_bands(
     alloc: Global,
     layout: &Layout,
     size: Size,
-    is_cut: bool,
+    is_short: bool,
 ) -> Result<ShortBands, NoMemory>
-    requires size { IsSize size.w size.h }
-    requires whole { is_cut ≡ true → HasSlicesOfOneSize layout.now size }
-    ensures zero { IfOk result (λ b. is_cut ≡ true → AreNewBands layout.now size (short_stack b)) }
+    requires { IsSize size.w size.h }
+    ensures zero { IfOk result (λ b. is_short ≡ true → AreNewBands layout.now size (short_stack b)) }
     ensures sound { IfOk result IsShortSound }
 {
-    if !is_cut {
-        return ShortBands::new(alloc, 0, 1, 1, 1, 1);
-    }
-    let padded = layout.padded_size(size);
-    let (across, down) = (layout.slices_x(), layout.slices_y());
-    let (sw, sh) = (padded.w / across, padded.h / down);
-    ShortBands::new(alloc, layout.depth(), across, down, sw, sh)
+    let none = Size { w: 1, h: 1 };
+    ShortBands::new(alloc, *layout, if is_short { size } else { none })
 }
 
 /// The same of all three components.
@@ -74,57 +48,61 @@ pub(crate) fn short_zero_trio(
     alloc: Global,
     layout: &Layout,
     shape: &PictureShape,
-    is_cut: bool,
+    is_short: bool,
 ) -> Result<ShortTrio, NoMemory>
-    requires luma { is_cut ≡ true → HasSlicesOfOneSize layout.now shape.now.luma }
-    requires colour { is_cut ≡ true → HasSlicesOfOneSize layout.now shape.now.colour }
-    ensures luma { IfOk result (λ b. is_cut ≡ true
+    ensures luma { IfOk result (λ b. is_short ≡ true
         → AreNewBands layout.now shape.now.luma (short_stack b.luma)) }
-    ensures c1 { IfOk result (λ b. is_cut ≡ true
+    ensures c1 { IfOk result (λ b. is_short ≡ true
         → AreNewBands layout.now shape.now.colour (short_stack b.c1)) }
-    ensures c2 { IfOk result (λ b. is_cut ≡ true
+    ensures c2 { IfOk result (λ b. is_short ≡ true
         → AreNewBands layout.now shape.now.colour (short_stack b.c2)) }
     ensures sound { IfOk result AreShortSound }
 {
     let (luma, c1, c2) = all_made(
-        short_zero_bands(alloc, layout, shape.luma, is_cut),
-        short_zero_bands(alloc, layout, shape.colour, is_cut),
-        short_zero_bands(alloc, layout, shape.colour, is_cut),
+        short_zero_bands(alloc, layout, shape.luma, is_short),
+        short_zero_bands(alloc, layout, shape.colour, is_short),
+        short_zero_bands(alloc, layout, shape.colour, is_short),
     )?;
     Ok(ShortTrio { luma, c1, c2 })
 }
 
-// How many values a slice of a component has, where all have one size.
-fn values_of(layout: &Layout, size: Size) -> usize
-    requires { IsSize size.w size.h }
+// How many places a slice has at most in a band of a level.
+fn most_in_band(layout: &Layout, size: Size, level: u32) -> usize
+    requires size { IsSize size.w size.h }
+    requires level { level ≤ layout.now.depth }
     ensures { result ≤ 2 ^ 26 }
 {
-    let padded = layout.padded_size(size);
-    let (sw, sh) = (padded.w / layout.slices_x(), padded.h / layout.slices_y());
-    sw as usize * sh as usize
+    let band = layout.band_size(size, level);
+    band.w.div_ceil(layout.slices_x()) as usize * band.h.div_ceil(layout.slices_y()) as usize
 }
 
-// Whether a component's slices lie as a layout cuts it.
+// And in the bands of all levels.
+fn most_places(layout: &Layout, size: Size) -> usize
+    requires { IsSize size.w size.h }
+    ensures { result ≤ 2 ^ 30 }
+{
+    let mut sum = most_in_band(layout, size, 0);
+    for level in 0..layout.depth() {
+        sum += 3 * most_in_band(layout, size, level + 1);
+    }
+    sum
+}
+
+// Whether a component's slices are cut as a layout has it.
 fn is_cut(bands: &ShortBands, layout: &Layout, size: Size) -> bool
-    requires size { IsSize size.w size.h }
-    requires sound { IsShortSound bands.now }
-    requires depth { bands.now.slices.depth ≡ layout.now.depth }
+    requires { IsShortSound bands.now }
     ensures { result ≡ true → IsCut layout.now size bands.now }
 {
-    let padded = layout.padded_size(size);
-    bands
-        .slices
-        .covers(layout.slices_x(), layout.slices_y(), padded.w, padded.h)
+    bands.slices.is_cut(layout, size)
 }
 
-// How many values the greatest block of a slice has, where the layout cuts the components. Blocks of very many are read into
-// wider bands.
-fn most_values(layout: &Layout, shape: &PictureShape, is_cut: bool) -> usize {
-    if !is_cut {
+// How many values there is room for: those of the greatest block of a slice. Blocks of very many are read into wider bands.
+fn most_values(layout: &Layout, shape: &PictureShape, is_short: bool) -> usize {
+    if !is_short {
         return 1;
     }
-    let luma = values_of(layout, shape.luma);
-    let colour = values_of(layout, shape.colour);
+    let luma = most_places(layout, shape.luma);
+    let colour = most_places(layout, shape.colour);
     luma.max(2 * colour).min(MOST_VALUES)
 }
 
@@ -136,7 +114,7 @@ pub struct ShortSlices {
 }
 
 impl Model for ShortSlices {
-    ghost use Rattle.slice_bands.specs.declared.short_bands.ShortTrio as trio;
+    ghost use Rattle.slice_store.specs.declared.short_bands.ShortTrio as trio;
     ghost use Rattle.picture_codec.specs.ShortSlices.{AreShortSound};
 
     ghost Value = { trio.ShortTrio };
@@ -147,24 +125,22 @@ impl Model for ShortSlices {
 }
 
 impl ShortSlices {
-    /// The bands of pictures of this shape, all zero, where the layout cuts them; else they serve nothing.
+    /// The bands of pictures of this shape, all zero, where they may serve; else they are those of one sample.
     pub(crate) fn new(
         alloc: Global,
         layout: &Layout,
         shape: &PictureShape,
-        is_cut: bool,
+        is_short: bool,
     ) -> Result<ShortSlices, NoMemory>
-        requires luma { is_cut ≡ true → HasSlicesOfOneSize layout.now shape.now.luma }
-        requires colour { is_cut ≡ true → HasSlicesOfOneSize layout.now shape.now.colour }
-        ensures luma { IfOk result (λ b. is_cut ≡ true
+        ensures luma { IfOk result (λ b. is_short ≡ true
             → AreNewBands layout.now shape.now.luma (short_stack b.luma)) }
-        ensures c1 { IfOk result (λ b. is_cut ≡ true
+        ensures c1 { IfOk result (λ b. is_short ≡ true
             → AreNewBands layout.now shape.now.colour (short_stack b.c1)) }
-        ensures c2 { IfOk result (λ b. is_cut ≡ true
+        ensures c2 { IfOk result (λ b. is_short ≡ true
             → AreNewBands layout.now shape.now.colour (short_stack b.c2)) }
     {
-        let room = ShortRoom::new(alloc, most_values(layout, shape, is_cut))?;
-        let bands = short_zero_trio(alloc, layout, shape, is_cut)?;
+        let room = ShortRoom::new(alloc, most_values(layout, shape, is_short))?;
+        let bands = short_zero_trio(alloc, layout, shape, is_short)?;
         Ok(ShortSlices { bands, room })
     }
 
@@ -176,11 +152,8 @@ impl ShortSlices {
         &self.bands
     }
 
-    // Whether the layout cuts the components as their slices lie.
+    // Whether a layout cuts the components as their slices lie.
     fn are_cut(&self, layout: &Layout, shape: &PictureShape) -> bool
-        requires luma { self.now.luma.slices.depth ≡ layout.now.depth }
-        requires c1 { self.now.c1.slices.depth ≡ layout.now.depth }
-        requires c2 { self.now.c2.slices.depth ≡ layout.now.depth }
         ensures { result ≡ true → AreCut layout.now shape.now self.now }
     {
         // The contract alone names it.

@@ -4,7 +4,7 @@ use Rattle.std.specs.Prelude.{ℤ, pos, replicate, List, length, drop, ◌++◌}
 use Rattle.std.proofs.lemmas.List.{length-replicate, length-append, length-drop, length-take-le}
 use Rattle.planes.specs.Raster.{Raster, height, over}
 use Rattle.planes.specs.Subbands.{BandStack, BandExists, subband_length, AgreeInSizes, AreZeroBands}
-use Rattle.slice_bands.specs.Short.{ShowTheSame}
+use Rattle.slice_store.specs.Gathered.{ShowTheSame}
 use Rattle.slice_geometry.specs.declared.Size.{Size}
 use Rattle.slice_geometry.specs.Geometry.{band_size}
 use Rattle.lifting.specs.declared.Wavelet.{Wavelet}

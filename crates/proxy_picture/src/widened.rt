@@ -4,13 +4,13 @@ ghost use Rattle.std.specs.Prelude.{◌≡◌, ◌*◌, ◌^◌, ℕ, length, po
 ghost use Rattle.planes.specs.Bounded.{AreBandsWithin};
 ghost use Rattle.slice_geometry.specs.Shape.{IsSize};
 ghost use Rattle.slice_geometry.specs.Geometry.{padded_length};
-ghost use Rattle.slice_bands.specs.Short.{ShowTheSame};
-ghost use Rattle.slice_bands.specs.ShortBands.{short_stack, IsShortSound};
+ghost use Rattle.slice_store.specs.Gathered.{ShowTheSame};
+ghost use Rattle.slice_store.specs.ShortBands.{short_stack, IsShortSound};
 ghost use Rattle.proxy_picture.specs.Making.{AreWidenedRowless, AreForWidening};
 
 use planes::{LateBands, NarrowBands, NoMemory};
-use slice_bands::ShortBands;
 use slice_geometry::{Layout, Size};
+use slice_store::ShortBands;
 use std::alloc::Global;
 
 // The most numbers of a row of bands of 16 bits.
@@ -68,9 +68,9 @@ impl WidenedBands {
     /// Gives them the numbers of bands of 16 bits.
     pub(crate) fn take(&mut self, short: &ShortBands)
         requires sound { IsShortSound short.now }
-        requires sizes { AreForWidening short.now.slices.depth
-            (short.now.slices.across * short.now.slices.sw)
-            (short.now.slices.down * short.now.slices.sh) self.old }
+        requires sizes { AreForWidening short.now.slices.slicing.depth
+            (padded_length short.now.slices.slicing.depth short.now.slices.size.w)
+            (padded_length short.now.slices.slicing.depth short.now.slices.size.h) self.old }
         ensures same { ShowTheSame (short_stack short.now) self.new.bands }
         ensures within { AreBandsWithin (pos (2 ^ 18)) self.new.bands }
         ensures made { self.new.is_made ≡ true }

@@ -15,7 +15,7 @@ pub mod RestoredBands
 pub mod Steps
 pub mod Placed
 pub mod PairLanes
-pub mod ShortPlaces
+pub mod ShortLowest
 pub mod ShortTakes
 pub mod SliceSteps
 pub mod StepRows

@@ -13,11 +13,11 @@ use Rattle.slice_decoder.specs.Components.{Part, index_of, quantisers_before}
 use Rattle.slice_decoder.specs.Restored.{restored_at, StayWithin}
 use Rattle.slice_decoder.specs.RestoredBands.{all_quantisers}
 use Rattle.slice_decoder.specs.Steps.{IsStep}
-use Rattle.slice_decoder.specs.StepRows.{area_above, AreasGrow, band_quantisers, key_quantisers, quantisers_by, step_at, AreSteps, IsStepRow}
+use Rattle.slice_decoder.specs.StepRows.{band_quantisers, key_quantisers, quantisers_by, step_at, AreSteps, IsStepRow}
 
 -- how many values band k has, and their index
 abbrev pub values_of : StepKey → ℕ → ℕ
-values_of key k = key.each * area_above key.lowest (level_of k)
+values_of key k = key.each * get_or key.areas (level_of k) 0
 
 abbrev pub index_by : StepKey → ℕ → ℕ
 index_by key k = band_quantiser key.matrix key.qindex (level_of k) (orient_of k)
@@ -48,11 +48,11 @@ unfolding key_quantisers
 no-bands key = refl
 
 -- the values of a band, whose level has a number of its own, are among all
-pub band-fits : (key : StepKey) (k from area : ℕ) → from ≡ length (key_quantisers key k) → area ≡ area_above key.lowest (level_of k) → k < 3 * key.matrix.depth + 1
+pub band-fits : (key : StepKey) (k from area : ℕ) → from ≡ length (key_quantisers key k) → area ≡ get_or key.areas (level_of k) 0 → k < 3 * key.matrix.depth + 1
     → from + key.each * area ≤ length (quantisers_by key)
 band-fits key k from area from_is area_is lt = rw (from_is, area_is) (band-inside key k (3 * key.matrix.depth + 1) lt)
 
-pub next-from : (key : StepKey) (k from area : ℕ) → from ≡ length (key_quantisers key k) → area ≡ area_above key.lowest (level_of k)
+pub next-from : (key : StepKey) (k from area : ℕ) → from ≡ length (key_quantisers key k) → area ≡ get_or key.areas (level_of k) 0
     → from + key.each * area ≡ length (key_quantisers key (k + 1))
 next-from key k from area from_is area_is = rw (from_is, area_is) (sym (length-more key k))
 
@@ -62,30 +62,26 @@ unfolding key_quantisers
 no-values key zero none = refl
 no-values key (suc k) none =
     let next : suc k ≡ k + 1 = omega arith in
-    let zeros : key.each * area_above key.lowest (level_of k) ≡ 0 * area_above key.lowest (level_of k) = ap (λ (n : ℕ). n * area_above key.lowest (level_of k)) none in
+    let zeros : key.each * get_or key.areas (level_of k) 0 ≡ 0 * get_or key.areas (level_of k) 0 = ap (λ (n : ℕ). n * get_or key.areas (level_of k) 0) none in
     omega (arith, ap (λ (n : ℕ). length (key_quantisers key n)) next, length-more key k, no-values key k none, zeros)
 
--- a part whose lowest band has so many places has the quantisers of the key
-abbrev pub key_in : ℕ → Part → ℕ → StepKey
-key_in each p lowest = record { each = each; qindex = p.qindex; lowest = lowest; matrix = p.matrix }
+-- a part whose bands have so many places has the quantisers of the key
+abbrev pub key_in : ℕ → Part → List ℕ → StepKey
+key_in each p areas = record { each = each; qindex = p.qindex; areas = areas; matrix = p.matrix }
 
-same-before : (each : ℕ) (p : Part) (lowest n : ℕ) → lowest ≡ area (level_rect p.slicing p.size p.sx p.sy 0) → AreasGrow p → n ≤ 3 * p.slicing.depth + 1
-    → key_quantisers (key_in each p lowest) n ≡ quantisers_before each p n
-unfolding key_quantisers quantisers_before
-same-before each p lowest zero is grow le = refl
-same-before each p lowest (suc k) is grow le =
-    let low : level_of k ≤ p.slicing.depth = omega (arith, le) in
-    let index : ℕ = index_of p k in
-    let here : area_above lowest (level_of k) ≡ area (level_rect p.slicing p.size p.sx p.sy (level_of k)) =
-    ap (λ (n : ℕ). area_above n (level_of k)) is ∙ sym (grow (level_of k) low) in
-    ap (λ (qs : List ℕ). qs ++ band_quantisers (key_in each p lowest) k) (same-before each p lowest k is grow (omega (arith, le)))
-    ∙ ap (λ (n : ℕ). quantisers_before each p k ++ replicate (each * n) index) here
+module _ (each : ℕ) (p : Part) (areas : List ℕ) (are : (level : ℕ) → level ≤ p.slicing.depth → get_or areas level 0 ≡ area (level_rect p.slicing p.size p.sx p.sy level)) where
+  same-before : (n : ℕ) → n ≤ 3 * p.slicing.depth + 1 → key_quantisers (key_in each p areas) n ≡ quantisers_before each p n
+  unfolding key_quantisers quantisers_before
+  same-before zero le = refl
+  same-before (suc k) le =
+      let low : level_of k ≤ p.slicing.depth = omega (arith, le) in
+      let index : ℕ = index_of p k in
+      ap (λ (qs : List ℕ). qs ++ band_quantisers (key_in each p areas) k) (same-before k (omega (arith, le)))
+      ∙ ap (λ (n : ℕ). quantisers_before each p k ++ replicate (each * n) index) (are (level_of k) low)
 
-pub same-quantisers : (each : ℕ) (p : Part) (lowest : ℕ) → lowest ≡ area (level_rect p.slicing p.size p.sx p.sy 0) → AreasGrow p → p.matrix.depth ≡ p.slicing.depth
-    → quantisers_by (key_in each p lowest) ≡ all_quantisers each p
-same-quantisers each p lowest is grow depth_is =
-    ap (λ (d : ℕ). key_quantisers (key_in each p lowest) (3 * d + 1)) depth_is
-    ∙ same-before each p lowest (3 * p.slicing.depth + 1) is grow (omega arith)
+  pub same-quantisers : p.matrix.depth ≡ p.slicing.depth → quantisers_by (key_in each p areas) ≡ all_quantisers each p
+  same-quantisers depth_is =
+      ap (λ (d : ℕ). key_quantisers (key_in each p areas) (3 * d + 1)) depth_is ∙ same-before (3 * p.slicing.depth + 1) (omega arith)
 
 -- ---- a band is written
 
@@ -114,7 +110,7 @@ module _ (from to : ℕ) (s : Step) (f a l f1 a1 l1 : List ℕ) (factors : HasRu
   step-before : (j : ℕ) → j < from → step_at f1 a1 l1 j ≡ step_at f a l j
   step-before j lt = rw (factors.before j lt, adds.before j lt, limits.before j lt) refl
 
-  pub steps-more : (key : StepKey) (k area index : ℕ) → from ≡ length (key_quantisers key k) → area ≡ area_above key.lowest (level_of k) → to ≡ from + key.each * area
+  pub steps-more : (key : StepKey) (k area index : ℕ) → from ≡ length (key_quantisers key k) → area ≡ get_or key.areas (level_of k) 0 → to ≡ from + key.each * area
       → index ≡ index_by key k → IsStep index s → AreSteps (key_quantisers key k) from f a l → AreSteps (key_quantisers key (k + 1)) to f1 a1 l1
   steps-more key k area index from_is area_is end index_is step old j lt =
       let to_is : to ≡ from + values_of key k = end ∙ ap (λ (n : ℕ). from + key.each * n) area_is in

@@ -8,7 +8,7 @@ use Rattle.slice_decoder.proofs.Steps.{low-step}
 
 -- one luma value in each band of levels 0 and 1, and four in each of level 2
 abbrev two_levels : StepKey
-two_levels = record { each = 1; qindex = 7; lowest = 1; matrix = record { depth = 2; entries = 2 ∷ 1 ∷ 1 ∷ 0 ∷ 5 ∷ 5 ∷ 4 ∷ [] } }
+two_levels = record { each = 1; qindex = 7; areas = 1 ∷ 1 ∷ 4 ∷ 0 ∷ 0 ∷ []; matrix = record { depth = 2; entries = 2 ∷ 1 ∷ 1 ∷ 0 ∷ 5 ∷ 5 ∷ 4 ∷ [] } }
 
 by_level : quantisers_by two_levels ≡ 5 ∷ 6 ∷ 6 ∷ 7 ∷ 2 ∷ 2 ∷ 2 ∷ 2 ∷ 2 ∷ 2 ∷ 2 ∷ 2 ∷ 3 ∷ 3 ∷ 3 ∷ 3 ∷ []
 unfolding key_quantisers
@@ -16,7 +16,7 @@ by_level = refl
 
 -- one value of each colour component in each band; entries above the index
 abbrev one_level : StepKey
-one_level = record { each = 2; qindex = 1; lowest = 1; matrix = record { depth = 1; entries = 2 ∷ 1 ∷ 1 ∷ 0 ∷ [] } }
+one_level = record { each = 2; qindex = 1; areas = 1 ∷ 1 ∷ 0 ∷ 0 ∷ 0 ∷ []; matrix = record { depth = 1; entries = 2 ∷ 1 ∷ 1 ∷ 0 ∷ [] } }
 
 of_colour : quantisers_by one_level ≡ 0 ∷ 0 ∷ 0 ∷ 0 ∷ 0 ∷ 0 ∷ 1 ∷ 1 ∷ []
 unfolding key_quantisers
@@ -24,7 +24,7 @@ of_colour = refl
 
 -- the steps of a row: 10, 5 at index 5, 11, 6 at index 6 and 13, 7 at index 7
 abbrev four_places : StepKey
-four_places = record { each = 1; qindex = 7; lowest = 1; matrix = record { depth = 1; entries = 2 ∷ 1 ∷ 1 ∷ 0 ∷ [] } }
+four_places = record { each = 1; qindex = 7; areas = 1 ∷ 1 ∷ 0 ∷ 0 ∷ 0 ∷ []; matrix = record { depth = 1; entries = 2 ∷ 1 ∷ 1 ∷ 0 ∷ [] } }
 
 steps : AreSteps (5 ∷ 6 ∷ 6 ∷ 7 ∷ []) 4 (10 ∷ 11 ∷ 11 ∷ 13 ∷ []) (7 ∷ 8 ∷ 8 ∷ 9 ∷ []) (6552 ∷ 5957 ∷ 5957 ∷ 5040 ∷ [])
 unfolding factor_of offset_of

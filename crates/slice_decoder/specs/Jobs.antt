@@ -1,12 +1,13 @@
 -- A slice and the part of it that belongs to a component, as they are handed on.
-use Rattle.std.specs.Prelude.{◌≡◌, ℕ, ◌+◌, ◌*◌, ◌<◌, ◌≤◌, Bool, List, ℤ}
+use Rattle.std.specs.Prelude.{◌≡◌, ℕ, ◌+◌, ◌*◌, ◌<◌, ◌≤◌, Bool, List, slice_index_or, ℤ}
 use Rattle.planes.specs.Subbands.{BandStack, HaveSizes}
 use Rattle.slice_geometry.specs.Geometry.{padded_length}
 use Rattle.slice_decoder.specs.declared.jobs.PartJob.{PartJob}
 use Rattle.slice_decoder.specs.declared.jobs.ShortJob.{ShortJob}
 use Rattle.slice_decoder.specs.declared.jobs.SliceJob.{SliceJob}
-use Rattle.slice_geometry.specs.SliceOrder.{level_rect, place_count, numbered}
+use Rattle.slice_geometry.specs.SliceOrder.{level_rect, area, place_count, numbered}
 use Rattle.slice_decoder.specs.Components.{Part, part_of, BandsHold}
+use Rattle.slice_decoder.specs.StepRows.{AreFew}
 use Rattle.slice_decoder.specs.Levels.{AreRects, IsLowRect, BandsTake}
 
 -- the part that is read
@@ -21,7 +22,7 @@ pub record IsPartJob (job : PartJob) : Type 0 where
   pub qindex : job.place.qindex ≤ 127
   pub entries : job.matrix.now.depth ≡ job.layout.now.depth
 
--- the part that is read where slices lie as the layout cuts the component
+-- the part that is read into a store of slices
 abbrev pub short_part : ShortJob → Part
 short_part job = part_of job.layout.now job.size job.place.sx job.place.sy job.matrix.now job.place.qindex
 
@@ -29,6 +30,9 @@ short_part job = part_of job.layout.now job.size job.place.sx job.place.sy job.m
 pub record IsShortJob (job : ShortJob) : Type 0 where
   pub lowest : job.lowest ≡ level_rect job.layout.now job.size job.place.sx job.place.sy 0
   pub low : IsLowRect job.lowest
+  pub areas : (level : ℕ) → level ≤ job.layout.now.depth
+      → slice_index_or job.areas.now level 0 ≡ area (level_rect job.layout.now job.size job.place.sx job.place.sy level)
+  pub few : AreFew job.areas.now
   pub across : job.place.sx < job.layout.now.slices_x
   pub down : job.place.sy < job.layout.now.slices_y
   pub qindex : job.place.qindex ≤ 127

@@ -1,26 +1,22 @@
--- A slice in bands of 16 bits, whose slices lie as the layout cuts a component.
-use Rattle.std.specs.Prelude.{◌≡◌, ◌*◌}
+-- A slice in bands of 16 bits.
+use Rattle.std.specs.Prelude.{◌≡◌}
 use Rattle.planes.specs.declared.Trio.{Trio}
-use Rattle.slice_bands.specs.declared.short_bands.ShortBands.{ShortBands}
-use Rattle.slice_bands.specs.declared.short_bands.ShortTrio.{ShortTrio}
-use Rattle.slice_bands.specs.ShortBands.{short_stack, IsShortSound}
+use Rattle.slice_store.specs.declared.short_bands.ShortBands.{ShortBands}
+use Rattle.slice_store.specs.declared.short_bands.ShortTrio.{ShortTrio}
+use Rattle.slice_store.specs.ShortBands.{short_stack, IsShortSound}
 use Rattle.slice_decoder.specs.declared.jobs.ShortJob.{ShortJob}
 use Rattle.slice_geometry.specs.declared.Size.{Size}
 use Rattle.slice_geometry.specs.declared.PictureShape.{PictureShape}
 use Rattle.slice_geometry.specs.Slicing.{Slicing}
-use Rattle.slice_geometry.specs.Geometry.{padded_length}
 
 -- the same bands, as all contracts see them
 abbrev pub shown_trio : ShortTrio → Trio
 shown_trio b = record { luma = short_stack b.luma; c1 = short_stack b.c1; c2 = short_stack b.c2 }
 
--- As many slices stand across and down as a layout has, and they cover a component of this size once it is padded.
-pub record IsCut (s : Slicing) (size : Size) (b : ShortBands) : Type 0 where
-  pub depth : b.slices.depth ≡ s.depth
-  pub across : b.slices.across ≡ s.slices_x
-  pub down : b.slices.down ≡ s.slices_y
-  pub width : b.slices.across * b.slices.sw ≡ padded_length s.depth size.w
-  pub height : b.slices.down * b.slices.sh ≡ padded_length s.depth size.h
+-- The slices are cut as a layout cuts a component of this size.
+pub record IsCut (s : Slicing) (component : Size) (b : ShortBands) : Type 0 where
+  pub slicing : b.slices.slicing ≡ s
+  pub size : b.slices.size ≡ component
   pub sound : IsShortSound b
 
 -- the slices of all three components lie so

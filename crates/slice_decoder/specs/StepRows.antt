@@ -1,20 +1,19 @@
 -- How each place of a block is restored in 16 bits, for one quantisation index.
 use Rattle.std.specs.Prelude.{◌≡◌, ℕ, zero, suc, ◌+◌, ◌-◌, ◌*◌, ◌^◌, ◌<◌, ◌≤◌, List, [], ◌++◌, length, replicate, slice_index_or}
 use Rattle.quant_factors.specs.Weights.{band_quantiser}
-use Rattle.slice_geometry.specs.SliceOrder.{level_rect, area, level_of, orient_of}
-use Rattle.slice_decoder.specs.Components.{Part}
+use Rattle.slice_geometry.specs.SliceOrder.{level_of, orient_of}
 use Rattle.slice_decoder.specs.declared.short_restoring.Step.{Step}
 use Rattle.slice_decoder.specs.declared.step_rows.StepKey.{StepKey}
 use Rattle.slice_decoder.specs.Steps.{IsStep}
 
--- how many places a band of a level has, where each level has four times as many as the one below it, but for the first
-abbrev pub area_above : ℕ → ℕ → ℕ
-area_above lowest level = 4 ^ (level - 1) * lowest
+-- no band has many places
+abbrev pub AreFew : List ℕ → Type 0
+AreFew areas = (level : ℕ) → level ≤ 4 → slice_index_or areas level 0 ≤ 2 ^ 26
 
 -- the quantisers of the values of band k
 abbrev pub band_quantisers : StepKey → ℕ → List ℕ
 band_quantisers key k =
-    replicate (key.each * area_above key.lowest (level_of k)) (band_quantiser key.matrix key.qindex (level_of k) (orient_of k))
+    replicate (key.each * slice_index_or key.areas (level_of k) 0) (band_quantiser key.matrix key.qindex (level_of k) (orient_of k))
 
 -- and of the bands before band n
 unfoldable pub key_quantisers : StepKey → ℕ → List ℕ
@@ -24,11 +23,6 @@ key_quantisers key (suc k) = key_quantisers key k ++ band_quantisers key k
 -- and of all values of the block
 abbrev pub quantisers_by : StepKey → List ℕ
 quantisers_by key = key_quantisers key (3 * key.matrix.depth + 1)
-
--- a slice whose rectangles are so large
-abbrev pub AreasGrow : Part → Type 0
-AreasGrow p = (level : ℕ) → level ≤ p.slicing.depth
-    → area (level_rect p.slicing p.size p.sx p.sy level) ≡ area_above (area (level_rect p.slicing p.size p.sx p.sy 0)) level
 
 -- the step of a place
 abbrev pub step_at : List ℕ → List ℕ → List ℕ → ℕ → Step
@@ -47,7 +41,7 @@ pub record StepRowSeen : Type 0 where
 
 -- a row without room, whose key is that of no block
 abbrev pub no_row : StepRowSeen
-no_row = record { key = record { each = 0; qindex = 0; lowest = 0; matrix = record { depth = 0; entries = [] } }; room = 0 }
+no_row = record { key = record { each = 0; qindex = 0; areas = []; matrix = record { depth = 0; entries = [] } }; room = 0 }
 
 -- the places of a row have the steps of its key, and each has a factor, what is added and a limit
 pub record IsStepRow (key : StepKey) (factors adds limits : List ℕ) : Type 0 where

@@ -53,8 +53,8 @@ pub struct SliceJob<'a> {
     pub colour_rects: &'a [Rect; 5],
 }
 
-/// The same with its rectangle in the lowest band alone: all that bands ask for whose slices lie as the layout cuts the
-/// component.
+/// A slice's part of a component, with its rectangle in the lowest band, and how many places it has in each band of each level:
+/// all that a store of slices asks for.
 #[derive(Clone, Copy)]
 pub struct ShortJob<'a> {
     pub layout: &'a Layout,
@@ -62,6 +62,7 @@ pub struct ShortJob<'a> {
     pub matrix: &'a Matrix,
     pub place: Place,
     pub lowest: Rect,
+    pub areas: &'a [usize; 5],
 }
 
 impl<'a> SliceJob<'a> {

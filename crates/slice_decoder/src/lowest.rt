@@ -5,7 +5,7 @@ ghost use Rattle.planes.specs.Bounded.{AreBandsWithin};
 ghost use Rattle.planes.specs.Raster.{height};
 ghost use Rattle.planes.specs.Subbands.{BandStack};
 ghost use Rattle.dc_prediction.specs.Restoring.{RestoresRect, IsStopped};
-ghost use Rattle.slice_bands.specs.ShortBands.{short_stack, IsShortSound};
+ghost use Rattle.slice_store.specs.ShortBands.{short_stack, IsShortSound};
 ghost use Rattle.slice_geometry.specs.declared.Size.{Size};
 ghost use Rattle.slice_geometry.specs.Slicing.{Slicing};
 ghost use Rattle.slice_geometry.specs.SliceOrder.{numbered};
@@ -14,7 +14,7 @@ ghost use Rattle.slice_decoder.specs.Short.{IsCut};
 
 use dc_prediction::restore_narrow;
 use planes::{NarrowBands, Rect};
-use slice_bands::ShortBands;
+use slice_store::ShortBands;
 
 /// The subbands of a component, of which the lowest stands in rows of 32 bits.
 pub trait LowestRows {

@@ -1,11 +1,11 @@
-//! A slice into bands of 16 bits, whose slices lie as the layout cuts a component.
+//! A slice into bands of 16 bits.
 
 ghost use Rattle.std.specs.Prelude.{◌≡◌, ℕ, ◌+◌, ◌-◌, ◌*◌, ◌<◌, ◌≤◌, true, length, slice_index_or, pos};
 ghost use Rattle.bit_codes.specs.declared.TheConstants as bits;
 ghost use Rattle.bounded_blocks.specs.declared.TheConstants.{SPARE};
 ghost use Rattle.planes.specs.Bounded.{IsWithin};
-ghost use Rattle.slice_bands.specs.declared.short.TheConstants.{MAX_SHORT};
-ghost use Rattle.slice_bands.specs.ShortBands.{short_stack};
+ghost use Rattle.slice_store.specs.declared.short_bands.TheConstants.{MAX_SHORT};
+ghost use Rattle.slice_store.specs.ShortBands.{short_stack};
 ghost use Rattle.slice_decoder.specs.Components.{BandsKeep};
 ghost use Rattle.slice_decoder.specs.Dealing.{dealt};
 ghost use Rattle.slice_decoder.specs.Jobs.{short_part, IsShortJob, AllHold, AllTake, RestStays, places_of};
@@ -13,24 +13,12 @@ ghost use Rattle.slice_decoder.specs.Narrow.{block_values, Answers};
 ghost use Rattle.slice_decoder.specs.Restored.{StayWithin};
 ghost use Rattle.slice_decoder.specs.RestoredBands.{all_quantisers};
 ghost use Rattle.slice_decoder.specs.Short.{IsCut};
-ghost use Rattle.slice_decoder.specs.StepRows.{AreasGrow};
 
-use crate::jobs::{Place, ShortJob};
+use crate::jobs::ShortJob;
 use crate::placing::put_rect;
 use crate::step_rows::{StepRows, key_of};
 use bounded_blocks::{Block, CodeTable, SPARE};
-use slice_bands::ShortBands;
-use slice_geometry::Layout;
-
-// The number of a slice.
-fn number_of(layout: &Layout, place: Place) -> usize
-    requires across { place.sx < layout.now.slices_x }
-    requires down { place.sy < layout.now.slices_y }
-    ensures value { result ≡ place.sy * layout.now.slices_x + place.sx }
-    ensures inside { result < layout.now.slices_x * layout.now.slices_y }
-{
-    place.sy as usize * layout.slices_x() as usize + place.sx as usize
-}
+use slice_store::ShortBands;
 
 // Puts the values of a slice at its places in a component's subbands.
 #[inline(always)]
@@ -46,10 +34,8 @@ fn put_values(values: &[i16], bands: &mut ShortBands, job: ShortJob<'_>)
         (short_stack bands.new) }
     ensures cut { IsCut job.entry.layout.now job.entry.size bands.new }
 {
-    bands.slices.shows();
-    let n = number_of(job.layout, job.place);
     put_rect::<i16, i32, 1>(values, 0, 0, &mut bands.lowest, job.lowest);
-    bands.slices.put_all(n, values);
+    bands.slices.put_run(job.place.sx, job.place.sy, values);
 }
 
 // Puts the values of a slice at its places in two components, which take them in turn.
@@ -71,12 +57,10 @@ fn put_in_turn(values: &[i16], first: &mut ShortBands, second: &mut ShortBands, 
     ensures first_cut { IsCut job.entry.layout.now job.entry.size first.new }
     ensures second_cut { IsCut job.entry.layout.now job.entry.size second.new }
 {
-    first.slices.shows();
-    second.slices.shows();
-    let n = number_of(job.layout, job.place);
+    let (sx, sy) = (job.place.sx, job.place.sy);
     put_rect::<i16, i32, 2>(values, 0, 0, &mut first.lowest, job.lowest);
     put_rect::<i16, i32, 2>(values, 0, 1, &mut second.lowest, job.lowest);
-    first.slices.put_in_turn(&mut second.slices, n, values);
+    first.slices.put_in_turn(&mut second.slices, sx, sy, values);
 }
 
 // Reads the values of a slice in one component, or of two that take them in turn, dequantised, into the front of a
@@ -91,7 +75,6 @@ fn read_values(
     job: ShortJob<'_>,
 ) -> bool
     requires job { IsShortJob job }
-    requires areas { AreasGrow (short_part job) }
     requires count { count ≡ each * places_of (short_part job) }
     requires room { count + SPARE ≤ length buffer.old }
     requires places { count ≤ steps.old }
@@ -130,8 +113,8 @@ pub fn read_luma(
     ensures cut { IsCut job.entry.layout.now job.entry.size bands.new }
     ensures places { steps.new ≡ steps.old }
 {
-    bands.slices.shows();
-    let count = bands.slices.size();
+    let _ = job.layout.depth();
+    let count = bands.slices.run_length(job.place.sx, job.place.sy);
     if count + SPARE > buffer.len() {
         return false;
     }
@@ -171,8 +154,8 @@ pub fn read_colour(
     ensures second_cut { IsCut job.entry.layout.now job.entry.size second.new }
     ensures places { steps.new ≡ steps.old }
 {
-    first.slices.shows();
-    let count = 2 * first.slices.size();
+    let _ = job.layout.depth();
+    let count = 2 * first.slices.run_length(job.place.sx, job.place.sy);
     if count + SPARE > buffer.len() {
         return false;
     }

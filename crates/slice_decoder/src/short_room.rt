@@ -2,8 +2,8 @@
 
 ghost use Rattle.std.specs.Prelude.{◌≡◌, ◌+◌, IfOk};
 ghost use Rattle.bounded_blocks.specs.declared.TheConstants.{SPARE};
-ghost use Rattle.slice_bands.specs.declared.short.TheConstants.{MAX_SHORT};
-ghost use Rattle.slice_bands.specs.ShortBands.{short_stack};
+ghost use Rattle.slice_store.specs.declared.short_bands.TheConstants.{MAX_SHORT};
+ghost use Rattle.slice_store.specs.ShortBands.{short_stack};
 ghost use Rattle.slice_decoder.specs.Components.{BandsKeep};
 ghost use Rattle.slice_decoder.specs.Jobs.{short_part, IsShortJob, AllHold};
 ghost use Rattle.slice_decoder.specs.Narrow.{block_values, Answers};
@@ -14,7 +14,7 @@ use crate::short::{read_colour, read_luma};
 use crate::step_rows::StepRows;
 use bounded_blocks::{Block, CodeTable, SPARE};
 use planes::NoMemory;
-use slice_bands::ShortBands;
+use slice_store::ShortBands;
 use std::alloc::Global;
 use std::marker::Model;
 

@@ -2,7 +2,7 @@
 
 ghost use Rattle.std.specs.Prelude.{◌≡◌, ◌+◌, ◌*◌, ◌^◌, ◌<◌, ◌≤◌, length, MatchResult, MatchOption};
 ghost use Rattle.bounded_blocks.specs.Parts.{block_of};
-ghost use Rattle.slice_bands.specs.declared.short.TheConstants.{MAX_SHORT};
+ghost use Rattle.slice_store.specs.declared.short_bands.TheConstants.{MAX_SHORT};
 ghost use Rattle.slice_geometry.specs.Slicing as slicing;
 ghost use Rattle.slice_decoder.specs.Slice.{slice_at};
 ghost use Rattle.slice_decoder.specs.Jobs.{short_part, IsShortJob};
@@ -15,8 +15,8 @@ use crate::lowest::restore_all;
 use crate::short_room::ShortRoom;
 use crate::{SliceFault, head_of};
 use bounded_blocks::{Block, CodeTable};
-use slice_bands::ShortTrio;
 use slice_geometry::{SliceHead, length_bits};
+use slice_store::ShortTrio;
 
 // Reads the values of both blocks into the subbands. It answers false where these don't serve.
 fn read_blocks(
@@ -97,19 +97,25 @@ pub fn decode_short(
         sy,
         qindex: head.qindex,
     };
+    let (luma_areas, colour_areas) = (
+        bands.luma.slices.areas(sx, sy),
+        bands.c1.slices.areas(sx, sy),
+    );
     let luma = ShortJob {
         layout,
         size: shape.luma,
         matrix,
         place,
-        lowest: bands.luma.lowest_rect(sx, sy),
+        lowest: bands.luma.slices.rect(0, sx, sy),
+        areas: &luma_areas,
     };
     let colour = ShortJob {
         layout,
         size: shape.colour,
         matrix,
         place,
-        lowest: bands.c1.lowest_rect(sx, sy),
+        lowest: bands.c1.slices.rect(0, sx, sy),
+        areas: &colour_areas,
     };
     if !read_blocks(luma, colour, bytes, codes, head.luma_bits, bands, room) {
         return Ok(None);

@@ -8,10 +8,9 @@ ghost use Rattle.bit_codes.specs.declared.TheConstants.{MAX_SHORT};
 ghost use Rattle.slice_decoder.specs.Jobs.{short_part, IsShortJob};
 ghost use Rattle.slice_decoder.specs.Restored.{restored_at, StayWithin};
 ghost use Rattle.slice_decoder.specs.RestoredBands.{all_quantisers};
-ghost use Rattle.slice_decoder.specs.StepRows.{area_above, quantisers_by, AreasGrow};
+ghost use Rattle.slice_decoder.specs.StepRows.{quantisers_by, AreFew};
 
 use crate::jobs::ShortJob;
-use crate::levels::area_of;
 use crate::narrow_restoring::index_of_band;
 use crate::short_restoring::{Step, is_low, restore_one, step_of};
 use planes::NoMemory;
@@ -27,40 +26,28 @@ const MOST_PLACES: usize = 32768;
 const MOST_ROWS: usize = 128;
 
 /// What the steps of a block's places follow from: how many values a place of its slice has, the index of the slice, how many
-/// places the lowest band has, and the matrix. The bands of a level have four times as many places as those of the level
-/// below it, since all slices have one size.
+/// places it has in each band of each level, and the matrix.
 #[derive(Clone, Copy, PartialEq, Eq)]
 pub(crate) struct StepKey {
     each: usize,
     qindex: u32,
-    lowest: usize,
+    areas: [usize; 5],
     matrix: Matrix,
 }
 
 /// The key of a part of a slice, of whose values each place has so many.
 pub(crate) fn key_of(each: usize, job: ShortJob<'_>) -> StepKey
     requires job { IsShortJob job }
-    requires areas { AreasGrow (short_part job) }
     ensures quantisers { quantisers_by result ≡ all_quantisers each (short_part job.entry) }
     ensures index { result.qindex ≤ 127 }
-    ensures few { result.lowest ≤ 2 ^ 26 }
+    ensures few { AreFew result.areas }
 {
     StepKey {
         each,
         qindex: job.place.qindex,
-        lowest: area_of(job.lowest),
+        areas: *job.areas,
         matrix: *job.matrix,
     }
-}
-
-// How many places a band of a level has, by those of the lowest band.
-fn area_above(lowest: usize, level: u32) -> usize
-    requires few { lowest ≤ 2 ^ 26 }
-    requires level { level ≤ 4 }
-    ensures { result ≡ area_above lowest level }
-{
-    const TIMES: [usize; 5] = [1, 1, 4, 16, 64];
-    TIMES[level as usize] * lowest
 }
 
 // Writes a number at the places from one to another.
@@ -107,7 +94,7 @@ impl StepRow {
             key: StepKey {
                 each: 0,
                 qindex: 0,
-                lowest: 0,
+                areas: [0; 5],
                 matrix: Matrix::new(0, &[0]),
             },
             factors: Vec::from_elem(alloc, 0u16, places)?,
@@ -120,7 +107,7 @@ impl StepRow {
     #[inline(never)]
     fn learn(&mut self, key: StepKey)
         requires index { key.qindex ≤ 127 }
-        requires few { key.lowest ≤ 2 ^ 26 }
+        requires few { AreFew key.areas }
         requires room { length (quantisers_by key) ≤ self.old.room }
         ensures key { self.new.key ≡ key }
         ensures room { self.new.room ≡ self.old.room }
@@ -129,7 +116,7 @@ impl StepRow {
         let mut from = 0;
         for k in 0..3 * key.matrix.depth() + 1 {
             let (level, _) = band_numbered(k);
-            let to = from + key.each * area_above(key.lowest, level);
+            let to = from + key.each * key.areas[level as usize];
             let step = step_of(index_of_band(&key.matrix, key.qindex, k));
             put(&mut self.factors, from, to, step.factor);
             put(&mut self.adds, from, to, step.add);
@@ -201,7 +188,7 @@ impl StepRows {
     #[inline(always)]
     pub(crate) fn restore(&mut self, key: StepKey, values: &mut [i16]) -> bool
         requires index { key.qindex ≤ 127 }
-        requires few { key.lowest ≤ 2 ^ 26 }
+        requires few { AreFew key.areas }
         requires count { length values.old ≡ length (quantisers_by key) }
         requires room { length values.old ≤ self.old }
         ensures within { StayWithin MAX_SHORT result
@@ -210,7 +197,12 @@ impl StepRows {
             slice_index_or values.new k (pos 0) ≡ restored_at values.old (quantisers_by key) k }
         ensures places { self.new ≡ self.old }
     {
-        let n = key.qindex as usize % self.rows.len();
+        // Slices of several sizes have rows of their own.
+        let mixed = values
+            .len()
+            .wrapping_mul(37)
+            .wrapping_add(key.qindex as usize);
+        let n = mixed % self.rows.len();
         let row = &mut self.rows[n];
         if row.key != key {
             row.learn(key);

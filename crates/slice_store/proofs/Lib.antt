@@ -10,5 +10,11 @@ pub mod Rooms
 pub mod Starts
 pub mod Whole
 pub mod Stacked
+pub mod Past
+pub mod Turns
+pub mod SlicePut
+pub mod Strips
+pub mod Lowest
+pub mod Zeros
 pub mod Widened
 mod WorkedStore

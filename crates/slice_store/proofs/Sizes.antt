@@ -19,7 +19,7 @@ whole_div p q some =
     let le : p / q * 1 ≤ p / q * q = mul-le (p / q) 1 (p / q) q (omega arith) (omega arith) in
     omega (arith, e, le)
 
-part_most : (depth level p : ℕ) → subband_length depth level p ≤ p
+pub part_most : (depth level p : ℕ) → subband_length depth level p ≤ p
 part_most depth zero p = whole_div p (2 ^ depth) (pow_pos depth)
 part_most depth (suc level) p =
     let above : (suc level == 0) ≡ false = grind (arith, nat_tests) in

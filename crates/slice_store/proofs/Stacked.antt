@@ -16,18 +16,18 @@ use Rattle.slice_store.proofs.Sizes.{start_most}
 
 -- ---- what is tabulated
 
-get_or-counted : {Y : Type 0} (f : ℕ → Y) (a n i : ℕ) (d : Y) → i < n → get_or (map f (range_with_len a n)) i d ≡ f (a + i)
+pub get_or-counted : {Y : Type 0} (f : ℕ → Y) (a n i : ℕ) (d : Y) → i < n → get_or (map f (range_with_len a n)) i d ≡ f (a + i)
 get_or-counted f a zero i d lt = absurd (omega arith)
 get_or-counted f a (suc n) zero d lt = ap f (omega arith)
 get_or-counted f a (suc n) (suc i) d lt =
     let e : a + 1 + i ≡ a + suc i = omega arith in
     get_or-counted f (a + 1) n i d (omega arith) ∙ ap f e
 
-length-counted : {Y : Type 0} (f : ℕ → Y) (a n : ℕ) → length (map f (range_with_len a n)) ≡ n
+pub length-counted : {Y : Type 0} (f : ℕ → Y) (a n : ℕ) → length (map f (range_with_len a n)) ≡ n
 length-counted f a zero = refl
 length-counted f a (suc n) = ap suc (length-counted f (a + 1) n)
 
-at-tabulated : (w h : ℕ) (f : ℕ → ℕ → ℤ) (y x : ℕ) → y < h → x < w → at (tabulated w h f) y x ≡ f y x
+pub at-tabulated : (w h : ℕ) (f : ℕ → ℕ → ℤ) (y x : ℕ) → y < h → x < w → at (tabulated w h f) y x ≡ f y x
 at-tabulated w h f y x ly lx =
     ap (λ row. get_or row x (pos 0)) (get_or-counted (λ y. map (λ x. f y x) (range_with_len 0 w)) 0 h y [] ly)
     ∙ get_or-counted (λ x. f (0 + y) x) 0 w x (pos 0) lx
@@ -36,7 +36,7 @@ at-tabulated w h f y x ly lx =
 
 -- ---- which band
 
-level_is : (depth level orient : ℕ) → BandExists depth level orient → level_of (band_index level orient) ≡ level
+pub level_is : (depth level orient : ℕ) → BandExists depth level orient → level_of (band_index level orient) ≡ level
 level_is depth level orient (inl e) = rw e.0 refl
 level_is depth level orient (inr e) =
     let k : band_index level orient ≡ 3 * level + orient - 3 = grind (arith, nat_tests) in
@@ -49,14 +49,14 @@ orient_is depth level orient (inr e) =
     let l : level_of (3 * level + orient - 3) ≡ level = omega (arith, e) in
     rw k (grind (arith, nat_tests))
 
-index_inside : (depth level orient : ℕ) → BandExists depth level orient → band_index level orient < 3 * depth + 1
+pub index_inside : (depth level orient : ℕ) → BandExists depth level orient → band_index level orient < 3 * depth + 1
 index_inside depth level orient (inl e) = rw e.0 (omega arith)
 index_inside depth level orient (inr e) =
     let k : band_index level orient ≡ 3 * level + orient - 3 = grind (arith, nat_tests) in
     rw k (omega (arith, e))
 
 module _ {X : Type 0} (value : X → ℤ) (none : X) (s : Store X) where
-  band_shown : (level orient : ℕ) → BandExists s.slicing.depth level orient → band_of (stack_of value none s) level orient ≡ band_at value none s level orient
+  pub band_shown : (level orient : ℕ) → BandExists s.slicing.depth level orient → band_of (stack_of value none s) level orient ≡ band_at value none s level orient
   band_shown level orient exists =
       let k : ℕ = band_index level orient in
       let e : 0 + k ≡ k = omega arith in
@@ -89,7 +89,7 @@ module _ {X : Type 0} (value : X → ℤ) (none : X) (s : Store X) where
 
   -- a slice's rectangle lies in the band, and its places are of no other slice
   pub run_holds : IsStoreSound s → (sx sy : ℕ) (run : List X) → sx < s.slicing.slices_x → sy < s.slicing.slices_y → length run ≡ place_count s.slicing s.size sx sy
-      → ShowsRun value none s sx sy run → HoldsSlice value none s.slicing s.size (stack_of value none s) sx sy run
+      → ShowsRun value none s sx sy (λ k. get_or run k none) → HoldsSlice value none s.slicing s.size (stack_of value none s) sx sy run
   run_holds sound sx sy run across down count shown = record {
     count = count;
     each = λ level orient y x exists inside.
@@ -101,7 +101,7 @@ module _ {X : Type 0} (value : X → ℤ) (none : X) (s : Store X) where
   }
 
 -- Where there is room for all rows of slices, all of them are beside each other.
-together : (n t u down : ℕ) → down ≤ n → t < down → u < down → t % n ≡ u % n → t ≡ u
+pub together : (n t u down : ℕ) → down ≤ n → t < down → u < down → t % n ≡ u % n → t ≡ u
 together n t u down room lt lu e = sym (mod-eq_of_lt (omega (arith, lt, room))) ∙ e ∙ mod-eq_of_lt (omega (arith, lu, room))
 
 apart : (l o j level orient y : ℕ) → (l ≢ level) ⊎ (o ≢ orient) ⊎ (j ≢ y) → l ≡ level → o ≡ orient → j ≡ y → ⊥
@@ -110,7 +110,7 @@ apart l o j level orient y (inr (inl other)) a b c = other b
 apart l o j level orient y (inr (inr other)) a b c = other c
 
 module _ {X : Type 0} (value : X → ℤ) (none : X) (s : Store X) (numbers : List X) where
-  agree : AgreeInSizes (stack_of value none s) (stack_of value none (with_numbers s numbers))
+  pub agree : AgreeInSizes (stack_of value none s) (stack_of value none (with_numbers s numbers))
   agree = record {
     same_depth = refl;
     widths = λ level orient exists. width_shown value none s level orient exists ∙ sym (width_shown value none (with_numbers s numbers) level orient exists);

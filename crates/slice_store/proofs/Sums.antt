@@ -4,7 +4,7 @@ use Rattle.std.proofs.lemmas.Nat.{mul-le}
 use Rattle.slice_geometry.specs.declared.Size.{Size}
 use Rattle.slice_geometry.specs.Slicing.{Slicing}
 use Rattle.slice_geometry.specs.Geometry.{band_size}
-use Rattle.slice_geometry.specs.SliceOrder.{places_to, place_count}
+use Rattle.slice_geometry.specs.SliceOrder.{places_to, places_before, place_count}
 use Rattle.slice_store.specs.Places.{numbers_before, IsCut}
 use Rattle.slice_store.specs.Sides.{left, tall}
 use Rattle.slice_store.proofs.Sizes.{starts_rise, left_most, top_most}
@@ -68,3 +68,8 @@ module _ (s : Slicing) (size : Size) where
     pub places_most : (level sx sy : ℕ) → sx + 1 ≤ s.slices_x → sy + 1 ≤ s.slices_y → places_to s size sx sy level ≤ (1 + 3 * level) * 2 ^ 26
     places_most zero sx sy across down = omega (arith, area_most 0 sx sy across down)
     places_most (suc level) sx sy across down = omega (arith, places_most level sx sy across down, area_most (suc level) sx sy across down)
+
+    -- before the bands of a level a slice has no more numbers than there are
+    pub under_most : (level sx sy : ℕ) → sx + 1 ≤ s.slices_x → sy + 1 ≤ s.slices_y → level ≤ 4 → places_before s size sx sy level 1 ≤ 13 * 2 ^ 26
+    under_most zero sx sy across down le = omega arith
+    under_most (suc level) sx sy across down le = omega (arith, places_most level sx sy across down, le)

@@ -1,9 +1,14 @@
 -- Tables, row by row.
-use Rattle.std.proofs.Common.{◌≡◌, ap, subst, ◌∙◌, sym, ℕ, zero, suc, ◌+◌, ◌*◌, ◌/◌, ◌%◌, ◌<◌, ◌≤◌, List, length, get_or, slice_set, arith, inl, inr}
+use Rattle.std.proofs.Common.{◌≡◌, ap, subst, ◌∙◌, sym, ℕ, zero, suc, ◌+◌, ◌-◌, ◌*◌, ◌/◌, ◌%◌, ◌<◌, ◌≤◌, List, length, get_or, slice_set, arith, inl, inr}
 use Rattle.std.proofs.lemmas.Nat.{mul-le, div-mul-add, mod-mul-add, div-add-mod'}
 use Rattle.std.proofs.lemmas.Bool.{cases_lt}
 use Rattle.std.proofs.lemmas.List.{get_or-set_same, get_or-set_other}
-use Rattle.slice_store.specs.Cut.{IsTable}
+use Rattle.planes.specs.Subbands.{BandExists}
+use Rattle.slice_geometry.specs.declared.Size.{Size}
+use Rattle.slice_geometry.specs.Slicing.{Slicing}
+use Rattle.slice_geometry.specs.SliceOrder.{places_before}
+use Rattle.slice_store.specs.Sides.{wide, tall}
+use Rattle.slice_store.specs.Cut.{IsTable, AreUnders}
 
 pub some_columns : (x n k : ℕ) → x < n * k → 0 < k
 some_columns x n zero lt = absurd (omega (arith, lt))
@@ -52,3 +57,29 @@ put_next P xs k v inside here before j lt = elim (cases_lt j k) [
       let same : k ≡ j = omega (arith, lt, not) in
       subst (λ (m : ℕ). P m (get_or (slice_set xs k v) m 0)) same (subst (λ (n : ℕ). P k n) (sym (get_or-set_same xs k v 0 inside)) here)
 ]
+
+-- ---- what stands in a slice before the bands of a level
+
+pub under_at : (list : List ℕ) (s : Slicing) (size : Size) → AreUnders list s size → (level sx sy : ℕ) → level ≤ s.depth → sx < s.slices_x → sy < s.slices_y
+    → get_or list ((sy * (s.depth + 1) + level) * s.slices_x + sx) 0 ≡ places_before s size sx sy level 1
+under_at list s size table level sx sy le across down =
+    let short : level < s.depth + 1 = omega (arith, le) in
+    let row : ℕ = sy * (s.depth + 1) + level in
+    table.each row sx (table_inside s.slices_y (s.depth + 1) sy level down short) across
+    ∙ ap (λ (n : ℕ). places_before s size sx n (row % (s.depth + 1)) 1) (div-mul-add sy (s.depth + 1) level short)
+    ∙ ap (λ (n : ℕ). places_before s size sx sy n 1) (mod-mul-add sy (s.depth + 1) level short)
+
+pub under_inside : (s : Slicing) (level sx sy : ℕ) → level ≤ s.depth → sx < s.slices_x → sy < s.slices_y
+    → (sy * (s.depth + 1) + level) * s.slices_x + sx < s.slices_y * (s.depth + 1) * s.slices_x
+under_inside s level sx sy le across down =
+    let short : level < s.depth + 1 = omega (arith, le) in
+    table_inside (s.slices_y * (s.depth + 1)) s.slices_x (sy * (s.depth + 1) + level) sx (table_inside s.slices_y (s.depth + 1) sy level down short) across
+
+-- and before one of them
+pub before_band : (s : Slicing) (size : Size) (sx sy level orient : ℕ) → BandExists s.depth level orient
+    → places_before s size sx sy level 1 + (orient - 1) * (wide s size level sx * tall s size level sy) ≡ places_before s size sx sy level orient
+before_band s size sx sy zero orient (inl e) =
+    let none : orient - 1 ≡ 0 = omega (arith, e.1) in
+    ap (λ (n : ℕ). 0 + n * (wide s size 0 sx * tall s size 0 sy)) none ∙ omega arith
+before_band s size sx sy zero orient (inr e) = absurd (omega (arith, e.0))
+before_band s size sx sy (suc level) orient e = omega arith

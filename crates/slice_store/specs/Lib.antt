@@ -6,3 +6,5 @@ pub mod Writing
 pub mod Stack
 pub mod Laws
 pub mod Room
+pub mod ShortBands
+pub mod Gathered

@@ -37,3 +37,12 @@ pub record IsBandRowPut (level orient y : ℕ) (row : ℕ → ℤ) (old new : Ba
   pub here : (x : ℕ) → x < (band_of old level orient).w → at (band_of new level orient) y x ≡ row x
   pub others : (l o j x : ℕ) → BandExists old.depth l o → j < height (band_of old l o) → x < (band_of old l o).w
       → (l ≢ level) ⊎ (o ≢ orient) ⊎ (j ≢ y) → at (band_of new l o) j x ≡ at (band_of old l o) j x
+
+-- The places of slice (sx, sy) have these numbers, which are counted from 0 in the order of the stream, and all other places of all bands
+-- are as they were.
+pub record IsSlicePut (s : Slicing) (size : Size) (sx sy : ℕ) (number : ℕ → ℤ) (old new : BandStack) : Type 0 where
+  pub sizes : AgreeInSizes old new
+  pub here : (level orient y x : ℕ) → BandExists s.depth level orient → IsInRect (level_rect s size sx sy level) y x
+      → at (band_of new level orient) y x ≡ number (place_number s size sx sy level orient y x)
+  pub others : (level orient y x : ℕ) → BandExists s.depth level orient → (IsInRect (level_rect s size sx sy level) y x → ⊥)
+      → at (band_of new level orient) y x ≡ at (band_of old level orient) y x

@@ -1,12 +1,11 @@
 ghost use Rattle.std.specs.Prelude.{◌≡◌, ℕ, ◌+◌, ◌-◌, ◌*◌, ◌%◌, ◌^◌, ◌<◌, ◌≤◌, length, slice_index_or, IfOk, true};
-ghost use Rattle.planes.specs.Subbands.{BandExists};
 ghost use Rattle.slice_geometry.specs.Shape.{IsSize};
 ghost use Rattle.slice_geometry.specs.Geometry as geometry;
 ghost use Rattle.slice_geometry.specs.SliceOrder as order;
 ghost use Rattle.slice_store.specs.Places.{IsCut};
 ghost use Rattle.slice_store.specs.Places as places;
 ghost use Rattle.slice_store.specs.Sides as sides;
-ghost use Rattle.slice_store.specs.Cut.{IsTable};
+ghost use Rattle.slice_store.specs.Cut.{IsTable, AreUnders};
 ghost use Rattle.slice_store.specs.Room as room;
 
 use planes::NoMemory;
@@ -170,6 +169,15 @@ impl Cuts {
         self.layout.slices_y()
     }
 
+    // Whether a layout cuts a component of this size so.
+    #[inline(always)]
+    pub(crate) fn is_of(&self, layout: &Layout, size: Size) -> bool
+        ensures cut { result ≡ true → self.now.slicing ≡ layout.now }
+        ensures size { result ≡ true → self.now.size ≡ size }
+    {
+        self.layout == *layout && self.size == size
+    }
+
     // Whether the columns of slices have one width, in the bands of all levels.
     #[inline(always)]
     pub(crate) fn is_even(&self) -> bool
@@ -265,19 +273,34 @@ impl Cuts {
         sum
     }
 
-    // How many of a slice's numbers come before those of a band.
-    pub(crate) fn places_before(&self, level: u32, orient: u32, sx: u32, sy: u32) -> usize
-        requires exists { BandExists self.now.slicing.depth level orient }
+    // How many of a slice's numbers come before those of a level.
+    fn places_under(&self, level: u32, sx: u32, sy: u32) -> usize
+        requires level { level ≤ self.now.slicing.depth }
         requires across { sx < self.now.slicing.slices_x }
         requires down { sy < self.now.slicing.slices_y }
-        ensures { result ≡ order.places_before self.now.slicing self.now.size sx sy level orient }
+        ensures value { result ≡ order.places_before self.now.slicing self.now.size sx sy level 1 }
+        ensures most { result ≤ 2 ^ 30 }
     {
         self.rules();
         if level == 0 {
             return 0;
         }
         self.places_to(level - 1, sx, sy)
-            + (orient - 1) as usize * (self.wide(level, sx) * self.tall(level, sy))
+    }
+
+    // The same of each level of each row of slices.
+    pub(crate) fn unders(&self, alloc: Global) -> Result<Vec<u32>, NoMemory>
+        ensures { IfOk result (λ v. AreUnders v.items self.now.slicing self.now.size) }
+    {
+        self.rules();
+        let (levels, across) = (self.depth() + 1, self.across());
+        let count = self.down() * levels * across;
+        let mut unders = Vec::from_elem(alloc, 0u32, count as usize)?;
+        for k in 0..count {
+            let (row, sx) = (k / across, k % across);
+            unders[k as usize] = self.places_under(row % levels, sx, row / levels) as u32;
+        }
+        Ok(unders)
     }
 
     // For each row of slices, how many numbers stand in front of each of its slices, and behind the last one.

@@ -14,15 +14,19 @@ ghost use Rattle.slice_store.specs.Places.{IsPlace, IsStoreSound, band, run_star
 ghost use Rattle.slice_store.specs.Sides as sides;
 ghost use Rattle.slice_store.specs.Sides.{left, top, piece, AreEven};
 ghost use Rattle.slice_store.specs.Room.{AreStarts};
-ghost use Rattle.slice_store.specs.Stack.{stack_of, HoldsSlice, IsBandRowPut};
+ghost use Rattle.slice_store.specs.Stack.{stack_of, HoldsSlice, IsBandRowPut, IsSlicePut};
 ghost use Rattle.slice_store.specs.Writing.{with_numbers, LiesLike, OthersStay, ShowsRun, OtherRunsStay};
 
 mod cuts;
+mod gathered;
+mod in_turn;
+mod short_bands;
 #[cfg(test)]
 mod tests;
 
 use cuts::Cuts;
 use planes::{NoMemory, Number};
+pub use short_bands::{MAX_SHORT, ShortBands, ShortTrio};
 use slice_geometry::{Layout, Size};
 use std::alloc::Global;
 use std::marker::Model;
@@ -78,9 +82,8 @@ fn copy_fixed<T: Number, const N: usize>(out: &mut [T], to: usize, from: &[T], a
     put_fixed::<T, N>(out, to, read_fixed::<T, N>(from, at));
 }
 
-// Copies `count` numbers from one place to another.
-#[inline(always)]
-fn copy_part<T: Number>(out: &mut [T], to: usize, from: &[T], at: usize, count: usize)
+// Copies `count` numbers from one place to another, one by one.
+fn copy_each<T: Number>(out: &mut [T], to: usize, from: &[T], at: usize, count: usize)
     requires room { to + count ≤ length out.old }
     requires there { at + count ≤ length from.now }
     ensures done { (i : ℕ) → i < count
@@ -92,6 +95,56 @@ fn copy_part<T: Number>(out: &mut [T], to: usize, from: &[T], at: usize, count: 
 {
     for i in 0..count {
         out[to + i] = from[at + i];
+    }
+}
+
+// Copies N to 2N numbers: the first N, and the last N, which may be some of the first.
+#[inline(always)]
+fn copy_ends<T: Number, const N: usize>(
+    out: &mut [T],
+    to: usize,
+    from: &[T],
+    at: usize,
+    count: usize,
+)
+    requires few { N ≤ count }
+    requires most { count ≤ 2 * N }
+    requires room { to + count ≤ length out.old }
+    requires there { at + count ≤ length from.now }
+    ensures done { (i : ℕ) → i < count
+        → slice_index_or out.new (to + i) T.none ≡ slice_index_or from.now (at + i) T.none }
+    ensures before { (j : ℕ) → j < to
+        → slice_index_or out.new j T.none ≡ slice_index_or out.old j T.none }
+    ensures behind { (j : ℕ) → to + count ≤ j
+        → slice_index_or out.new j T.none ≡ slice_index_or out.old j T.none }
+{
+    copy_fixed::<T, N>(out, to, from, at);
+    copy_fixed::<T, N>(out, to + (count - N), from, at + (count - N));
+}
+
+// Copies `count` numbers from one place to another. So few as a slice has in a row of a band are copied by two copies of fixed
+// width.
+#[inline(always)]
+fn copy_part<T: Number>(out: &mut [T], to: usize, from: &[T], at: usize, count: usize)
+    requires room { to + count ≤ length out.old }
+    requires there { at + count ≤ length from.now }
+    ensures done { (i : ℕ) → i < count
+        → slice_index_or out.new (to + i) T.none ≡ slice_index_or from.now (at + i) T.none }
+    ensures before { (j : ℕ) → j < to
+        → slice_index_or out.new j T.none ≡ slice_index_or out.old j T.none }
+    ensures behind { (j : ℕ) → to + count ≤ j
+        → slice_index_or out.new j T.none ≡ slice_index_or out.old j T.none }
+{
+    if count > 16 || count == 0 {
+        copy_each(out, to, from, at, count);
+    } else if count >= 8 {
+        copy_ends::<T, 8>(out, to, from, at, count);
+    } else if count >= 4 {
+        copy_ends::<T, 4>(out, to, from, at, count);
+    } else if count >= 2 {
+        copy_ends::<T, 2>(out, to, from, at, count);
+    } else {
+        copy_fixed::<T, 1>(out, to, from, at);
     }
 }
 
@@ -209,6 +262,7 @@ fn collect<T: Number>(
 pub struct SliceStore<T> {
     cuts: Cuts,
     befores: Vec<u32>,
+    unders: Vec<u32>,
     strips: usize,
     starts: Vec<usize>,
     numbers: Vec<T>,
@@ -216,7 +270,7 @@ pub struct SliceStore<T> {
 
 impl<T> Model for SliceStore<T> {
     ghost use Rattle.slice_store.specs.Store.{Store};
-    ghost use Rattle.slice_store.specs.Cut.{IsTable};
+    ghost use Rattle.slice_store.specs.Cut.{IsTable, AreUnders};
     ghost use Rattle.slice_store.specs.Places.{IsStoreSound, numbers_before};
     ghost use Rattle.std.specs.Prelude.{◌+◌};
 
@@ -233,6 +287,7 @@ impl<T> Model for SliceStore<T> {
     ghost invariant = { λ b. IsTable b.befores.items
         (λ sy sx. numbers_before b.cuts.slicing b.cuts.size sx sy)
         b.cuts.slicing.slices_y (b.cuts.slicing.slices_x + 1)
+        × AreUnders b.unders.items b.cuts.slicing b.cuts.size
         × IsStoreSound (record {
           slicing = b.cuts.slicing;
           size = b.cuts.size;
@@ -281,12 +336,14 @@ impl<T: Number> SliceStore<T> {
         let cuts = Cuts::new(alloc, layout, size)?;
         cuts.rules();
         let befores = cuts.befores(alloc)?;
+        let unders = cuts.unders(alloc)?;
         let strips = strips.min(cuts.down());
         let starts = starts_of(alloc, &cuts, strips)?;
         let numbers = T::zeros(alloc, starts[strips as usize])?;
         Ok(SliceStore {
             cuts,
             befores,
+            unders,
             strips: strips as usize,
             starts,
             numbers,
@@ -330,6 +387,14 @@ impl<T: Number> SliceStore<T> {
         ensures { result ≡ self.now.slicing.slices_x }
     {
         self.cuts.across()
+    }
+
+    // The slices down.
+    #[inline(always)]
+    fn down(&self) -> u32
+        ensures { result ≡ self.now.slicing.slices_y }
+    {
+        self.cuts.down()
     }
 
     // The first column of slice column sx in a level's bands.
@@ -385,13 +450,18 @@ impl<T: Number> SliceStore<T> {
     }
 
     // How many of a slice's numbers come before those of a band.
+    #[inline(always)]
     fn places_before(&self, level: u32, orient: u32, sx: u32, sy: u32) -> usize
         requires exists { BandExists self.now.slicing.depth level orient }
         requires across { sx < self.now.slicing.slices_x }
         requires down { sy < self.now.slicing.slices_y }
         ensures { result ≡ order.places_before self.now.slicing self.now.size sx sy level orient }
     {
-        self.cuts.places_before(level, orient, sx, sy)
+        self.cuts.rules();
+        let row = sy * (self.depth() + 1) + level;
+        let under = self.unders[(row * self.across() + sx) as usize] as usize;
+        let area = self.cuts.wide(level, sx) * self.cuts.tall(level, sy);
+        under + orient.saturating_sub(1) as usize * area
     }
 
     // The strip of a row of slices. Where there is room for all rows nothing is divided.
@@ -421,6 +491,7 @@ impl<T: Number> SliceStore<T> {
     }
 
     // Where a row of a slice's part of a band begins.
+    #[inline(always)]
     fn row_at(&self, level: u32, orient: u32, y: u32, sx: u32, sy: u32) -> usize
         requires exists { BandExists self.now.slicing.depth level orient }
         requires across { sx < self.now.slicing.slices_x }
@@ -549,8 +620,8 @@ impl<T: Number> SliceStore<T> {
         self.strip_start(sy) + self.numbers_before(sx, sy)
     }
 
-    // How many there are.
-    fn run_length(&self, sx: u32, sy: u32) -> usize
+    /// How many numbers a slice has.
+    pub fn run_length(&self, sx: u32, sy: u32) -> usize
         requires across { sx < self.now.slicing.slices_x }
         requires down { sy < self.now.slicing.slices_y }
         ensures { result ≡ order.place_count self.now.slicing self.now.size sx sy }
@@ -579,7 +650,8 @@ impl<T: Number> SliceStore<T> {
         requires down { sy < self.now.slicing.slices_y }
         ensures holds { HoldsSlice T.value T.none self.now.slicing self.now.size
             (stack_of T.value T.none self.now) sx sy result.now }
-        ensures shown { ShowsRun T.value T.none self.now sx sy result.now }
+        ensures shown { ShowsRun T.value T.none self.now sx sy
+            (λ k. slice_index_or result.now k T.none) }
     {
         let _ = self.numbers();
         self.run_numbers(sx, sy)
@@ -592,8 +664,12 @@ impl<T: Number> SliceStore<T> {
         requires whole { length values.now
             ≡ order.place_count self.old.slicing self.old.size sx sy }
         ensures same { self.new ≡ with_numbers self.old self.new.numbers }
-        ensures shown { ShowsRun T.value T.none self.new sx sy values.now }
+        ensures shown { ShowsRun T.value T.none self.new sx sy
+            (λ k. slice_index_or values.now k T.none) }
         ensures others { OtherRunsStay T.value T.none self.old self.new sx sy }
+        ensures stack { self.old.slicing.slices_y ≤ self.old.strips
+            → IsSlicePut self.old.slicing self.old.size sx sy (valued T.value T.none values.now)
+            (stack_of T.value T.none self.old) (stack_of T.value T.none self.new) }
     {
         let _ = self.numbers();
         let start = self.run_start(sx, sy);

@@ -1,16 +1,17 @@
 use Rattle.std.proofs.Common.{refl, sym, ap, subst, ◌∙◌, arith}
-use Rattle.std.proofs.lemmas.Grind.{common_steps}
 use Rattle.planes.specs.Subbands.{BandStack}
 use Rattle.slice_geometry.specs.declared.Size.{Size}
 use Rattle.slice_geometry.specs.Slicing.{slice_count}
 use Rattle.slice_geometry.specs.Frames.{frame_of}
-use Rattle.slice_bands.specs.ShortBands.{short_stack}
+use Rattle.slice_geometry.specs.Geometry.{padded_length}
+use Rattle.slice_geometry.proofs.Lengths.{padded_most}
+use Rattle.slice_store.specs.ShortBands.{short_stack}
 use Rattle.picture_codec.specs.Pictures.{size_of}
 use Rattle.picture_codec.specs.Samples.{SamplesSeen, PictureSeen, sample_bits, with_component}
 use Rattle.picture_codec.specs.Decoding.{HasGatherRoom}
 use Rattle.picture_codec.proofs.Sizes as sizes
 use Rattle.picture_codec.proofs.SameShown.{same_taken, same_synthesised}
-use Rattle.picture_codec.proofs.ShortShown.{gathered_room}
+use Rattle.picture_codec.proofs.ShortShown.{gathered_room, sizes_agree}
 use Rattle.picture_codec.proofs.decoded_bands.show_in_16_bits.Goals as goal
 
 pub returns-then-not-gather-clause-room : goal.returns-then-not-gather-clause-room
@@ -69,4 +70,15 @@ returns-clause-room c =
     )
 
 pub gather-requires-clause-sizes : goal.gather-requires-clause-sizes
-gather-requires-clause-sizes c = grind (arith, common_steps)
+gather-requires-clause-sizes c =
+    let s = c.args.params.now.layout in
+    let size : Size = size_of (frame_of c.args.picture.now.shape) c.args.c in
+    let made = c.make.ensures s size c.requires.room.3 in
+    sizes_agree (short_stack c.args.bands.now) c.make.new.self.bands (padded_length s.depth size.w) (padded_length s.depth size.h)
+    (c.requires.taken.depth ∙ sym (made.0.made_depth made.1)) c.requires.taken.sizes (made.0.made made.1)
+
+pub gather-requires-clause-room : goal.gather-requires-clause-room
+gather-requires-clause-room c =
+    let slices = c.args.bands.now.slices in
+    let cut = c.shows.ensures.sound.cut in
+    omega (arith, padded_most slices.slicing.depth slices.size.w cut.depth cut.size.width, c.requires.row)

@@ -1,7 +1,7 @@
-use Rattle.std.proofs.Common.{◌≡◌, ◌∙◌, refl, sym, ap, subst, ℕ, ◌*◌, ◌≤◌, length, true, false}
+use Rattle.std.proofs.Common.{◌≡◌, ◌∙◌, refl, sym, ap, subst, ℕ, ◌≤◌, length, true, false}
 use Rattle.std.proofs.lemmas.List.{with_items_is}
 use Rattle.planes.specs.Subbands.{BandStack}
-use Rattle.slice_bands.specs.ShortBands.{short_stack}
+use Rattle.slice_store.specs.ShortBands.{short_stack}
 use Rattle.slice_geometry.specs.declared.Size.{Size}
 use Rattle.slice_geometry.specs.Geometry.{padded_length}
 use Rattle.lifting.specs.SampleRoom.{AreSmallIn}
@@ -102,7 +102,7 @@ take-requires-clause-sizes c =
     let a : BandStack = short_stack short in
     let sized : AreSized s.depth (padded_length s.depth size.w) (padded_length s.depth size.h) a =
     subst (λ (b : BandStack). AreSized s.depth (padded_length s.depth size.w) (padded_length s.depth size.h) b) (sym c.in-Short.ensures.0) (record { same_depth = c.requires.ready.depth; sizes = c.requires.ready.sizes }) in
-    widening_as a s.depth (padded_length s.depth size.w) (padded_length s.depth size.h) (short.slices.across * short.slices.sw) (short.slices.down * short.slices.sh) c.args.room.now.widened
+    widening_as a s.depth (padded_length s.depth size.w) (padded_length s.depth size.h) (padded_length short.slices.slicing.depth short.slices.size.w) (padded_length short.slices.slicing.depth short.slices.size.h) c.args.room.now.widened
     sized (record { same_depth = refl; sizes = c.in-Short.ensures.1.sizes }) c.requires.room.widened
 
 pub make_level-requires-in-Short-clause-sized : goal.make_level-requires-in-Short-clause-sized

@@ -1,4 +1,4 @@
-use Rattle.std.proofs.Common.{◌≡◌, ℕ, ◌+◌, ◌-◌, ◌*◌, ◌^◌, ◌<◌, length, take, get_or, pos, sym, ◌∙◌, inl, arith}
+use Rattle.std.proofs.Common.{◌≡◌, ℕ, ◌+◌, ◌-◌, ◌*◌, ◌^◌, ◌<◌, length, take, get_or, pos, ◌∙◌, inl, arith}
 use Rattle.std.proofs.lemmas.List.{length-take-le, get_or-take}
 use Rattle.std.proofs.lemmas.Grind.{common_steps}
 use Rattle.slice_decoder.specs.Jobs.{short_part}
@@ -8,15 +8,15 @@ use Rattle.slice_decoder.proofs.Dealt.{length-dealt}
 use Rattle.slice_decoder.proofs.LevelLemmas.{length-places, places_all}
 use Rattle.slice_decoder.proofs.Placed.{takes-hold, takes-keep}
 use Rattle.slice_decoder.proofs.NarrowBands.{all-small, nothing-read}
-use Rattle.slice_decoder.proofs.ShortTakes.{areas-grow, places-are-size, short-needs-more, short-values, size-few}
-use Rattle.slice_bands.specs.ShortBands.{short_stack}
+use Rattle.slice_decoder.proofs.ShortTakes.{column-inside, row-inside, cut-count, all-few, short-needs-more, short-values}
+use Rattle.slice_store.specs.ShortBands.{short_stack}
 use Rattle.slice_decoder.proofs.short.read_luma.Goals as goal
 
 pub returns-then-count-buffer-clause-answer : goal.returns-then-count-buffer-clause-answer
 returns-then-count-buffer-clause-answer c =
     let part : Part = short_part c.args.job in
     let total : ℕ = 3 * c.args.job.layout.now.depth + 1 in
-    inl (omega (arith, c.if-count-buffer.true, (c.size-count.ensures.value ∙ sym (places-are-size (short_part c.args.job) c.args.bands.now c.requires.cut c.shows.ensures.sound)), length-dealt c.args.block.now (quantisers_before 1 part total), length-places 1 part total, places_all c.args.job.layout.now c.args.job.size c.args.job.place.sx c.args.job.place.sy))
+    inl (omega (arith, c.if-count-buffer.true, c.run_length-count.ensures, cut-count c.args.job.layout.now c.args.job.size c.args.bands.now c.args.job.place.sx c.args.job.place.sy c.requires.cut, length-dealt c.args.block.now (quantisers_before 1 part total), length-places 1 part total, places_all c.args.job.layout.now c.args.job.size c.args.job.place.sx c.args.job.place.sy))
 
 pub returns-then-count-buffer-clause-keeps : goal.returns-then-count-buffer-clause-keeps
 returns-then-count-buffer-clause-keeps c =
@@ -35,13 +35,14 @@ pub returns-clause-answer : goal.returns-clause-answer
 returns-clause-answer c =
     let part : Part = short_part c.args.job in
     let total : ℕ = 3 * c.args.job.layout.now.depth + 1 in
-    let n : ℕ = c.size-count.result in
+    let n : ℕ = c.run_length-count.result in
     let count : n ≡ length (quantisers_before 1 part total) =
     omega (
       arith,
       length-places 1 part total,
       places_all c.args.job.layout.now c.args.job.size c.args.job.place.sx c.args.job.place.sy,
-      (c.size-count.ensures.value ∙ sym (places-are-size (short_part c.args.job) c.args.bands.now c.requires.cut c.shows.ensures.sound)),
+      c.run_length-count.ensures,
+      cut-count c.args.job.layout.now c.args.job.size c.args.bands.now c.args.job.place.sx c.args.job.place.sy c.requires.cut,
     ) in
     let agree : (j : ℕ) → j < length (quantisers_before 1 part total)
     → get_or (take n c.read_values.new.buffer) j (pos 0) ≡ get_or (block_values 1 part c.args.block.now) j (pos 0) =
@@ -57,36 +58,40 @@ pub returns-clause-keeps : goal.returns-clause-keeps
 returns-clause-keeps c =
     let part : Part = short_part c.args.job in
     let total : ℕ = 3 * c.args.job.layout.now.depth + 1 in
-    takes-keep 1 0 part total (take c.size-count.result c.read_values.new.buffer) (short_stack c.args.bands.now) (short_stack c.put_values.new.bands) c.put_values.ensures.takes
+    takes-keep 1 0 part total (take c.run_length-count.result c.read_values.new.buffer) (short_stack c.args.bands.now) (short_stack c.put_values.new.bands) c.put_values.ensures.takes
     c.put_values.ensures.rest
 
 pub put_values-requires-clause-short : goal.put_values-requires-clause-short
 put_values-requires-clause-short c =
     let part : Part = short_part c.args.job in
-    let n : ℕ = c.size-count.result in
+    let n : ℕ = c.run_length-count.result in
     let out = c.read_values.new.buffer in
     let good = c.if-not-read_values.false in
     let long : length (take n out) ≡ n = length-take-le n out (omega (arith, c.read_values.auto.buffer, c.if-count-buffer.false)) in
     short-values n (block_values 1 part c.args.block.now) (take n out) c.read_values.result good c.read_values.ensures.within long
     (λ k lt. get_or-take n out k (pos 0) lt ∙ c.read_values.ensures.values good k lt)
 
-pub read_values-requires-clause-areas : goal.read_values-requires-clause-areas
-read_values-requires-clause-areas c = areas-grow (short_part c.args.job) c.args.bands.now c.requires.cut c.shows.ensures.sound
-
 pub overflow_add-count : goal.overflow_add-count
 overflow_add-count c =
-    let few = size-few c.args.bands.now.slices c.shows.ensures.sound in
-    omega (arith, few, c.size-count.ensures.value)
+    let job = c.args.job in
+    let few = all-few job.layout.now job.size job.place.sx job.place.sy job.areas.now c.requires.job.few c.depth.ensures.allowed.depth c.requires.job.areas in
+    omega (arith, few, c.run_length-count.ensures, cut-count job.layout.now job.size c.args.bands.now job.place.sx job.place.sy c.requires.cut)
 
 pub read_values-requires-clause-count : goal.read_values-requires-clause-count
 read_values-requires-clause-count c =
-    omega (arith, c.size-count.ensures.value, places-are-size (short_part c.args.job) c.args.bands.now c.requires.cut c.shows.ensures.sound)
+    omega (arith, c.run_length-count.ensures, cut-count c.args.job.layout.now c.args.job.size c.args.bands.now c.args.job.place.sx c.args.job.place.sy c.requires.cut)
 
 pub put_values-requires-clause-count : goal.put_values-requires-clause-count
 put_values-requires-clause-count c =
-    let n : ℕ = c.size-count.result in
+    let n : ℕ = c.run_length-count.result in
     let out = c.read_values.new.buffer in
-    omega (arith, length-take-le n out (omega (arith, c.read_values.auto.buffer, c.if-count-buffer.false)), c.size-count.ensures.value, places-are-size (short_part c.args.job) c.args.bands.now c.requires.cut c.shows.ensures.sound)
+    omega (arith, length-take-le n out (omega (arith, c.read_values.auto.buffer, c.if-count-buffer.false)), c.run_length-count.ensures, cut-count c.args.job.layout.now c.args.job.size c.args.bands.now c.args.job.place.sx c.args.job.place.sy c.requires.cut)
 
 pub slice_bounds-put_values-end-2 : goal.slice_bounds-put_values-end-2
 slice_bounds-put_values-end-2 c = grind (arith, common_steps)
+
+pub run_length-count-requires-clause-across : goal.run_length-count-requires-clause-across
+run_length-count-requires-clause-across c = column-inside c.args.job.layout.now c.args.job.size c.args.bands.now c.args.job.place.sx c.requires.cut c.requires.job.across
+
+pub run_length-count-requires-clause-down : goal.run_length-count-requires-clause-down
+run_length-count-requires-clause-down c = row-inside c.args.job.layout.now c.args.job.size c.args.bands.now c.args.job.place.sy c.requires.cut c.requires.job.down

@@ -1,6 +1,5 @@
 use Rattle.std.proofs.Common.{◌≡◌, ℕ, ◌+◌, ◌-◌, ◌*◌, ◌^◌, ◌<◌, List, length, take, get_or, ℤ, pos, sym, ap, subst, ◌∙◌, arith}
 use Rattle.std.proofs.lemmas.List.{length-take-le, get_or_append_left}
-use Rattle.std.proofs.lemmas.Grind.{common_steps}
 use Rattle.slice_decoder.specs.Dealing.{dealt}
 use Rattle.slice_decoder.specs.Jobs.{short_part}
 use Rattle.slice_decoder.specs.Components.{Part, quantisers_before}
@@ -55,6 +54,3 @@ returns-clause-values c good k lt =
     ∙ ap (λ (rs : List ℕ). restored_at (take n out) rs k) c.key_of.ensures.quantisers
     ∙ ap (λ (vs : List ℤ). restored_at vs qs k) read
     ∙ dealt-at c.args.block.now qs n k (count_is c.args.each part n c.requires.count) lt
-
-pub key_of-requires-clause-areas : goal.key_of-requires-clause-areas
-key_of-requires-clause-areas c = grind (arith, common_steps)

@@ -1,8 +1,8 @@
 use Rattle.std.proofs.Common.{◌≡◌, ℕ, ◌+◌, ◌*◌, List, Bool, length, refl, arith}
 use Rattle.planes.specs.declared.Trio.{Trio}
 use Rattle.bounded_blocks.specs.Parts.{block_of}
-use Rattle.slice_bands.specs.declared.short.TheConstants.{MAX_SHORT}
-use Rattle.slice_bands.specs.ShortBands.{short_stack}
+use Rattle.slice_store.specs.declared.short_bands.TheConstants.{MAX_SHORT}
+use Rattle.slice_store.specs.ShortBands.{short_stack}
 use Rattle.slice_geometry.specs.Slicing.{length_bits}
 use Rattle.slice_decoder.specs.Components.{Part}
 use Rattle.slice_decoder.specs.Jobs.{short_part}

@@ -16,6 +16,7 @@ invariant_of-result g c =
     let end : c.index.result.now ≡ get_or c.in_ok-starts.starts.items strips 0 = c.index.ensures ∙ get_or_default c.in_ok-starts.starts.items strips c.index.result.now 0 (omega (arith, starts.starts.count)) in
     let count : length c.in_ok-numbers.numbers.items ≡ get_or c.in_ok-starts.starts.items strips 0 = ap length c.in_ok-numbers.ensures ∙ length-replicate c.index.result.now g.T.Number.none ∙ end in (
       c.in_ok-befores.ensures,
+      c.in_ok-unders.ensures,
       record {
         cut = cut;
         some = some;

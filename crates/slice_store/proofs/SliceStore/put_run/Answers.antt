@@ -1,11 +1,9 @@
-use Rattle.std.proofs.Common.{◌≡◌, ap, sym, subst, ◌∙◌, ℕ, ◌+◌, ◌-◌, length, arith, inl, inr}
+use Rattle.std.proofs.Common.{◌≡◌, ap, sym, ◌∙◌, ℕ, ◌+◌, arith}
 use Rattle.std.specs.Prelude.{slice_index_or}
-use Rattle.std.proofs.lemmas.Bool.{cases_lt}
-use Rattle.slice_geometry.specs.SliceOrder.{place_number}
-use Rattle.slice_store.specs.Store.{Store}
-use Rattle.slice_store.specs.Places.{number_at, place_of}
-use Rattle.slice_store.specs.Writing.{ShowsRun}
-use Rattle.slice_store.proofs.Runs.{run_place, number_inside, other_outside}
+use Rattle.slice_geometry.specs.SliceOrder.{place_count}
+use Rattle.slice_store.specs.Places.{run_start}
+use Rattle.slice_store.proofs.Turns.{IsPutAt, run_shown, runs_stay}
+use Rattle.slice_store.proofs.SlicePut.{slice_put}
 use Rattle.slice_store.proofs.SliceStore.put_run.Goals as goal
 
 no_more : (n : ℕ) → 0 + n ≡ n
@@ -17,36 +15,33 @@ write-requires-clause-room g c = omega (arith, c.run_start-start.ensures.inside,
 pub returns-clause-shown : goal.returns-clause-shown
 returns-clause-shown g c =
     let s = c.args.self.now in
-    let value = g.T.Number.value in
     let none = g.T.Number.none in
-    let sound = c.numbers.ensures.sound in
     let new = c.write.new.self.numbers in
-    let values = c.args.values.now in
-    let sx : ℕ = c.args.sx in
-    let sy : ℕ = c.args.sy in
-    let P : Store g.row.T.Denot → Type 0 = λ u. ShowsRun value none u sx sy values in
-    subst P (sym c.write.ensures.same) (λ level orient y x place column row.
-    let n : ℕ = place_number s.slicing s.size sx sy level orient y x in
-    ap value (ap (λ (k : ℕ). slice_index_or new k none) (run_place s sound sx sy c.requires.across c.requires.down level orient y x column row)
-    ∙ ap (λ (k : ℕ). slice_index_or new (k + n) none) (sym c.run_start-start.ensures.value)
-    ∙ c.write.ensures.done n (omega (arith, number_inside s sound sx sy c.requires.across c.requires.down level orient y x (record { exists = place.exists; row = place.row; column = place.column }) column row, c.requires.whole))
-    ∙ ap (λ (k : ℕ). slice_index_or values k none) (no_more n)))
+    let run : ℕ → g.row.T.Denot = λ k. slice_index_or c.args.values.now k none in
+    let start : c.run_start-start.result ≡ run_start s c.args.sx c.args.sy = c.run_start-start.ensures.value in
+    let put : IsPutAt none (run_start s c.args.sx c.args.sy) (place_count s.slicing s.size c.args.sx c.args.sy) run s.numbers new = record {
+      done = λ k lt. ap (λ (n : ℕ). slice_index_or new (n + k) none) (sym start) ∙ c.write.ensures.done k (omega (arith, lt, c.requires.whole)) ∙ ap run (no_more k);
+      before = λ j lt. c.write.ensures.before j (omega (arith, lt, start));
+      behind = λ j past. c.write.ensures.behind j (omega (arith, past, start, c.requires.whole));
+    } in
+    run_shown g.T.Number.value none s c.numbers.ensures.sound c.args.sx c.args.sy c.requires.across c.requires.down run c.write.new.self c.write.ensures.same put
 
 pub returns-clause-others : goal.returns-clause-others
-returns-clause-others g c level orient y x place together other =
+returns-clause-others g c =
     let s = c.args.self.now in
-    let value = g.T.Number.value in
     let none = g.T.Number.none in
-    let sound = c.numbers.ensures.sound in
     let new = c.write.new.self.numbers in
-    let start : ℕ = c.run_start-start.result in
-    let p : ℕ = place_of s level orient y x in
-    let outside = other_outside s sound c.args.sx c.args.sy c.requires.across c.requires.down level orient y x place together other in
-    ap (λ (u : Store g.row.T.Denot). number_at value none u level orient y x) c.write.ensures.same
-    ∙ ap value (elim (cases_lt p start) as (λ _. slice_index_or new p none ≡ slice_index_or s.numbers p none) [
-      | inl less ↦ c.write.ensures.before p less
-      | inr not ↦ elim (cases_lt p (start + length c.args.values.now)) as (λ _. slice_index_or new p none ≡ slice_index_or s.numbers p none) [
-        | inl here ↦ absurd (outside (p - start) (omega (arith, here, not, c.requires.whole)) (omega (arith, not, c.run_start-start.ensures.value)))
-        | inr past ↦ c.write.ensures.behind p (omega (arith, past))
-      ]
-    ])
+    let run : ℕ → g.row.T.Denot = λ k. slice_index_or c.args.values.now k none in
+    let start : c.run_start-start.result ≡ run_start s c.args.sx c.args.sy = c.run_start-start.ensures.value in
+    let put : IsPutAt none (run_start s c.args.sx c.args.sy) (place_count s.slicing s.size c.args.sx c.args.sy) run s.numbers new = record {
+      done = λ k lt. ap (λ (n : ℕ). slice_index_or new (n + k) none) (sym start) ∙ c.write.ensures.done k (omega (arith, lt, c.requires.whole)) ∙ ap run (no_more k);
+      before = λ j lt. c.write.ensures.before j (omega (arith, lt, start));
+      behind = λ j past. c.write.ensures.behind j (omega (arith, past, start, c.requires.whole));
+    } in
+    runs_stay g.T.Number.value none s c.numbers.ensures.sound c.args.sx c.args.sy c.requires.across c.requires.down run c.write.new.self c.write.ensures.same put
+
+pub returns-clause-stack : goal.returns-clause-stack
+returns-clause-stack g c room =
+    let none = g.T.Number.none in
+    slice_put g.T.Number.value none c.args.self.now c.numbers.ensures.sound c.args.sx c.args.sy c.requires.across c.requires.down room (λ k. slice_index_or c.args.values.now k none)
+    c.write.new.self c.write.ensures.same (returns-clause-shown g c) (returns-clause-others g c)

@@ -1,7 +1,7 @@
 use Rattle.std.proofs.Common.{◌≡◌, length, sym, ap, subst, ◌∙◌}
 use Rattle.std.proofs.lemmas.List.{with_items_is}
 use Rattle.planes.specs.declared.Trio.{Trio}
-use Rattle.slice_bands.specs.declared.short_bands.ShortTrio.{ShortTrio}
+use Rattle.slice_store.specs.declared.short_bands.ShortTrio.{ShortTrio}
 use Rattle.slice_decoder.specs.Decoded.{AreReady, AllKeepOthers}
 use Rattle.slice_decoder.specs.Short.{shown_trio}
 use Rattle.picture_codec.specs.ShortSlices.{AllShowTheSame, AreBeside}

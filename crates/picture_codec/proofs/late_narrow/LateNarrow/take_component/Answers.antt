@@ -1,6 +1,7 @@
-use Rattle.std.proofs.Common.{◌≡◌, ◌∙◌, sym, ap, subst, Bool, true}
+use Rattle.std.proofs.Common.{◌≡◌, ◌∙◌, sym, ap, subst, Bool, true, arith}
 use Rattle.std.specs.Prelude.{if◌then◌else◌}
 use Rattle.planes.specs.declared.NarrowTrio.{NarrowTrio}
+use Rattle.slice_geometry.proofs.Lengths.{padded_most}
 use Rattle.slice_decoder.specs.Narrow.{trio_of, AreNarrowBands}
 use Rattle.slice_decoder.specs.Short.{shown_trio}
 use Rattle.picture_codec.specs.DecodedBands.{AllAgree, narrow_of, LateSeen, late_of}
@@ -60,3 +61,21 @@ returns-in-C2-clause-beside c =
     let beside = subst (λ (b : NarrowTrio). AllAgree (narrow_of (shown_trio c.args.short.now)) (trio_of b)) bands_are c.requires.beside in
     subst (λ (b : NarrowTrio). AllAgree (narrow_of (shown_trio c.args.short.now)) (trio_of b)) (sym (serve (record { luma = c.self.inside.made.luma; c1 = c.self.inside.made.c1; c2 = c.widen-in-C2.new.bands })))
     (record { luma = beside.luma; c1 = beside.c1; c2 = same-agrees (shown_trio c.args.short.now).c2 c.widen-in-C2.new.bands c.widen-in-C2.ensures.same })
+
+pub widen-requires-clause-room : goal.widen-requires-clause-room
+widen-requires-clause-room c =
+    let slices = c.args.short.now.luma.slices in
+    let cut = c.shows.ensures.sound.cut in
+    omega (arith, padded_most slices.slicing.depth slices.size.w cut.depth cut.size.width, c.requires.room)
+
+pub widen-requires-in-C1-clause-room : goal.widen-requires-in-C1-clause-room
+widen-requires-in-C1-clause-room c =
+    let slices = c.args.short.now.c1.slices in
+    let cut = c.shows-in-C1.ensures.sound.cut in
+    omega (arith, padded_most slices.slicing.depth slices.size.w cut.depth cut.size.width, c.requires.room)
+
+pub widen-requires-in-C2-clause-room : goal.widen-requires-in-C2-clause-room
+widen-requires-in-C2-clause-room c =
+    let slices = c.args.short.now.c2.slices in
+    let cut = c.shows-in-C2.ensures.sound.cut in
+    omega (arith, padded_most slices.slicing.depth slices.size.w cut.depth cut.size.width, c.requires.room)

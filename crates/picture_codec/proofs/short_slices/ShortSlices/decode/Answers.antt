@@ -1,6 +1,6 @@
 use Rattle.std.proofs.Common.{sym, subst, arith}
 use Rattle.std.proofs.lemmas.Grind.{common_steps}
-use Rattle.slice_bands.specs.declared.short_bands.ShortTrio.{ShortTrio}
+use Rattle.slice_store.specs.declared.short_bands.ShortTrio.{ShortTrio}
 use Rattle.slice_decoder.specs.Decoded.{AreReady}
 use Rattle.slice_decoder.specs.Short.{shown_trio}
 use Rattle.picture_codec.specs.ShortSlices.{AreBeside}

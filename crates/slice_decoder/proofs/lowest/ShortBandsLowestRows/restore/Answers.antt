@@ -1,7 +1,7 @@
 use Rattle.std.proofs.Common.{ℤ, ap}
 use Rattle.planes.specs.Raster.{Raster, height}
-use Rattle.slice_bands.proofs.Lowest.{short_lowest}
 use Rattle.slice_decoder.proofs.NarrowBands.{either-outside}
+use Rattle.slice_decoder.proofs.ShortLowest.{short_lowest}
 use Rattle.slice_decoder.proofs.ShortTakes.{lowest-restored, lowest-stopped, short-keeps, restored-cut}
 use Rattle.slice_decoder.proofs.lowest.ShortBandsLowestRows.restore.Goals as goal
 

@@ -1,5 +1,5 @@
-use Rattle.std.proofs.Common.{◌≡◌, ℕ, ◌+◌, ◌*◌, ◌≤◌, length, refl, ap, ◌∙◌, rules, arith}
-use Rattle.slice_decoder.specs.StepRows.{StepRowSeen, area_above}
+use Rattle.std.proofs.Common.{◌≡◌, ℕ, ◌+◌, ◌*◌, ◌≤◌, length, get_or, refl, ap, ◌∙◌, rules, arith}
+use Rattle.slice_decoder.specs.StepRows.{StepRowSeen}
 use Rattle.slice_decoder.proofs.StepRows.{no-bands, band-fits, next-from, has-run, whole-written, steps-more}
 use Rattle.slice_decoder.proofs.step_rows.StepRow.learn.Goals as goal
 
@@ -18,37 +18,37 @@ loop-k-init c =
 pub overflow_mul-to : goal.overflow_mul-to
 overflow_mul-to c =
     let l = c.loop-k in
-    let fit = band-fits c.args.key l.k l.from c.area_above.result l.invariant.from_is (c.area_above.ensures ∙ ap (area_above c.args.key.lowest) c.band_numbered-level.ensures.level)
+    let fit = band-fits c.args.key l.k l.from (get_or c.args.key.areas c.band_numbered-level.result.0 0) l.invariant.from_is (ap (λ (l : ℕ). get_or c.args.key.areas l 0) c.band_numbered-level.ensures.level)
     (omega (arith, c.loop-k-test.true, l.auto.k-end, c.depth.ensures.value)) in
-    let room : c.args.key.each * c.area_above.result ≤ length l.self-inside.factors.items = omega (arith, fit, c.requires.room, l.invariant.factors_count) in
+    let room : c.args.key.each * (get_or c.args.key.areas c.band_numbered-level.result.0 0) ≤ length l.self-inside.factors.items = omega (arith, fit, c.requires.room, l.invariant.factors_count) in
     search rules
 
 pub overflow_add-to : goal.overflow_add-to
 overflow_add-to c =
     let l = c.loop-k in
-    let fit = band-fits c.args.key l.k l.from c.area_above.result l.invariant.from_is (c.area_above.ensures ∙ ap (area_above c.args.key.lowest) c.band_numbered-level.ensures.level)
+    let fit = band-fits c.args.key l.k l.from (get_or c.args.key.areas c.band_numbered-level.result.0 0) l.invariant.from_is (ap (λ (l : ℕ). get_or c.args.key.areas l 0) c.band_numbered-level.ensures.level)
     (omega (arith, c.loop-k-test.true, l.auto.k-end, c.depth.ensures.value)) in
-    let room : l.from + c.args.key.each * c.area_above.result ≤ length l.self-inside.factors.items = omega (arith, fit, c.requires.room, l.invariant.factors_count) in
+    let room : l.from + c.args.key.each * (get_or c.args.key.areas c.band_numbered-level.result.0 0) ≤ length l.self-inside.factors.items = omega (arith, fit, c.requires.room, l.invariant.factors_count) in
     search rules
 
 pub put-requires-clause-inside : goal.put-requires-clause-inside
 put-requires-clause-inside c =
     let l = c.loop-k in
-    let fit = band-fits c.args.key l.k l.from c.area_above.result l.invariant.from_is (c.area_above.ensures ∙ ap (area_above c.args.key.lowest) c.band_numbered-level.ensures.level)
+    let fit = band-fits c.args.key l.k l.from (get_or c.args.key.areas c.band_numbered-level.result.0 0) l.invariant.from_is (ap (λ (l : ℕ). get_or c.args.key.areas l 0) c.band_numbered-level.ensures.level)
     (omega (arith, c.loop-k-test.true, l.auto.k-end, c.depth.ensures.value)) in
     omega (arith, fit, c.requires.room, l.invariant.factors_count, ap length c.deref_mut.ensures.value)
 
 pub put-requires-in-loop-k-clause-inside : goal.put-requires-in-loop-k-clause-inside
 put-requires-in-loop-k-clause-inside c =
     let l = c.loop-k in
-    let fit = band-fits c.args.key l.k l.from c.area_above.result l.invariant.from_is (c.area_above.ensures ∙ ap (area_above c.args.key.lowest) c.band_numbered-level.ensures.level)
+    let fit = band-fits c.args.key l.k l.from (get_or c.args.key.areas c.band_numbered-level.result.0 0) l.invariant.from_is (ap (λ (l : ℕ). get_or c.args.key.areas l 0) c.band_numbered-level.ensures.level)
     (omega (arith, c.loop-k-test.true, l.auto.k-end, c.depth.ensures.value)) in
     omega (arith, fit, c.requires.room, l.invariant.adds_count, ap length c.deref_mut-in-loop-k.ensures.value)
 
 pub put-requires-in-loop-k-2-clause-inside : goal.put-requires-in-loop-k-2-clause-inside
 put-requires-in-loop-k-2-clause-inside c =
     let l = c.loop-k in
-    let fit = band-fits c.args.key l.k l.from c.area_above.result l.invariant.from_is (c.area_above.ensures ∙ ap (area_above c.args.key.lowest) c.band_numbered-level.ensures.level)
+    let fit = band-fits c.args.key l.k l.from (get_or c.args.key.areas c.band_numbered-level.result.0 0) l.invariant.from_is (ap (λ (l : ℕ). get_or c.args.key.areas l 0) c.band_numbered-level.ensures.level)
     (omega (arith, c.loop-k-test.true, l.auto.k-end, c.depth.ensures.value)) in
     omega (arith, fit, c.requires.room, l.invariant.limits_count, ap length c.deref_mut-in-loop-k-2.ensures.value)
 
@@ -58,9 +58,9 @@ loop-k-preserved c =
     let i = l.invariant in
     let old = l.self-inside in
     let key = c.args.key in
-    let area : ℕ = c.area_above.result in
+    let area : ℕ = get_or c.args.key.areas c.band_numbered-level.result.0 0 in
     let to : ℕ = l.from + key.each * area in
-    let area_is = c.area_above.ensures ∙ ap (area_above key.lowest) c.band_numbered-level.ensures.level in
+    let area_is = ap (λ (l : ℕ). get_or key.areas l 0) c.band_numbered-level.ensures.level in
     let f_long = ap length c.deref_mut.ensures.value in
     let a_long = ap length c.deref_mut-in-loop-k.ensures.value in
     let l_long = ap length c.deref_mut-in-loop-k-2.ensures.value in

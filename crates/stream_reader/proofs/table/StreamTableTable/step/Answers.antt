@@ -1,9 +1,11 @@
-use Rattle.std.proofs.Common.{◌∷◌, ◌++◌, [], Bool, List, sym, ap, subst, ◌∙◌, arith}
+use Rattle.std.proofs.Common.{◌∷◌, ◌++◌, [], Bool, List, Option, sym, ap, subst, ◌∙◌, arith}
 use Rattle.std.proofs.lemmas.Grind.{common_steps}
 use Rattle.slice_geometry.specs.declared.unit_list.UnitShape.{UnitShape}
-use Rattle.stream_rows.specs.Units.{Past}
-use Rattle.stream_reader.specs.Turns.{IsFound}
-use Rattle.stream_reader.specs.Reader.{header_behind}
+use Rattle.std.specs.Prelude.{IfSome}
+use Rattle.picture_codec.specs.Decoding.{PictureDecoderSeen}
+use Rattle.stream_rows.specs.Units.{Past, DataUnit, Sequence, Repeated, Picture, Skipped, End}
+use Rattle.stream_reader.specs.Turns.{IsFound, HasAllSlices}
+use Rattle.stream_reader.specs.Reader.{IsTakerOf, header_behind}
 use Rattle.stream_reader.specs.StreamTable.{StreamTableSeen, IsFoundBy, DecoderBehind}
 use Rattle.stream_reader.proofs.ReaderTurns.{found_now, decoder_behind, kept_behind, slices_few}
 use Rattle.stream_reader.proofs.table.StreamTableTable.step.Goals as goal
@@ -12,6 +14,19 @@ pub step-item-requires-clause-found : goal.step-item-requires-clause-found
 step-item-requires-clause-found c =
     let f = c.requires.found in
     (f.1, f.2, f.3, subst (λ (t : StreamTableSeen). IsFound t.past c.args.found f.1 f.2) (sym c.self.view_is) (found_now f.0 c.args.self.now c.args.found f.1 f.2 f.4))
+
+-- a decoder that took a picture's slices has all of them
+taken_whole : (unit : DataUnit) (took : Option PictureDecoderSeen) → IsTakerOf unit took → IfSome took HasAllSlices
+taken_whole (Picture parts number params slices) took t = subst (λ (d : Option PictureDecoderSeen). IfSome d HasAllSlices) (sym t.1) t.2.whole
+taken_whole (Sequence parts) took t = subst (λ (d : Option PictureDecoderSeen). IfSome d HasAllSlices) (sym t) tt
+taken_whole Repeated took t = subst (λ (d : Option PictureDecoderSeen). IfSome d HasAllSlices) (sym t) tt
+taken_whole Skipped took t = subst (λ (d : Option PictureDecoderSeen). IfSome d HasAllSlices) (sym t) tt
+taken_whole End took t = subst (λ (d : Option PictureDecoderSeen). IfSome d HasAllSlices) (sym t) tt
+
+pub keep-requires : goal.keep-requires
+keep-requires c =
+    let f = step-item-requires-clause-found c in
+    taken_whole f.0 c.step-item.result.1 (c.step-item.ensures f.0 f.1 f.2 f.3).decoder
 
 pub returns-clause-tells : goal.returns-clause-tells
 returns-clause-tells c = λ before unit bytes long found.

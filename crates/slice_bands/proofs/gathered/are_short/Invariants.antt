@@ -1,8 +1,0 @@
-use Rattle.std.proofs.Common.{◌≡◌, ℕ, ◌<◌, get_or, pos, true}
-use Rattle.std.specs.Prelude.{◌↔◌}
-use Rattle.planes.specs.Bounded.{IsWithin}
-use Rattle.slice_bands.specs.declared.short.TheConstants.{MAX_SHORT}
-use Rattle.slice_bands.proofs.gathered.are_short.Given as goal
-
-abbrev pub invariant-loop-k : goal.invariant-loop-k
-invariant-loop-k l = (l.all ≡ true) ↔ ((j : ℕ) → j < l.k → IsWithin MAX_SHORT (get_or l.values j (pos 0)))

@@ -1,6 +1,0 @@
-pub mod Slices
-pub mod Places
-pub mod Stack
-pub mod Lending
-pub mod Short
-pub mod ShortBands
