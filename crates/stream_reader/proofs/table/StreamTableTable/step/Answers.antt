@@ -25,8 +25,8 @@ taken_whole End took t = subst (λ (d : Option PictureDecoderSeen). IfSome d Has
 
 pub keep-requires : goal.keep-requires
 keep-requires c =
-    let f = step-item-requires-clause-found c in
-    taken_whole f.0 c.step-item.result.1 (c.step-item.ensures f.0 f.1 f.2 f.3).decoder
+    let q = c.requires.found in
+    taken_whole q.1 c.step-item.result.1 (c.step-item.ensures q.1 q.2 q.3 (subst (λ (t : StreamTableSeen). IsFound t.past c.args.found q.1 q.2) (sym c.self.view_is) (found_now q.0 c.args.self.now c.args.found q.1 q.2 q.4))).decoder
 
 pub returns-clause-tells : goal.returns-clause-tells
 returns-clause-tells c = λ before unit bytes long found.
