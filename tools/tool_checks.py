@@ -1,5 +1,6 @@
 """Checks of the scripts that stand beside a program, for tools/program_check: what they write, say and end with."""
 import os
+import re
 import shutil
 import subprocess
 import tempfile
@@ -13,6 +14,50 @@ CODING = "wavelet=legall depth=2 slices=6x4 bytes=64/1 matrix=4,2,2,0,4,4,2".spl
 FIELDS = ["size=48x64", "sampling=422", "fps=25/1", "signal=3", "fields=yes", *CODING]
 LINE = b"YUV4MPEG2 W48 H32 F25:1 Ip A0:0 C422p10 XCOLORRANGE=LIMITED\n"
 FORMATS = [f"yuv{sampling}p{depth}" for sampling in (420, 422, 444) for depth in ("", "10le", "12le")]
+
+# a small repository for tools/definitions: names that variables and fields hide, a word between its arguments, a constructor, an alias
+SMALL = {
+    "crates.txt": "low:\nvc2_cli: low # the program\n",
+    "crates/low/specs/Low.antt": """-- Numbers (SMPTE ST 2042-1:2017, 13.4: low).
+use Rattle.std.specs.Prelude.{ℕ, ◌+◌}
+
+-- once more
+abbrev pub twice : ℕ → ℕ
+twice n = n + n
+
+-- hidden by variables and by a field
+abbrev pub hidden : ℕ → ℕ
+hidden n = n
+
+infix 4 ◌and◌
+-- a word between (A.2)
+abbrev pub ◌and◌ : ℕ → ℕ → ℕ
+-- of any two
+a and b = twice a + local b
+  where
+    local : ℕ → ℕ
+    local hidden = hidden
+
+-- of two kinds
+pub data Kind : Type 0 where
+  one : Kind
+  two : (hidden : ℕ) → Kind
+""",
+    "crates/vc2_cli/specs/Program.antt": """use Rattle.std.specs.Prelude.{◌≡◌, ℕ}
+use Rattle.low.specs.Low.{◌and◌, hidden, one as first}
+use Rattle.low.specs.declared.Size.{Size}
+
+-- not used
+abbrev pub unused : ℕ → ℕ
+unused n = n
+
+-- all of it
+pub record ProgramRan (size : Size) (told : ℕ) : Type 0 where
+  pub kind : (λ unused. unused) first ≡ first
+  pub hidden : told and told ≡ size.w
+  pub same : hidden ≡ hidden
+""",
+}
 
 
 class Tools:
@@ -271,10 +316,45 @@ def pictures(tools):
             tools.runs.judge(f"{name} tells its usage", (status, b"usage: tools/" + name.encode() in note), (1, True))
 
 
+def names_of(page):
+    """The definitions of a page, in their order."""
+    return [kind or name for kind, name in re.findall(r"(?m)^(?:abbrev |unfoldable )?(?:pub )?(?:(?:record|data) (\S+)|(\S+) : )", page.decode())]
+
+
+def definitions(tools):
+    """What the headline rests on, of this repository and of a small one."""
+    pages = [tools.run(["definitions", *words])[1] for words in ([], ["--by-section"])]
+    names, count = names_of(pages[0]), tools.run(["definitions", "--count"])[1]
+    tools.runs.judge("as many definitions as are counted", count.split()[:2], [b"definitions", b"%d" % len(names)])
+    tools.runs.judge("the headline stands last", names[-1], "ProgramRan")
+    tools.runs.judge("each stands below one section", sorted(names_of(pages[1])), sorted(names))
+    for words in (["--all"], ["--count", "--by-section"]):
+        status, _, note = tools.run(["definitions", *words])
+        tools.runs.judge("definitions tells its usage", (status, b"usage: tools/definitions" in note), (1, True))
+    with tempfile.TemporaryDirectory() as top:
+        for name, text in SMALL.items():
+            os.makedirs(os.path.dirname(f"{top}/{name}"), exist_ok=True)
+            with open(f"{top}/{name}", "w", encoding="utf-8") as file:
+                file.write(text)
+        os.mkdir(f"{top}/tools")
+        for name in ("definitions", "crates.py"):
+            shutil.copy2(f"{TOP}/tools/{name}", f"{top}/tools")
+        small = [f"{top}/tools/definitions"]
+        tools.case("few definitions", [*small, "--count"], b"", (0, b"definitions 4 lines 14 with comments 20 modules 2 crates 2\n", b""))
+        tools.runs.judge("and no hidden one", names_of(tools.run(small)[1]), ["twice", "◌and◌", "Kind", "ProgramRan"])
+        page = tools.run([*small, "--by-section"])[1].decode()
+        tools.runs.judge("by their sections", re.findall(r"(?m)^## (.*)", page)[:3], ["13.4", "A.2", "What cites no section"])
+        with open(f"{top}/crates/vc2_cli/specs/Program.antt", "w", encoding="utf-8") as file:
+            file.write(SMALL["crates/vc2_cli/specs/Program.antt"].replace("size.w", "lost"))
+        tools.refuses("a name that isn't there", small, b"", 1, b"vc2_cli/specs/Program: what ProgramRan names isn't found: lost")
+        os.remove(f"{top}/crates/low/specs/Low.antt")
+        tools.refuses("a module that isn't there", small, b"", 1, b"crates/low/specs/Low.antt: No such file")
+
+
 def tools(runs):
     """All checks of the scripts; what needs ffmpeg is named where it is missing."""
     made = Tools(runs)
-    for part in (films, films_watched, films_contradicted, films_refused, plans, plans_kept, plans_of_films, pictures, links):
+    for part in (films, films_watched, films_contradicted, films_refused, plans, plans_kept, plans_of_films, pictures, definitions, links):
         part(made)
     if shutil.which("ffmpeg"):
         films_by_ffmpeg(made)
